@@ -1,0 +1,56 @@
+-- Which pages stand on which sheets.
+use Rattle.std.specs.Prelude.{ℕ, ◌+◌, ◌-◌, ◌*◌, ◌/◌, nat_lt, if◌then◌else◌, List, [], ◌∷◌, map, flat_map, Option, Some, None, slice_index_or, length}
+use Rattle.std.specs.List.{range_with_len}
+use Rattle.profile.specs.Specification.{Item, Spec}
+
+-- how many blocks of m the places 0 to n - 1 take, the last one filled up
+abbrev pub blocks : (m n : ℕ) → ℕ
+blocks m n = (n + (m - 1)) / m
+
+-- the place that an item names in a block; from the end it is counted with the filled places
+abbrev pub place : (m n block : ℕ) → Item → ℕ
+place m n block item = if item.from_end then m * blocks m n - (block + 1) * m + item.page else block * m + item.page
+
+-- the page at a place; None is a blank
+abbrev pub page_at : (n place : ℕ) → Option ℕ
+page_at n place = if nat_lt place n then Some place else None
+
+pub record Slot : Type 0 where
+  pub page : Option ℕ
+  pub item : Item
+
+-- block by block and group by group, over n places with these pages
+abbrev pub sheets_over : Spec → ℕ → (ℕ → Option ℕ) → List (List Slot)
+sheets_over spec n page_of =
+    flat_map (λ b. map (λ g. map (λ i. record { page = page_of (place spec.modulo n b i); item = i }) g) spec.groups)
+    (range_with_len 0 (blocks spec.modulo n))
+
+-- the sheets of a specification on n pages
+abbrev pub sheets : Spec → ℕ → List (List Slot)
+sheets spec n = sheets_over spec n (page_at n)
+
+-- a number of pages, and the sheets that they are placed on
+pub record Plan : Type 0 where
+  pub pages : ℕ
+  pub sheets : List (List Slot)
+
+-- what is gathered for a plan: per sheet its slots, each with its page or blank
+pub record Layout : Type 0 where
+  pub pages : ℕ
+  pub sheets : List (List (Option ℕ))
+
+abbrev pub layout : Plan → Layout
+layout plan = record { pages = plan.pages; sheets = map (λ slots. map (λ slot. slot.page) slots) plan.sheets }
+
+-- the order of a signature of s sides that begins at place f, four sides at a time: the outer page of a leaf's front, the
+-- inner one, and then its back
+abbrev pub signature : (f s : ℕ) → List ℕ
+signature f s = flat_map (λ j. (f + s - 1 - 2 * j) ∷ (f + 2 * j) ∷ (f + 2 * j + 1) ∷ (f + s - 2 - 2 * j) ∷ []) (range_with_len 0 (s / 4))
+
+-- the row of n pages in signatures of s sides, filled with blanks
+abbrev pub signature_row : (s n : ℕ) → List (Option ℕ)
+signature_row s n = map (page_at n) (flat_map (λ b. signature (b * s) s) (range_with_len 0 (blocks s n)))
+
+-- the sheets of a specification on such a row
+abbrev pub sheets_in_signatures : Spec → (s n : ℕ) → List (List Slot)
+sheets_in_signatures spec s n = let row = signature_row s n in sheets_over spec (length row) (λ k. slice_index_or row k None)
