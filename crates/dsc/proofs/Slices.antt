@@ -14,7 +14,7 @@ use Rattle.std.specs.Prelude.{Result, Ok, Err}
 use Rattle.std.proofs.Common.{append-nil}
 use Rattle.dsc.proofs.Rows.{joined, units-whole}
 use Rattle.dsc.proofs.Alone.{cut-begins, nested-bytes}
-use Rattle.dsc.proofs.PartMarks.{before-cons, page_count}
+use Rattle.dsc.proofs.PartMarks.{before-cons, from-cons, page_count}
 
 -- where the next page begins, or all end
 first_start : (at : ℕ) (us : List NestedUnit) → get_or (page_starts at us) 0 (at + length (bytes_of us)) ≡ at + length (bytes_of (up_to begins_page us))
@@ -144,6 +144,26 @@ parts_whole us =
 pub text_whole : (text : List ℕ) → cut text ≡ Ok (or_none (cut text)) → text ≡ bytes_of (units_of text)
 text_whole text e =
     units-whole (or_none (cut text)) text [] (cut-begins text (or_none (cut text)) e) ∙ append-nil (joined (or_none (cut text))) ∙ sym (nested-bytes 0 (or_none (cut text)))
+
+-- the pages begin with a page's line
+from_page : (p q : NestedUnit → Bool) (us : List NestedUnit) → up_to p (up_to q (starting_at p us)) ≡ []
+from_page p q [] = refl
+from_page p q (u ∷ us) = by_test (p u)
+    (λ is.
+        ap (λ vs. up_to p (up_to q vs)) (from-cons p u us ∙ ap (λ t. cond t (u ∷ us) (starting_at p us)) is)
+        ∙ ap (up_to p) (before-cons q u us) ∙ front (q u) is)
+    (λ isnt. ap (λ vs. up_to p (up_to q vs)) (from-cons p u us ∙ ap (λ t. cond t (u ∷ us) (starting_at p us)) isnt) ∙ from_page p q us)
+  where
+    front : (t : Bool) → p u ≡ true → up_to p (cond t [] (u ∷ up_to q us)) ≡ []
+    front true is = refl
+    front false is = before-cons p u (up_to q us) ∙ ap (λ t. cond t [] (u ∷ up_to p (up_to q us))) is
+
+-- the first page begins behind the preamble
+pub preamble_start : (us : List NestedUnit) → get_or (starts_of us) 0 (end_of us) ≡ length (bytes_of (preamble us))
+preamble_start us =
+    let none : length (bytes_of (up_to begins_page (page_run us))) ≡ 0 = ap (λ vs. length (bytes_of vs)) (from_page begins_page begins_trailer us) in
+    let start = first_start (length (bytes_of (preamble us))) (page_run us) in
+    omega (arith, start, none)
 
 -- a page of a document, as the code finds it
 pub page_found : (text starts : List ℕ) (stop p : ℕ) → cut text ≡ Ok (or_none (cut text)) → starts ≡ starts_of (units_of text) → stop ≡ end_of (units_of text) → p < length (pages (units_of text))

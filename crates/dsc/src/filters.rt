@@ -1,7 +1,10 @@
 //! What is kept of a text.
-ghost use Rattle.std.specs.Prelude.{◌≡◌, ◌+◌, ◌≤◌, [], ◌∷◌, ◌++◌, length, take, drop, IfOk, IfErr, OnOk, if◌then◌else◌, false};
-ghost use Rattle.profile.specs.Units.{is_end};
-ghost use Rattle.profile.specs.Filters.{ended, prepared};
+ghost use Rattle.std.specs.Prelude.{◌≡◌, ◌+◌, ◌≤◌, [], ◌∷◌, ◌++◌, length, take, drop, IfOk, IfErr, OnOk, if◌then◌else◌, false, Ok, codes, decimal};
+ghost use Rattle.profile.specs.Bytes.{line};
+ghost use Rattle.profile.specs.Units.{is_end, cut};
+ghost use Rattle.profile.specs.Parts.{bytes_of};
+ghost use Rattle.profile.specs.Filters.{kept, drops_in_header, ended, prepared};
+ghost use Rattle.dsc.specs.Units.{or_none, units_of};
 ghost use Rattle.dsc.specs.Views.{unit_of, Gives};
 ghost use Rattle.dsc.specs.Faults.{block_fault_told, page_fault_told, IsPageError};
 ghost use Rattle.dsc.specs.Filters.{drops_of, is_dropped, filter_on};
@@ -9,6 +12,7 @@ ghost use Rattle.dsc.specs.Filters.{drops_of, is_dropped, filter_on};
 use crate::errors::{CutError, DscError, widen};
 use crate::keys::{key_of, meaning_of};
 use crate::units::{Unit, UnitError, first_unit};
+use itoa::Buffer;
 use std::alloc::{AllocError, Global};
 
 /// Whether a line with this content is dropped where it is outermost.
@@ -66,7 +70,7 @@ fn go_on<'d>(
 }
 
 /// Adds to `kept` what is kept of the text.
-pub fn filter(
+fn filter(
     kept: Vec<u8>,
     in_page: bool,
     text: &[u8],
@@ -103,6 +107,31 @@ pub fn filter(
     }
 }
 
+/// Adds to `front` what is kept of a part of a preamble or of a trailer, which has no faulty block.
+pub fn filter_header(front: Vec<u8>, text: &[u8]) -> Result<Vec<u8>, AllocError>
+    requires { cut text.now ≡ Ok (or_none (cut text.now)) }
+    ensures { IfOk result (λ v. v.items ≡ front.items ++ bytes_of (kept drops_in_header (units_of text.now))) }
+{
+    match filter(front, false, text) {
+        Ok(kept) => Ok(kept),
+        Err(CutError::NoMemory) => Err(AllocError),
+        Err(CutError::BadCount(_)) => unreachable!(),
+        Err(CutError::ShortData(_)) => unreachable!(),
+    }
+}
+
+/// A document's first line, and the count of its sheets on a line behind it.
+pub fn with_count(alloc: Global, first: &[u8], sheets: u32) -> Result<Vec<u8>, AllocError>
+    ensures { IfOk result (λ v. v.items ≡ first.now ++ line (codes "%%Pages: " ++ decimal sheets)) }
+{
+    let mut digits = Buffer::new();
+    let mut text = Vec::from_slice(alloc, first)?;
+    text.extend_from_slice(b"%%Pages: ")?;
+    text.extend_from_slice(digits.format(sheets).as_bytes())?;
+    text.push(b'\n')?;
+    Ok(text)
+}
+
 fn is_line_end(byte: u8) -> bool
     ensures { result ≡ is_end byte }
 {
@@ -120,7 +149,7 @@ fn wants_end(bytes: &[u8]) -> bool
 }
 
 /// Adds a line end where the last byte is none.
-fn end_line(kept: &mut Vec<u8>) -> Result<(), AllocError>
+pub fn end_line(kept: &mut Vec<u8>) -> Result<(), AllocError>
     ensures { OnOk result (kept.new.items ≡ ended kept.old.items) }
 {
     if wants_end(kept.as_slice()) {

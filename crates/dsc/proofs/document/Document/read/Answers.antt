@@ -33,7 +33,7 @@ invariant_of-result c =
     let some = some_of _ (sym c.is_empty.ensures ∙ c.if-is_empty.false) in
     let few : length c.in-Ok.seen.starts.items ≤ 1_000_000 = omega (arith, c.if-len-gt1000000.false, c.len.ensures, c.in-Ok.seen.starts.ok.0) in
     let w = good_read 1_000_001 c.args.text.now c.in-Ok.seen.starts.items c.in-Ok.seen.stop opens (omega arith) c.in-Ok.ensures (omega (arith, some, c.in-Ok.seen.starts.ok.0)) few in
-    record { accepted = w.0; is_cut = w.1; starts_are = w.2; few = few; stop_is = c.stop_or-stop.ensures ∙ w.3 }
+    record { accepted = w.0; is_cut = w.1; starts_are = w.2; some = omega (arith, some, c.in-Ok.seen.starts.ok.0); few = few; stop_is = c.stop_or-stop.ensures ∙ w.3 }
 
 pub returns-clause-answer : goal.returns-clause-answer
 returns-clause-answer c =
