@@ -1,0 +1,12 @@
+//! Numbers, lengths, papers, and how they are read and printed in decimals.
+#![tactic(auto)]
+
+mod grains;
+mod number;
+mod paper;
+mod unit;
+
+pub use grains::Grains;
+pub use number::Number;
+pub use paper::Paper;
+pub use unit::Unit;
