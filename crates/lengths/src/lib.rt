@@ -1,12 +1,14 @@
 //! Numbers, lengths, papers, and how they are read and printed in decimals.
 #![tactic(auto)]
 
+mod convert;
 mod grains;
 mod number;
 mod paper;
 mod read;
 mod unit;
 
+pub use convert::to_grains;
 pub use grains::Grains;
 pub use number::Number;
 pub use paper::Paper;

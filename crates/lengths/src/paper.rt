@@ -1,6 +1,6 @@
 //! A sheet of paper.
 ghost use Rattle.std.specs.Prelude.{◌≡◌, ◌↔◌, IsSome, IfSome, IsTrue};
-ghost use Rattle.profile.specs.Papers.{is_paper, is_side as side_fits};
+ghost use Rattle.profile.specs.Papers.{is_paper, is_side};
 
 use super::grains::Grains;
 use std::marker::Model;
@@ -34,7 +34,7 @@ impl Paper {
         ensures fits { IsSome result ↔ IsTrue (is_paper width height) }
         ensures sides { IfSome result (λ p. p ≡ record { width = width; height = height }) }
     {
-        if is_side(width) && is_side(height) {
+        if may_be_side(width) && may_be_side(height) {
             Some(Paper { width, height })
         } else {
             None
@@ -43,22 +43,24 @@ impl Paper {
 
     /// The width, in grains.
     pub fn width(&self) -> Grains
-        ensures { result ≡ self.now.width }
+        ensures value { result ≡ self.now.width }
+        ensures in_range { IsTrue (is_side result) }
     {
         self.width
     }
 
     /// The height, in grains.
     pub fn height(&self) -> Grains
-        ensures { result ≡ self.now.height }
+        ensures value { result ≡ self.now.height }
+        ensures in_range { IsTrue (is_side result) }
     {
         self.height
     }
 }
 
 /// Whether a paper may have this side.
-fn is_side(side: Grains) -> bool
-    ensures { result ≡ side_fits side }
+fn may_be_side(side: Grains) -> bool
+    ensures { result ≡ is_side side }
 {
     1 <= side.get() && side.get() <= LONGEST_SIDE
 }
