@@ -2,3 +2,4 @@ pub mod Digits
 pub mod Numbers
 pub mod Powers
 pub mod Scans
+pub mod LastZeros

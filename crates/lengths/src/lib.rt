@@ -5,6 +5,7 @@ mod convert;
 mod grains;
 mod number;
 mod paper;
+mod print;
 mod read;
 mod unit;
 
