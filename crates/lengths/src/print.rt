@@ -1,5 +1,5 @@
 //! Numbers and lengths printed in decimals.
-ghost use Rattle.std.specs.Prelude.{◌≡◌, ◌+◌, ◌*◌, ◌/◌, ◌%◌, ◌^◌, ◌<◌, ◌≤◌, ◌++◌, ℕ, ℤ, FitsSigned, nat_abs, drop, decimal, length, [], ◌∷◌, if◌then◌else◌, OnOk, OnErr};
+ghost use Rattle.std.specs.Prelude.{◌≡◌, ◌+◌, ◌*◌, ◌/◌, ◌%◌, ◌^◌, ◌<◌, ◌≤◌, ◌++◌, ℕ, ℤ, FitsSigned, nat_abs, drop, decimal, length, [], ◌∷◌, if◌then◌else◌, OnOk, OnErr, vec_len, vec_capacity};
 ghost use Rattle.profile.specs.Bytes.{minus_sign};
 ghost use Rattle.profile.specs.Numbers.{without_last_zeros as kept, decimals_of, fraction_text, is_negative, sign_text, whole_text, printed, scale_text, number_text, points_text};
 
@@ -10,17 +10,19 @@ use itoa::Buffer;
 use std::alloc::AllocError;
 
 /// Appends a length in points, rounded to five decimals, half away from zero. Where memory is refused, nothing is appended.
-pub fn print_points(length: Grains, out: &mut Vec<u8>) -> Result<(), AllocError>
-    ensures appended { OnOk result (out.new.items ≡ out.old.items ++ points_text length) }
+pub fn print_points(grains: Grains, out: &mut Vec<u8>) -> Result<(), AllocError>
+    ensures appended { OnOk result (out.new.items ≡ out.old.items ++ points_text grains) }
     ensures unchanged { OnErr result (out.new.items ≡ out.old.items) }
+    ensures full { OnErr result (vec_capacity out.old < vec_len out.old + length (points_text grains)) }
 {
-    append_decimal(rounded(length.get(), 1_270_000) as i64, 5, out)
+    append_decimal(rounded(grains.get(), 1_270_000) as i64, 5, out)
 }
 
 /// Appends a number in full. Where memory is refused, nothing is appended.
 pub fn print_scale(number: Number, out: &mut Vec<u8>) -> Result<(), AllocError>
     ensures appended { OnOk result (out.new.items ≡ out.old.items ++ scale_text number) }
     ensures unchanged { OnErr result (out.new.items ≡ out.old.items) }
+    ensures full { OnErr result (vec_capacity out.old < vec_len out.old + length (scale_text number)) }
 {
     append_decimal(number.billionths(), 9, out)
 }
@@ -30,6 +32,7 @@ pub fn print_scale(number: Number, out: &mut Vec<u8>) -> Result<(), AllocError>
 pub fn print_number(number: Number, out: &mut Vec<u8>) -> Result<(), AllocError>
     ensures appended { OnOk result (out.new.items ≡ out.old.items ++ number_text number) }
     ensures unchanged { OnErr result (out.new.items ≡ out.old.items) }
+    ensures full { OnErr result (vec_capacity out.old < vec_len out.old + length (number_text number)) }
 {
     let size = number.billionths().unsigned_abs();
     let whole = size / 1_000_000_000;
@@ -53,6 +56,7 @@ fn append_decimal(value: i64, places: u32, out: &mut Vec<u8>) -> Result<(), Allo
     requires { places ≤ 9 }
     ensures appended { OnOk result (out.new.items ≡ out.old.items ++ printed places value) }
     ensures unchanged { OnErr result (out.new.items ≡ out.old.items) }
+    ensures full { OnErr result (vec_capacity out.old < vec_len out.old + length (printed places value)) }
 {
     let one = 10u64.pow(places);
     let size = value.unsigned_abs();
@@ -114,6 +118,8 @@ fn append(
     ensures appended { OnOk result (out.new.items ≡
         out.old.items ++ ((if negative then minus_sign ∷ [] else []) ++ whole.now ++ fraction_text decimals.now)) }
     ensures unchanged { OnErr result (out.new.items ≡ out.old.items) }
+    ensures full { OnErr result (vec_capacity out.old < vec_len out.old +
+        length ((if negative then minus_sign ∷ [] else []) ++ whole.now ++ fraction_text decimals.now)) }
 {
     let sign: &[u8] = if negative { b"-" } else { b"" };
     let point: &[u8] = if decimals.is_empty() { b"" } else { b"." };
