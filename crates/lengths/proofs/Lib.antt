@@ -3,3 +3,4 @@ pub mod Numbers
 pub mod Powers
 pub mod Scans
 pub mod LastZeros
+pub mod Table

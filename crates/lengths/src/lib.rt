@@ -3,6 +3,7 @@
 
 mod convert;
 mod grains;
+mod named;
 mod number;
 mod paper;
 mod print;
@@ -11,6 +12,7 @@ mod unit;
 
 pub use convert::to_grains;
 pub use grains::Grains;
+pub use named::paper_by_name;
 pub use number::Number;
 pub use paper::Paper;
 pub use read::{NumberError, read_digits, read_number};

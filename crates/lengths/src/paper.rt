@@ -1,9 +1,12 @@
 //! A sheet of paper.
-ghost use Rattle.std.specs.Prelude.{◌≡◌, ◌↔◌, IsSome, IfSome, IsTrue};
-ghost use Rattle.profile.specs.Papers.{is_paper, is_side};
+ghost use Rattle.std.specs.Prelude.{◌≡◌, ◌↔◌, ◌<◌, IsSome, IfSome, IsTrue};
+ghost use Rattle.profile.specs.Papers.{is_paper, is_side, points};
 
 use super::grains::Grains;
 use std::marker::Model;
+
+/// The grains of one point.
+const GRAINS_OF_POINT: i128 = 127_000_000_000;
 
 /// The greatest length that a number of inches can name.
 const LONGEST_SIDE: i128 = 914_399_999_999_990_856;
@@ -38,6 +41,18 @@ impl Paper {
             Some(Paper { width, height })
         } else {
             None
+        }
+    }
+
+    /// A paper of so many points.
+    pub(crate) fn of_points(width: u32, height: u32) -> Paper
+        requires width { (0 < width) × (width < 7_200_000) }
+        requires height { (0 < height) × (height < 7_200_000) }
+        ensures { result ≡ points width height }
+    {
+        Paper {
+            width: Grains::of(i128::from(width) * GRAINS_OF_POINT),
+            height: Grains::of(i128::from(height) * GRAINS_OF_POINT),
         }
     }
 
