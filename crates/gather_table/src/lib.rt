@@ -1,0 +1,5 @@
+//! The gathering table: which pages have come and which slots of a sheet still miss theirs.
+#![tactic(auto)]
+
+pub mod answers;
+pub mod laws;
