@@ -1,4 +1,7 @@
 pub mod Histories
-pub mod Words
+pub mod Bits
 pub mod Legal
 pub mod Shows
+pub mod Blanks
+pub mod Replies
+pub mod Stored

@@ -8,7 +8,7 @@ use Rattle.gather_table.specs.Table.{TableState, slot_count, start, with_mark, a
 use Rattle.gather_table.specs.History.{Entry, Publish, Mark, Look, PageAt, after, after_all, Fits, AllFit, IsLegal, after_history}
 use Rattle.gather_table.specs.Laws.{LookShows}
 use Rattle.gather_table.proofs.Histories.{after_all-append, AllFit_back}
-use Rattle.gather_table.proofs.Words.{bits_not, full_bits}
+use Rattle.gather_table.proofs.Bits.{bits_not, full_bits}
 use Rattle.gather_table.proofs.Legal.{all_at}
 
 grows : (t : TableState) (e : Entry) (s k : ℕ) → t.marked s k ≡ true → (after t e).marked s k ≡ true

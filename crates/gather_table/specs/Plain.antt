@@ -1,8 +1,13 @@
 -- The one-thread table as a value of the program.
-use Rattle.std.specs.Prelude.{◌≡◌, ℕ, ◌<◌, ◌^◌, List, length, Option, None, slice_index, slice_index_or}
+use Rattle.std.specs.Prelude.{◌≡◌, ℕ, ◌<◌, ◌^◌, List, length, map, Option, None, slice_index, slice_index_or}
+use Rattle.std.specs.Global.{Vec}
 use Rattle.profile.specs.Sheets.{Layout}
 use Rattle.gather_table.specs.Table.{TableState, slot_count}
 use Rattle.gather_table.specs.Words.{has_bit}
+
+-- the layout of so many pages and these sheets
+abbrev pub layout_of : ℕ → List (Vec (Option ℕ)) → Layout
+layout_of pages sheets = record { pages = pages; sheets = map (λ slots. slots.items) sheets }
 
 -- its layout, the index of each page, and for each sheet its marked slots as the bits of a number
 pub record PlainView : Type 0 where

@@ -1,7 +1,7 @@
 //! What the calls of a table answer.
 
 /// The answer of a publish.
-#[derive(Drop, Clone, Copy)]
+#[derive(Debug, Clone, Copy, PartialEq, Eq)]
 pub enum Published {
     /// The page had no index, and has this one now.
     Stored,
@@ -10,7 +10,7 @@ pub enum Published {
 }
 
 /// The answer of a mark.
-#[derive(Drop, Clone, Copy)]
+#[derive(Debug, Clone, Copy, PartialEq, Eq)]
 pub enum Reply {
     /// The slot was missing, and others still are.
     Fresh,

@@ -3,3 +3,7 @@
 
 pub mod answers;
 pub mod laws;
+pub mod plain;
+mod words;
+#[cfg(test)]
+mod tests;

@@ -1,12 +1,13 @@
--- A set of numbers below n as the bits of a word.
-use Rattle.std.proofs.Common.{◌≡◌, ◌≢◌, ◌⊎◌, ℕ, zero, suc, ◌+◌, ◌-◌, ◌*◌, ◌<◌, ◌≤◌, ◌^◌, eqb, Bool, true, false, not, true≢false, ◌&&◌, List, refl, sym, ap, ◌∙◌, subst, arith, eq-eqb, ne_eqb}
+-- A set of numbers below n as the bits of a word, and the bits of a word as a set.
+use Rattle.std.proofs.Common.{◌≡◌, ◌≢◌, ◌⊎◌, ℕ, zero, suc, ◌+◌, ◌-◌, ◌*◌, ◌/◌, ◌%◌, ◌<◌, ◌≤◌, ◌^◌, eqb, Bool, true, false, not, true≢false, ◌&&◌, List, refl, sym, ap, ◌∙◌, subst, arith, eq-eqb, ne_eqb}
 use Rattle.std.specs.Prelude.{if◌then◌else◌, ◌==◌, bit_and, bit_or}
 use mathlib.Core.Logic.{dite}
 use native.Mathlib.Decide.{ℕ_discrete}
 use Rattle.std.proofs.Math.Nat.{two-pow-succ}
-use Rattle.std.proofs.lemmas.Nat.{or_block, and_block, pow_pos, pow_below}
+use Rattle.std.proofs.lemmas.Nat.{or_block, and_block, pow_pos, pow_below, mod-pow-add, shr-shr, shr_high, mod_low, mod_below}
 use Rattle.std.specs.Int.Bits.{or_zero_r, and_zero_r, or_add_and}
 use Rattle.gather_table.specs.Table.{bits, with_mark, all_below}
+use Rattle.gather_table.specs.Words.{has_bit}
 
 -- a bit, as a number
 abbrev digit : Bool → ℕ
@@ -43,7 +44,7 @@ bits_same f g (suc n) h = λ i. bits_same f g n (λ k lt. h k (omega arith)) i +
 with_here : (f : ℕ → Bool) (k : ℕ) → with_mark f k k ≡ true
 with_here f k = ap (λ b. if b then true else f k) (eq-eqb k k refl)
 
-with_else : (f : ℕ → Bool) (k j : ℕ) → j ≢ k → with_mark f k j ≡ f j
+pub with_else : (f : ℕ → Bool) (k j : ℕ) → j ≢ k → with_mark f k j ≡ f j
 with_else f k j n = ap (λ b. if b then true else f j) (ne_eqb j k n)
 
 or_digit : (b : Bool) → bit_or (digit b) 1 ≡ 1
@@ -143,3 +144,69 @@ full_bits f n = two (all_below f n) refl
     two : (b : Bool) → all_below f n ≡ b → (bits f n == 2 ^ n - 1) ≡ all_below f n
     two true e = let a = full f n e in rw e (eq-eqb (bits f n) (2 ^ n - 1) (omega arith))
     two false e = let a : bits f n + 1 < 2 ^ n = lacks f n e in rw e (ne_eqb (bits f n) (2 ^ n - 1) (λ (z : bits f n ≡ 2 ^ n - 1). omega arith))
+
+two_cases : (r : ℕ) → r < 2 → (if r == 1 then 1 else 0) ≡ r
+two_cases zero lt = refl
+two_cases (suc zero) lt = refl
+two_cases (suc (suc r)) lt = absurd (omega arith)
+
+scaled : (b : Bool) (x r : ℕ) → (if b then 1 else 0) ≡ r → (if b then x else 0) ≡ r * x
+scaled true x r e = let f : r ≡ 1 = omega arith in rw f (omega arith)
+scaled false x r e = let f : r ≡ 0 = omega arith in rw f (omega arith)
+
+-- the bits of a number, put together again
+pub bits_of : (n m : ℕ) → bits (has_bit n) m ≡ n % 2 ^ m
+bits_of n zero = omega arith
+bits_of n (suc m) =
+    let ih = bits_of n m in
+    let e : 2 ^ (1 + m) ≡ 2 ^ suc m = ap (λ (k : ℕ). 2 ^ k) (omega arith) in
+    let a = mod-pow-add n 1 m in
+    let r : (if has_bit n m then 1 else 0) ≡ n / 2 ^ m % 2 = two_cases (n / 2 ^ m % 2) (omega arith) in
+    let s = scaled (has_bit n m) (2 ^ m) (n / 2 ^ m % 2) r in
+    let f : n % 2 ^ suc m ≡ n % 2 ^ (1 + m) = ap (λ (k : ℕ). n % k) (sym e) in
+    omega arith
+
+cut_bits : (f : ℕ → Bool) (n : ℕ) → bits f n % 2 ^ n ≡ bits f n
+cut_bits f n = let b = bits_lt f n in let m = mod_low 0 n (bits f n) b in let e : 0 * 2 ^ n + bits f n ≡ bits f n = omega arith in sym (ap (λ (k : ℕ). k % 2 ^ n) e) ∙ m
+
+top_same : (a b : Bool) (x y p : ℕ) → x < p → y < p → x + (if a then p else 0) ≡ y + (if b then p else 0) → (a ≡ b) × (x ≡ y)
+top_same true true x y p lx ly e = (refl, omega arith)
+top_same true false x y p lx ly e = absurd (omega arith)
+top_same false true x y p lx ly e = absurd (omega arith)
+top_same false false x y p lx ly e = (refl, omega arith)
+
+-- two sets with one word are the same
+pub bits_tell : (f g : ℕ → Bool) (n : ℕ) → bits f n ≡ bits g n → (k : ℕ) → k < n → f k ≡ g k
+bits_tell f g zero e k lt = absurd (omega arith)
+bits_tell f g (suc n) e k lt =
+    let t = top_same (f n) (g n) (bits f n) (bits g n) (2 ^ n) (bits_lt f n) (bits_lt g n) e in
+    dite (ℕ_discrete k n) (λ (is : k ≡ n). ap f is ∙ t.0 ∙ ap g (sym is)) (λ other. bits_tell f g n t.1 k (omega arith))
+
+pub bit_of_bits : (f : ℕ → Bool) (n k : ℕ) → k < n → has_bit (bits f n) k ≡ f k
+bit_of_bits f n k lt = bits_tell (has_bit (bits f n)) f n (bits_of (bits f n) n ∙ cut_bits f n) k lt
+
+-- numbers that agree up to 2 ^ m have the same bits below m
+pub same_low : (a b m : ℕ) → a % 2 ^ m ≡ b % 2 ^ m → (k : ℕ) → k < m → has_bit a k ≡ has_bit b k
+same_low a b m e k lt = bits_tell (has_bit a) (has_bit b) m (bits_of a m ∙ e ∙ sym (bits_of b m)) k lt
+
+pub has_later : (n i k : ℕ) → has_bit (n / 2 ^ i) k ≡ has_bit n (i + k)
+has_later n i k = ap (λ (x : ℕ). x % 2 == 1) (shr-shr n i k)
+
+-- one more bit
+pub bit_or_at : (n j i : ℕ) → n < 2 ^ 64 → j < 64 → i < 64 → has_bit (bit_or n (2 ^ j)) i ≡ with_mark (has_bit n) j i
+bit_or_at n j i small lj li =
+    let low = mod_low 0 64 n small in
+    let z : 0 * 2 ^ 64 + n ≡ n = omega arith in
+    let whole : bits (has_bit n) 64 ≡ n = bits_of n 64 ∙ sym (ap (λ (k : ℕ). k % 2 ^ 64) z) ∙ low in
+    let e : bit_or n (2 ^ j) ≡ bits (with_mark (has_bit n) j) 64 = ap (λ (x : ℕ). bit_or x (2 ^ j)) (sym whole) ∙ or_bits (has_bit n) 64 j lj in
+    ap (λ (x : ℕ). has_bit x i) e ∙ bit_of_bits (with_mark (has_bit n) j) 64 i li
+
+-- a word on top of the bits below first
+pub bit_above : (hi first lo k : ℕ) → lo < 2 ^ first → has_bit (hi * 2 ^ first + lo) (first + k) ≡ has_bit hi k
+bit_above hi first lo k lt = sym (has_later (hi * 2 ^ first + lo) first k) ∙ ap (λ (x : ℕ). has_bit x k) (shr_high hi first lo lt)
+
+pub bit_below : (hi first lo k : ℕ) → lo < 2 ^ first → k < first → has_bit (hi * 2 ^ first + lo) k ≡ has_bit lo k
+bit_below hi first lo k lt less = same_low (hi * 2 ^ first + lo) lo first (mod_low hi first lo lt ∙ sym (sym (ap (λ (x : ℕ). x % 2 ^ first) z) ∙ mod_low 0 first lo lt)) k less
+  where
+    z : 0 * 2 ^ first + lo ≡ lo
+    z = omega arith
