@@ -1,11 +1,11 @@
 -- A set of numbers below n as the bits of a word, and the bits of a word as a set.
-use Rattle.std.proofs.Common.{◌≡◌, ◌≢◌, ◌⊎◌, ℕ, zero, suc, ◌+◌, ◌-◌, ◌*◌, ◌/◌, ◌%◌, ◌<◌, ◌≤◌, ◌^◌, eqb, Bool, true, false, not, true≢false, ◌&&◌, List, refl, sym, ap, ◌∙◌, subst, arith, eq-eqb, ne_eqb}
+use Rattle.std.proofs.Common.{◌≡◌, ◌≢◌, ℕ, zero, suc, ◌+◌, ◌-◌, ◌*◌, ◌/◌, ◌%◌, ◌<◌, ◌^◌, Bool, true, false, not, true≢false, ◌&&◌, refl, sym, ap, ◌∙◌, subst, arith, eq-eqb, ne_eqb}
 use Rattle.std.specs.Prelude.{if◌then◌else◌, ◌==◌, bit_and, bit_or}
 use mathlib.Core.Logic.{dite}
 use native.Mathlib.Decide.{ℕ_discrete}
 use Rattle.std.proofs.Math.Nat.{two-pow-succ}
-use Rattle.std.proofs.lemmas.Nat.{or_block, and_block, pow_pos, pow_below, mod-pow-add, shr-shr, shr_high, mod_low, mod_below}
-use Rattle.std.specs.Int.Bits.{or_zero_r, and_zero_r, or_add_and}
+use Rattle.std.proofs.lemmas.Nat.{or_block, pow_pos, pow_below, mod-pow-add, shr-shr, shr_high, mod_low}
+use Rattle.std.specs.Int.Bits.{or_zero_r, or_add_and}
 use Rattle.gather_table.specs.Table.{bits, with_mark, all_below}
 use Rattle.gather_table.specs.Words.{has_bit}
 
@@ -115,8 +115,8 @@ and_bits f n k lt = two (f k) refl
         plus f zero k lt e = absurd (omega arith)
         plus f (suc n) k lt e = dite (ℕ_discrete n k)
             (λ is. subst (λ j. f j ≡ false → bits (with_mark f j) (suc n) ≡ bits f (suc n) + 2 ^ j) is (λ e'.
-                let same : bits (with_mark f n) n ≡ bits f n = bits_same (with_mark f n) f n (λ j less. with_else f n j (λ z. absurd (omega arith))) in
-                rw (with_here f n, e') (omega arith)) e)
+            let same : bits (with_mark f n) n ≡ bits f n = bits_same (with_mark f n) f n (λ j less. with_else f n j (λ z. absurd (omega arith))) in
+            rw (with_here f n, e') (omega arith)) e)
             (λ ne. let h = plus f n k (omega arith) e in rw (with_else f k n ne) (omega arith))
 
 and_true : (a b : Bool) → (a && b) ≡ true → (a ≡ true) × (b ≡ true)

@@ -1,6 +1,6 @@
 -- Histories that grow by one call.
-use Rattle.std.proofs.Common.{◌≡◌, ℕ, zero, suc, ◌+◌, ◌<◌, ◌≤◌, ◌^◌, List, [], ◌∷◌, ◌++◌, length, refl, sym, ap, ◌∙◌, subst, arith, eq-eqb, ne_eqb}
-use Rattle.std.specs.Prelude.{Some, None, Option, unwrap_or, slice_get, if◌then◌else◌}
+use Rattle.std.proofs.Common.{◌≡◌, ℕ, zero, suc, ◌<◌, List, [], ◌∷◌, ◌++◌, length, refl, sym, ap, ◌∙◌, subst, arith, eq-eqb, ne_eqb}
+use Rattle.std.specs.Prelude.{Some, unwrap_or, slice_get, if◌then◌else◌}
 use mathlib.Core.Logic.{dite}
 use native.Mathlib.Decide.{ℕ_discrete}
 use Rattle.profile.specs.Sheets.{Layout}
@@ -49,7 +49,7 @@ markable_later layout front rest log s k e m = record {
   page = m.page;
   index = m.index;
   needed = m.needed;
-  published = subst (λ t. t.index m.page ≡ Some m.index) (sym (after_all-append (start layout) front rest) ∙ ap (after_history layout) e) (keeps_indexes (after_history layout front) rest m.page m.index m.published)
+  published = subst (λ t. t.index m.page ≡ Some m.index) (sym (after_all-append (start layout) front rest) ∙ ap (after_history layout) e) (keeps_indexes (after_history layout front) rest m.page m.index m.published);
 }
 
 pub below_length : {A : Type 0} (xs : List A) (k : ℕ) (x : A) → slice_get xs k ≡ Some x → k < length xs

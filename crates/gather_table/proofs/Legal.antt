@@ -1,13 +1,12 @@
 -- What holds of every legal history.
-use Rattle.std.proofs.Common.{◌≡◌, ◌≢◌, ◌⊎◌, ℕ, zero, suc, ◌+◌, ◌-◌, ◌<◌, ◌≤◌, Bool, true, false, true≢false, not, ◌&&◌, List, [], ◌∷◌, ◌++◌, length, refl, sym, ap, ◌∙◌, subst, arith, eq-eqb, ne_eqb, eqb}
+use Rattle.std.proofs.Common.{◌≡◌, ℕ, zero, suc, ◌+◌, ◌<◌, ◌≤◌, Bool, true, false, true≢false, ◌&&◌, List, [], ◌∷◌, ◌++◌, refl, sym, ap, ◌∙◌, subst, arith, eq-eqb, ne_eqb}
 use Rattle.std.specs.Prelude.{Some, None, Option, if◌then◌else◌, ◌==◌, slice_get}
 use mathlib.Core.Logic.{dite}
 use native.Mathlib.Decide.{ℕ_discrete}
-use Rattle.gather_table.specs.declared.answers.Reply.{Reply}
 use Rattle.gather_table.specs.declared.answers.Reply.TheVariants.{Fresh, Repeated, Completing}
 use Rattle.profile.specs.Sheets.{Layout}
-use Rattle.gather_table.specs.Table.{TableState, slots, slot_count, start, with_mark, with_marked, all_below, is_blank, mark_reply, IsMarkable}
-use Rattle.gather_table.specs.History.{Entry, Publish, Mark, Look, PageAt, after, after_all, Fits, AllFit, IsLegal, IsComplete, after_history}
+use Rattle.gather_table.specs.Table.{TableState, slots, slot_count, start, with_mark, all_below, is_blank, mark_reply}
+use Rattle.gather_table.specs.History.{Entry, Publish, Mark, Look, PageAt, after, after_all, Fits, AllFit, after_history}
 use Rattle.gather_table.specs.Laws.{is_completing, completes, completings, AtMostOneCompleting, CompleteFromCompletingOn, NoneWhereBornComplete, OneWhereCompleted, IndexStays, PagesOfComplete}
 use Rattle.gather_table.proofs.Histories.{after_all-append, AllFit_back, keeps_index, keeps_indexes, below_length}
 
@@ -81,15 +80,15 @@ one_entry layout t (Look r m) s f = omega arith
 one_entry layout t (PageAt p o) s f = omega arith
 one_entry layout t (Mark r k q) s f = dite (ℕ_discrete s r)
     (λ same. subst (λ (z : ℕ). digit (is_completing q && (r == z)) + digit (is_full layout t z) ≡ digit (all_below (if z == r then with_mark (t.marked r) k else t.marked z) (slot_count layout z))) (sym same)
-        (let m = mark_count (t.marked r) (slot_count layout r) k (below_length _ k _ f.1.needed) in
-         let a : (is_completing q && (r == r)) ≡ is_completing (mark_reply (t.marked r) (slot_count layout r) k) = ap (λ b. is_completing q && b) (eq-eqb r r refl) ∙ and_yes (is_completing q) ∙ ap is_completing f.2 in
-         let b : digit (is_completing q && (r == r)) ≡ digit (is_completing (mark_reply (t.marked r) (slot_count layout r) k)) = ap digit a in
-         let c : digit (all_below (if r == r then with_mark (t.marked r) k else t.marked r) (slot_count layout r)) ≡ digit (all_below (with_mark (t.marked r) k) (slot_count layout r)) = ap (λ (b : Bool). digit (all_below (if b then with_mark (t.marked r) k else t.marked r) (slot_count layout r))) (eq-eqb r r refl) in
-         omega arith))
+    (let m = mark_count (t.marked r) (slot_count layout r) k (below_length _ k _ f.1.needed) in
+    let a : (is_completing q && (r == r)) ≡ is_completing (mark_reply (t.marked r) (slot_count layout r) k) = ap (λ b. is_completing q && b) (eq-eqb r r refl) ∙ and_yes (is_completing q) ∙ ap is_completing f.2 in
+    let b : digit (is_completing q && (r == r)) ≡ digit (is_completing (mark_reply (t.marked r) (slot_count layout r) k)) = ap digit a in
+    let c : digit (all_below (if r == r then with_mark (t.marked r) k else t.marked r) (slot_count layout r)) ≡ digit (all_below (with_mark (t.marked r) k) (slot_count layout r)) = ap (λ (b : Bool). digit (all_below (if b then with_mark (t.marked r) k else t.marked r) (slot_count layout r))) (eq-eqb r r refl) in
+    omega arith))
     (λ other.
-        let a : digit (is_completing q && (r == s)) ≡ 0 = ap digit (ap (λ b. is_completing q && b) (ne_eqb r s (λ e. other (sym e))) ∙ and_false (is_completing q)) in
-        let c : digit (all_below (if s == r then with_mark (t.marked r) k else t.marked s) (slot_count layout s)) ≡ digit (is_full layout t s) = ap (λ (b : Bool). digit (all_below (if b then with_mark (t.marked r) k else t.marked s) (slot_count layout s))) (ne_eqb s r other) in
-        omega arith)
+    let a : digit (is_completing q && (r == s)) ≡ 0 = ap digit (ap (λ b. is_completing q && b) (ne_eqb r s (λ e. other (sym e))) ∙ and_false (is_completing q)) in
+    let c : digit (all_below (if s == r then with_mark (t.marked r) k else t.marked s) (slot_count layout s)) ≡ digit (is_full layout t s) = ap (λ (b : Bool). digit (all_below (if b then with_mark (t.marked r) k else t.marked s) (slot_count layout s))) (ne_eqb s r other) in
+    omega arith)
 
 counts : (layout : Layout) (t : TableState) (es : List Entry) (s : ℕ) → AllFit layout t es → completings s es + digit (is_full layout t s) ≡ digit (is_full layout (after_all t es) s)
 counts layout t [] s f = omega arith
@@ -111,12 +110,15 @@ completings-append s [] ys = omega arith
 completings-append s (x ∷ xs) ys = let h = completings-append s xs ys in omega arith
 
 pub complete_from : CompleteFromCompletingOn
-complete_from layout before later s k l = record { sheet = (AllFit_back layout (start layout) before (Mark s k Completing ∷ later) l).0.0; marked = λ j lt.
-    let log = before ++ Mark s k Completing ∷ later in
-    let c = counts layout (start layout) log s l in
-    let a = completings-append s before (Mark s k Completing ∷ later) in
-    let one : completings s (Mark s k Completing ∷ later) ≡ 1 + completings s later = ap (λ (b : Bool). (if b then 1 else 0) + completings s later) (eq-eqb s s refl) in
-    all_at _ (slot_count layout s) j (full_if (is_full layout (after_history layout log) s) (omega arith)) lt }
+complete_from layout before later s k l = record {
+  sheet = (AllFit_back layout (start layout) before (Mark s k Completing ∷ later) l).0.0;
+  marked = λ j lt.
+      let log = before ++ Mark s k Completing ∷ later in
+      let c = counts layout (start layout) log s l in
+      let a = completings-append s before (Mark s k Completing ∷ later) in
+      let one : completings s (Mark s k Completing ∷ later) ≡ 1 + completings s later = ap (λ (b : Bool). (if b then 1 else 0) + completings s later) (eq-eqb s s refl) in
+      all_at _ (slot_count layout s) j (full_if (is_full layout (after_history layout log) s) (omega arith)) lt;
+}
 
 pub none_where_born : NoneWhereBornComplete
 none_where_born layout log s l born =
@@ -156,9 +158,9 @@ indexed_after layout t (Look r m') f h s k p at m = h s k p at m
 indexed_after layout t (PageAt q o) f h s k p at m = h s k p at m
 indexed_after layout t (Mark r j q) f h s k p at m = dite (ℕ_discrete s r)
     (λ same. dite (ℕ_discrete k j)
-      (λ here. let mine : slice_get (slots layout s) k ≡ Some (Some f.1.page) = ap (λ (z : ℕ). slice_get (slots layout z) k) same ∙ ap (slice_get (slots layout r)) here ∙ f.1.needed in
-        let eq : Some (Some p) ≡ Some (Some f.1.page) = sym at ∙ mine in let e : p ≡ f.1.page = cc in (f.1.index, ap t.index e ∙ f.1.published))
-      (λ ne. h s k p at (sym (ap (λ b. if b then true else t.marked r k) (ne_eqb k j ne) ∙ ap (λ (z : ℕ). t.marked z k) (sym same)) ∙ (ap (λ (b : Bool). (if b then with_mark (t.marked r) j else t.marked s) k) (sym (eq-eqb s r same)) ∙ m))))
+    (λ here. let mine : slice_get (slots layout s) k ≡ Some (Some f.1.page) = ap (λ (z : ℕ). slice_get (slots layout z) k) same ∙ ap (slice_get (slots layout r)) here ∙ f.1.needed in
+    let eq : Some (Some p) ≡ Some (Some f.1.page) = sym at ∙ mine in let e : p ≡ f.1.page = cc in (f.1.index, ap t.index e ∙ f.1.published))
+    (λ ne. h s k p at (sym (ap (λ b. if b then true else t.marked r k) (ne_eqb k j ne) ∙ ap (λ (z : ℕ). t.marked z k) (sym same)) ∙ (ap (λ (b : Bool). (if b then with_mark (t.marked r) j else t.marked s) k) (sym (eq-eqb s r same)) ∙ m))))
     (λ other. h s k p at (ap (λ (b : Bool). (if b then with_mark (t.marked r) j else t.marked s) k) (sym (ne_eqb s r other)) ∙ m))
 
 indexed : (layout : Layout) (t : TableState) (es : List Entry) → AllFit layout t es → Indexed layout t → Indexed layout (after_all t es)

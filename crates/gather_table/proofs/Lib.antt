@@ -5,3 +5,4 @@ pub mod Shows
 pub mod Blanks
 pub mod Replies
 pub mod Stored
+pub mod Markable

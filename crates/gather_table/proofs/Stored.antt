@@ -1,6 +1,6 @@
 -- The one-thread table as it is stored: lists, and the state that they stand for.
-use Rattle.std.proofs.Common.{◌≡◌, ◌≢◌, ℕ, zero, suc, ◌+◌, ◌-◌, ◌*◌, ◌/◌, ◌%◌, ◌<◌, ◌≤◌, ◌^◌, eqb, Bool, true, false, not, List, [], ◌∷◌, ◌++◌, length, set, get_or, refl, sym, ap, ◌∙◌, subst, arith, eq-eqb, ne_eqb, get_or-set_same, get_or-set_other}
-use Rattle.std.specs.Prelude.{Some, None, Option, slice_index, slice_index_or, slice_get, replicate, map, if◌then◌else◌, ◌==◌, bit_or}
+use Rattle.std.proofs.Common.{◌≡◌, ℕ, zero, suc, ◌+◌, ◌-◌, ◌*◌, ◌/◌, ◌%◌, ◌<◌, ◌≤◌, ◌^◌, Bool, false, List, [], ◌∷◌, ◌++◌, length, set, get_or, refl, sym, ap, ◌∙◌, subst, arith, eq-eqb, ne_eqb, get_or-set_same, get_or-set_other}
+use Rattle.std.specs.Prelude.{Some, None, Option, slice_index, slice_index_or, replicate, if◌then◌else◌, ◌==◌, bit_or}
 use Rattle.std.specs.Global.{Vec}
 use Rattle.profile.specs.Sheets.{Layout}
 use mathlib.Core.Logic.{dite}
@@ -10,7 +10,7 @@ use Rattle.std.proofs.Math.ListN.{length-set, length-map}
 use Rattle.std.proofs.lemmas.List.{get_or_default, get_or-map, get_or-replicate, get_or_append_left, get_or_past, get_or_push, length-append, length-replicate}
 use Rattle.std.proofs.lemmas.Nat.{pow_below, mod_low}
 use Rattle.gather_table.specs.declared.answers.Reply.{Reply}
-use Rattle.gather_table.specs.Table.{TableState, slots, slot_count, start, is_blank, bits, missing, with_mark, with_marked, mark_reply, IsSound, IsMarkable}
+use Rattle.gather_table.specs.Table.{slots, slot_count, start, is_blank, bits, missing, with_mark, with_marked, mark_reply, IsSound, IsMarkable}
 use Rattle.gather_table.specs.Words.{has_bit, reply_in}
 use Rattle.gather_table.specs.Plain.{PlainView, layout_of, state_of, IsPlain}
 use Rattle.gather_table.proofs.Bits.{bits_lt, bits_of, bits_not, bit_of_bits, or_bits, with_else}
@@ -57,13 +57,13 @@ pub words_marked : (words : List ℕ) (s n k : ℕ) → s < length words → sli
     → has_bit (slice_index (set words s (bit_or (slice_index words s) (2 ^ k))) r) j ≡ (if r == s then with_mark (has_bit (slice_index words s)) k else has_bit (slice_index words r)) j
 words_marked words s n k lt small in_n r j = dite (ℕ_discrete r s)
     (λ same.
-      ap (λ (q : ℕ). has_bit (slice_index (set words s (bit_or (slice_index words s) (2 ^ k))) q) j) same
-      ∙ ap (λ (z : ℕ). has_bit z j) (get_or-set_same words s (bit_or (slice_index words s) (2 ^ k)) 0 lt)
-      ∙ marked_shown (slice_index words s) n k small in_n j
-      ∙ sym (ap (λ (b : Bool). (if b then with_mark (has_bit (slice_index words s)) k else has_bit (slice_index words r)) j) (eq-eqb r s same)))
+    ap (λ (q : ℕ). has_bit (slice_index (set words s (bit_or (slice_index words s) (2 ^ k))) q) j) same
+    ∙ ap (λ (z : ℕ). has_bit z j) (get_or-set_same words s (bit_or (slice_index words s) (2 ^ k)) 0 lt)
+    ∙ marked_shown (slice_index words s) n k small in_n j
+    ∙ sym (ap (λ (b : Bool). (if b then with_mark (has_bit (slice_index words s)) k else has_bit (slice_index words r)) j) (eq-eqb r s same)))
     (λ other.
-      ap (λ (z : ℕ). has_bit z j) (get_or-set_other words s r (bit_or (slice_index words s) (2 ^ k)) 0 other)
-      ∙ sym (ap (λ (b : Bool). (if b then with_mark (has_bit (slice_index words s)) k else has_bit (slice_index words r)) j) (ne_eqb r s other)))
+    ap (λ (z : ℕ). has_bit z j) (get_or-set_other words s r (bit_or (slice_index words s) (2 ^ k)) 0 other)
+    ∙ sym (ap (λ (b : Bool). (if b then with_mark (has_bit (slice_index words s)) k else has_bit (slice_index words r)) j) (ne_eqb r s other)))
 
 pub sheet_there : (pages : ℕ) (sheets : List (Vec (Option ℕ))) (s : ℕ) → s < length (layout_of pages sheets).sheets → s < length sheets
 sheet_there pages sheets s lt = let l = length-map sheets (λ (v : Vec (Option ℕ)). v.items) in omega arith
@@ -84,7 +84,7 @@ more_blanks layout n w words b e = record {
   count = let c = b.count in omega (arith, length-append words (w ∷ []));
   blanks = λ s lt. let c = b.count in dite (ℕ_discrete s n)
       (λ is. get_or_push words w 0 s (omega arith) ∙ e ∙ ap (λ (r : ℕ). bits (is_blank (slots layout r)) (slot_count layout r)) (sym is))
-      (λ other. get_or_append_left words (w ∷ []) 0 s (omega arith) ∙ b.blanks s (omega arith))
+      (λ other. get_or_append_left words (w ∷ []) 0 s (omega arith) ∙ b.blanks s (omega arith));
 }
 
 abbrev no_page : Option ℕ
@@ -93,11 +93,12 @@ no_page = None
 abbrev start_index : Layout → List (Option ℕ)
 start_index layout = replicate layout.pages None
 
-pub plain_at_start : (layout : Layout) (words : List ℕ) → AreBlanks layout (length layout.sheets) words → IsPlain (record { layout = layout; index = replicate layout.pages None; marked = words })
-plain_at_start layout words b = record {
+pub plain_at_start : (layout : Layout) (words : List ℕ) → IsSound layout → AreBlanks layout (length layout.sheets) words → IsPlain (record { layout = layout; index = replicate layout.pages None; marked = words })
+plain_at_start layout words ok b = record {
+  sound = ok;
   pages = length-replicate layout.pages None;
   sheets = b.count;
-  marks = λ s lt. let e = b.blanks s lt in let l = bits_lt (is_blank (slots layout s)) (slot_count layout s) in omega arith
+  marks = λ s lt. let e = b.blanks s lt in let l = bits_lt (is_blank (slots layout s)) (slot_count layout s) in omega arith;
 }
 
 pub state_at_start : (layout : Layout) (words : List ℕ) → AreBlanks layout (length layout.sheets) words → state_of (record { layout = layout; index = replicate layout.pages None; marked = words }) ≡ start layout
@@ -121,9 +122,9 @@ module _ (pages : ℕ) (sheets : List (Vec (Option ℕ))) (index : List (Option 
   complete_blanks : AreBlanks (layout_of pages sheets) (length (layout_of pages sheets).sheets) words
   complete_blanks = subst (λ (m : ℕ). AreBlanks (layout_of pages sheets) m words) (all_sheets ∙ sym (length-map sheets (λ (v : Vec (Option ℕ)). v.items))) blanks
 
-  pub plain_made : IsSound (layout_of pages sheets) → IsSound (layout_of (length index) sheets) × IsPlain (record { layout = layout_of (length index) sheets; index = index; marked = words })
-  plain_made ok = subst (λ (m : ℕ). IsSound (layout_of m sheets) × IsPlain (record { layout = layout_of m sheets; index = index; marked = words })) (sym all_pages)
-      (ok, subst (λ (is : List (Option ℕ)). IsPlain (record { layout = layout_of pages sheets; index = is; marked = words })) (sym no_index) (plain_at_start (layout_of pages sheets) words complete_blanks))
+  pub plain_made : IsSound (layout_of pages sheets) → IsPlain (record { layout = layout_of (length index) sheets; index = index; marked = words })
+  plain_made ok = subst (λ (m : ℕ). IsPlain (record { layout = layout_of m sheets; index = index; marked = words })) (sym all_pages)
+      (subst (λ (is : List (Option ℕ)). IsPlain (record { layout = layout_of pages sheets; index = is; marked = words })) (sym no_index) (plain_at_start (layout_of pages sheets) words ok complete_blanks))
 
   pub state_made : state_of (record { layout = layout_of (length index) sheets; index = index; marked = words }) ≡ start (layout_of (length index) sheets)
   state_made = subst (λ (m : ℕ). state_of (record { layout = layout_of m sheets; index = index; marked = words }) ≡ start (layout_of m sheets)) (sym all_pages)
@@ -131,8 +132,7 @@ module _ (pages : ℕ) (sheets : List (Vec (Option ℕ))) (index : List (Option 
 
 -- a table as it stands in the program, where `old` is what callers see of it, and x any row
 module _ (sheets : List (Vec (Option ℕ))) (index : List (Option ℕ)) (words : List ℕ) (old : PlainView) (seen : record { layout = layout_of (length index) sheets; index = index; marked = words } ≡ old)
-  (ok : IsSound (layout_of (length index) sheets)) (plain : IsPlain (record { layout = layout_of (length index) sheets; index = index; marked = words })) (s : ℕ) (x : Vec (Option ℕ)) (lt : s < length old.layout.sheets) where
-
+    (plain : IsPlain (record { layout = layout_of (length index) sheets; index = index; marked = words })) (s : ℕ) (x : Vec (Option ℕ)) (lt : s < length old.layout.sheets) where
   there : s < length (layout_of (length index) sheets).sheets
   there = subst (λ (t : PlainView). s < length t.layout.sheets) (sym seen) lt
 
@@ -140,7 +140,7 @@ module _ (sheets : List (Vec (Option ℕ))) (index : List (Option ℕ)) (words :
   row = slots_at (length index) sheets s x (sheet_there (length index) sheets s there)
 
   pub row_narrow : (0 < length (get_or sheets s x).items) × (length (get_or sheets s x).items ≤ 64)
-  row_narrow = subst (λ (r : List (Option ℕ)). (0 < length r) × (length r ≤ 64)) row (ok.narrow s there)
+  row_narrow = subst (λ (r : List (Option ℕ)). (0 < length r) × (length r ≤ 64)) row (plain.sound.narrow s there)
 
   module _ (w full : ℕ) (is : w ≡ get_or words s w) (is_full : full ≡ 2 ^ length (get_or sheets s x).items - 1) where
     word : w ≡ slice_index words s
@@ -155,36 +155,37 @@ module _ (sheets : List (Vec (Option ℕ))) (index : List (Option ℕ)) (words :
     pub looked : (w ≤ full) × (full - w ≡ missing old.layout (state_of old) s)
     looked = subst (λ (t : PlainView). (w ≤ full) × (full - w ≡ missing t.layout (state_of t) s)) seen
         (let made = made_of_bits (slice_index words s) (slot_count (layout_of (length index) sheets) s) small in
-         let lacking = bits_not (has_bit (slice_index words s)) (slot_count (layout_of (length index) sheets) s) in
-         let a = word in let b = full_here in
-         (omega arith, omega arith))
+        let lacking = bits_not (has_bit (slice_index words s)) (slot_count (layout_of (length index) sheets) s) in
+        let a = word in let b = full_here in
+        (omega arith, omega arith))
 
     module _ (k bit : ℕ) (may : IsMarkable old.layout (state_of old) s k) (is_bit : bit ≡ 2 ^ k) where
       in_sheet : k < slot_count (layout_of (length index) sheets) s
       in_sheet = subst (λ (t : PlainView). k < slot_count t.layout s) (sym seen) (below_length (slots old.layout s) k (Some may.page) may.needed)
 
       pub slot_narrow : k < 64
-      slot_narrow = let n = ok.narrow s there in let i = in_sheet in omega arith
+      slot_narrow = let n = plain.sound.narrow s there in let i = in_sheet in omega arith
 
       written : bit_or w bit ≡ bit_or (slice_index words s) (2 ^ k)
       written = λ i. bit_or (word i) (is_bit i)
 
       pub still_plain : IsPlain (record { layout = layout_of (length index) sheets; index = index; marked = set words s (bit_or w bit) })
       still_plain = record {
+        sound = plain.sound;
         pages = plain.pages;
         sheets = length-set words s (bit_or w bit) ∙ plain.sheets;
         marks = λ r below. dite (ℕ_discrete r s)
             (λ (same : r ≡ s). let c = plain.sheets in
-              let m = marked_below (slice_index words s) (slot_count (layout_of (length index) sheets) s) k small in_sheet in
-              let here : slice_index (set words s (bit_or w bit)) r ≡ bit_or (slice_index words s) (2 ^ k) = ap (slice_index (set words s (bit_or w bit))) same ∙ get_or-set_same words s (bit_or w bit) 0 (omega arith) ∙ written in
-              subst (λ (z : ℕ). slice_index (set words s (bit_or w bit)) r < 2 ^ slot_count (layout_of (length index) sheets) z) (sym same) (omega arith))
-            (λ other. let old_word = get_or-set_other words s r (bit_or w bit) 0 other in let m = plain.marks r below in omega arith)
+            let m = marked_below (slice_index words s) (slot_count (layout_of (length index) sheets) s) k small in_sheet in
+            let here : slice_index (set words s (bit_or w bit)) r ≡ bit_or (slice_index words s) (2 ^ k) = ap (slice_index (set words s (bit_or w bit))) same ∙ get_or-set_same words s (bit_or w bit) 0 (omega arith) ∙ written in
+            subst (λ (z : ℕ). slice_index (set words s (bit_or w bit)) r < 2 ^ slot_count (layout_of (length index) sheets) z) (sym same) (omega arith))
+            (λ other. let old_word = get_or-set_other words s r (bit_or w bit) 0 other in let m = plain.marks r below in omega arith);
       }
 
       pub state_marked : state_of (record { layout = layout_of (length index) sheets; index = index; marked = set words s (bit_or w bit) }) ≡ with_marked (state_of old) s k
       state_marked = subst (λ (t : PlainView). state_of (record { layout = layout_of (length index) sheets; index = index; marked = set words s (bit_or w bit) }) ≡ with_marked (state_of t) s k) seen
           (ap (λ (z : ℕ). state_of (record { layout = layout_of (length index) sheets; index = index; marked = set words s z })) written
-           ∙ (λ i. record { index = λ p. slice_index_or index p None; marked = λ r j. words_marked words s (slot_count (layout_of (length index) sheets) s) k (let c = plain.sheets in let t = there in omega arith) small in_sheet r j i }))
+          ∙ (λ i. record { index = λ p. slice_index_or index p None; marked = λ r j. words_marked words s (slot_count (layout_of (length index) sheets) s) k (let c = plain.sheets in let t = there in omega arith) small in_sheet r j i }))
 
       pub replied : (r : Reply) → r ≡ reply_in w bit full → r ≡ mark_reply ((state_of old).marked s) (slot_count old.layout s) k
       replied r said = subst (λ (t : PlainView). r ≡ mark_reply ((state_of t).marked s) (slot_count t.layout s) k) seen

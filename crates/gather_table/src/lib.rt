@@ -4,6 +4,6 @@
 pub mod answers;
 pub mod laws;
 pub mod plain;
-mod words;
 #[cfg(test)]
 mod tests;
+mod words;

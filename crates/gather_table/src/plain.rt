@@ -21,20 +21,23 @@ pub struct PlainTable<'s> {
 
 impl<'s> Model for PlainTable<'s> {
     ghost use Rattle.std.specs.Prelude.{length};
-    ghost use Rattle.gather_table.specs.Table.{IsSound};
     ghost use Rattle.gather_table.specs.Plain.{PlainView, IsPlain, layout_of};
 
     ghost Value = { PlainView };
 
     ghost view = { λ t. record { layout = layout_of (length t.indexes.items) t.sheets.now; index = t.indexes.items; marked = t.marked.items } };
 
-    ghost invariant = { λ t. IsSound (layout_of (length t.indexes.items) t.sheets.now) × IsPlain record { layout = layout_of (length t.indexes.items) t.sheets.now; index = t.indexes.items; marked = t.marked.items } };
+    ghost invariant = { λ t. IsPlain record { layout = layout_of (length t.indexes.items) t.sheets.now; index = t.indexes.items; marked = t.marked.items } };
 }
 
 impl<'s> PlainTable<'s> {
     /// A table for this many pages and these sheets: each sheet has 1 to 64 slots, and each slot its
     /// page, or None where it is blank. There are at most 1,000,000 pages and 1,000,000 sheets.
-    pub fn of_sheets(alloc: Global, pages: u32, sheets: &'s [Vec<Option<u32>>]) -> Result<PlainTable<'s>, AllocError>
+    pub fn of_sheets(
+        alloc: Global,
+        pages: u32,
+        sheets: &'s [Vec<Option<u32>>],
+    ) -> Result<PlainTable<'s>, AllocError>
         requires { IsSound (layout_of pages sheets.now) }
         ensures layout { IfOk result (λ t. t.layout ≡ layout_of pages sheets.now) }
         ensures state { IfOk result (λ t. state_of t ≡ start t.layout) }
@@ -85,7 +88,9 @@ impl<'s> PlainTable<'s> {
         requires { sheet < length self.now.layout.sheets }
         ensures { result ≡ missing self.now.layout (state_of self.now) sheet }
     {
-        full_bits(&self.sheets[sheet as usize]) - self.marked[sheet as usize]
+        let full = full_bits(&self.sheets[sheet as usize]);
+        let marked = self.marked[sheet as usize];
+        full - marked
     }
 
     /// The index of the page, where it has one.

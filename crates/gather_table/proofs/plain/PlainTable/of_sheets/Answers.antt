@@ -1,5 +1,4 @@
-use Rattle.std.proofs.Common.{rules, arith, ◌≡◌, ◌<◌, ◌≤◌, length, replicate, ap, sym, subst}
-use Rattle.std.specs.Prelude.{None}
+use Rattle.std.proofs.Common.{rules, arith, length, ap}
 use Rattle.gather_table.proofs.Stored.{narrow_at, plain_made, state_made}
 use Rattle.gather_table.proofs.plain.PlainTable.of_sheets.Goals as goal
 
