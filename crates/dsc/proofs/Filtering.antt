@@ -1,15 +1,12 @@
 -- What is kept, run by run.
-use Rattle.std.specs.Prelude.{Result, Ok, Err, not, codes}
-use Rattle.std.specs.List.{starts_with, list_any}
-use Rattle.std.specs.Str.{bytes_eq}
-use Rattle.std.proofs.Common.{append_assoc, append-nil, Bool, true, false, nat_eq, ◌||◌, ◌&&◌, ◌==◌, if◌then◌else◌, ◌≡◌, ℕ, zero, suc, ◌+◌, ◌-◌, ◌<◌, ◌≤◌, List, [], ◌∷◌, ◌++◌, length, take, drop, get_or, refl, ap, arith, length-append, sym, ◌∙◌, subst}
+use Rattle.std.specs.Prelude.{Result, Ok, Err, not}
+use Rattle.std.proofs.Common.{append_assoc, append-nil, Bool, true, false, if◌then◌else◌, ◌≡◌, ℕ, suc, ◌+◌, ◌-◌, ◌<◌, List, [], ◌∷◌, ◌++◌, length, take, drop, get_or, refl, ap, arith, sym, ◌∙◌}
 use Rattle.std.proofs.Math.Seq.{take-add}
 use Rattle.profile.specs.Units.{TextUnit, is_end, first_unit, FaultyBlock, cut}
 use Rattle.profile.specs.Parts.{NestedUnit, depth_after, nested_from, nested, bytes_of}
 use Rattle.profile.specs.Filters.{kept_after, kept, drops_in_header, ended, prepared}
 use Rattle.dsc.specs.Units.{or_none, units_of}
 use Rattle.dsc.specs.Filters.{drops_of, is_dropped, of_units, filter_on}
-use Rattle.dsc.proofs.Cases.{by_test}
 use Rattle.dsc.proofs.Cut.{cut_at, cut_step, of_units-more}
 
 pub run_grows : (kept run : List ℕ) (n m : ℕ) → kept ++ take (n + m) run ≡ (kept ++ take n run) ++ take m (drop n run)
@@ -32,7 +29,6 @@ kept_step in_page was u us front true e =
 kept_step in_page was u us front false e =
     append_assoc front u.unit.bytes (bytes_of (kept_after false (drops_of in_page) us)) ∙ ap (λ t. front ++ t) (sym (kept_bytes in_page was u us [] false e))
 
-
 -- as a loop has it: one more unit is kept or dropped
 pub filter_more : (in_page was dropped : Bool) (front new : List ℕ) (depth deep at next : ℕ) (rest after : List ℕ) (p : TextUnit) (whole : Result (List ℕ) FaultyBlock)
     → 0 < length rest → first_unit rest ≡ Ok p → after ≡ drop (length p.bytes) rest → next ≡ at + length p.bytes → deep ≡ depth_after depth p
@@ -45,9 +41,9 @@ filter_more in_page was dropped front new depth deep at next (b ∷ bs) after p 
     ∙ ap (λ k. filter_on in_page new dropped k (at + length p.bytes) (drop (length p.bytes) (b ∷ bs))) d
     ∙ ap (λ t. filter_on in_page t dropped (depth_after depth p) (at + length p.bytes) (drop (length p.bytes) (b ∷ bs))) nw
     ∙ of_units-more (λ ps. front ++ bytes_of (kept_after was (drops_of in_page) (nested_from depth ps)))
-        (λ ps. (front ++ (if dropped then [] else p.bytes)) ++ bytes_of (kept_after dropped (drops_of in_page) (nested_from (depth_after depth p) ps)))
-        p (cut_at (at + length p.bytes) (drop (length p.bytes) (b ∷ bs)))
-        (λ ps. kept_step in_page was (record { depth = depth; unit = p }) (nested_from (depth_after depth p) ps) front dropped (sym dr))
+    (λ ps. (front ++ (if dropped then [] else p.bytes)) ++ bytes_of (kept_after dropped (drops_of in_page) (nested_from (depth_after depth p) ps)))
+    p (cut_at (at + length p.bytes) (drop (length p.bytes) (b ∷ bs)))
+    (λ ps. kept_step in_page was (record { depth = depth; unit = p }) (nested_from (depth_after depth p) ps) front dropped (sym dr))
     ∙ ap (of_units (λ ps. front ++ bytes_of (kept_after was (drops_of in_page) (nested_from depth ps)))) (sym (cut_step at b bs p w)) ∙ i
 
 -- the last byte

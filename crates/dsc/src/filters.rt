@@ -7,6 +7,8 @@ ghost use Rattle.profile.specs.Filters.{kept, drops_in_header, ended, prepared};
 ghost use Rattle.dsc.specs.Units.{or_none, units_of};
 ghost use Rattle.dsc.specs.Views.{unit_of, Gives};
 ghost use Rattle.dsc.specs.Faults.{block_fault_told, page_fault_told, IsPageError};
+ghost use Rattle.dsc.specs.Laws.{HasBody};
+ghost use Rattle.dsc.specs.declared.errors.DscError.TheVariants.{NoMemory};
 ghost use Rattle.dsc.specs.Filters.{drops_of, is_dropped, filter_on};
 
 use crate::errors::{CutError, DscError, widen};
@@ -70,11 +72,7 @@ fn go_on<'d>(
 }
 
 /// Adds to `kept` what is kept of the text.
-fn filter(
-    kept: Vec<u8>,
-    in_page: bool,
-    text: &[u8],
-) -> Result<Vec<u8>, CutError>
+fn filter(kept: Vec<u8>, in_page: bool, text: &[u8]) -> Result<Vec<u8>, CutError>
     ensures { Gives (λ v. v.items) block_fault_told result (filter_on in_page kept.items false 0 0 text.now) }
 {
     let mut kept = kept;
@@ -161,10 +159,12 @@ pub fn end_line(kept: &mut Vec<u8>) -> Result<(), AllocError>
 /// The prepared body of a page: its bytes without the lines that set up the page (each outermost line whose key begins
 /// with `%%Page`, `%%BeginPageSetup`, `%%EndPageSetup`, and what `%%+` lines add to them), with a line end at its end.
 /// The page is cut as a text of its own, and needn't begin with a page line.
-/// Refused with BadCount or ShortData, for its first faulty data block, or with NoMemory.
+/// Refused with BadCount or ShortData, for its first faulty data block, or with NoMemory. A page of a document has no
+/// faulty block.
 pub fn prepare(alloc: Global, page: &[u8]) -> Result<Vec<u8>, DscError>
     ensures answer { Gives (λ v. v.items) page_fault_told result (prepared page.now) }
     ensures refusals { IfErr result IsPageError }
+    ensures memory_alone { HasBody page.now → IfErr result (λ e. e ≡ NoMemory) }
 {
     match prepare_page(alloc, page) {
         Ok(body) => Ok(body),

@@ -4,3 +4,4 @@ pub mod Powers
 pub mod Scans
 pub mod LastZeros
 pub mod Table
+pub mod ReadAgain

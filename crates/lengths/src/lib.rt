@@ -3,6 +3,7 @@
 
 mod convert;
 mod grains;
+pub mod laws;
 mod named;
 mod number;
 mod paper;
