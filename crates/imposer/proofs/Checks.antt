@@ -1,5 +1,5 @@
 -- The checks on the numbers of a text, one by one.
-use Rattle.std.proofs.Common.{rules, tests, ◌≡◌, ◌<◌, ◌≤◌, ℕ, List, Bool, true, false, Option, Some, None, refl, length}
+use Rattle.std.proofs.Common.{rules, tests, ◌≡◌, ◌<◌, ◌≤◌, ℕ, List, Bool, true, false, Option, refl, length}
 use Rattle.std.specs.Prelude.{◌||◌, ◌==◌, nat_lt, nat_le, position}
 use Rattle.std.specs.List.{list_any}
 use Rattle.profile.specs.Admissible.{Fault, TooLarge, ModuloZero, PageOutOfBlock, TooManyGroups, else_first, only_if, at_lowest}

@@ -1,5 +1,5 @@
 -- What the parts of a run make together.
-use Rattle.std.proofs.Common.{ℕ, ◌≤◌, ◌≡◌, ◌∙◌, ap, List, length, arith, sym}
+use Rattle.std.proofs.Common.{ℕ, ◌≡◌, ◌∙◌, ap, List, length, arith}
 use Rattle.std.specs.Prelude.{Ok, count_by}
 use Rattle.profile.specs.Specification.{Spec}
 use Rattle.profile.specs.Run.{document_of, plan_of}
@@ -19,8 +19,9 @@ accepted_of r s us n workers takes document count plan = record { options = work
 pub reports_of : (s : Spec) (us : List NestedUnit) (report : Report) (n : ℕ) (text : List ℕ) → n ≡ length (pages us) → report.pages ≡ length (pages us) → report.sheets ≡ length (sheets s n)
     → report.born ≡ count_by is_blank (sheets s n) → report.swept ≡ 0 → report.bytes ≡ length text → text ≡ output frame s us → Reports s us report
 reports_of s us report n text count pages_are sheets_are born_are none bytes_are text_is = record {
-    page_count = pages_are;
-    sheet_count = sheets_are ∙ ap (λ k. length (sheets s k)) count;
-    born_blank = born_are ∙ ap (λ k. count_by is_blank (sheets s k)) count;
-    swept_within = omega (arith, none);
-    byte_count = bytes_are ∙ ap (λ t. length t) text_is }
+  page_count = pages_are;
+  sheet_count = sheets_are ∙ ap (λ k. length (sheets s k)) count;
+  born_blank = born_are ∙ ap (λ k. count_by is_blank (sheets s k)) count;
+  swept_within = omega (arith, none);
+  byte_count = bytes_are ∙ ap (λ t. length t) text_is;
+}

@@ -1,5 +1,5 @@
 -- The text that opens a page placed as it is.
-use Rattle.std.proofs.Common.{ℕ, List, ◌++◌, ◌≡◌, refl, ap, sym, ◌∙◌, append_assoc}
+use Rattle.std.proofs.Common.{ℕ, List, ◌++◌, ◌≡◌, refl, ap, ◌∙◌, append_assoc}
 use Rattle.std.specs.Prelude.{codes}
 use Rattle.std.specs.Fmt.{digits}
 use Rattle.profile.specs.Output.{opening_text}

@@ -1,10 +1,10 @@
 -- The first fault of single pages, and what such a specification comes to.
-use Rattle.std.proofs.Common.{rules, tests, arith, ◌≡◌, ℕ, zero, suc, ◌+◌, ◌<◌, ◌≤◌, List, [], ◌∷◌, ◌++◌, Bool, true, false, not, Option, Some, None, refl, sym, ap, subst, ◌∙◌, inl, inr, length, map, min, get_or, cond, true≢false}
-use Rattle.std.specs.Prelude.{◌==◌, ◌||◌, ◌⊎◌, All, nat_lt, nat_le, position, flat_map, IfSome, IsSomeAnd}
+use Rattle.std.proofs.Common.{rules, tests, arith, ◌≡◌, ℕ, suc, ◌+◌, ◌<◌, ◌≤◌, List, [], ◌∷◌, Bool, true, false, not, Option, Some, None, refl, sym, ap, subst, ◌∙◌, inl, inr, length, map, cond, true≢false}
+use Rattle.std.specs.Prelude.{◌==◌, ◌||◌, ◌⊎◌, All, nat_lt, nat_le, position, IfSome, IsSomeAnd}
 use Rattle.std.specs.List.{list_any, prefix_len}
 use Rattle.std.proofs.lemmas.Bool.Decides.{nat_tests}
 use Rattle.std.proofs.lemmas.List.Elements.{All-nil, All-cons, All-weaker}
-use Rattle.profile.specs.Specification.{WrittenItem, WrittenSpec, Spec, IsSpec, settled, settled_item}
+use Rattle.profile.specs.Specification.{WrittenItem, WrittenSpec, Spec, IsSpec, settled_item}
 use Rattle.profile.specs.Admissible.{Fault, TooLong, Syntax, TooLarge, ModuloZero, PageOutOfBlock, ScaleZero, Repeated, TooManySlots, TooManyGroups, items, has_large, is_flat, repeats, any_too_large, fault_of, TakenBy, RefusedBy}
 use Rattle.imposer.specs.Single.{written_page, plain_item, IsSingle}
 use Rattle.imposer.specs.Rows.{capped, IsRead, pages_fault}

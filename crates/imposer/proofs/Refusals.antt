@@ -1,13 +1,13 @@
 -- What the refusals of the parts say of a run.
 use Rattle.std.proofs.Common.{ℕ, ◌≤◌, ◌≡◌, List, length, refl, sym, subst, None}
-use Rattle.std.specs.Prelude.{Result, Ok, Err, IfSome, IfErr, IsErrAnd}
+use Rattle.std.specs.Prelude.{Result, Ok, Err, IfSome, IfErr, IsErrAnd, IsSomeAnd}
 use Rattle.profile.specs.Specification.{Spec}
 use Rattle.profile.specs.Run.{document_of, plan_of}
 use Rattle.profile.specs.Parts.{NestedUnit, pages}
 use Rattle.imposer.specs.Faults.{fault_told, plan_fault_told}
 use Rattle.dsc.specs.Faults as dsc
 use Rattle.imposer.specs.Workers.{AreWorkers}
-use Rattle.imposer.specs.Outcomes.{of_spec, of_document, of_plan, no_memory}
+use Rattle.imposer.specs.Outcomes.{of_spec, of_document, of_plan}
 use Rattle.imposer.specs.Runs.{Request, Takes, Refuses, IsRefusal, IsUnwritten}
 use Rattle.imposer.specs.declared.error.SpecError.{SpecError}
 use Rattle.imposer.specs.declared.error.SpecError.TheVariants as spec
@@ -40,11 +40,11 @@ refused_document r document.NoPages s w taken fault = ((w, (s, taken), fault), t
 refused_document r document.NoMemory s w taken fault = ((w, taken.0), refl)
 
 pub refused_plan : (r : Request) (e : PlanError) (s : Spec) (us : List NestedUnit) (n : ℕ) → AreWorkers r.options.workers → Takes r.spec s → document_of r.input ≡ Ok us → n ≡ length (pages us)
-    → IfSome (plan_fault_told e) (λ f. plan_of s n ≡ Err f) → IsRefusal r (of_plan e) × IsUnwritten (of_plan e)
+    → IsSomeAnd (plan_fault_told e) (λ f. plan_of s n ≡ Err f) → IsRefusal r (of_plan e) × IsUnwritten (of_plan e)
 refused_plan r plan.TooManyPages s us n w taken cut count fault = ((w, (s, us, taken, cut, rw (← count) fault)), tt)
 refused_plan r plan.TooManySheets s us n w taken cut count fault = ((w, (s, us, taken, cut, rw (← count) fault)), tt)
 refused_plan r plan.TooManyPlaces s us n w taken cut count fault = ((w, (s, us, taken, cut, rw (← count) fault)), tt)
-refused_plan r plan.NoMemory s us n w taken cut count fault = ((w, taken.0), refl)
+refused_plan r plan.NoMemory s us n w taken cut count fault = absurd fault
 
 -- an error that is this one has what holds of this one
 pub told_of : {X E : Type 0} (r : Result X E) (e : E) (P : E → Type 0) → IsErrAnd r (λ x. x ≡ e) → P e → IfErr r P

@@ -1,5 +1,5 @@
 -- The sheets of an output, one after the other.
-use Rattle.std.proofs.Common.{ℕ, suc, List, [], ◌∷◌, Some, ◌+◌, ◌<◌, ◌++◌, ◌≡◌, ap, sym, ◌∙◌, refl, length, take, append_assoc, arith}
+use Rattle.std.proofs.Common.{ℕ, suc, List, [], ◌∷◌, Some, ◌+◌, ◌<◌, ◌++◌, ◌≡◌, ap, sym, ◌∙◌, length, take, arith}
 use Rattle.std.specs.Prelude.{slice_get, flat_map}
 use Rattle.std.specs.List.{enumerate_from}
 use Rattle.std.proofs.Math.Seq.{take-suc}
@@ -25,10 +25,10 @@ sheet_more frame pages all slots front n at =
     let same : 0 + n ≡ n = omega arith in
     let next : suc n ≡ n + 1 = omega arith in
     let here : get_or (enumerate_from 0 all) n (0, slots) ≡ (n, slots) =
-        get_or-enumerate_from 0 all n (0, slots) within ∙ ap (λ k. (k, get_or all n slots)) same ∙ ap (λ x. (n, x)) (get_or_from_slice_get all n slots slots at) in
+    get_or-enumerate_from 0 all n (0, slots) within ∙ ap (λ k. (k, get_or all n slots)) same ∙ ap (λ x. (n, x)) (get_or_from_slice_get all n slots slots at) in
     flat_map_more (λ (s, x). sheet_text frame pages s x) front (take n (enumerate_from 0 all)) (n, slots)
     ∙ ap (λ xs. front ++ flat_map (λ (s, x). sheet_text frame pages s x) xs)
-        (ap (λ x. take n (enumerate_from 0 all) ++ x ∷ []) (sym here) ∙ sym (take-suc (enumerate_from 0 all) n (0, slots) (omega (arith, length-enumerate_from 0 all))) ∙ ap (λ k. take k (enumerate_from 0 all)) next)
+    (ap (λ x. take n (enumerate_from 0 all) ++ x ∷ []) (sym here) ∙ sym (take-suc (enumerate_from 0 all) n (0, slots) (omega (arith, length-enumerate_from 0 all))) ∙ ap (λ k. take k (enumerate_from 0 all)) next)
 
 -- all of them
 pub all_sheets : (frame : Frame) (pages : List (List ℕ)) (all : List (List Slot)) (n : ℕ) → n ≡ length all

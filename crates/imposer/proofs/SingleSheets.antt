@@ -1,8 +1,7 @@
 -- The sheets of single pages: how many there are, which page stands on each, and how many are blank.
-use Rattle.std.proofs.Common.{rules, tests, arith, ◌≡◌, ◌≢◌, ℕ, zero, suc, ◌+◌, ◌-◌, ◌*◌, ◌/◌, ◌%◌, ◌<◌, ◌≤◌, List, [], ◌∷◌, ◌++◌, Bool, true, false, not, Option, Some, None, Ok, Err, refl, sym, ap, subst, ◌∙◌, length, map, get_or, length-append}
-use Rattle.std.specs.Prelude.{◌==◌, All, nat_lt, nat_le, flat_map, count_by, sum_by, if◌then◌else◌, slice_get}
+use Rattle.std.proofs.Common.{rules, tests, arith, ◌≡◌, ℕ, zero, suc, ◌+◌, ◌-◌, ◌*◌, ◌/◌, ◌%◌, ◌<◌, ◌≤◌, List, [], ◌∷◌, ◌++◌, Bool, true, false, not, Option, Some, None, Ok, Err, refl, sym, ap, subst, ◌∙◌, length, map, get_or, length-append}
+use Rattle.std.specs.Prelude.{All, nat_lt, nat_le, flat_map, count_by, sum_by, if◌then◌else◌, slice_get}
 use Rattle.std.specs.List.{range_with_len}
-use Rattle.std.proofs.Math.Nat.{mul-le-mul_left}
 use Rattle.std.proofs.lemmas.Nat.{div-mul-add, div_below, mod_below, div-add-mod'}
 use Rattle.std.proofs.lemmas.Bool.Decides.{nat_tests}
 use Rattle.std.proofs.lemmas.List.{get_or-append-add, get_or_append_left, get_or-map, length-map}
@@ -10,7 +9,7 @@ use Rattle.std.proofs.lemmas.Grind.{get_or_default_zero}
 use Rattle.std.proofs.lemmas.List.Sums.{sum_by-append, sum_by-cons}
 use Rattle.std.proofs.lemmas.List.Elements.{All-head, All-tail}
 use Rattle.std.proofs.lemmas.Option.{slice_get-get_or}
-use Rattle.profile.specs.Specification.{Spec, Item}
+use Rattle.profile.specs.Specification.{Spec}
 use Rattle.profile.specs.Sheets.{Slot, blocks, place, page_at, sheets}
 use Rattle.profile.specs.Run.{plan_of, PlanTooManyPages, TooManySheets}
 use Rattle.profile.proofs.Counts.{sheet_count}
@@ -103,7 +102,7 @@ some_groups k (suc g) s h = omega arith
 
 pub sheet_at : (modulo n : ℕ) (pages : List ℕ) (s : ℕ) → s < length (sheets (single_spec modulo pages) n)
     → slice_get (sheets (single_spec modulo pages) n) s
-      ≡ Some (single_sheet (page_at n (s / length pages * modulo + get_or pages (s % length pages) 0)) (get_or pages (s % length pages) 0))
+    ≡ Some (single_sheet (page_at n (s / length pages * modulo + get_or pages (s % length pages) 0)) (get_or pages (s % length pages) 0))
 sheet_at modulo n pages s h =
     let g = length pages in
     let inside : s < blocks modulo n * g = subst (λ m. s < m) (sheets_len modulo n pages) h in
@@ -206,6 +205,7 @@ blocks_part m n some h = ap (λ x. x / m) (part m n some h) ∙ div-mul-add (suc
   where
     part : (m n : ℕ) → 0 < m → 0 < n % m → n + (m - 1) ≡ suc (n / m) * m + (n % m - 1)
     part m n some h = grind (arith, div-add-mod' n m)
+
     remainder_below : (m n : ℕ) → 0 < m → n % m - 1 < m
     remainder_below m n some = omega (arith, mod_below n m some)
 

@@ -1,7 +1,7 @@
 -- Which texts stand for single pages.
-use Rattle.std.proofs.Common.{rules, tests, arith, ◌≡◌, ◌≢◌, ℕ, suc, ◌+◌, ◌<◌, ◌≤◌, List, [], ◌∷◌, ◌++◌, Bool, true, false, refl, sym, ap, subst, ◌∙◌, inl, inr, length, map, append-nil, length-append, append_assoc, true≢false}
-use Rattle.std.specs.Prelude.{◌==◌, ◌⊎◌, All}
-use Rattle.std.specs.List.{AllPass, AllZip, slice_split}
+use Rattle.std.proofs.Common.{arith, ◌≡◌, ℕ, suc, ◌+◌, ◌<◌, ◌≤◌, List, [], ◌∷◌, ◌++◌, true, false, refl, sym, ap, subst, ◌∙◌, inl, inr, length, map, append-nil, length-append, true≢false}
+use Rattle.std.specs.Prelude.{◌==◌, All}
+use Rattle.std.specs.List.{AllZip}
 use Rattle.std.specs.Char.{is_ascii_digit}
 use Rattle.std.proofs.lemmas.Bool.Decides.{nat_tests}
 use Rattle.std.proofs.Math.Seq.{get_or-append_seam}

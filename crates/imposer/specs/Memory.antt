@@ -1,5 +1,5 @@
 -- A sink that keeps its bytes in memory.
-use Rattle.std.specs.Prelude.{◌≡◌, ℕ, ◌-◌, ◌+◌, ◌++◌, List, length, min, ◌⊎◌}
+use Rattle.std.specs.Prelude.{◌≡◌, ℕ, ◌-◌, ◌++◌, List, length, min, ◌⊎◌}
 
 pub record MemoryState : Type 0 where
   pub bytes : List ℕ

@@ -1,17 +1,16 @@
 -- What the answers of a run mean.
 use Rattle.std.specs.Io.KnownBytes.{Appends, Keeps}
-use Rattle.std.specs.Prelude.{Result, Ok, Err, IsSomeAnd, ⊤, ◌⊎◌, ◌≡◌, ℕ, ◌<◌, ◌≤◌, Bool, true, false, List, length, take, Option, Some, None, count_by, if◌then◌else◌}
+use Rattle.std.specs.Prelude.{Ok, Err, IsSomeAnd, ⊤, ◌⊎◌, ◌≡◌, ℕ, ◌≤◌, Bool, true, false, List, length, take, Option, count_by, if◌then◌else◌}
 use Rattle.profile.specs.Specification.{Spec}
 use Rattle.profile.specs.Admissible.{Fault, TakenBy, RefusedBy}
 use Rattle.profile.specs.Sheets.{sheets}
 use Rattle.profile.specs.Parts.{NestedUnit, pages}
-use Rattle.profile.specs.Output.{Frame, output}
+use Rattle.profile.specs.Output.{output}
 use Rattle.profile.specs.Run.{document_of, plan_of}
 use Rattle.dsc.specs.Faults as dsc
 use Rattle.imposer.specs.Frame.{frame}
 use Rattle.imposer.specs.Workers.{AreWorkers}
 use Rattle.imposer.specs.Single.{IsSingle, is_blank}
-
 use Rattle.imposer.specs.Faults.{fault_told, plan_fault_told}
 use Rattle.imposer.specs.declared.outcome.RunError.{RunError}
 use Rattle.imposer.specs.declared.outcome.RunError.TheVariants as error
@@ -55,7 +54,7 @@ IsRefusal r (error.Document e) =
 IsRefusal r (error.Plan e) =
     AreWorkers r.options.workers
     × ((spec : Spec) × (us : List NestedUnit) × Takes r.spec spec × (document_of r.input ≡ Ok us)
-        × IsSomeAnd (plan_fault_told e) (λ f. plan_of spec (length (pages us)) ≡ Err f))
+    × IsSomeAnd (plan_fault_told e) (λ f. plan_of spec (length (pages us)) ≡ Err f))
 IsRefusal r (error.NoMemory written) = AreWorkers r.options.workers × (length r.spec ≤ 65_536)
 IsRefusal r (error.Write written) = Accepted r (λ spec us. ⊤)
 

@@ -1,5 +1,5 @@
 -- What the values of the code stand for.
-use Rattle.std.specs.Prelude.{ℕ, List, [], ◌∷◌, map}
+use Rattle.std.specs.Prelude.{[], ◌∷◌, map}
 use Rattle.profile.specs.Specification.{Spec}
 use Rattle.imposer.specs.Single.{plain_item}
 use Rattle.imposer.specs.declared.single_spec.SingleSpec.{SingleSpec}

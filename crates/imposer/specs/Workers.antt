@@ -1,5 +1,5 @@
 -- Which numbers of workers a run takes.
-use Rattle.std.specs.Prelude.{ℕ, ◌≤◌}
+use Rattle.std.specs.Prelude.{◌≤◌}
 use Rattle.imposer.specs.declared.options.Workers.{Workers}
 
 pub record AreWorkers (w : Workers) : Type 0 where

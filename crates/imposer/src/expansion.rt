@@ -1,5 +1,5 @@
 //! Which page of a document stands on which sheet, for a specification of single pages.
-ghost use Rattle.std.specs.Prelude.{◌≡◌, ◌<◌, ◌%◌, Err, IfErr, IfOk, IfSome, Ok, Some, count_by, length, nat_le, slice_get, slice_index, vec_len};
+ghost use Rattle.std.specs.Prelude.{◌≡◌, ◌<◌, ◌%◌, Err, IfErr, IfOk, IfSome, IsSomeAnd, Ok, Some, count_by, length, nat_le, slice_get, slice_index, vec_len};
 ghost use Rattle.profile.specs.Run.{plan_of};
 ghost use Rattle.profile.specs.Sheets.{sheets};
 ghost use Rattle.imposer.specs.Faults.{plan_fault_told};
@@ -22,12 +22,12 @@ pub(crate) struct Counts {
 }
 
 /// The sheets of the specification on so many pages, counted. Refused with TooManyPages, else with TooManySheets. A sheet
-/// has one slot, so that there are never too many places.
+/// has one slot, so that there are never too many places, and no memory is asked for.
 pub(crate) fn count_sheets(spec: &SingleSpec, pages: u32) -> Result<Counts, PlanError>
     ensures accepted { IfOk result (λ c. plan_of (spec_of spec.now) pages ≡ Ok (sheets (spec_of spec.now) pages)) }
     ensures sheets { IfOk result (λ c. c.sheets ≡ length (sheets (spec_of spec.now) pages)) }
     ensures born { IfOk result (λ c. c.born ≡ count_by is_blank (sheets (spec_of spec.now) pages)) }
-    ensures refused { IfErr result (λ e. IfSome (plan_fault_told e) (λ f. plan_of (spec_of spec.now) pages ≡ Err f)) }
+    ensures refused { IfErr result (λ e. IsSomeAnd (plan_fault_told e) (λ f. plan_of (spec_of spec.now) pages ≡ Err f)) }
 {
     if pages > MAX_PAGES {
         return Err(PlanError::TooManyPages);
@@ -37,7 +37,10 @@ pub(crate) fn count_sheets(spec: &SingleSpec, pages: u32) -> Result<Counts, Plan
     if sheets > MAX_SHEETS {
         return Err(PlanError::TooManySheets);
     }
-    Ok(Counts { sheets: sheets as u32, born: count_born(spec, pages) })
+    Ok(Counts {
+        sheets: sheets as u32,
+        born: count_born(spec, pages),
+    })
 }
 
 /// How many sheets have no page. They are all in the last block, where it isn't full.
@@ -65,8 +68,13 @@ pub(crate) fn page_of(spec: &SingleSpec, pages: u32, sheet: u32) -> Option<u32>
     ensures slot { slice_get (sheets (spec_of spec.now) pages) sheet ≡ Some (single_sheet result (slice_index spec.now.pages.items (sheet % vec_len spec.now.pages))) }
 {
     let groups = spec.pages.len() as u32;
-    let place = u64::from(sheet / groups) * u64::from(spec.modulo) + u64::from(spec.pages[(sheet % groups) as usize]);
-    if place < u64::from(pages) { Some(place as u32) } else { None }
+    let place = u64::from(sheet / groups) * u64::from(spec.modulo)
+        + u64::from(spec.pages[(sheet % groups) as usize]);
+    if place < u64::from(pages) {
+        Some(place as u32)
+    } else {
+        None
+    }
 }
 
 #[cfg(test)]
@@ -87,10 +95,22 @@ mod tests {
     fn limits_of_pages_and_sheets(rt: HostRuntime) -> Result<(), Fail> {
         let one = read_single(rt.alloc(), "0")?;
         assert_eq!(rt; count_sheets(&one, 0)?, Counts { sheets: 0, born: 0 });
-        assert_eq!(rt; count_sheets(&one, 1_000_000)?, Counts { sheets: 1_000_000, born: 0 });
-        assert_eq!(rt; count_sheets(&one, 1_000_001).err(), Some(PlanError::TooManyPages));
+        assert_eq!(rt;
+            count_sheets(&one, 1_000_000)?,
+            Counts {
+                sheets: 1_000_000,
+                born: 0
+            }
+        );
+        assert_eq!(rt;
+            count_sheets(&one, 1_000_001).err(),
+            Some(PlanError::TooManyPages)
+        );
         let two = read_single(rt.alloc(), "0,0")?;
-        assert_eq!(rt; count_sheets(&two, 1_000_000).err(), Some(PlanError::TooManySheets));
+        assert_eq!(rt;
+            count_sheets(&two, 1_000_000).err(),
+            Some(PlanError::TooManySheets)
+        );
         Ok(())
     }
 }

@@ -8,10 +8,10 @@ mod options;
 mod outcome;
 mod output;
 mod runs;
+mod sheet_texts;
 mod single;
 mod single_spec;
 mod sink;
-mod sheet_texts;
 #[cfg(test)]
 mod tests;
 

@@ -1,9 +1,8 @@
 //! What a run answers.
+use crate::error::{PlanError, SpecError};
 use dsc::DscError;
 use std::alloc::AllocError;
 use thiserror::Error;
-
-use crate::error::{PlanError, SpecError};
 
 /// The numbers of a finished run.
 #[derive(Clone, Copy, Debug, PartialEq, Eq)]

@@ -7,15 +7,19 @@ ghost use Rattle.imposer.specs.Frame.{frame};
 ghost use Rattle.imposer.specs.Single.{plain_item, single_sheet};
 ghost use Rattle.imposer.specs.Views.{spec_of};
 
+use crate::expansion::page_of;
+use crate::sheet_texts::{append_page_line, append_placed_body};
+use crate::single_spec::SingleSpec;
 use dsc::{Document, DscError, prepare};
 use std::alloc::{AllocError, Global};
 
-use crate::expansion::page_of;
-use crate::single_spec::SingleSpec;
-use crate::sheet_texts::{append_page_line, append_placed_body};
-
 /// Appends a slot: its page, or nothing where it is blank.
-fn append_slot(alloc: Global, text: &mut Vec<u8>, document: &Document<'_>, page: Option<u32>) -> Result<(), AllocError>
+fn append_slot(
+    alloc: Global,
+    text: &mut Vec<u8>,
+    document: &Document<'_>,
+    page: Option<u32>,
+) -> Result<(), AllocError>
     requires { IfSome page (λ p. p < length (pages document.now)) }
     ensures { OnOk result ((place : ℕ) → text.new.items ≡ text.old.items ++ slot_text frame (pages document.now) page (plain_item place)) }
 {

@@ -5,16 +5,15 @@ ghost use Rattle.profile.specs.Output.{output};
 ghost use Rattle.imposer.specs.Frame.{frame};
 ghost use Rattle.imposer.specs.Runs.{request, Accepted, IsRefusal, HasWritten, Reports, failures_of, IsUnwritten};
 
-use dsc::Document;
-use std::alloc::Global;
-
+use crate::expansion::count_sheets;
 use crate::gate::Gate;
 use crate::options::Options;
 use crate::outcome::{Report, RunError};
 use crate::output::output_text;
-use crate::sink::{Sink, write_all};
-use crate::expansion::count_sheets;
 use crate::single::read_single;
+use crate::sink::{Sink, write_all};
+use dsc::Document;
+use std::alloc::Global;
 
 /// Reads the specification and the document, and hands the sink the sheets.
 ///

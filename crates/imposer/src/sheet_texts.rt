@@ -9,7 +9,8 @@ use itoa::Buffer;
 use std::alloc::AllocError;
 
 /// Opens a page that is placed as it is on a4 paper.
-const OPENING: &str = "userdict /ImposeSave save put\nuserdict /showpage {} put\n[1 0 0 1 0 0] concat\nnewpath 0 0 moveto 595 0 lineto 595 842 lineto 0 842 lineto closepath clip newpath\n";
+const OPENING: &str =
+    "userdict /ImposeSave save put\nuserdict /showpage {} put\n[1 0 0 1 0 0] concat\nnewpath 0 0 moveto 595 0 lineto 595 842 lineto 0 842 lineto closepath clip newpath\n";
 
 const CLOSING: &str = "ImposeSave restore\n";
 

@@ -165,8 +165,13 @@ mod tests {
 
     #[test]
     fn no_specification_of_single_pages(rt: HostRuntime) {
-        for text in ["", "2:", ",", "0,", "0 ", "x", "-0", "0L", "0+0", "2:2:0", "0,2:0"] {
-            assert!(rt; matches!(read_single(rt.alloc(), text), Err(SpecError::Syntax(_))), "{text}");
+        for text in [
+            "", "2:", ",", "0,", "0 ", "x", "-0", "0L", "0+0", "2:2:0", "0,2:0",
+        ] {
+            assert!(rt;
+                matches!(read_single(rt.alloc(), text), Err(SpecError::Syntax(_))),
+                "{text}"
+            );
         }
     }
 
@@ -189,12 +194,26 @@ mod tests {
 
     #[test]
     fn limits_of_length_and_groups(rt: HostRuntime) -> Result<(), Fail> {
-        assert_eq!(rt; read_single(rt.alloc(), zeros(rt.alloc(), 10_000)?.as_str())?.pages.len(), 10_000);
-        assert_eq!(rt; read_single(rt.alloc(), zeros(rt.alloc(), 10_001)?.as_str()).err(), Some(SpecError::TooManyGroups));
+        assert_eq!(rt;
+            read_single(rt.alloc(), zeros(rt.alloc(), 10_000)?.as_str())?
+                .pages
+                .len(),
+            10_000
+        );
+        assert_eq!(rt;
+            read_single(rt.alloc(), zeros(rt.alloc(), 10_001)?.as_str()).err(),
+            Some(SpecError::TooManyGroups)
+        );
         let longest = "0".repeat(rt.alloc(), 65_536)?;
-        assert_eq!(rt; read_single(rt.alloc(), longest.as_str())?.pages.as_slice(), [0].as_slice());
+        assert_eq!(rt;
+            read_single(rt.alloc(), longest.as_str())?.pages.as_slice(),
+            [0].as_slice()
+        );
         let longer = "0".repeat(rt.alloc(), 65_537)?;
-        assert_eq!(rt; read_single(rt.alloc(), longer.as_str()).err(), Some(SpecError::TooLong));
+        assert_eq!(rt;
+            read_single(rt.alloc(), longer.as_str()).err(),
+            Some(SpecError::TooLong)
+        );
         Ok(())
     }
 }

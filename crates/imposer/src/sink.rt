@@ -67,7 +67,10 @@ impl<T: io::Write> WriteSink<T> {
         ensures told { ⟦<WriteSink<T> as Sink>⟧.told result ≡ T.contents writer }
         ensures fresh { ⟦<WriteSink<T> as Sink>⟧.failures result ≡ 0 }
     {
-        WriteSink { writer, failures: 0 }
+        WriteSink {
+            writer,
+            failures: 0,
+        }
     }
 }
 
@@ -144,7 +147,10 @@ impl Sink for MemorySink {
         ensures refused { OnErr result (IsSpent self.old (length bytes.now)) }
         ensures kept { OnErr result (self.new ≡ record self.old { failures = self.old.failures + 1 }) }
     {
-        let count = bytes.len().min(self.per_call).min(self.room - self.bytes.len());
+        let count = bytes
+            .len()
+            .min(self.per_call)
+            .min(self.room - self.bytes.len());
         if count == 0 || self.calls == 0 {
             self.failures += 1;
             return Err(SinkFault {});

@@ -8,7 +8,7 @@ pub returns-then-place-from-clause-slot : goal.returns-then-place-from-clause-sl
 returns-then-place-from-clause-slot c =
     let spec = c.args.spec.now in
     let is_place : IsPlace spec.pages.items spec.modulo c.args.sheet c.len-groups.result c.from.result c.index.result.now
-      = record { groups_is = c.len-groups.ensures ∙ spec.pages.ok.0; block_is = c.from.ensures; in_block_is = c.index.ensures } in
+    = record { groups_is = c.len-groups.ensures ∙ spec.pages.ok.0; block_is = c.from.ensures; in_block_is = c.index.ensures } in
     let place : c.from.result * spec.modulo + c.index.result.now ≡ c.from.result * c.from-2.result + c.from-3.result = cc in
     sheet_with spec.modulo c.args.pages spec.pages.items c.args.sheet c.len-groups.result c.from.result c.index.result.now _ c.requires is_place
     (ap (page_at c.args.pages) place ∙ page_within c.args.pages _ (omega (arith, c.if-place-from.true, c.from-4.ensures)))
@@ -18,7 +18,7 @@ pub returns-else-place-from-clause-slot : goal.returns-else-place-from-clause-sl
 returns-else-place-from-clause-slot c =
     let spec = c.args.spec.now in
     let is_place : IsPlace spec.pages.items spec.modulo c.args.sheet c.len-groups.result c.from.result c.index.result.now
-      = record { groups_is = c.len-groups.ensures ∙ spec.pages.ok.0; block_is = c.from.ensures; in_block_is = c.index.ensures } in
+    = record { groups_is = c.len-groups.ensures ∙ spec.pages.ok.0; block_is = c.from.ensures; in_block_is = c.index.ensures } in
     let place : c.from.result * spec.modulo + c.index.result.now ≡ c.from.result * c.from-2.result + c.from-3.result = cc in
     sheet_with spec.modulo c.args.pages spec.pages.items c.args.sheet c.len-groups.result c.from.result c.index.result.now _ c.requires is_place
     (ap (page_at c.args.pages) place ∙ page_past c.args.pages _ (omega (arith, c.if-place-from.false, c.from-4.ensures)))

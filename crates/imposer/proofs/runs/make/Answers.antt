@@ -1,5 +1,4 @@
-use Rattle.std.proofs.Common.{rules, refl, ◌≡◌, ◌∙◌, sym, ap, length, Ok}
-use Rattle.profile.specs.Parts.{pages}
+use Rattle.std.proofs.Common.{rules, refl, ◌∙◌}
 use Rattle.imposer.specs.Runs.{request}
 use Rattle.imposer.specs.Views.{spec_of}
 use Rattle.imposer.proofs.Refusals.{refused_document, refused_plan, told_of}
@@ -17,8 +16,12 @@ returns-in_err-counts-clause-refused c =
     (refused_plan (request c.args.options.now c.args.spec.now c.args.input.now) _ (spec_of c.in_ok-single.single) _ _ (search rules) (c.in_ok-single.ensures.taken) (c.in_ok-document.ensures.answer) c.pages.ensures.count (c.in_err-counts.ensures.refused)).0
 
 pub returns-clause-made : goal.returns-clause-made
-returns-clause-made c =
-    (spec_of c.in_ok-single.single, c.in_ok-document.document,
-    accepted_of (request c.args.options.now c.args.spec.now c.args.input.now) _ _ _ (search rules) (c.in_ok-single.ensures.taken) (c.in_ok-document.ensures.answer) c.pages.ensures.count (c.in_ok-counts.ensures.accepted),
-    (c.in_ok-text.ensures,
-    reports_of _ _ _ _ _ c.pages.ensures.count c.pages-2.ensures.count (c.in_ok-counts.ensures.sheets) (c.in_ok-counts.ensures.born) refl (c.len.ensures ∙ c.in_ok-text.text.ok.0) (c.in_ok-text.ensures)))
+returns-clause-made c = (
+  spec_of c.in_ok-single.single,
+  c.in_ok-document.document,
+  accepted_of (request c.args.options.now c.args.spec.now c.args.input.now) _ _ _ (search rules) (c.in_ok-single.ensures.taken) (c.in_ok-document.ensures.answer) c.pages.ensures.count (c.in_ok-counts.ensures.accepted),
+  (
+    c.in_ok-text.ensures,
+    reports_of _ _ _ _ _ c.pages.ensures.count c.pages-2.ensures.count (c.in_ok-counts.ensures.sheets) (c.in_ok-counts.ensures.born) refl (c.len.ensures ∙ c.in_ok-text.text.ok.0) (c.in_ok-text.ensures),
+  ),
+)

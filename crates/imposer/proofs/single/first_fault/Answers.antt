@@ -1,4 +1,4 @@
-use Rattle.std.proofs.Common.{rules, tests, ◌∙◌, true, false, Some, None, sym, refl}
+use Rattle.std.proofs.Common.{true, false, Some, None, sym, refl}
 use Rattle.imposer.proofs.Checks.{is_chosen, neither, not_below, below, not_zero, is_zero}
 use Rattle.imposer.proofs.single.first_fault.Goals as goal
 

@@ -1,4 +1,4 @@
-use Rattle.std.proofs.Common.{rules, ◌≡◌, ◌∙◌, refl, true}
+use Rattle.std.proofs.Common.{rules, ◌≡◌, ◌∙◌, true}
 use Rattle.std.specs.Char.{is_ascii_digit}
 use Rattle.std.proofs.lemmas.List.Elements.{All-more}
 use Rattle.imposer.proofs.Steps.{number_more}
