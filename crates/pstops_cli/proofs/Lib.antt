@@ -1,0 +1,4 @@
+pub mod Chain
+pub mod Pstops
+pub mod Reading
+pub mod Statuses
