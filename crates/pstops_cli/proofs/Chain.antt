@@ -98,7 +98,7 @@ apart : (xs : List Arg) → are_distinct (map rule_of xs) ≡ true → (j k : �
 apart [] h j k d e lt in_range same = absurd (omega arith)
 apart (a ∷ rest) h j zero d e lt in_range same = absurd (omega arith)
 apart (a ∷ rest) h zero (suc k) d e lt in_range same =
-    let b = both _ _ h in
+    let b : (not (is_met a.id.now (map rule_of rest)) ≡ true) × (are_distinct (map rule_of rest) ≡ true) = both _ _ h in
     let met = met_at rest a.id.now k e (omega arith) same in
     let bad : is_met a.id.now (map rule_of rest) ≡ false = is_false _ b.0 in
     cc

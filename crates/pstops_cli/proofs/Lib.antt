@@ -2,3 +2,4 @@ pub mod Chain
 pub mod Pstops
 pub mod Reading
 pub mod Statuses
+pub mod Examples

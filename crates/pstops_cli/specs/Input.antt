@@ -1,5 +1,5 @@
 -- What a source of bytes does, and what is read of it.
-use Rattle.std.specs.Prelude.{◌≡◌, ◌+◌, ℕ, List, Option, Result, MatchResult, take, IfSome}
+use Rattle.std.specs.Prelude.{◌≡◌, ◌+◌, ◌≤◌, length, ℕ, List, Option, Result, MatchResult, take, IfSome}
 use Rattle.std.specs.Io.KnownBytes.{Consumes, IsAtEnd, Keeps}
 use Rattle.pstops_cli.specs.declared.input.ReadFault.{ReadFault}
 use Rattle.pstops_cli.specs.declared.input.ReadFault.TheVariants.{Device, NoMemory}
@@ -15,6 +15,10 @@ Counts old new r = MatchResult r (λ _. new ≡ old) (λ _. new ≡ old + 1)
 -- the first n of the bytes that remained, all where there were fewer
 abbrev pub IsFirst : (n : ℕ) → Option (List ℕ) → List ℕ → Type 0
 IsFirst n remaining bytes = IfSome remaining (λ all. bytes ≡ take n all)
+
+-- n bytes at most were taken from the front of those that remained
+abbrev pub ConsumesAtMost : (n : ℕ) → (old new : Option (List ℕ)) → Type 0
+ConsumesAtMost n old new = (bytes : List ℕ) × (length bytes ≤ n) × Consumes old new bytes
 
 -- the source failed, or it didn't and memory ran out
 abbrev pub IsFaultOf : (old new : ℕ) → ReadFault → Type 0

@@ -1,15 +1,15 @@
 -- What is said on standard error, and with which exit status the program ends.
 use Rattle.std.specs.Prelude.{◌++◌, ℕ, List, codes, decimal, encode_utf8}
 use Rattle.profile.specs.Bytes.{line}
-use Rattle.imposer.specs.declared.types.SpecError.{SpecError}
-use Rattle.imposer.specs.declared.types.SpecError.TheVariants as spec
-use Rattle.imposer.specs.declared.types.DscError.{DscError}
-use Rattle.imposer.specs.declared.types.DscError.TheVariants as document
-use Rattle.imposer.specs.declared.types.PlanError.{PlanError}
-use Rattle.imposer.specs.declared.types.PlanError.TheVariants as plan
-use Rattle.imposer.specs.declared.types.RunError.{RunError}
-use Rattle.imposer.specs.declared.types.RunError.TheVariants as run
-use Rattle.imposer.specs.declared.types.Report.{Report}
+use Rattle.imposer.specs.declared.error.SpecError.{SpecError}
+use Rattle.imposer.specs.declared.error.SpecError.TheVariants as spec
+use Rattle.dsc.specs.declared.errors.DscError.{DscError}
+use Rattle.dsc.specs.declared.errors.DscError.TheVariants as document
+use Rattle.imposer.specs.declared.error.PlanError.{PlanError}
+use Rattle.imposer.specs.declared.error.PlanError.TheVariants as plan
+use Rattle.imposer.specs.declared.outcome.RunError.{RunError}
+use Rattle.imposer.specs.declared.outcome.RunError.TheVariants as run
+use Rattle.imposer.specs.declared.outcome.Report.{Report}
 use Rattle.pstops_cli.specs.declared.command.CommandFault.{CommandFault}
 use Rattle.pstops_cli.specs.declared.command.CommandFault.TheVariants as command
 use Rattle.pstops_cli.specs.declared.input.ReadFault.{ReadFault}

@@ -1,7 +1,7 @@
 //! Reading a whole input.
-ghost use Rattle.std.specs.Prelude.{◌≡◌, ◌+◌, ◌^◌, ◌<◌, ◌≤◌, ℕ, List, None, Option, IfOk, IfErr, OnOk, vec_len, length, take, drop};
-ghost use Rattle.std.specs.Io.KnownBytes.{Consumes, IsAtEnd};
-ghost use Rattle.pstops_cli.specs.Input.{Counts, Fills, IsFaultOf, IsFirst};
+ghost use Rattle.std.specs.Prelude.{◌≡◌, ◌+◌, ◌^◌, ◌<◌, ◌≤◌, ℕ, List, None, Option, IfOk, IfErr, OnOk, OnErr, vec_len, length, take, drop};
+ghost use Rattle.std.specs.Io.KnownBytes.{Consumes, IsAtEnd, Keeps};
+ghost use Rattle.pstops_cli.specs.Input.{ConsumesAtMost, Counts, Fills, IsFaultOf, IsFirst};
 ghost use Rattle.pstops_cli.specs.declared.input.ReadFault.TheVariants.{Device, NoMemory};
 
 use std::alloc::{AllocError, Global};
@@ -97,12 +97,15 @@ impl From<SourceFault> for ReadFault {
 
 /// The bytes of the source to its end, or the first [`MOST_BYTES`] of them where it has more.
 ///
-/// They are read straight into the vector, whose length doubles as it fills.
+/// They are read straight into the vector, whose length doubles as it fills. After a fault the bytes that were read are
+/// lost.
 pub fn read_input<S: Source>(alloc: Global, source: &mut S) -> Result<Vec<u8>, ReadFault>
     requires countable { S.failures source.old < u64.MAX }
     ensures within { IfOk result (λ bytes. vec_len bytes ≤ MOST_BYTES) }
     ensures read { IfOk result (λ bytes. IsFirst MOST_BYTES (S.remaining source.old) bytes.items) }
     ensures rest { IfOk result (λ bytes. Consumes (S.remaining source.old) (S.remaining source.new) bytes.items) }
+    // It ends after so many bytes, whatever comes of it.
+    ensures most { ConsumesAtMost MOST_BYTES (S.remaining source.old) (S.remaining source.new) }
     // It is Device where the source failed in the call, and only there.
     ensures steady { OnOk result (S.failures source.new ≡ S.failures source.old) }
     ensures refused { IfErr result (IsFaultOf (S.failures source.old) (S.failures source.new)) }
@@ -132,6 +135,7 @@ fn fill_more<S: Source>(source: &mut S, bytes: &mut Vec<u8>, filled: usize) -> R
     ensures moved { IfOk result (λ k.
         Consumes (S.remaining source.old) (S.remaining source.new) (take k (drop filled bytes.new.items))
         × (k ≡ 0 → IsAtEnd (S.remaining source.new))) }
+    ensures kept { OnErr result (Keeps (S.remaining source.old) (S.remaining source.new)) }
     ensures steady { OnOk result (S.failures source.new ≡ S.failures source.old) }
     ensures refused { IfErr result (IsFaultOf (S.failures source.old) (S.failures source.new)) }
 {

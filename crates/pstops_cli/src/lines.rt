@@ -4,11 +4,12 @@ ghost use Rattle.pstops_cli.specs.Lines.{command_text as text_of_command, docume
 
 use crate::command::CommandFault;
 use crate::input::ReadFault;
-use imposer::{DscError, PlanError, Report, RunError, SpecError};
+use dsc::DscError;
+use imposer::{PlanError, Report, RunError, SpecError};
 use std::alloc::{AllocError, Global};
 
 /// Why the program ends without having written its output.
-#[derive(Debug, PartialEq, Eq, Drop)]
+#[derive(Debug, Drop)]
 pub enum Fault {
     /// The command line is refused.
     Command(CommandFault),
@@ -30,15 +31,6 @@ pub fn fault_line(alloc: Global, fault: &Fault) -> Result<(u8, Vec<u8>), AllocEr
 {
     let text = fault_text(alloc, fault)?;
     Ok((fault_status(fault), line_of(alloc, text.as_str())?))
-}
-
-// The exit status and the line of a run that failed or was refused.
-pub(crate) fn run_fault_line(alloc: Global, error: &RunError) -> Result<(u8, Vec<u8>), AllocError>
-    ensures status { IfOk result (λ told. told.0 ≡ status_of_run error.now) }
-    ensures line { IfOk result (λ told. told.1.items ≡ said (text_of_run error.now)) }
-{
-    let text = run_text(alloc, error)?;
-    Ok((run_status(error), line_of(alloc, text.as_str())?))
 }
 
 // The line of a run that finished.

@@ -1,6 +1,7 @@
 //! The worked examples: words, inputs, lines and requests.
 use crate::*;
-use imposer::{DscError, MemorySink, Options, PlanError, RunError, SpecError, Workers};
+use dsc::DscError;
+use imposer::{MemorySink, Options, PlanError, RunError, SpecError, Workers};
 use std::alloc::{AllocError, Global};
 use std::process::Abort;
 use std::str;
@@ -10,10 +11,12 @@ const ONE_PAGE: &str = "%!PS-Adobe-3.0\n%%Pages: 1\n%%EndComments\n%%Page: 1 1\n
 
 const ONE_SHEET: &str = "%!PS-Adobe-3.0\n%%Pages: 1\n%%EndComments\n%%Page: 1 1\nuserdict /ImposeSave save put\nuserdict /showpage {} put\n[1 0 0 1 0 0] concat\nnewpath 0 0 moveto 595 0 lineto 595 842 lineto 0 842 lineto closepath clip newpath\n(0) pop\nshowpage\nImposeSave restore\nshowpage\n%%Trailer\n%%EOF\n";
 
-fn read(alloc: Global, texts: &[&str]) -> Result<Request, CommandFault> {
+// What is asked for by words with spaces between them.
+fn read(alloc: Global, line: &str) -> Result<Request, CommandFault> {
     let mut words = Vec::new(alloc);
-    for text in texts {
-        words.push(String::from_str(alloc, text)?).map_err(|_| CommandFault::NoMemory)?;
+    for word in line.split_whitespace() {
+        let word = String::from_str(alloc, word)?;
+        words.push(word).map_err(|_| CommandFault::NoMemory)?;
     }
     read_command(alloc, words.as_slice())
 }
@@ -21,16 +24,15 @@ fn read(alloc: Global, texts: &[&str]) -> Result<Request, CommandFault> {
 #[test]
 fn words_that_are_taken(rt: HostRuntime) -> Result<(), Fail> {
     let rows = [
-        (["-q", "0"].as_slice(), "0", true),
-        (["0"].as_slice(), "0", false),
-        (["2:0,1", "-q"].as_slice(), "2:0,1", true),
-        (["--", "-0"].as_slice(), "-0", false),
-        ([""].as_slice(), "", false),
+        ("-q 0", "0", true),
+        ("0", "0", false),
+        ("2:0,1 -q", "2:0,1", true),
+        ("-- -0", "-0", false),
     ];
-    for (words, spec, quiet) in rows {
-        let request = read(rt.alloc(), words)?;
+    for (line, spec, quiet) in rows {
+        let request = read(rt.alloc(), line)?;
         assert_eq!(rt; request.spec.as_str(), spec);
-        assert_eq!(rt; request.quiet, quiet, "at {spec}");
+        assert_eq!(rt; request.quiet, quiet, "at {line}");
         assert_eq!(rt; request.options.workers.preparers, 2);
         assert_eq!(rt; request.options.workers.imposers, 2);
     }
@@ -39,20 +41,10 @@ fn words_that_are_taken(rt: HostRuntime) -> Result<(), Fail> {
 
 #[test]
 fn words_that_are_refused(rt: HostRuntime) {
-    let rows = [
-        [].as_slice(),
-        ["-q"].as_slice(),
-        ["-q", "-q", "0"].as_slice(),
-        ["0", "1"].as_slice(),
-        ["-x", "0"].as_slice(),
-        ["-0"].as_slice(),
-        ["--help"].as_slice(),
-        ["-j", "17", "0"].as_slice(),
-    ];
-    for words in rows {
-        match read(rt.alloc(), words) {
-            Ok(_) => assert!(rt; false, "taken"),
-            Err(fault) => assert_eq!(rt; fault, CommandFault::BadWords),
+    for line in ["", "-q", "-q -q 0", "0 1", "-x 0", "-0", "--help", "-j 17 0"] {
+        match read(rt.alloc(), line) {
+            Ok(_) => assert!(rt; false, "taken: {line}"),
+            Err(fault) => assert_eq!(rt; fault, CommandFault::BadWords, "at {line}"),
         }
     }
 }
