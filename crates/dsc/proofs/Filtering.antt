@@ -1,14 +1,12 @@
 -- What is kept, run by run.
-use Rattle.std.specs.Prelude.{Result, Ok, Err, not, codes}
-use Rattle.std.specs.List.{starts_with, list_any}
-use Rattle.std.specs.Str.{bytes_eq}
-use Rattle.std.proofs.Common.{append_assoc, append-nil, Bool, true, false, nat_eq, ◌||◌, ◌&&◌, ◌==◌, if◌then◌else◌, ◌≡◌, ℕ, zero, suc, ◌+◌, ◌-◌, ◌<◌, ◌≤◌, List, [], ◌∷◌, ◌++◌, length, take, drop, get_or, refl, ap, arith, length-append, sym, ◌∙◌, subst}
+use Rattle.std.specs.Prelude.{Result, Ok, Err, not}
+use Rattle.std.proofs.Common.{append_assoc, append-nil, Bool, true, false, if◌then◌else◌, ◌≡◌, ℕ, suc, ◌+◌, ◌-◌, ◌<◌, List, [], ◌∷◌, ◌++◌, length, take, drop, get_or, refl, ap, arith, sym, ◌∙◌}
 use Rattle.std.proofs.Math.Seq.{take-add}
 use Rattle.profile.specs.Units.{TextUnit, is_end, first_unit, FaultyBlock, cut}
-use Rattle.profile.specs.Parts.{NestedUnit, depth_after, nested_from, bytes_of}
-use Rattle.profile.specs.Filters.{kept_after, kept, ended, prepared}
+use Rattle.profile.specs.Parts.{NestedUnit, depth_after, nested_from, nested, bytes_of}
+use Rattle.profile.specs.Filters.{kept_after, kept, drops_in_header, ended, prepared}
+use Rattle.dsc.specs.Units.{or_none, units_of}
 use Rattle.dsc.specs.Filters.{drops_of, is_dropped, of_units, filter_on}
-use Rattle.dsc.proofs.Cases.{by_test}
 use Rattle.dsc.proofs.Cut.{cut_at, cut_step, of_units-more}
 
 pub run_grows : (kept run : List ℕ) (n m : ℕ) → kept ++ take (n + m) run ≡ (kept ++ take n run) ++ take m (drop n run)
@@ -31,7 +29,6 @@ kept_step in_page was u us front true e =
 kept_step in_page was u us front false e =
     append_assoc front u.unit.bytes (bytes_of (kept_after false (drops_of in_page) us)) ∙ ap (λ t. front ++ t) (sym (kept_bytes in_page was u us [] false e))
 
-
 -- as a loop has it: one more unit is kept or dropped
 pub filter_more : (in_page was dropped : Bool) (front new : List ℕ) (depth deep at next : ℕ) (rest after : List ℕ) (p : TextUnit) (whole : Result (List ℕ) FaultyBlock)
     → 0 < length rest → first_unit rest ≡ Ok p → after ≡ drop (length p.bytes) rest → next ≡ at + length p.bytes → deep ≡ depth_after depth p
@@ -44,9 +41,9 @@ filter_more in_page was dropped front new depth deep at next (b ∷ bs) after p 
     ∙ ap (λ k. filter_on in_page new dropped k (at + length p.bytes) (drop (length p.bytes) (b ∷ bs))) d
     ∙ ap (λ t. filter_on in_page t dropped (depth_after depth p) (at + length p.bytes) (drop (length p.bytes) (b ∷ bs))) nw
     ∙ of_units-more (λ ps. front ++ bytes_of (kept_after was (drops_of in_page) (nested_from depth ps)))
-        (λ ps. (front ++ (if dropped then [] else p.bytes)) ++ bytes_of (kept_after dropped (drops_of in_page) (nested_from (depth_after depth p) ps)))
-        p (cut_at (at + length p.bytes) (drop (length p.bytes) (b ∷ bs)))
-        (λ ps. kept_step in_page was (record { depth = depth; unit = p }) (nested_from (depth_after depth p) ps) front dropped (sym dr))
+    (λ ps. (front ++ (if dropped then [] else p.bytes)) ++ bytes_of (kept_after dropped (drops_of in_page) (nested_from (depth_after depth p) ps)))
+    p (cut_at (at + length p.bytes) (drop (length p.bytes) (b ∷ bs)))
+    (λ ps. kept_step in_page was (record { depth = depth; unit = p }) (nested_from (depth_after depth p) ps) front dropped (sym dr))
     ∙ ap (of_units (λ ps. front ++ bytes_of (kept_after was (drops_of in_page) (nested_from depth ps)))) (sym (cut_step at b bs p w)) ∙ i
 
 -- the last byte
@@ -80,3 +77,18 @@ body_found page v front e h = ended_units (λ ps. bytes_of (kept_after false (dr
 
 pub body_fault : (page front : List ℕ) (e : FaultyBlock) → front ≡ [] → filter_on true front false 0 0 page ≡ Err e → prepared page ≡ Err e
 body_fault page front d e h = fault_units (λ ps. bytes_of (kept_after false (drops_of true) (nested_from 0 ps))) (cut page) d (ap (λ t. filter_on true t false 0 0 page) (sym e) ∙ h)
+
+-- a header's part that is cut without a fault
+pub header_found : (front text : List ℕ) → cut text ≡ Ok (or_none (cut text)) → filter_on false front false 0 0 text ≡ Ok (front ++ bytes_of (kept drops_in_header (units_of text)))
+header_found front text c = ap (of_units (λ us. front ++ bytes_of (kept_after false (drops_of false) (nested us)))) c
+
+abbrev kept_or : Result (List ℕ) FaultyBlock → List ℕ
+kept_or (Ok x) = x
+kept_or (Err e) = []
+
+pub same_found : (r : Result (List ℕ) FaultyBlock) (x y : List ℕ) → r ≡ Ok x → r ≡ Ok y → x ≡ y
+same_found r x y e f = ap kept_or (sym e ∙ f)
+
+pub no_fault : (r : Result (List ℕ) FaultyBlock) (x : List ℕ) (e : FaultyBlock) → r ≡ Ok x → r ≡ Err e → ⊥
+no_fault (Ok v) x e f g = cc
+no_fault (Err d) x e f g = cc

@@ -13,3 +13,4 @@ pub mod Reading
 pub mod Filtering
 pub mod Slices
 pub mod Trailers
+pub mod Preambles

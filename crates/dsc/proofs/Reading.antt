@@ -1,7 +1,7 @@
 -- What is read of a document.
 use Rattle.std.specs.Prelude.{All, IfSome, Result, Ok, Err, Option, Some, None, nat_lt, not, codes}
 use Rattle.std.specs.List.{starts_with}
-use Rattle.std.proofs.Common.{append-nil, Bool, true, false, ltb, nat_eq, ◌==◌, ◌≡◌, ℕ, zero, suc, ◌+◌, ◌-◌, ◌<◌, ◌≤◌, List, [], ◌∷◌, ◌++◌, length, take, refl, ap, arith, length-take, sym, ◌∙◌, min, subst}
+use Rattle.std.proofs.Common.{append-nil, Bool, true, false, nat_eq, ◌==◌, ◌≡◌, ℕ, zero, suc, ◌<◌, ◌≤◌, List, [], length, take, refl, ap, arith, length-take, sym, ◌∙◌, min, subst}
 use Rattle.std.proofs.lemmas.Bool.{le-ltb, lt-ltb, eqb-true}
 use Rattle.std.proofs.lemmas.List.{take_all}
 use Rattle.profile.specs.Units as block
@@ -128,3 +128,10 @@ pub pages_bodied : PagesHaveBodies
 pages_bodied text us h =
     let w = accepted_cut text us h in
     subst (λ vs. All HasBody (pages vs)) w.1 (bodies text (or_none (cut text)) w.0)
+
+untested : {A E : Type 0} (t : Bool) (fault : E) (next : Result A E) (x : A) → refuse_if (not t) fault next ≡ Ok x → t ≡ true
+untested true fault next x e = refl
+untested false fault next x e = cc
+
+pub accepted_opening : (text : List ℕ) (us : List NestedUnit) → document_of text ≡ Ok us → starts_with nat_eq text (codes "%!") ≡ true
+accepted_opening text us h = untested _ NotPostScript _ us (refused _ InputTooLong _ us h)

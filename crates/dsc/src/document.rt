@@ -1,14 +1,15 @@
 //! A document with its parts.
 ghost use Rattle.std.specs.Prelude.{◌≡◌, ◌+◌, ◌-◌, ◌<◌, ◌≤◌, [], length, take, drop, slice_index_or, IfOk, IfErr, Ok};
 ghost use Rattle.profile.specs.Parts.{pages};
-ghost use Rattle.profile.specs.Filters.{preamble_text, trailer_text, prepared};
-ghost use Rattle.profile.specs.Output.{body_text};
+ghost use Rattle.profile.specs.Filters.{preamble_text, trailer_text};
 ghost use Rattle.profile.specs.Run.{document_of};
 ghost use Rattle.dsc.specs.Views.{Gives};
 ghost use Rattle.dsc.specs.Faults.{fault_told, PassedFirstChecks};
+ghost use Rattle.dsc.specs.Laws.{HasBody};
 
-use crate::errors::{CutError, DscError, widen};
-use crate::filters::filter;
+use crate::errors::{DscError, widen};
+use crate::filters::{end_line, filter_header, with_count};
+use crate::lines::{content_end, line_end_after};
 use crate::scan::scan;
 use std::alloc::{AllocError, Global};
 use std::marker::Model;
@@ -78,25 +79,35 @@ impl<'d> Document<'d> {
     pub fn page(&self, p: u32) -> &'d [u8]
         requires { p < length (pages self.now) }
         ensures page { result.now ≡ slice_index_or (pages self.now) p [] }
-        ensures has_a_body { prepared result.now ≡ Ok (body_text (prepared result.now)) }
+        ensures has_a_body { HasBody result.now }
     {
         let p = p as usize;
         let starts = self.starts.as_slice();
         part(self.text, entry(starts, p), next_or(starts, p, self.stop))
     }
 
-    /// What is kept of the trailer.
+    /// What is kept of the preamble, with `%%Pages: ` and the number of sheets on a line of its own behind the first
+    /// line, and a line end at its end. Outermost lines with the keys `%%Pages`, `%%PageOrder`, `%%BoundingBox`,
+    /// `%%HiResBoundingBox`, `%%DocumentMedia` and `%%Orientation` are dropped, and the `%%+` lines behind them.
+    pub fn preamble_text(&self, alloc: Global, sheets: u32) -> Result<Vec<u8>, AllocError>
+        ensures text { IfOk result (λ v. v.items ≡ preamble_text sheets self.now) }
+    {
+        let line_len = line_end_after(self.text, content_end(self.text));
+        let (line, behind) = self.text.split_at(line_len);
+        let (rest, _) = behind.split_at(entry(self.starts.as_slice(), 0) - line_len);
+        let header = with_count(alloc, line, sheets)?;
+        let mut text = filter_header(header, rest)?;
+        end_line(&mut text)?;
+        Ok(text)
+    }
+
+    /// What is kept of the trailer: the lines that are dropped from a preamble are dropped from it too.
     pub fn trailer_text(&self, alloc: Global) -> Result<Vec<u8>, AllocError>
         ensures text { IfOk result (λ v. v.items ≡ trailer_text self.now) }
     {
         let (_, rest) = self.text.split_at(self.stop);
         let room = Vec::with_capacity(alloc, rest.len())?;
-        match filter(room, false, rest) {
-            Ok(kept) => Ok(kept),
-            Err(CutError::NoMemory) => Err(AllocError),
-            Err(CutError::BadCount(_)) => unreachable!(),
-            Err(CutError::ShortData(_)) => unreachable!(),
-        }
+        filter_header(room, rest)
     }
 }
 

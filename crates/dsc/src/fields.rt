@@ -12,7 +12,9 @@ fn blanks_at(text: &[u8]) -> usize
     ensures value { result ≡ prefix_len is_blank text.now }
     ensures within { result ≤ length text.now }
 {
-    text.iter().take_while(|b| **b == b' ' || **b == b'\t').count()
+    text.iter()
+        .take_while(|b| **b == b' ' || **b == b'\t')
+        .count()
 }
 
 /// How long the field is that the bytes begin with.
@@ -20,7 +22,9 @@ fn field_at(text: &[u8]) -> usize
     ensures value { result ≡ prefix_len (λ b. not (is_blank b)) text.now }
     ensures within { result ≤ length text.now }
 {
-    text.iter().take_while(|b| !(**b == b' ' || **b == b'\t')).count()
+    text.iter()
+        .take_while(|b| !(**b == b' ' || **b == b'\t'))
+        .count()
 }
 
 /// The first field of the bytes, and what stands behind it.

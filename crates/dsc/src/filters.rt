@@ -1,14 +1,20 @@
 //! What is kept of a text.
-ghost use Rattle.std.specs.Prelude.{◌≡◌, ◌+◌, ◌≤◌, [], ◌∷◌, ◌++◌, length, take, drop, IfOk, IfErr, OnOk, if◌then◌else◌, false};
-ghost use Rattle.profile.specs.Units.{is_end};
-ghost use Rattle.profile.specs.Filters.{ended, prepared};
+ghost use Rattle.std.specs.Prelude.{◌≡◌, ◌+◌, ◌≤◌, [], ◌∷◌, ◌++◌, length, take, drop, IfOk, IfErr, OnOk, if◌then◌else◌, false, Ok, codes, decimal};
+ghost use Rattle.profile.specs.Bytes.{line};
+ghost use Rattle.profile.specs.Units.{is_end, cut};
+ghost use Rattle.profile.specs.Parts.{bytes_of};
+ghost use Rattle.profile.specs.Filters.{kept, drops_in_header, ended, prepared};
+ghost use Rattle.dsc.specs.Units.{or_none, units_of};
 ghost use Rattle.dsc.specs.Views.{unit_of, Gives};
 ghost use Rattle.dsc.specs.Faults.{block_fault_told, page_fault_told, IsPageError};
+ghost use Rattle.dsc.specs.Laws.{HasBody};
+ghost use Rattle.dsc.specs.declared.errors.DscError.TheVariants.{NoMemory};
 ghost use Rattle.dsc.specs.Filters.{drops_of, is_dropped, filter_on};
 
 use crate::errors::{CutError, DscError, widen};
 use crate::keys::{key_of, meaning_of};
 use crate::units::{Unit, UnitError, first_unit};
+use itoa::Buffer;
 use std::alloc::{AllocError, Global};
 
 /// Whether a line with this content is dropped where it is outermost.
@@ -66,11 +72,7 @@ fn go_on<'d>(
 }
 
 /// Adds to `kept` what is kept of the text.
-pub fn filter(
-    kept: Vec<u8>,
-    in_page: bool,
-    text: &[u8],
-) -> Result<Vec<u8>, CutError>
+fn filter(kept: Vec<u8>, in_page: bool, text: &[u8]) -> Result<Vec<u8>, CutError>
     ensures { Gives (λ v. v.items) block_fault_told result (filter_on in_page kept.items false 0 0 text.now) }
 {
     let mut kept = kept;
@@ -103,6 +105,31 @@ pub fn filter(
     }
 }
 
+/// Adds to `front` what is kept of a part of a preamble or of a trailer, which has no faulty block.
+pub fn filter_header(front: Vec<u8>, text: &[u8]) -> Result<Vec<u8>, AllocError>
+    requires { cut text.now ≡ Ok (or_none (cut text.now)) }
+    ensures { IfOk result (λ v. v.items ≡ front.items ++ bytes_of (kept drops_in_header (units_of text.now))) }
+{
+    match filter(front, false, text) {
+        Ok(kept) => Ok(kept),
+        Err(CutError::NoMemory) => Err(AllocError),
+        Err(CutError::BadCount(_)) => unreachable!(),
+        Err(CutError::ShortData(_)) => unreachable!(),
+    }
+}
+
+/// A document's first line, and the count of its sheets on a line behind it.
+pub fn with_count(alloc: Global, first: &[u8], sheets: u32) -> Result<Vec<u8>, AllocError>
+    ensures { IfOk result (λ v. v.items ≡ first.now ++ line (codes "%%Pages: " ++ decimal sheets)) }
+{
+    let mut digits = Buffer::new();
+    let mut text = Vec::from_slice(alloc, first)?;
+    text.extend_from_slice(b"%%Pages: ")?;
+    text.extend_from_slice(digits.format(sheets).as_bytes())?;
+    text.push(b'\n')?;
+    Ok(text)
+}
+
 fn is_line_end(byte: u8) -> bool
     ensures { result ≡ is_end byte }
 {
@@ -120,7 +147,7 @@ fn wants_end(bytes: &[u8]) -> bool
 }
 
 /// Adds a line end where the last byte is none.
-fn end_line(kept: &mut Vec<u8>) -> Result<(), AllocError>
+pub fn end_line(kept: &mut Vec<u8>) -> Result<(), AllocError>
     ensures { OnOk result (kept.new.items ≡ ended kept.old.items) }
 {
     if wants_end(kept.as_slice()) {
@@ -132,10 +159,12 @@ fn end_line(kept: &mut Vec<u8>) -> Result<(), AllocError>
 /// The prepared body of a page: its bytes without the lines that set up the page (each outermost line whose key begins
 /// with `%%Page`, `%%BeginPageSetup`, `%%EndPageSetup`, and what `%%+` lines add to them), with a line end at its end.
 /// The page is cut as a text of its own, and needn't begin with a page line.
-/// Refused with BadCount or ShortData, for its first faulty data block, or with NoMemory.
+/// Refused with BadCount or ShortData, for its first faulty data block, or with NoMemory. A page of a document has no
+/// faulty block.
 pub fn prepare(alloc: Global, page: &[u8]) -> Result<Vec<u8>, DscError>
     ensures answer { Gives (λ v. v.items) page_fault_told result (prepared page.now) }
     ensures refusals { IfErr result IsPageError }
+    ensures memory_alone { HasBody page.now → IfErr result (λ e. e ≡ NoMemory) }
 {
     match prepare_page(alloc, page) {
         Ok(body) => Ok(body),

@@ -1,8 +1,4 @@
-use Rattle.std.specs.Prelude.{Ok, Err}
-use Rattle.std.proofs.Common.{arith, sym, subst, ◌∙◌, ◌<◌, ◌≤◌, ◌≡◌, length, ℕ}
-use Rattle.dsc.specs.Views.{Gives}
-use Rattle.dsc.specs.Faults.{fault_told, PassedFirstChecks}
-use Rattle.profile.specs.Run.{document_of}
+use Rattle.std.proofs.Common.{arith, sym, ◌∙◌, ◌≤◌, length}
 use Rattle.dsc.proofs.Reading.{Opens, fault_read, checks_passed, many_read, none_read, good_read, some_of, none_of}
 use Rattle.dsc.proofs.document.Document.read.Goals as goal
 
@@ -33,7 +29,7 @@ invariant_of-result c =
     let some = some_of _ (sym c.is_empty.ensures ∙ c.if-is_empty.false) in
     let few : length c.in-Ok.seen.starts.items ≤ 1_000_000 = omega (arith, c.if-len-gt1000000.false, c.len.ensures, c.in-Ok.seen.starts.ok.0) in
     let w = good_read 1_000_001 c.args.text.now c.in-Ok.seen.starts.items c.in-Ok.seen.stop opens (omega arith) c.in-Ok.ensures (omega (arith, some, c.in-Ok.seen.starts.ok.0)) few in
-    record { accepted = w.0; is_cut = w.1; starts_are = w.2; few = few; stop_is = c.stop_or-stop.ensures ∙ w.3 }
+    record { accepted = w.0; is_cut = w.1; starts_are = w.2; some = omega (arith, some, c.in-Ok.seen.starts.ok.0); few = few; stop_is = c.stop_or-stop.ensures ∙ w.3 }
 
 pub returns-clause-answer : goal.returns-clause-answer
 returns-clause-answer c =
