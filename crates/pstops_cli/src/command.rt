@@ -126,9 +126,7 @@ fn positional<'a>(alloc: Global, id: &'a str) -> Arg<'a>
 fn flag<'a>(alloc: Global, id: &'a str, short: char) -> Arg<'a>
     ensures { rule_of result ≡ flag_rule id.entry.now short }
 {
-    Arg::new(alloc, id)
-        .short(short)
-        .action(ArgAction::SetTrue)
+    Arg::new(alloc, id).short(short).action(ArgAction::SetTrue)
 }
 
 // The value of an argument as text.

@@ -124,7 +124,11 @@ pub fn read_input<S: Source>(alloc: Global, source: &mut S) -> Result<Vec<u8>, R
 }
 
 // One fill behind the first `filled` bytes.
-fn fill_more<S: Source>(source: &mut S, bytes: &mut Vec<u8>, filled: usize) -> Result<usize, ReadFault>
+fn fill_more<S: Source>(
+    source: &mut S,
+    bytes: &mut Vec<u8>,
+    filled: usize,
+) -> Result<usize, ReadFault>
     requires countable { S.failures source.old < u64.MAX }
     requires filled { filled ≤ vec_len bytes.old }
     requires more { filled < MOST_BYTES }
@@ -160,7 +164,11 @@ fn make_room(bytes: &mut Vec<u8>, filled: usize) -> Result<(), AllocError>
 }
 
 // Fills what stands behind the first `filled` bytes.
-fn fill_behind<S: Source>(source: &mut S, buffer: &mut [u8], filled: usize) -> Result<usize, SourceFault>
+fn fill_behind<S: Source>(
+    source: &mut S,
+    buffer: &mut [u8],
+    filled: usize,
+) -> Result<usize, SourceFault>
     requires room { filled < length buffer.old }
     requires countable { S.failures source.old < u64.MAX }
     ensures front { take filled buffer.new ≡ take filled buffer.old }

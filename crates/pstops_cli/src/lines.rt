@@ -124,9 +124,7 @@ fn spec_text(alloc: Global, error: &SpecError) -> Result<String, AllocError>
 {
     match error {
         SpecError::TooLong => String::from_str(alloc, "specification: too long"),
-        SpecError::Syntax(at) => {
-            format!(in alloc; "specification: syntax error at byte {at}")
-        }
+        SpecError::Syntax(at) => { format!(in alloc; "specification: syntax error at byte {at}") }
         SpecError::TooLarge => String::from_str(alloc, "specification: number too large"),
         SpecError::ModuloZero => String::from_str(alloc, "specification: modulo is zero"),
         SpecError::PageOutOfBlock(item) => {

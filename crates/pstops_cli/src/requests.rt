@@ -33,7 +33,14 @@ pub fn run_request<S: Sink>(
     ensures finished { result.0 ≡ 0 → Accepted (asked_by request.now input.now) (λ spec us.
         Appends (S.told sink.old) (S.told sink.new) (output frame spec us)) }
 {
-    let ended = run(alloc, input, request.spec.as_str(), &request.options, &Open {}, sink);
+    let ended = run(
+        alloc,
+        input,
+        request.spec.as_str(),
+        &request.options,
+        &Open {},
+        sink,
+    );
     match status_and_line(alloc, request.quiet, ended) {
         Ok(told) => told,
         Err(_) => (3, Vec::new(alloc)),
@@ -41,7 +48,11 @@ pub fn run_request<S: Sink>(
 }
 
 // The exit status and the line of a run that ended so.
-fn status_and_line(alloc: Global, quiet: bool, ended: Result<Report, RunError>) -> Result<(u8, Vec<u8>), AllocError>
+fn status_and_line(
+    alloc: Global,
+    quiet: bool,
+    ended: Result<Report, RunError>,
+) -> Result<(u8, Vec<u8>), AllocError>
     ensures status { IfOk result (λ told. told.0 ≡ outcome_status ended) }
     ensures line { IfOk result (λ told. told.1.items ≡ outcome_line quiet ended) }
     // No memory is asked for where nothing is said.

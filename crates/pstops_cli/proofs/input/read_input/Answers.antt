@@ -12,7 +12,7 @@ loop-filled-preserved g c =
       within = read.within;
       most = c.fill_more.ensures.most;
       steady = read.steady ∙ before.steady;
-      moved = filled_more _ _ _ c.loop-filled.bytes.items c.fill_more.new.bytes.items c.loop-filled.filled c.in_ok-count.count c.fill_more.ensures.front before.moved read.moved.0
+      moved = filled_more _ _ _ c.loop-filled.bytes.items c.fill_more.new.bytes.items c.loop-filled.filled c.in_ok-count.count c.fill_more.ensures.front before.moved read.moved.0;
     }
 
 pub returns-clause-read : goal.returns-clause-read

@@ -9,7 +9,7 @@ invariant-loop-filled g l = record {
   within : l.filled ≤ vec_len l.bytes;
   most : vec_len l.bytes ≤ MOST_BYTES;
   steady : g.S.Source.failures l.source ≡ g.S.Source.failures l.initial.source;
-  moved : Consumes (g.S.Source.remaining l.initial.source) (g.S.Source.remaining l.source) (take l.filled (vec_items l.bytes))
+  moved : Consumes (g.S.Source.remaining l.initial.source) (g.S.Source.remaining l.source) (take l.filled (vec_items l.bytes));
 }
 
 abbrev pub decreases-loop-filled : goal.decreases-loop-filled
