@@ -1,13 +1,12 @@
 -- A command that is a chain of arguments, read off their rules.
-use Rattle.std.proofs.Common.{◌≡◌, ◌∙◌, ◌<◌, ◌≤◌, ◌⊎◌, ap, ap₂, refl, sym, subst, true, false, Bool, map, List, [], ◌∷◌, ℕ, zero, suc, length, arith, not, ◌&&◌, get_or, inl, inr, Option, Some, None, is_some}
+use Rattle.std.proofs.Common.{◌≡◌, ◌∙◌, ◌<◌, ap, refl, sym, true, false, Bool, map, List, [], ◌∷◌, ℕ, zero, suc, length, arith, not, ◌&&◌, get_or, inl, inr, Option, Some, None, is_some}
 use Rattle.std.specs.Prelude.{codes}
-use Rattle.std.specs.List.{All, fold, list_all, list_any, slice_index_or}
+use Rattle.std.specs.List.{All, fold, list_all}
 use Rattle.std.specs.Str.{bytes_eq}
 use Rattle.std.proofs.lemmas.Slice.Eq.{bytes_eq-Decides}
-use Rattle.std.proofs.lemmas.List.Folds.{list_any_at}
 use Rattle.std.proofs.lemmas.Bool.{cases_lt}
-use Rattle.clap.specs.Words.{AddsArg, AddsInTurn, App, Rule, Text, app_of, rule_of, with_rule}
-use Rattle.clap.specs.Walk.{is_empty, is_free_arg, is_simple_arg}
+use Rattle.clap.specs.Words.{AddsArg, AddsInTurn, Rule, Text, app_of, rule_of, with_rule}
+use Rattle.clap.specs.Walk.{is_free_arg, is_simple_arg}
 use Rattle.clap.specs.Built.{FitsChain, HasDistinctIds, IsAuto, TakesValue}
 use Rattle.clap.specs.Facts.{unwrap_or_range}
 use Rattle.clap.specs.declared.builder.action.ArgAction.TheVariants.{Set}

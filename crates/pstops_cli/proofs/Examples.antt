@@ -1,5 +1,5 @@
 -- Command lines whose words are written out, with what comes of them.
-use Rattle.std.proofs.Common.{◌≡◌, refl, [], ◌∷◌, Some, None}
+use Rattle.std.proofs.Common.{◌≡◌, refl, [], ◌∷◌, Some}
 use Rattle.std.specs.Prelude.{codes}
 use Rattle.clap.specs.Words.{fault_of, first_of, matches_of}
 use Rattle.clap.specs.declared.error.kind.ErrorKind.TheVariants.{ArgumentConflict, MissingRequiredArgument, UnknownArgument}

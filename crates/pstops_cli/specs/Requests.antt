@@ -1,5 +1,5 @@
 -- The run of a request, and what is said of how it ended.
-use Rattle.std.specs.Prelude.{◌≡◌, ◌≢◌, ◌+◌, ◌⊎◌, ℕ, Bool, true, false, if◌then◌else◌, List, [], Option, Result, Ok, Err, IfOk, IfErr, OnOk, string_bytes}
+use Rattle.std.specs.Prelude.{◌≡◌, ◌+◌, ◌⊎◌, ℕ, Bool, false, if◌then◌else◌, List, [], Option, Result, Ok, Err, IfOk, IfErr, OnOk, string_bytes}
 use Rattle.std.specs.Io.KnownBytes.{Appends}
 use Rattle.profile.specs.Output.{output}
 use Rattle.imposer.specs.Frame.{frame}

@@ -1,17 +1,15 @@
-use Rattle.std.proofs.Common.{◌≡◌, ◌≢◌, ◌∙◌, ◌<◌, ap, ap₂, refl, sym, subst, true, false, map, Option, Some, None, List, [], ◌∷◌, inl, inr, ℕ, suc, length, arith, get_or}
+use Rattle.std.proofs.Common.{◌≡◌, ◌∙◌, ◌<◌, ap, ap₂, sym, subst, true, false, map, List, [], ◌∷◌, inl, inr, suc, length, arith, get_or}
 use Rattle.std.specs.Prelude.{codes, string_bytes, is_some}
 use Rattle.std.specs.List.{fold, list_all}
-use Rattle.clap.specs.Words.{App, Row, Text, Rule, app_of, fault_of, first_of, first_value, found_of, matches_of, new_app, with_rule, rows_of, rule_of, is_simple, IsAmong, IsParsedFrom, kind_of, HasKind}
+use Rattle.clap.specs.Words.{Rule, app_of, fault_of, first_value, found_of, matches_of, with_rule, rule_of, is_simple, IsAmong, IsParsedFrom}
 use Rattle.clap.specs.Built.{TakesValue}
-use Rattle.clap.specs.Simple.{on_top}
 use Rattle.clap.specs.Faults.{is_simple_and_free}
 use Rattle.clap.proofs.CallerLemmas.{required_in_chain}
 use Rattle.clap.specs.declared.builder.arg.Arg.{Arg}
 use Rattle.clap.specs.declared.builder.command.Command.{Command}
 use Rattle.clap.specs.declared.error.kind.ErrorKind.{ErrorKind}
-use Rattle.clap.specs.declared.error.kind.ErrorKind.TheVariants.{OutOfMemory}
 use Rattle.clap.specs.declared.parser.matches.ArgMatches.{ArgMatches}
-use Rattle.pstops_cli.specs.Command.{IsChain, Takes, are_distinct, bare, fits, positional_rule, pstops, rules}
+use Rattle.pstops_cli.specs.Command.{IsChain, are_distinct, fits, positional_rule, pstops, rules}
 use Rattle.pstops_cli.proofs.Chain.{chain_app, distinct, each_fits, takes_a_value}
 use Rattle.pstops_cli.proofs.Pstops.{each_rule_fits, pstops_is_free, pstops_is_made, pstops_is_simple, rules_are_distinct}
 use Rattle.pstops_cli.proofs.command.parse.Goals as goal
