@@ -5,7 +5,7 @@ ghost use Rattle.profile.specs.Units.{is_end, cut};
 ghost use Rattle.profile.specs.Parts.{bytes_of};
 ghost use Rattle.profile.specs.Filters.{kept, drops_in_header, ended, prepared};
 ghost use Rattle.dsc.specs.Units.{or_none, units_of};
-ghost use Rattle.dsc.specs.Views.{unit_of, Gives};
+ghost use Rattle.dsc.specs.Views.{unit_of, at_depth, Gives};
 ghost use Rattle.dsc.specs.Faults.{block_fault_told, page_fault_told, IsPageError};
 ghost use Rattle.dsc.specs.Laws.{HasBody};
 ghost use Rattle.dsc.specs.declared.errors.DscError.TheVariants.{NoMemory};
@@ -40,7 +40,7 @@ fn drops_line(in_page: bool, content: &[u8]) -> bool
 
 /// Whether a unit is dropped, where this is said of the one before it.
 fn drops_unit(in_page: bool, was: bool, unit: &Unit<'_>, depth: usize) -> bool
-    ensures { result ≡ is_dropped in_page was (record { depth = depth; unit = unit_of unit.now }) }
+    ensures { result ≡ is_dropped in_page was (at_depth depth (unit_of unit.now)) }
 {
     if unit.is_block {
         return false;
