@@ -1,0 +1,11 @@
+//! Page specifications, as pstops takes them: which pages stand on a sheet, in which order, turned, scaled and moved how.
+//! A text is read once, refused by name where it isn't admissible, and written again in its canonical form.
+#![tactic(auto)]
+
+mod error;
+mod item;
+mod spec;
+
+pub use error::SpecError;
+pub use item::{Item, Measure, Turn};
+pub use spec::Spec;
