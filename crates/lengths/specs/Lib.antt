@@ -1,2 +1,4 @@
 pub mod Ranges
 pub mod Units
+pub mod Reading
+pub mod Refusals

@@ -4,9 +4,11 @@
 mod grains;
 mod number;
 mod paper;
+mod read;
 mod unit;
 
 pub use grains::Grains;
 pub use number::Number;
 pub use paper::Paper;
+pub use read::{NumberError, read_digits, read_number};
 pub use unit::Unit;

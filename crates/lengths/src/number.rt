@@ -1,5 +1,6 @@
 //! A number as specifications write it, kept exactly.
-ghost use Rattle.std.specs.Prelude.{◌≡◌, ◌↔◌, ℤ, IsSome, IfSome};
+ghost use Rattle.std.specs.Prelude.{◌≡◌, ◌↔◌, ◌+◌, ◌*◌, ◌^◌, ◌<◌, ℤ, IsSome, IfSome};
+ghost use Rattle.profile.specs.Numbers.{signed};
 ghost use Rattle.lengths.specs.Ranges.{FitsNumber};
 
 use std::marker::Model;
@@ -47,5 +48,18 @@ impl Number {
         ensures in_range { FitsNumber self }
     {
         self.billionths
+    }
+
+    /// The number of a sign, an integer part and nine decimals.
+    pub(crate) fn of_parts(negative: bool, whole: u32, decimals: u32) -> Number
+        requires whole { whole < 100_000 }
+        requires decimals { decimals < 1_000_000_000 }
+        ensures value { result ≡ signed negative (whole * 10 ^ 9 + decimals) }
+        ensures in_range { FitsNumber result }
+    {
+        let size = i64::from(whole) * 1_000_000_000 + i64::from(decimals);
+        Number {
+            billionths: if negative { -size } else { size },
+        }
     }
 }
