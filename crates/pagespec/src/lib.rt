@@ -4,6 +4,7 @@
 
 mod error;
 mod item;
+mod scan;
 mod spec;
 
 pub use error::SpecError;
