@@ -5,3 +5,6 @@ pub mod Joined
 pub mod Items
 pub mod Texts
 pub mod Scans
+pub mod Sums
+pub mod Loops
+pub mod Numbered

@@ -4,6 +4,7 @@
 
 mod error;
 mod item;
+mod kept;
 mod scan;
 mod spec;
 
