@@ -2,6 +2,7 @@
 //! A text is read once, refused by name where it isn't admissible, and written again in its canonical form.
 #![tactic(auto)]
 
+mod check;
 mod error;
 mod item;
 mod kept;
