@@ -8,3 +8,5 @@ pub mod Scans
 pub mod Sums
 pub mod Loops
 pub mod Numbered
+pub mod Rows
+pub mod GroupLoops

@@ -103,7 +103,7 @@ pub fn read_item(bytes: &[u8]) -> Result<(KeptItem, &[u8], usize), usize>
 }
 
 /// What stands behind a minus, if there is one.
-fn split_minus(bytes: &[u8]) -> (bool, &[u8])
+pub fn split_minus(bytes: &[u8]) -> (bool, &[u8])
     ensures minus { result.0 ≡ is_minus bytes.now }
     ensures rest { result.1.now ≡ past_minus bytes.now }
 {
@@ -114,7 +114,7 @@ fn split_minus(bytes: &[u8]) -> (bool, &[u8])
 }
 
 /// What the modifiers at the front come to, what stands behind them, and how many bytes are left where none went on.
-fn read_modifiers(bytes: &[u8]) -> (Modifiers, &[u8], usize)
+pub fn read_modifiers(bytes: &[u8]) -> (Modifiers, &[u8], usize)
     ensures { ModifiersRead bytes.now result.0 result.1.now }
 {
     let mut modifiers = Modifiers::NONE;

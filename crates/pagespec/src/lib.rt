@@ -4,6 +4,7 @@
 
 mod check;
 mod error;
+mod groups;
 mod item;
 mod kept;
 mod scan;

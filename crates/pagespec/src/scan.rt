@@ -139,7 +139,7 @@ fn read_unit(bytes: &[u8]) -> (Unit, &[u8], usize)
 }
 
 /// What stands behind this byte, which comes first.
-fn read_byte(byte: u8, bytes: &[u8]) -> Option<&[u8]>
+pub fn read_byte(byte: u8, bytes: &[u8]) -> Option<&[u8]>
     ensures { MatchOption result (byte_at byte bytes.now ≡ None) (λ rest. byte_at byte bytes.now ≡ Some rest.now) }
 {
     match bytes.split_first() {
