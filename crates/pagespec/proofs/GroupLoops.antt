@@ -37,22 +37,24 @@ length-one xs x n e = omega (arith, e, length-append xs (x ∷ []))
 pub keeps_more : (k n count : ℕ) (bytes rest behind next : List ℕ) (old new newer : List KeptItem) → n ≡ suc k → KeepsOn n bytes rest old new count → ItemKept rest new newer behind
     → byte_at 43 behind ≡ Some next → KeepsOn k bytes next old newer (count + 1)
 keeps_more k n count bytes rest behind next old new newer is on item b = record {
-    front = on.front ++ item.item ∷ [];
-    kept = on.kept ++ item.kept ∷ [];
-    reads = parts_more 43 item_at k n bytes rest behind next on.front item.item is item.found b on.reads;
-    added = item.added ∙ (ap (λ xs. xs ++ item.kept ∷ []) on.added ∙ append_assoc old on.kept (item.kept ∷ []));
-    shows = zip_append Shows on.kept (item.kept ∷ []) on.front (item.item ∷ []) on.shows (zip_one Shows item.kept item.item item.shows);
-    counted = length-one on.front item.item count on.counted }
+  front = on.front ++ item.item ∷ [];
+  kept = on.kept ++ item.kept ∷ [];
+  reads = parts_more 43 item_at k n bytes rest behind next on.front item.item is item.found b on.reads;
+  added = item.added ∙ (ap (λ xs. xs ++ item.kept ∷ []) on.added ∙ append_assoc old on.kept (item.kept ∷ []));
+  shows = zip_append Shows on.kept (item.kept ∷ []) on.front (item.item ∷ []) on.shows (zip_one Shows item.kept item.item item.shows);
+  counted = length-one on.front item.item count on.counted;
+}
 
 pub keeps_last : (k n count : ℕ) (bytes rest behind : List ℕ) (old new newer : List KeptItem) → n ≡ suc k → KeepsOn n bytes rest old new count → ItemKept rest new newer behind
     → byte_at 43 behind ≡ None → GroupRead bytes old newer (count + 1) behind
 keeps_last k n count bytes rest behind old new newer is on item b = record {
-    group = on.front ++ item.item ∷ [];
-    kept = on.kept ++ item.kept ∷ [];
-    found = parts_last 43 item_at k n bytes rest behind on.front item.item is item.found b on.reads;
-    added = item.added ∙ (ap (λ xs. xs ++ item.kept ∷ []) on.added ∙ append_assoc old on.kept (item.kept ∷ []));
-    shows = zip_append Shows on.kept (item.kept ∷ []) on.front (item.item ∷ []) on.shows (zip_one Shows item.kept item.item item.shows);
-    counted = length-one on.front item.item count on.counted }
+  group = on.front ++ item.item ∷ [];
+  kept = on.kept ++ item.kept ∷ [];
+  found = parts_last 43 item_at k n bytes rest behind on.front item.item is item.found b on.reads;
+  added = item.added ∙ (ap (λ xs. xs ++ item.kept ∷ []) on.added ∙ append_assoc old on.kept (item.kept ∷ []));
+  shows = zip_append Shows on.kept (item.kept ∷ []) on.front (item.item ∷ []) on.shows (zip_one Shows item.kept item.item item.shows);
+  counted = length-one on.front item.item count on.counted;
+}
 
 pub keeps_stuck : (n count : ℕ) (bytes rest : List ℕ) (old new : List KeptItem) → KeepsOn n bytes rest old new count → item_at rest ≡ None → group_at bytes ≡ None
 keeps_stuck n count bytes rest old new on e = parts_stuck 43 item_at n bytes rest on.front e on.reads
@@ -78,7 +80,7 @@ items_kept : (items newer kept : List KeptItem) (front : List (List WrittenItem)
     → AreKept newer (flat_map (λ g. g) (front ++ group ∷ []))
 items_kept items newer kept front group shows added more =
     subst (λ is. AreKept newer is) (sym (items-one front group))
-      (subst (λ ks. AreKept ks (flat_map (λ g. g) front ++ group)) (sym added) (zip_append Shows items kept (flat_map (λ g. g) front) group shows more))
+    (subst (λ ks. AreKept ks (flat_map (λ g. g) front ++ group)) (sym added) (zip_append Shows items kept (flat_map (λ g. g) front) group shows more))
 
 lengths_kept : (lengths : List ℕ) (count : ℕ) (front : List (List WrittenItem)) (group : List WrittenItem) → lengths ≡ map length front → count ≡ length group → lengths ++ count ∷ [] ≡ map length (front ++ group ∷ [])
 lengths_kept lengths count front group e n = ap (λ ns. ns ++ count ∷ []) e ∙ (ap (λ x. map length front ++ x ∷ []) n ∙ sym (map-append length front (group ∷ [])))
@@ -86,17 +88,22 @@ lengths_kept lengths count front group e n = ap (λ ns. ns ++ count ∷ []) e �
 pub groups_more : (k n count : ℕ) (bytes rest behind next : List ℕ) (items newer : List KeptItem) (lengths more : List ℕ) → n ≡ suc k → GroupsOn n bytes rest items lengths
     → GroupRead rest items newer count behind → more ≡ lengths ++ count ∷ [] → byte_at 44 behind ≡ Some next → GroupsOn k bytes next newer more
 groups_more k n count bytes rest behind next items newer lengths more is on group e b = record {
-    front = on.front ++ group.group ∷ [];
-    reads = parts_more 44 group_at k n bytes rest behind next on.front group.group is group.found b on.reads;
-    shows = items_kept items newer group.kept on.front group.group on.shows group.added group.shows;
-    counted = e ∙ lengths_kept lengths count on.front group.group on.counted group.counted }
+  front = on.front ++ group.group ∷ [];
+  reads = parts_more 44 group_at k n bytes rest behind next on.front group.group is group.found b on.reads;
+  shows = items_kept items newer group.kept on.front group.group on.shows group.added group.shows;
+  counted = e ∙ lengths_kept lengths count on.front group.group on.counted group.counted;
+}
 
 pub groups_last : (k n count : ℕ) (bytes rest behind : List ℕ) (items : List KeptItem) (lengths : List ℕ) (kept : Kept) → n ≡ suc k → GroupsOn n bytes rest items lengths
     → GroupRead rest items kept.items.items count behind → kept.lengths.items ≡ lengths ++ count ∷ [] → byte_at 44 behind ≡ None → GroupsRead bytes kept behind
-groups_last k n count bytes rest behind items lengths kept is on group e b =
-    (on.front ++ group.group ∷ [], parts_last 44 group_at k n bytes rest behind on.front group.group is group.found b on.reads, record {
-      items = items_kept items kept.items.items group.kept on.front group.group on.shows group.added group.shows;
-      lengths = e ∙ lengths_kept lengths count on.front group.group on.counted group.counted })
+groups_last k n count bytes rest behind items lengths kept is on group e b = (
+  on.front ++ group.group ∷ [],
+  parts_last 44 group_at k n bytes rest behind on.front group.group is group.found b on.reads,
+  record {
+    items = items_kept items kept.items.items group.kept on.front group.group on.shows group.added group.shows;
+    lengths = e ∙ lengths_kept lengths count on.front group.group on.counted group.counted;
+  },
+)
 
 pub groups_stuck : (n : ℕ) (bytes rest : List ℕ) (items : List KeptItem) (lengths : List ℕ) → GroupsOn n bytes rest items lengths → group_at rest ≡ None → groups_at bytes ≡ None
 groups_stuck n bytes rest items lengths on e = parts_stuck 44 group_at n bytes rest on.front e on.reads
@@ -124,10 +131,11 @@ bare_stuck t body (x ∷ rest) kept b some read more = bare_is t body (x ∷ res
 
 pub bare_there : (t body rest : List ℕ) (from_end : Bool) (kept : Modifiers) → from_end ≡ is_minus t → body ≡ past_minus t → t ≢ [] → ModifiersRead body kept rest → rest ≡ []
     → BareRead t (record { from_end = from_end; page = 0; modifiers = kept })
-bare_there t body rest from_end kept m b some (ms, found, shows) e =
-    (record { from_end = is_minus t; page = 0; modifiers = ms },
-     bare_is t body rest kept b some (ms, found, shows) ∙ ap (λ r. whole (item_of (is_minus t) 0 (ms, r))) e,
-     record { end = m; page = refl; modifiers = shows })
+bare_there t body rest from_end kept m b some (ms, found, shows) e = (
+  record { from_end = is_minus t; page = 0; modifiers = ms },
+  bare_is t body rest kept b some (ms, found, shows) ∙ ap (λ r. whole (item_of (is_minus t) 0 (ms, r))) e,
+  record { end = m; page = refl; modifiers = shows },
+)
 
 -- where one reader is stuck only if the other is
 pub stop_same : {X Y : Type 0} (o : Option X) (p : Option Y) (s : Stop) → (o ≡ None → p ≡ None) → IsStop o s → IsStop p s

@@ -10,3 +10,4 @@ pub mod Loops
 pub mod Numbered
 pub mod Rows
 pub mod GroupLoops
+pub mod Wholes

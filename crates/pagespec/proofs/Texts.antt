@@ -63,7 +63,7 @@ bare_of : (b : Bool) (o : Option WrittenItem) (i : WrittenItem) → (if b then N
 bare_of true o i e = absurd (cc (e))
 bare_of false o i e = (refl, e)
 
-bare_found : (t : List ℕ) (i : WrittenItem) → bare_at t ≡ Some i → IsBareItem t i
+pub bare_found : (t : List ℕ) (i : WrittenItem) → bare_at t ≡ Some i → IsBareItem t i
 unfolding bare_at
 bare_found t i e =
     let u = past_minus t in

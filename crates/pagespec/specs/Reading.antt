@@ -104,6 +104,10 @@ groups_at text = joined_at 44 group_at (suc (length text)) text
 abbrev pub whole : {X : Type 0} → X × List ℕ → Option X
 whole x = if is_empty x.1 then Some x.0 else None
 
+-- groups behind which nothing stands
+abbrev pub whole_groups_at : List ℕ → Option (List (List WrittenItem))
+whole_groups_at text = groups_at text >>= whole
+
 -- the one item that may leave its page number out
 unfoldable pub bare_at : List ℕ → Option WrittenItem
 bare_at text = if is_empty text then None else whole (item_of (is_minus text) 0 (modifiers_at (length (past_minus text)) (past_minus text)))

@@ -1,6 +1,6 @@
 //! Reading the items and groups of a text.
 ghost use Rattle.std.specs.Prelude.{◌≡◌, ◌∷◌, [], None, IfOk, IfErr, MatchResult};
-ghost use Rattle.pagespec.specs.Reading.{item_at, group_at, groups_at, bare_at, all_groups_at};
+ghost use Rattle.pagespec.specs.Reading.{item_at, group_at, groups_at, bare_at, all_groups_at, whole_groups_at};
 ghost use Rattle.pagespec.specs.Groups.{IsStop, ItemKept, GroupRead, GroupsRead, BareRead, KeptShows};
 
 use crate::kept::{KeptItem, read_item, read_modifiers, split_minus};
@@ -26,13 +26,30 @@ pub enum Stop {
 pub fn read_all_groups(alloc: Global, bytes: &[u8]) -> Result<Kept, Stop>
     ensures { MatchResult result (KeptShows (all_groups_at bytes.now)) (IsStop (all_groups_at bytes.now)) }
 {
-    match read_bare_item(bytes) {
-        Ok(item) => one_item(alloc, item),
-        Err(bare_left) => match read_groups(alloc, bytes) {
-            Ok((kept, [], _)) => Ok(kept),
-            Ok((_, _, left)) | Err(Stop::Stuck(left)) => Err(Stop::Stuck(left.min(bare_left))),
-            Err(Stop::NoMemory) => Err(Stop::NoMemory),
-        },
+    let bare_left = match read_bare_item(bytes) {
+        Ok(item) => return one_item(alloc, item),
+        Err(left) => left,
+    };
+    match read_groups_to_end(alloc, bytes) {
+        Ok(kept) => Ok(kept),
+        Err(Stop::Stuck(left)) => Err(Stop::Stuck(left.min(bare_left))),
+        Err(Stop::NoMemory) => Err(Stop::NoMemory),
+    }
+}
+
+/// The groups of a text, behind which nothing stands.
+fn read_groups_to_end(alloc: Global, bytes: &[u8]) -> Result<Kept, Stop>
+    ensures { let groups = whole_groups_at bytes.now in MatchResult result (KeptShows groups) (IsStop groups) }
+{
+    match read_groups(alloc, bytes) {
+        Ok((kept, behind, left)) => {
+            if behind.is_empty() {
+                Ok(kept)
+            } else {
+                Err(Stop::Stuck(left))
+            }
+        }
+        Err(stop) => Err(stop),
     }
 }
 
@@ -82,8 +99,9 @@ fn read_groups(alloc: Global, bytes: &[u8]) -> Result<(Kept, &[u8], usize), Stop
             Ok(found) => found,
             Err(stop) => return Err(stop),
         };
-        if lengths.push(length).is_err() {
-            return Err(Stop::NoMemory);
+        match lengths.push(length) {
+            Ok(_) => (),
+            Err(_) => return Err(Stop::NoMemory),
         }
         match read_byte(b',', behind) {
             Some(next) => rest = next,
@@ -95,7 +113,10 @@ fn read_groups(alloc: Global, bytes: &[u8]) -> Result<(Kept, &[u8], usize), Stop
 
 /// The group at the front, whose items are added to the row: how many they are, what stands behind them, and how many bytes are
 /// left where the last one didn't go on.
-fn read_group<'t>(bytes: &'t [u8], items: &mut Vec<KeptItem>) -> Result<(usize, &'t [u8], usize), Stop>
+fn read_group<'t>(
+    bytes: &'t [u8],
+    items: &mut Vec<KeptItem>,
+) -> Result<(usize, &'t [u8], usize), Stop>
     ensures { MatchResult result (λ x. GroupRead bytes.now items.old.items items.new.items x.0 x.1.now)
         (IsStop (group_at bytes.now)) }
 {
