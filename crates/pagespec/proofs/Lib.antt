@@ -11,3 +11,6 @@ pub mod Numbered
 pub mod Rows
 pub mod GroupLoops
 pub mod Wholes
+pub mod Faults
+pub mod Modulos
+pub mod Settling

@@ -8,6 +8,14 @@ pub struct Measure {
     pub unit: Unit,
 }
 
+impl Measure {
+    /// Nothing, in points.
+    pub const ZERO: Measure = Measure {
+        number: Number::ZERO,
+        unit: Unit::Pt,
+    };
+}
+
 /// How far a page is turned to the left, in quarters of a full turn: none, one, two or three.
 #[derive(Clone, Copy, Debug, PartialEq, Eq)]
 pub enum Turn {

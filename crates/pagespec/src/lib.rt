@@ -7,9 +7,12 @@ mod error;
 mod groups;
 mod item;
 mod kept;
+mod read;
 mod scan;
+mod settle;
 mod spec;
 
 pub use error::SpecError;
 pub use item::{Item, Measure, Turn};
+pub use read::read_spec;
 pub use spec::Spec;

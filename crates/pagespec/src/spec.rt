@@ -28,6 +28,14 @@ impl Model for Spec {
 }
 
 impl Spec {
+    /// The specification of this modulo and these groups.
+    pub(crate) fn new(modulo: u32, groups: Vec<Vec<Item>>) -> Spec
+        requires { IsAdmissible 64 (record { modulo = modulo; groups = groups_of groups.items }) }
+        ensures { result ≡ record { modulo = modulo; groups = groups_of groups.items } }
+    {
+        Spec { modulo, groups }
+    }
+
     /// How many pages a block has, at least 1.
     pub fn modulo(&self) -> u32
         ensures value { result ≡ self.now.modulo }
