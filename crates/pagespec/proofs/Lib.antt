@@ -14,3 +14,5 @@ pub mod Wholes
 pub mod Faults
 pub mod Modulos
 pub mod Settling
+pub mod Short
+pub mod Outcomes

@@ -95,7 +95,7 @@ groups_settle ks gs lengths zip e =
     ∙ (ap (split_by (map length (map (λ g. map settled_item g) gs))) (settles ks (flat_map (λ g. g) gs) zip ∙ map_row settled_item gs)
     ∙ split_groups (map (λ g. map settled_item g) gs))
 
-lengths_zip : {X Y : Type 0} (R : X → Y → Type 0) (xs : List X) (ys : List Y) → AllZip R xs ys → length xs ≡ length ys
+pub lengths_zip : {X Y : Type 0} (R : X → Y → Type 0) (xs : List X) (ys : List Y) → AllZip R xs ys → length xs ≡ length ys
 lengths_zip R [] [] h = refl
 lengths_zip R [] (y ∷ ys) h = absurd h
 lengths_zip R (x ∷ xs) [] h = absurd h
