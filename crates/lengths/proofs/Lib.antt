@@ -2,3 +2,6 @@ pub mod Digits
 pub mod Numbers
 pub mod Powers
 pub mod Scans
+pub mod LastZeros
+pub mod Table
+pub mod ReadAgain

@@ -85,7 +85,7 @@ pub longest : (t : List ℕ) (n : ℕ) (v : ℤ) → n ≤ length t → number_a
 longest t n v h e = subst (λ k. IsLongestNumber t k v) (omega (arith, length-drop n t)) (number_longest t (drop n t) v e).1
 
 -- a value in a number's range has an integer part of at most 99,999
-not_large : (v : ℤ) → nat_abs v ≤ 99_999_999_999_999 → is_large v ≡ false
+pub not_large : (v : ℤ) → nat_abs v ≤ 99_999_999_999_999 → is_large v ≡ false
 not_large v h = search rules
 
 -- what a scan gives is what reading a number at the start gives

@@ -41,4 +41,12 @@ impl Grains {
     {
         self.count
     }
+
+    /// So many grains, where that is known to be in range.
+    pub(crate) fn of(count: i128) -> Grains
+        requires { FitsGrains count }
+        ensures { result ≡ count }
+    {
+        Grains { count }
+    }
 }
