@@ -10,3 +10,6 @@ mod plan;
 
 pub use error::PlanError;
 pub use plan::Plan;
+
+#[cfg(test)]
+mod tests;
