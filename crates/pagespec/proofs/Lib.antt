@@ -14,5 +14,6 @@ pub mod Wholes
 pub mod Faults
 pub mod Modulos
 pub mod Settling
+pub mod Decimals
 pub mod Short
 pub mod Outcomes
