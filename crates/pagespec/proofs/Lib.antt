@@ -1,0 +1,16 @@
+pub mod Letters
+pub mod Parts
+pub mod Modifiers
+pub mod Joined
+pub mod Items
+pub mod Texts
+pub mod Scans
+pub mod Sums
+pub mod Loops
+pub mod Numbered
+pub mod Rows
+pub mod GroupLoops
+pub mod Wholes
+pub mod Faults
+pub mod Modulos
+pub mod Settling
