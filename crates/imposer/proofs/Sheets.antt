@@ -5,13 +5,13 @@ use Rattle.std.specs.List.{enumerate_from}
 use Rattle.std.proofs.Math.Seq.{take-suc}
 use Rattle.std.proofs.Math.ListN.{get_or}
 use Rattle.std.proofs.lemmas.List.FromFn.{length-enumerate_from, get_or-enumerate_from}
-use Rattle.std.proofs.lemmas.Option.{get_or_from_slice_get, slice_get_within}
+use Rattle.std.proofs.lemmas.Option.{get_or_from_slice_get, slice_get_within, slice_get-get_or}
 use Rattle.std.proofs.lemmas.List.{flat_map_more, take_all}
-use Rattle.profile.specs.Specification.{Spec}
-use Rattle.profile.specs.Sheets.{Slot, sheets}
-use Rattle.profile.specs.Parts.{NestedUnit, pages}
+use Rattle.profile.specs.Sheets.{Slot}
+use Rattle.profile.specs.Parts.{pages}
 use Rattle.profile.specs.Filters.{preamble_text, trailer_text}
-use Rattle.profile.specs.Output.{Frame, sheet_text, output}
+use Rattle.profile.specs.Output.{Frame, sheet_text}
+use Rattle.imposer.specs.Jobs.{JobView, slots_of, text_of, output_of}
 
 -- the texts of the first n sheets
 abbrev pub sheets_text : Frame → List (List ℕ) → List (List Slot) → ℕ → List ℕ
@@ -37,11 +37,17 @@ all_sheets frame pages all n is =
     ap (λ xs. flat_map (λ (s, slots). sheet_text frame pages s slots) xs) (take_all n (enumerate_from 0 all) (omega (arith, length-enumerate_from 0 all)))
 
 -- the header, all sheets and the trailer are the output
-pub output_is : (frame : Frame) (spec : Spec) (us : List NestedUnit) (count done : ℕ) (before last whole : List ℕ) → count ≡ length (sheets spec (length (pages us))) → done ≡ count
-    → before ≡ preamble_text count us ++ sheets_text frame (pages us) (sheets spec (length (pages us))) done → last ≡ trailer_text us → whole ≡ before ++ last → whole ≡ output frame spec us
-output_is frame spec us count done before last whole count_is done_is before_is last_is whole_is =
-    let all = sheets spec (length (pages us)) in
+pub output_is : (job : JobView) (count done : ℕ) (before last whole : List ℕ) → count ≡ length job.plan.sheets → done ≡ count
+    → before ≡ preamble_text count job.units ++ sheets_text job.frame (pages job.units) job.plan.sheets done → last ≡ trailer_text job.units → whole ≡ before ++ last → whole ≡ output_of job
+output_is job count done before last whole count_is done_is before_is last_is whole_is =
+    let us = job.units in
+    let sheets = flat_map (λ (s, slots). sheet_text job.frame (pages us) s slots) (enumerate_from 0 job.plan.sheets) in
     whole_is
-    ∙ ap (λ t. t ++ last) (before_is ∙ ap (λ t. preamble_text count us ++ t) (all_sheets frame (pages us) all done (done_is ∙ count_is)))
-    ∙ ap (λ t. (preamble_text count us ++ flat_map (λ (s, slots). sheet_text frame (pages us) s slots) (enumerate_from 0 all)) ++ t) last_is
-    ∙ ap (λ n. (preamble_text n us ++ flat_map (λ (s, slots). sheet_text frame (pages us) s slots) (enumerate_from 0 all)) ++ trailer_text us) count_is
+    ∙ ap (λ t. t ++ last) (before_is ∙ ap (λ t. preamble_text count us ++ t) (all_sheets job.frame (pages us) job.plan.sheets done (done_is ∙ count_is)))
+    ∙ ap (λ t. (preamble_text count us ++ sheets) ++ t) last_is
+    ∙ ap (λ n. (preamble_text n us ++ sheets) ++ trailer_text us) count_is
+
+-- a sheet of the job more
+pub job_sheet_more : (job : JobView) (front : List ℕ) (n : ℕ) → n < length job.plan.sheets
+    → (front ++ sheets_text job.frame (pages job.units) job.plan.sheets n) ++ text_of job n ≡ front ++ sheets_text job.frame (pages job.units) job.plan.sheets (n + 1)
+job_sheet_more job front n h = sheet_more job.frame (pages job.units) job.plan.sheets (slots_of job n) front n (slice_get-get_or job.plan.sheets n [] h)

@@ -1,7 +1,4 @@
-pub mod Single
-pub mod Views
-pub mod Rows
-pub mod Frame
+pub mod Jobs
 pub mod Memory
 pub mod Workers
 pub mod Faults

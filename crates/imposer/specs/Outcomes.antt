@@ -1,8 +1,8 @@
 -- What an error of a part makes of a run, before anything was written.
-use Rattle.imposer.specs.declared.error.SpecError.{SpecError}
-use Rattle.imposer.specs.declared.error.SpecError.TheVariants as spec
-use Rattle.imposer.specs.declared.error.PlanError.{PlanError}
-use Rattle.imposer.specs.declared.error.PlanError.TheVariants as plan
+use Rattle.pagespec.specs.declared.error.SpecError.{SpecError}
+use Rattle.pagespec.specs.declared.error.SpecError.TheVariants as spec
+use Rattle.sheet_plan.specs.declared.error.PlanError.{PlanError}
+use Rattle.sheet_plan.specs.declared.error.PlanError.TheVariants as plan
 use Rattle.dsc.specs.declared.errors.DscError.{DscError}
 use Rattle.dsc.specs.declared.errors.DscError.TheVariants as document
 use Rattle.imposer.specs.declared.outcome.RunError.{RunError}

@@ -1,9 +1,20 @@
--- Which numbers of workers a run takes.
-use Rattle.std.specs.Prelude.{◌≤◌}
+-- Which options a run takes.
+use Rattle.std.specs.Prelude.{◌≡◌, ℕ, ◌≤◌, ℤ, pos, int_lt, Bool, true, Option, Some, None}
 use Rattle.imposer.specs.declared.options.Workers.{Workers}
+use Rattle.imposer.specs.declared.options.Options.{Options}
 
+-- from 1 to 16 of each
 pub record AreWorkers (w : Workers) : Type 0 where
   pub a_preparer : 1 ≤ w.preparers
   pub few_preparers : w.preparers ≤ 16
   pub an_imposer : 1 ≤ w.imposers
   pub few_imposers : w.imposers ≤ 16
+
+-- a border is wider than nothing, where there is one
+abbrev pub is_border : Option ℤ → Bool
+is_border None = true
+is_border (Some width) = int_lt (pos 0) width
+
+-- the options are taken
+abbrev pub AreOptions : Options → Type 0
+AreOptions options = AreWorkers options.workers × (is_border options.border ≡ true)

@@ -1,5 +1,6 @@
 //! What a run answers.
-use crate::error::{PlanError, SpecError};
+use pagespec::SpecError;
+use sheet_plan::PlanError;
 use dsc::DscError;
 use std::alloc::AllocError;
 use thiserror::Error;
@@ -22,7 +23,7 @@ pub struct Report {
 /// Why a run didn't finish, in the order of its checks.
 #[derive(Debug, Drop, Error)]
 pub enum RunError {
-    /// A worker count outside 1 to 16.
+    /// A worker count outside 1 to 16, or a border that isn't above zero.
     #[error("bad options")]
     Options,
     #[error(transparent)]

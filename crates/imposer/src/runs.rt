@@ -2,18 +2,19 @@
 ghost use Rattle.std.specs.Prelude.{◌≡◌, ℕ, ◌+◌, ◌<◌, IfOk, IfErr, OnOk};
 ghost use Rattle.std.specs.Io.KnownBytes.{Appends};
 ghost use Rattle.profile.specs.Output.{output};
-ghost use Rattle.imposer.specs.Frame.{frame};
-ghost use Rattle.imposer.specs.Runs.{request, Accepted, IsRefusal, HasWritten, Reports, failures_of, IsUnwritten};
+ghost use Rattle.imposer.specs.Runs.{request, frame_of, Accepted, IsRefusal, HasWritten, Reports, failures_of, IsUnwritten};
 
-use crate::expansion::count_sheets;
+use dsc::Document;
+use pagespec::read_spec;
+use sheet_plan::Plan;
+use std::alloc::Global;
+
 use crate::gate::Gate;
-use crate::options::Options;
+use crate::job::Job;
+use crate::options::{Options, are_valid};
 use crate::outcome::{Report, RunError};
 use crate::output::output_text;
-use crate::single::read_single;
 use crate::sink::{Sink, write_all};
-use dsc::Document;
-use std::alloc::Global;
 
 /// Reads the specification and the document, and hands the sink the sheets.
 ///
@@ -31,7 +32,7 @@ pub fn run<G: Gate, S: Sink>(
     requires countable { S.failures sink.old < u64.MAX }
     // Exactly the output was appended, and the report has its numbers.
     ensures finished { IfOk result (λ report. Accepted (request options.now spec.now input.now) (λ spec us.
-        Appends (S.told sink.old) (S.told sink.new) (output frame spec us) × Reports spec us report)) }
+        Appends (S.told sink.old) (S.told sink.new) (output (frame_of options.now) spec us) × Reports (frame_of options.now) spec us report)) }
     // An error names the first check that fails.
     ensures refused { IfErr result (λ e. IsRefusal (request options.now spec.now input.now) e) }
     // After an error the sink has taken as much of the output as the error says, and nothing after a refusal.
@@ -60,21 +61,22 @@ struct Made {
 /// Makes the output, or refuses.
 fn make(alloc: Global, input: &[u8], spec: &str, options: &Options) -> Result<Made, RunError>
     ensures made { IfOk result (λ made. Accepted (request options.now spec.now input.now) (λ spec us.
-        (made.text.items ≡ output frame spec us) × Reports spec us made.report)) }
+        (made.text.items ≡ output (frame_of options.now) spec us) × Reports (frame_of options.now) spec us made.report)) }
     ensures refused { IfErr result (λ e. IsRefusal (request options.now spec.now input.now) e) }
     ensures unwritten { IfErr result IsUnwritten }
 {
-    if !options.workers.are_valid() {
+    if !are_valid(options) {
         return Err(RunError::Options);
     }
-    let single = read_single(alloc, spec)?;
+    let spec = read_spec(alloc, spec)?;
     let document = Document::read(alloc, input)?;
-    let counts = count_sheets(&single, document.pages())?;
-    let text = output_text(alloc, &single, &document, counts.sheets)?;
+    let plan = Plan::new(alloc, &spec, document.pages())?;
+    let job = Job::new(&plan, &document, options.paper, options.border);
+    let text = output_text(alloc, &job)?;
     let report = Report {
-        pages: document.pages(),
-        sheets: counts.sheets,
-        born: counts.born,
+        pages: plan.pages(),
+        sheets: plan.sheets(),
+        born: plan.born_complete().len() as u32,
         swept: 0,
         bytes: text.len() as u64,
     };

@@ -1,0 +1,22 @@
+use Rattle.std.proofs.Common.{arith, FitsSigned, pos, ◌+ℤ◌, ◌*ℤ◌}
+use Rattle.std.proofs.lemmas.Int.{ints, to_z-of_z}
+use mir.Syntax.{w128}
+use Rattle.placement.proofs.matrix.sent.Goals as goal
+
+pub overflow_mul-result : goal.overflow_mul-result
+overflow_mul-result c = omega (arith, ints)
+
+pub overflow_add-result-2 : goal.overflow_add-result-2
+overflow_add-result-2 c = omega (arith, ints)
+
+pub returns : goal.returns
+returns c =
+    let x = c.ranges.x in
+    let y = c.ranges.y in
+    let shift : FitsSigned w128 c.get.result = omega (arith, ints) in
+    let first : FitsSigned w128 c.times.result = omega (arith, ints) in
+    let second : FitsSigned w128 c.times-2.result = omega (arith, ints) in
+    let sum : FitsSigned w128 (c.times.result +ℤ c.times-2.result) = omega (arith, ints) in
+    let grains : FitsSigned w128 (pos 127 *ℤ (c.times.result +ℤ c.times-2.result)) = omega (arith, ints) in
+    let whole : FitsSigned w128 (c.get.result +ℤ pos 127 *ℤ (c.times.result +ℤ c.times-2.result)) = omega (arith, ints) in
+    simp to_z-of_z (rw (c.get.ensures.value, c.times.ensures.value, c.times-2.ensures.value) (simp to_z-of_z))

@@ -1,0 +1,81 @@
+//! The matrix by which a page is placed.
+ghost use Rattle.std.specs.Prelude.{◌≡◌, ◌≤◌, ◌*◌, ◌^◌, ◌+ℤ◌, ◌*ℤ◌, pos, nat_abs};
+ghost use Rattle.profile.specs.Papers.{Paper as Size};
+ghost use Rattle.profile.specs.Specification.{Item as Taken};
+ghost use Rattle.profile.specs.Placement.{Point, put, applied, matrix_of as matrix_for};
+
+use lengths::{Grains, Number, Paper, to_grains};
+use pagespec::{Item, Turn};
+
+/// The matrix `[a b c d tx ty]` of PostScript (Language Reference, coordinate systems and transformations): it sends the point
+/// (x, y) to (a x + c y + tx, b x + d y + ty). The shift is kept in grains.
+#[derive(Clone, Copy, Debug, PartialEq, Eq)]
+pub struct Matrix {
+    pub a: Number,
+    pub b: Number,
+    pub c: Number,
+    pub d: Number,
+    pub tx: Grains,
+    pub ty: Grains,
+}
+
+impl Matrix {
+    ghost use Rattle.placement.specs.Matrices.{numbers_of, point};
+
+    /// Where the matrix sends a point in whole points, in grains.
+    pub fn apply(&self, x: i32, y: i32) -> (i128, i128)
+        ensures sent { point result.0 result.1 ≡ applied (numbers_of self.now) (point x y) }
+
+        // The matrix of an item scales, then turns, then moves.
+        ensures put { (paper : Size) (item : Taken) → numbers_of self.now ≡ matrix_for paper item →
+            point result.0 result.1 ≡ put paper item (point x y) }
+    {
+        (
+            sent(self.a, x, self.c, y, self.tx),
+            sent(self.b, x, self.d, y, self.ty),
+        )
+    }
+}
+
+/// One coordinate of the point that a matrix sends (x, y) to, in grains.
+fn sent(first: Number, x: i32, second: Number, y: i32, shift: Grains) -> i128
+    ensures { result ≡ shift +ℤ pos 127 *ℤ (first *ℤ x +ℤ second *ℤ y) }
+{
+    shift.get() + 127 * (times(first, x) + times(second, y))
+}
+
+/// A number of 10^-9 times a whole number.
+fn times(number: Number, factor: i32) -> i128
+    ensures value { result ≡ number *ℤ factor }
+    ensures in_range { nat_abs result ≤ 10 ^ 24 }
+{
+    i128::from(number.billionths()) * i128::from(factor)
+}
+
+ghost use Rattle.pagespec.specs.Items.{item_of};
+ghost use Rattle.placement.specs.Matrices.{numbers_of};
+
+/// The matrix that places an item's page on this paper. The page is scaled from its lower left corner, then turned about it,
+/// then moved (pstops manual, page specifications).
+pub fn matrix_of(item: &Item, paper: &Paper) -> Matrix
+    ensures numbers { numbers_of result ≡ matrix_for paper.now (item_of item.now) }
+    ensures put { (p : Point) → applied (numbers_of result) p ≡ put paper.now (item_of item.now) p }
+{
+    let scale = item.scale;
+    let zero = Number::ZERO;
+    let (a, b, c, d) = match item.turn {
+        Turn::None => (scale, zero, zero, scale),
+        Turn::Left => (zero, scale, -scale, zero),
+        Turn::Half => (-scale, zero, zero, -scale),
+        Turn::Right => (zero, -scale, scale, zero),
+    };
+    let (x, y) = item.offset;
+    Matrix {
+        a,
+        b,
+        c,
+        d,
+        tx: to_grains(x.number, x.unit, paper),
+        ty: to_grains(y.number, y.unit, paper),
+    }
+}

@@ -1,0 +1,160 @@
+//! The texts round a placed page. Each is appended whole or not at all.
+ghost use Rattle.std.specs.Prelude.{◌≡◌, ◌++◌, OnOk, OnErr, vec_len, take};
+ghost use Rattle.profile.specs.Numbers.{scale_text, points_text};
+ghost use Rattle.profile.specs.Placement.{matrix_text as text_of};
+ghost use Rattle.profile.specs.Output.{Frame, edge_text, border_text, opening_text as opening, closing_text as closing};
+ghost use Rattle.pagespec.specs.Items.{item_of};
+ghost use Rattle.placement.specs.Kept.{Keeps};
+ghost use Rattle.placement.specs.Matrices.{numbers_of};
+
+use super::matrix::{Matrix, matrix_of};
+use lengths::{Grains, Number, Paper, print_points, print_scale};
+use pagespec::Item;
+use std::alloc::AllocError;
+
+/// Appends the six numbers of a matrix in brackets: the first four in full, the shift in points, rounded to five decimals.
+/// Where memory is refused, nothing is appended.
+pub fn matrix_text(matrix: &Matrix, out: &mut Vec<u8>) -> Result<(), AllocError>
+    ensures appended { OnOk result (out.new.items ≡ out.old.items ++ text_of (numbers_of matrix.now)) }
+    ensures unchanged { OnErr result (out.new.items ≡ out.old.items) }
+{
+    let len = out.len();
+    let appended = append_matrix(matrix, out);
+    undo_if_refused(appended, len, out)
+}
+
+/// Appends what stands before a page placed by this item: its `save`, a `showpage` that does nothing, the matrix, a clip to the
+/// paper, which is placed with the page, and a line that draws a border of this width round it, where one is asked for.
+/// Where memory is refused, nothing is appended.
+pub fn opening_text(
+    item: &Item,
+    paper: &Paper,
+    border: Option<Grains>,
+    out: &mut Vec<u8>,
+) -> Result<(), AllocError>
+    ensures appended { let frame : Frame = record { paper = paper.now; border = border } in
+        OnOk result (out.new.items ≡ out.old.items ++ opening frame (item_of item.now)) }
+    ensures unchanged { OnErr result (out.new.items ≡ out.old.items) }
+{
+    let len = out.len();
+    let appended = append_opening(item, paper, border, out);
+    undo_if_refused(appended, len, out)
+}
+
+/// Appends what stands behind a placed page: the `restore` of its `save`. Where memory is refused, nothing is appended.
+pub fn closing_text(out: &mut Vec<u8>) -> Result<(), AllocError>
+    ensures appended { OnOk result (out.new.items ≡ out.old.items ++ closing) }
+    ensures unchanged { OnErr result (out.new.items ≡ out.old.items) }
+{
+    out.extend_from_slice(b"ImposeSave restore\n")
+}
+
+/// Takes back what stands past this length, where an append was refused.
+fn undo_if_refused(
+    appended: Result<(), AllocError>,
+    len: usize,
+    out: &mut Vec<u8>,
+) -> Result<(), AllocError>
+    ensures same { result ≡ appended }
+    ensures stays { OnOk result (out.new.items ≡ out.old.items) }
+    ensures undone { OnErr result (out.new.items ≡ take len out.old.items) }
+{
+    if appended.is_err() {
+        out.truncate(len);
+    }
+    appended
+}
+
+#[tactic(auto, using(crate::proofs::Keeping::keeps_more))]
+fn append_opening(
+    item: &Item,
+    paper: &Paper,
+    border: Option<Grains>,
+    out: &mut Vec<u8>,
+) -> Result<(), AllocError>
+    ensures appended { let frame : Frame = record { paper = paper.now; border = border } in
+        OnOk result (out.new.items ≡ out.old.items ++ opening frame (item_of item.now)) }
+    ensures kept { Keeps out.old.items out.new.items }
+{
+    append_text(b"userdict /ImposeSave save put\nuserdict /showpage {} put\n", out)?;
+    append_matrix(&matrix_of(item, paper), out)?;
+    append_text(b" concat\n", out)?;
+    append_edge(paper, out)?;
+    append_text(b" clip newpath\n", out)?;
+    append_border(paper, border, out)
+}
+
+#[tactic(auto, using(crate::proofs::Keeping::keeps_more))]
+fn append_matrix(matrix: &Matrix, out: &mut Vec<u8>) -> Result<(), AllocError>
+    ensures appended { OnOk result (out.new.items ≡ out.old.items ++ text_of (numbers_of matrix.now)) }
+    ensures kept { Keeps out.old.items out.new.items }
+{
+    append_scale(b"[", matrix.a, out)?;
+    append_scale(b" ", matrix.b, out)?;
+    append_scale(b" ", matrix.c, out)?;
+    append_scale(b" ", matrix.d, out)?;
+    append_points(b" ", matrix.tx, out)?;
+    append_points(b" ", matrix.ty, out)?;
+    append_text(b"]", out)
+}
+
+/// The line that draws a border, if there is one.
+#[tactic(auto, using(crate::proofs::Keeping::keeps_more))]
+fn append_border(
+    paper: &Paper,
+    border: Option<Grains>,
+    out: &mut Vec<u8>,
+) -> Result<(), AllocError>
+    ensures appended { OnOk result (out.new.items ≡ out.old.items ++ border_text paper.now border) }
+    ensures kept { Keeps out.old.items out.new.items }
+{
+    let Some(width) = border else {
+        return Ok(());
+    };
+    append_points(b"gsave ", width, out)?;
+    append_text(b" setlinewidth ", out)?;
+    append_edge(paper, out)?;
+    append_text(b" stroke grestore\n", out)
+}
+
+/// The path round the paper.
+#[tactic(auto, using(crate::proofs::Keeping::keeps_more))]
+fn append_edge(paper: &Paper, out: &mut Vec<u8>) -> Result<(), AllocError>
+    ensures appended { OnOk result (out.new.items ≡ out.old.items ++ edge_text paper.now) }
+    ensures kept { Keeps out.old.items out.new.items }
+{
+    let (width, height) = (paper.width(), paper.height());
+    append_points(b"newpath 0 0 moveto ", width, out)?;
+    append_points(b" 0 lineto ", width, out)?;
+    append_points(b" ", height, out)?;
+    append_points(b" lineto 0 ", height, out)?;
+    append_text(b" lineto closepath", out)
+}
+
+/// A text and a number in full behind it.
+#[tactic(auto, using(crate::proofs::Keeping::keeps_more))]
+fn append_scale(text: &[u8], scale: Number, out: &mut Vec<u8>) -> Result<(), AllocError>
+    ensures appended { OnOk result (out.new.items ≡ out.old.items ++ (text.now ++ scale_text scale)) }
+    ensures kept { Keeps out.old.items out.new.items }
+{
+    out.extend_from_slice(text)?;
+    print_scale(scale, out)
+}
+
+/// A text and a length in points behind it.
+#[tactic(auto, using(crate::proofs::Keeping::keeps_more))]
+fn append_points(text: &[u8], length: Grains, out: &mut Vec<u8>) -> Result<(), AllocError>
+    ensures appended { OnOk result (out.new.items ≡ out.old.items ++ (text.now ++ points_text length)) }
+    ensures kept { Keeps out.old.items out.new.items }
+{
+    out.extend_from_slice(text)?;
+    print_points(length, out)
+}
+
+/// A text.
+fn append_text(text: &[u8], out: &mut Vec<u8>) -> Result<(), AllocError>
+    ensures appended { OnOk result (out.new.items ≡ out.old.items ++ text.now) }
+    ensures kept { Keeps out.old.items out.new.items }
+{
+    out.extend_from_slice(text)
+}
