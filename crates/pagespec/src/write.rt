@@ -1,5 +1,5 @@
 //! Writing a specification in its canonical form.
-ghost use Rattle.std.specs.Prelude.{◌≡◌, ◌∷◌, ◌++◌, [], ◌≤◌, decimal, map, IfOk, OnOk, string_bytes};
+ghost use Rattle.std.specs.Prelude.{◌≡◌, ◌&&◌, ◌∷◌, ◌++◌, [], ◌≤◌, decimal, map, flat_map, IfOk, OnOk, string_bytes};
 ghost use Rattle.std.specs.Str.{IsAscii};
 ghost use Rattle.profile.specs.Bytes.{comma, plus_sign};
 ghost use Rattle.profile.specs.Specification as profile;
@@ -38,10 +38,22 @@ fn append_modulo(modulo: u32, out: &mut Vec<u8>) -> Result<(), AllocError>
 fn append_groups(groups: &[Vec<Item>], out: &mut Vec<u8>) -> Result<(), AllocError>
     ensures { OnOk result (out.new.items ≡ out.old.items ++ groups_text (groups_of groups.now)) }
 {
-    for (i, group) in groups.iter().enumerate() {
-        if 0 < i {
-            append(out, b",")?;
+    match groups.split_first() {
+        None => Ok(()),
+        Some((first, rest)) => {
+            append_group(first, out)?;
+            append_more_groups(rest, out)
         }
+    }
+}
+
+/// Groups with a comma before each.
+fn append_more_groups(groups: &[Vec<Item>], out: &mut Vec<u8>) -> Result<(), AllocError>
+    ensures { OnOk result (out.new.items ≡
+        out.old.items ++ flat_map (λ g. comma ∷ group_text g) (groups_of groups.now)) }
+{
+    for group in groups {
+        append(out, b",")?;
         append_group(group, out)?;
     }
     Ok(())
@@ -51,23 +63,35 @@ fn append_groups(groups: &[Vec<Item>], out: &mut Vec<u8>) -> Result<(), AllocErr
 fn append_group(group: &[Item], out: &mut Vec<u8>) -> Result<(), AllocError>
     ensures { OnOk result (out.new.items ≡ out.old.items ++ group_text (map item_of group.now)) }
 {
-    for (i, item) in group.iter().enumerate() {
-        if 0 < i {
-            append(out, b"+")?;
+    match group.split_first() {
+        None => Ok(()),
+        Some((first, rest)) => {
+            append_item(first, out)?;
+            append_more_items(rest, out)
         }
-        append_item(*item, out)?;
+    }
+}
+
+/// Items with a plus sign before each.
+fn append_more_items(items: &[Item], out: &mut Vec<u8>) -> Result<(), AllocError>
+    ensures { OnOk result (out.new.items ≡
+        out.old.items ++ flat_map (λ i. plus_sign ∷ profile.item_text i) (map item_of items.now)) }
+{
+    for item in items {
+        append(out, b"+")?;
+        append_item(item, out)?;
     }
     Ok(())
 }
 
-fn append_item(item: Item, out: &mut Vec<u8>) -> Result<(), AllocError>
-    ensures { OnOk result (out.new.items ≡ out.old.items ++ profile.item_text (item_of item)) }
+fn append_item(item: &Item, out: &mut Vec<u8>) -> Result<(), AllocError>
+    ensures { OnOk result (out.new.items ≡ out.old.items ++ profile.item_text (item_of item.now)) }
 {
     append(out, if item.from_end { b"-" } else { b"" })?;
     append_count(item.page, out)?;
     append(out, turn_letter(item.turn))?;
     append_scale(item.scale, out)?;
-    append_offset(item.offset.0, item.offset.1, out)
+    append_offset(&item.offset.0, &item.offset.1, out)
 }
 
 fn turn_letter(turn: Turn) -> &'static [u8]
@@ -93,10 +117,10 @@ fn append_scale(scale: Number, out: &mut Vec<u8>) -> Result<(), AllocError>
 }
 
 /// The offset in parentheses, where it isn't 0 pt and 0 pt.
-fn append_offset(x: Measure, y: Measure, out: &mut Vec<u8>) -> Result<(), AllocError>
-    ensures { OnOk result (out.new.items ≡ out.old.items ++ profile.offset_part (measure_of x) (measure_of y)) }
+fn append_offset(x: &Measure, y: &Measure, out: &mut Vec<u8>) -> Result<(), AllocError>
+    ensures { OnOk result (out.new.items ≡ out.old.items ++ profile.offset_part (measure_of x.now) (measure_of y.now)) }
 {
-    if is_zero_points(x) && is_zero_points(y) {
+    if is_no_offset(x, y) {
         return Ok(());
     }
     append(out, b"(")?;
@@ -106,8 +130,14 @@ fn append_offset(x: Measure, y: Measure, out: &mut Vec<u8>) -> Result<(), AllocE
     append(out, b")")
 }
 
-fn is_zero_points(measure: Measure) -> bool
-    ensures { result ≡ profile.is_zero_points (measure_of measure) }
+fn is_no_offset(x: &Measure, y: &Measure) -> bool
+    ensures { result ≡ (profile.is_zero_points (measure_of x.now) && profile.is_zero_points (measure_of y.now)) }
+{
+    is_zero_points(x) && is_zero_points(y)
+}
+
+fn is_zero_points(measure: &Measure) -> bool
+    ensures { result ≡ profile.is_zero_points (measure_of measure.now) }
 {
     measure.number.billionths() == 0 && is_points(measure.unit)
 }
@@ -122,8 +152,8 @@ fn is_points(unit: Unit) -> bool
 }
 
 /// A number and its unit; points are left out.
-fn append_measure(measure: Measure, out: &mut Vec<u8>) -> Result<(), AllocError>
-    ensures { OnOk result (out.new.items ≡ out.old.items ++ profile.measure_text (measure_of measure)) }
+fn append_measure(measure: &Measure, out: &mut Vec<u8>) -> Result<(), AllocError>
+    ensures { OnOk result (out.new.items ≡ out.old.items ++ profile.measure_text (measure_of measure.now)) }
 {
     print_number(measure.number, out)?;
     append(out, unit_name(measure.unit))
