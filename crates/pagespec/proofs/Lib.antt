@@ -19,3 +19,4 @@ pub mod Short
 pub mod Outcomes
 pub mod Ascii
 pub mod Joining
+pub mod Normal
