@@ -7,6 +7,7 @@ mod error;
 mod groups;
 mod item;
 mod kept;
+pub mod laws;
 mod read;
 mod scan;
 mod settle;

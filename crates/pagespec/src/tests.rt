@@ -1,6 +1,6 @@
 //! Worked examples. The items come from the pstops manual's examples and the grammar; the places of syntax faults were worked
 //! out by hand and are compared with a slow search besides.
-use crate::{Item, Measure, SpecError, Turn, read_spec};
+use crate::{Item, Measure, SpecError, Turn, read_spec, write_spec};
 use lengths::{Number, Unit};
 use std::alloc::{AllocError, Global};
 use std::process::Abort;
@@ -269,5 +269,25 @@ fn refusals_have_their_lines(rt: HostRuntime) {
     for (refusal, want) in lines {
         let line = format!(in rt.alloc(); "{refusal}").expect(&rt, "memory");
         assert_eq!(rt; line.as_str(), want);
+    }
+}
+
+#[test]
+fn written_in_canonical_form(rt: HostRuntime) {
+    let forms = [
+        ("4:-3l@0.70(21.0cm,0pt)+0LLLL@1(0,0)", "4:-3L@.7(21cm,0)+0"),
+        ("1:0UR(0cm,0)", "0L(0cm,0)"),
+        ("U", "0U"),
+        ("-", "-0"),
+        (
+            "0R@+2.50(-.5W,1in),0(1mm,-2h)",
+            "0R@2.5(-.5w,1in),0(1mm,-2h)",
+        ),
+        ("0010:0009@0000.1", "10:9@.1"),
+    ];
+    for (text, want) in forms {
+        let spec = read_spec(rt.alloc(), text).expect(&rt, "a specification");
+        let written = write_spec(rt.alloc(), &spec).expect(&rt, "memory");
+        assert_eq!(rt; written.as_str(), want);
     }
 }

@@ -2,6 +2,7 @@
 ghost use Rattle.std.specs.Prelude.{◌≡◌, ◌&&◌, ◌∷◌, ◌++◌, [], ◌≤◌, decimal, map, flat_map, IfOk, OnOk, string_bytes};
 ghost use Rattle.std.specs.Str.{IsAscii};
 ghost use Rattle.profile.specs.Bytes.{comma, plus_sign};
+ghost use Rattle.profile.specs.Admissible.{Takes};
 ghost use Rattle.profile.specs.Specification as profile;
 ghost use Rattle.pagespec.specs.Items.{measure_of, turn_of, item_of, groups_of, group_text, groups_text};
 ghost use Rattle.lengths.specs.Units.{length_unit};
@@ -15,7 +16,8 @@ use std::alloc::{AllocError, Global};
 /// The canonical text of a specification, which is one that `read_spec` takes and reads as the same specification: the modulo
 /// where it isn't 1, page numbers without leading zeros, one letter for a turn, and no scale, offset or unit that changes nothing.
 pub fn write_spec(alloc: Global, spec: &Spec) -> Result<String, AllocError>
-    ensures { IfOk result (λ text. string_bytes text ≡ profile.canonical spec.now) }
+    ensures canonical { IfOk result (λ text. string_bytes text ≡ profile.canonical spec.now) }
+    ensures taken { IfOk result (λ text. Takes 64 (string_bytes text) spec.now) }
 {
     let mut out = Vec::new(alloc);
     append_modulo(spec.modulo(), &mut out)?;
