@@ -171,7 +171,7 @@ whole_short (w ∷ whole) fraction decimals (p ∷ ps) pass small is some few =
     omega (arith, left_out_short (number_of (w ∷ whole) == 0) (number_of (w ∷ whole)) (length (w ∷ whole)) (digits_short (w ∷ whole) pass (λ e. absurd (cc (e))) small), fraction_short (p ∷ ps) fraction decimals is few)
 
 -- a number is small where its whole part is
-small_abs : (v : ℤ) → is_large v ≡ false → nat_abs v < 10 ^ 14
+pub small_abs : (v : ℤ) → is_large v ≡ false → nat_abs v < 10 ^ 14
 small_abs v e = search (rules, e)
 
 pub record NumberParts (v : ℤ) (whole decimals : List ℕ) : Type 0 where

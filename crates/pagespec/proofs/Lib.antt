@@ -17,3 +17,6 @@ pub mod Settling
 pub mod Decimals
 pub mod Short
 pub mod Outcomes
+pub mod Ascii
+pub mod Joining
+pub mod Normal

@@ -5,6 +5,7 @@ use Rattle.std.specs.List.{AllZip, list_any}
 use Rattle.std.proofs.lemmas.List.{length-append, length-map, append-nil}
 use Rattle.profile.specs.Specification.{WrittenItem, WrittenSpec, Item, Spec, IsSpec, IsItem, IsJoined, AreGroups, settled, settled_item, canonical}
 use Rattle.profile.specs.Admissible.{Fault, TooLong, Syntax, TooLarge, ModuloZero, PageOutOfBlock, ScaleZero, Repeated, TooManySlots, TooManyGroups, items, fault_of, else_first, only_if, at_lowest, any_too_large, is_flat, repeats, Refuses, Takes, IsAdmissible}
+use Rattle.pagespec.specs.Admitted.{IsAdmitted}
 use Rattle.pagespec.specs.Reading.{spec_at}
 use Rattle.pagespec.specs.Groups.{AreKept, KeptGroups}
 use Rattle.pagespec.specs.Faults.{fault_named, first_fault_of}
@@ -152,11 +153,15 @@ comes_to t modulo ks ns groups read none e =
     (e ∙ groups_settle ks read.spec.groups ns (small_items ks (items read.spec) read.shows small.1) read.counted)
 
 pub admitted : (t : List ℕ) (modulo : ℕ) (ks : List KeptItem) (ns : List ℕ) (groups : List (List Item)) → Read t modulo ks ns → length t ≤ 65_536 → None ≡ first_fault_of modulo ks ns
-    → groups ≡ split_by ns (map settled_kept ks) → IsAdmissible 64 (spec_of modulo groups)
+    → groups ≡ split_by ns (map settled_kept ks) → IsAdmitted (spec_of modulo groups)
 admitted t modulo ks ns groups read h none e =
     let same = comes_to t modulo ks ns groups read none e in
     let right = faultless t modulo ks ns read none in
-    record { written = read.spec; settles = same; faultless = right; short = subst (λ s. length (canonical s) ≤ 65_536) (sym same) (short_enough t read.spec read.stands right h) }
+    record {
+      text = t;
+      taken = (h, read.spec, read.stands, right, same);
+      admissible = record { written = read.spec; settles = same; faultless = right; short = subst (λ s. length (canonical s) ≤ 65_536) (sym same) (short_enough t read.spec read.stands right h) };
+    }
 
 pub taken : (t : List ℕ) (modulo : ℕ) (ks : List KeptItem) (ns : List ℕ) (groups : List (List Item)) (result : Spec) → Read t modulo ks ns → length t ≤ 65_536 → None ≡ first_fault_of modulo ks ns
     → groups ≡ split_by ns (map settled_kept ks) → result ≡ spec_of modulo groups → Takes 64 t result

@@ -61,7 +61,7 @@ turn_few Left = omega arith
 turn_few Half = omega arith
 turn_few Right = omega arith
 
-either : (a b : Bool) → (a || b) ≡ false → (a ≡ false) × (b ≡ false)
+pub either : (a b : Bool) → (a || b) ≡ false → (a ≡ false) × (b ≡ false)
 either true b e = absurd (cc (e))
 either false b e = (refl, e)
 
@@ -88,19 +88,19 @@ modifiers_short (Moved x y ∷ ms) text (front, rest, e, (first, second, one, is
       modifiers_short ms rest are behind,
     )
 
-scale_small : (ms : List Modifier) → list_any has_large ms ≡ false → is_large (scale ms) ≡ false
+pub scale_small : (ms : List Modifier) → list_any has_large ms ≡ false → is_large (scale ms) ≡ false
 scale_small [] e = refl
 scale_small (Quarters n ∷ ms) e = scale_small ms e
 scale_small (Scaled v ∷ ms) e = (either (is_large v) (list_any has_large ms) e).0
 scale_small (Moved x y ∷ ms) e = scale_small ms (either (is_large x.number || is_large y.number) (list_any has_large ms) e).1
 
-offset_small : (ms : List Modifier) → list_any has_large ms ≡ false → (is_large (offset_x ms).number ≡ false) × (is_large (offset_y ms).number ≡ false)
+pub offset_small : (ms : List Modifier) → list_any has_large ms ≡ false → (is_large (offset_x ms).number ≡ false) × (is_large (offset_y ms).number ≡ false)
 offset_small [] e = (refl, refl)
 offset_small (Quarters n ∷ ms) e = offset_small ms e
 offset_small (Scaled v ∷ ms) e = offset_small ms (either (is_large v) (list_any has_large ms) e).1
 offset_small (Moved x y ∷ ms) e = either (is_large x.number) (is_large y.number) (either (is_large x.number || is_large y.number) (list_any has_large ms) e).0
 
-abbrev large_item : WrittenItem → Bool
+abbrev pub large_item : WrittenItem → Bool
 large_item i = nat_lt 99_999 i.page || list_any has_large i.modifiers
 
 -- the parts of an item's text
@@ -111,7 +111,7 @@ item_length i = five (minus_text i.from_end) (decimal i.page) (turn_text (turn_o
     five : (a b c d e : List ℕ) → length (a ++ b ++ c ++ d ++ e) ≡ length a + length b + (length c + length d + length e)
     five a b c d e = omega (arith, length-append (a ++ b ++ c ++ d) e, length-append (a ++ b ++ c) d, length-append (a ++ b) c, length-append a b)
 
-page_small : (n : ℕ) → nat_lt 99_999 n ≡ false → n < 10 ^ 5
+pub page_small : (n : ℕ) → nat_lt 99_999 n ≡ false → n < 10 ^ 5
 page_small n e = search (rules, e)
 
 digits_stand : (ds : List ℕ) (n : ℕ) → IsDigits ds n → n < 10 ^ 5 → length (decimal n) ≤ length ds
@@ -172,7 +172,7 @@ joined_short c R f g large short (x ∷ y ∷ xs) text (front, rest, e, is, join
 group_short : (text : List ℕ) (g : List WrittenItem) → IsGroup text g → list_any large_item g ≡ false → length (joined_by 43 (map item_text (map settled_item g))) ≤ length text
 group_short text g joined small = joined_short 43 IsItem item_text settled_item large_item item_short g text joined small
 
-any_row : {X : Type 0} (p : X → Bool) (gs : List (List X)) → list_any p (flat_map (λ g. g) gs) ≡ list_any (λ g. list_any p g) gs
+pub any_row : {X : Type 0} (p : X → Bool) (gs : List (List X)) → list_any p (flat_map (λ g. g) gs) ≡ list_any (λ g. list_any p g) gs
 any_row p [] = refl
 any_row p (g ∷ gs) = list_any-append p g (flat_map (λ h. h) gs) ∙ ap (λ b. list_any p g || b) (any_row p gs)
 

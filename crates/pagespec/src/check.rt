@@ -7,13 +7,12 @@ ghost use Rattle.pagespec.specs.Faults.{first_fault_of, has_too_large};
 use crate::error::SpecError;
 use crate::kept::KeptItem;
 
-/// The most items that a group may have, and the most groups.
-pub const MOST_SLOTS: usize = 64;
-
-pub const MOST_GROUPS: usize = 10_000;
-
+/// The most items that a group may have.
+const MOST_SLOTS: usize = 64;
+/// The most groups.
+const MOST_GROUPS: usize = 10_000;
 /// The greatest modulo, page number and integer part.
-pub const MOST: u32 = 99_999;
+const MOST: u32 = 99_999;
 
 /// The first check that fails, at the lowest item or group. The groups are given by their lengths.
 pub fn first_fault(modulo: u32, items: &[KeptItem], lengths: &[usize]) -> Option<SpecError>
