@@ -1,12 +1,12 @@
 -- What an admissible specification keeps to.
-use Rattle.std.proofs.Common.{arith, ◌≡◌, ℕ, ◌+◌, ◌-◌, ◌<◌, ◌≤◌, Bool, true, false, ◌||◌, ltb, leb, List, [], ◌∷◌, ◌++◌, length, map, get_or, refl, sym, ap, ◌∙◌, Option, Some, None, subst}
+use Rattle.std.proofs.Common.{arith, ◌≡◌, ℕ, ◌+◌, ◌<◌, ◌≤◌, Bool, true, false, ◌||◌, List, [], ◌∷◌, length, map, get_or, refl, sym, Option, Some, None, subst}
 use Rattle.std.specs.Prelude.{if◌then◌else◌, nat_lt, nat_le, position, flat_map, All, ◌==◌}
 use Rattle.std.proofs.lemmas.Bool.Decides.{nat_tests}
-use Rattle.std.proofs.lemmas.List.{length-map, get_or-map, get_or_append_left, get_or-append-add, length-append}
+use Rattle.std.proofs.lemmas.List.{length-map, get_or_append_left, get_or-append-add, length-append}
 use Rattle.std.proofs.lemmas.List.Sums.{fails_before_first}
 use Rattle.std.proofs.lemmas.List.Elements.{All-nil, All-cons, All-map}
-use Rattle.profile.specs.Specification.{WrittenSpec, WrittenItem, Spec, Item, settled, settled_item}
-use Rattle.profile.specs.Admissible.{Fault, TooLarge, ModuloZero, PageOutOfBlock, ScaleZero, Repeated, TooManySlots, TooManyGroups, IsAdmissible, fault_of, else_first, only_if, at_lowest, any_too_large, items, repeats, is_flat, has_large}
+use Rattle.profile.specs.Specification.{WrittenSpec, WrittenItem, Spec, settled, settled_item}
+use Rattle.profile.specs.Admissible.{Fault, TooLarge, ModuloZero, PageOutOfBlock, ScaleZero, Repeated, TooManySlots, TooManyGroups, IsAdmissible, fault_of, else_first, only_if, at_lowest, any_too_large, items, repeats, is_flat}
 use Rattle.std.specs.List.{list_any, position_or_len}
 
 -- a list of checks without a fault

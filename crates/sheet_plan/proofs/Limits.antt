@@ -1,11 +1,10 @@
 -- The first limit that is passed.
-use Rattle.std.proofs.Common.{arith, ◌≡◌, ℕ, ◌+◌, ◌*◌, ◌/◌, ◌%◌, ◌<◌, ◌≤◌, List, [], length, map, refl, sym, ap, ◌∙◌, subst, min, Bool, true, false, Result, Ok, Err}
+use Rattle.std.proofs.Common.{arith, ◌≡◌, ℕ, ◌+◌, ◌*◌, ◌/◌, ◌%◌, ◌<◌, ◌≤◌, List, length, map, refl, sym, ap, ◌∙◌, subst, min, Bool, true, false, Result, Ok, Err}
 use Rattle.std.specs.Prelude.{sum_by, nat_lt}
 use Rattle.std.specs.declared.vec.Vec.{Vec}
 use Rattle.std.specs.declared.alloc.Global.{Global}
 use Rattle.std.proofs.lemmas.Bool.Decides.{nat_tests}
 use Rattle.std.proofs.lemmas.List.{length-map}
-use Rattle.std.proofs.lemmas.Nat.{mul-le}
 use Rattle.pagespec.specs.declared.item.Item.{Item as PageItem}
 use Rattle.pagespec.specs.Items.{groups_of, item_of}
 use Rattle.profile.specs.Specification.{Spec}
@@ -14,7 +13,7 @@ use Rattle.profile.specs.Sheets.{Slot, sheets, blocks}
 use Rattle.profile.specs.Run.{plan_of, refuse_if, PlanFault, PlanTooManyPages, TooManySheets, TooManyPlaces}
 use Rattle.profile.proofs.Counts.{sheet_count}
 use Rattle.sheet_plan.specs.Refusals.{IsAccepted}
-use Rattle.sheet_plan.proofs.Admitted.{IsBounded, bounded}
+use Rattle.sheet_plan.proofs.Admitted.{bounded}
 use Rattle.sheet_plan.proofs.Rows.{place_count}
 use Rattle.sheet_plan.proofs.Bounds.{blocks_ceil, blocks_le}
 use Rattle.sheet_plan.proofs.Access.{spec_of, few_in_block}

@@ -41,10 +41,8 @@ impl<'s> Model for Plan<'s> {
 
     ghost view = { λ p. p.expansion };
 
-    ghost invariant = {
-        λ p. (p.index ≡ map (places_of (layout p.expansion)) (range_with_len 0 p.expansion.pages))
-            × (p.born.items ≡ born_complete (layout p.expansion))
-    };
+    ghost invariant = { λ p. (p.index ≡ map (places_of (layout p.expansion)) (range_with_len 0 p.expansion.pages))
+        × (p.born.items ≡ born_complete (layout p.expansion)) };
 }
 
 impl<'s> Plan<'s> {

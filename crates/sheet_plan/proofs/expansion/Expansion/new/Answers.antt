@@ -1,8 +1,8 @@
-use Rattle.std.proofs.Common.{arith, ◌≡◌, ◌+◌, ◌*◌, ◌<◌, ◌≤◌, length, sym, ap, ◌∙◌, Ok}
+use Rattle.std.proofs.Common.{arith, ◌*◌, length, sym, ap, ◌∙◌, Ok}
 use Rattle.std.proofs.lemmas.Nat.{mul-le}
 use Rattle.profile.specs.Specification.{Spec}
 use Rattle.profile.specs.Sheets.{sheets}
-use Rattle.sheet_plan.proofs.Limits.{IsCounted, counted, accepted_fields, accepted, too_many_sheets, too_many_places}
+use Rattle.sheet_plan.proofs.Limits.{counted, accepted_fields, accepted, too_many_sheets, too_many_places}
 use Rattle.sheet_plan.proofs.expansion.Expansion.new.Goals as goal
 
 pub returns-then-from-groups-gt-MOST_SHEETS-clause-refused : goal.returns-then-from-groups-gt-MOST_SHEETS-clause-refused

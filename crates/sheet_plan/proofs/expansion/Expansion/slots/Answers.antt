@@ -1,4 +1,4 @@
-use Rattle.std.proofs.Common.{arith, ◌≡◌, ℕ, ◌+◌, ◌%◌, ◌<◌, length, sym, ap, ◌∙◌}
+use Rattle.std.proofs.Common.{arith, sym, ◌∙◌}
 use Rattle.sheet_plan.proofs.Access.{at_sheet, group_len, sound_of}
 use Rattle.sheet_plan.proofs.expansion.Expansion.slots.Goals as goal
 
