@@ -16,5 +16,9 @@ pub use grains::Grains;
 pub use named::paper_by_name;
 pub use number::Number;
 pub use paper::Paper;
+pub use print::{print_number, print_points, print_scale};
 pub use read::{NumberError, read_digits, read_number};
 pub use unit::Unit;
+
+#[cfg(test)]
+mod tests;

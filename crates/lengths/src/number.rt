@@ -1,9 +1,10 @@
 //! A number as specifications write it, kept exactly.
-ghost use Rattle.std.specs.Prelude.{◌≡◌, ◌↔◌, ◌+◌, ◌*◌, ◌^◌, ◌<◌, ℤ, IsSome, IfSome};
+ghost use Rattle.std.specs.Prelude.{◌≡◌, ◌↔◌, ◌+◌, ◌*◌, ◌^◌, ◌<◌, ℤ, neg_ℤ, IsSome, IfSome};
 ghost use Rattle.profile.specs.Numbers.{signed};
 ghost use Rattle.lengths.specs.Ranges.{FitsNumber};
 
 use std::marker::Model;
+use std::ops::Neg;
 
 /// A whole number of 10^-9, from -99,999,999,999,999 to 99,999,999,999,999: nine decimals behind an integer part of at most 99,999.
 /// Contracts see it as that whole number.
@@ -60,6 +61,19 @@ impl Number {
         let size = i64::from(whole) * 1_000_000_000 + i64::from(decimals);
         Number {
             billionths: if negative { -size } else { size },
+        }
+    }
+}
+
+impl Neg for Number {
+    type Output = Number;
+
+    ghost neg_gives = { λ n r. r ≡ neg_ℤ n };
+
+    fn neg(self) -> Number {
+        let Number { billionths } = self;
+        Number {
+            billionths: -billionths,
         }
     }
 }

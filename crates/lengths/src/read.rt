@@ -9,13 +9,16 @@ ghost use Rattle.lengths.specs.Reading.{digits, past_digits, unsigned, is_minus,
 ghost use Rattle.lengths.specs.Refusals.{outcome_of, IsRefused};
 
 use super::number::Number;
+use thiserror::Error;
 
 /// Why no number was read.
-#[derive(Clone, Copy, Debug, PartialEq, Eq)]
+#[derive(Clone, Copy, Debug, PartialEq, Eq, Error)]
 pub enum NumberError {
     /// No number stands at the start.
+    #[error("not a number")]
     NotANumber,
     /// The integer part is over 99,999; the length of the number in bytes.
+    #[error("number over 99,999")]
     TooLarge(usize),
 }
 

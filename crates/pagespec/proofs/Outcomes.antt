@@ -5,6 +5,7 @@ use Rattle.std.specs.List.{AllZip, list_any}
 use Rattle.std.proofs.lemmas.List.{length-append, length-map, append-nil}
 use Rattle.profile.specs.Specification.{WrittenItem, WrittenSpec, Item, Spec, IsSpec, IsItem, IsJoined, AreGroups, settled, settled_item, canonical}
 use Rattle.profile.specs.Admissible.{Fault, TooLong, Syntax, TooLarge, ModuloZero, PageOutOfBlock, ScaleZero, Repeated, TooManySlots, TooManyGroups, items, fault_of, else_first, only_if, at_lowest, any_too_large, is_flat, repeats, Refuses, Takes, IsAdmissible}
+use Rattle.pagespec.specs.Admitted.{IsAdmitted}
 use Rattle.pagespec.specs.Reading.{spec_at}
 use Rattle.pagespec.specs.Groups.{AreKept, KeptGroups}
 use Rattle.pagespec.specs.Faults.{fault_named, first_fault_of}
@@ -35,11 +36,12 @@ pub record Read (t : List ℕ) (modulo : ℕ) (kept : List KeptItem) (lengths : 
 
 pub all_read : (t bytes : List ℕ) (modulo : ℕ) (kept : Kept) (ks : List KeptItem) (ns : List ℕ) → bytes ≡ t → WrittenRead bytes modulo kept → ks ≡ kept.items.items → ns ≡ kept.lengths.items → Read t modulo ks ns
 all_read t bytes modulo kept ks ns b read e f = record {
-    spec = read.spec;
-    stands = spec_found t read.spec (ap spec_at (sym b) ∙ read.found);
-    modulo_is = read.modulo_is;
-    shows = subst (λ xs. AreKept xs (items read.spec)) (sym e) read.groups.items;
-    counted = f ∙ read.groups.lengths }
+  spec = read.spec;
+  stands = spec_found t read.spec (ap spec_at (sym b) ∙ read.found);
+  modulo_is = read.modulo_is;
+  shows = subst (λ xs. AreKept xs (items read.spec)) (sym e) read.groups.items;
+  counted = f ∙ read.groups.lengths;
+}
 
 -- each item but one has a byte behind it or before it that is no other's
 few_in_groups : (gs : List (List WrittenItem)) (text : List ℕ) → IsJoined 44 IsGroup text gs → length (flat_map (λ g. g) gs) ≤ suc (length text)
@@ -103,7 +105,7 @@ of_spec spec =
     (of_else (at_lowest (position (λ i. list_any is_flat i.modifiers) (items spec)) ScaleZero) _ (of_place (position (λ i. list_any is_flat i.modifiers) (items spec)) ScaleZero (λ i. tt))
     (of_else (at_lowest (position repeats (items spec)) Repeated) _ (of_place (position repeats (items spec)) Repeated (λ i. tt))
     (of_else (at_lowest (position (λ g. nat_lt 64 (length g)) spec.groups) TooManySlots) _ (of_place (position (λ g. nat_lt 64 (length g)) spec.groups) TooManySlots (λ i. tt))
-      (of_if (nat_lt 10_000 (length spec.groups)) TooManyGroups tt))))))
+    (of_if (nat_lt 10_000 (length spec.groups)) TooManyGroups tt))))))
 
 refused_by : (t : List ℕ) (spec : WrittenSpec) (f : Fault) → length t ≤ 65_536 → IsSpec t spec → fault_of 64 spec ≡ Some f → OfSpec (Some f) → Refuses 64 t f
 refused_by t spec TooLong h is e o = absurd o
@@ -124,7 +126,7 @@ named_refused t spec named (Some f) h is e told =
 pub fault_refused : (t : List ℕ) (modulo : ℕ) (ks : List KeptItem) (ns : List ℕ) (e : SpecError) → Read t modulo ks ns → length t ≤ 65_536 → Some e ≡ first_fault_of modulo ks ns → IsRefusal t e
 fault_refused t modulo ks ns e read h told =
     named_refused t read.spec (fault_named e) (fault_of 64 read.spec) h read.stands refl
-      (ap (option_map fault_named) told ∙ told_fault read.spec modulo ks ns read.shows read.counted read.modulo_is)
+    (ap (option_map fault_named) told ∙ told_fault read.spec modulo ks ns read.shows read.counted read.modulo_is)
 
 none_told : (f : Option Fault) (o : Option SpecError) → None ≡ o → option_map fault_named o ≡ option_map (λ x. Some x) f → f ≡ None
 none_told None o e told = refl
@@ -148,14 +150,18 @@ comes_to : (t : List ℕ) (modulo : ℕ) (ks : List KeptItem) (ns : List ℕ) (g
 comes_to t modulo ks ns groups read none e =
     let small = neither _ _ (no_fault read.spec (faultless t modulo ks ns read none)) in
     same_spec _ _ _ _ (capped_small modulo read.spec.modulo read.modulo_is small.0)
-      (e ∙ groups_settle ks read.spec.groups ns (small_items ks (items read.spec) read.shows small.1) read.counted)
+    (e ∙ groups_settle ks read.spec.groups ns (small_items ks (items read.spec) read.shows small.1) read.counted)
 
 pub admitted : (t : List ℕ) (modulo : ℕ) (ks : List KeptItem) (ns : List ℕ) (groups : List (List Item)) → Read t modulo ks ns → length t ≤ 65_536 → None ≡ first_fault_of modulo ks ns
-    → groups ≡ split_by ns (map settled_kept ks) → IsAdmissible 64 (spec_of modulo groups)
+    → groups ≡ split_by ns (map settled_kept ks) → IsAdmitted (spec_of modulo groups)
 admitted t modulo ks ns groups read h none e =
     let same = comes_to t modulo ks ns groups read none e in
     let right = faultless t modulo ks ns read none in
-    record { written = read.spec; settles = same; faultless = right; short = subst (λ s. length (canonical s) ≤ 65_536) (sym same) (short_enough t read.spec read.stands right h) }
+    record {
+      text = t;
+      taken = (h, read.spec, read.stands, right, same);
+      admissible = record { written = read.spec; settles = same; faultless = right; short = subst (λ s. length (canonical s) ≤ 65_536) (sym same) (short_enough t read.spec read.stands right h) };
+    }
 
 pub taken : (t : List ℕ) (modulo : ℕ) (ks : List KeptItem) (ns : List ℕ) (groups : List (List Item)) (result : Spec) → Read t modulo ks ns → length t ≤ 65_536 → None ≡ first_fault_of modulo ks ns
     → groups ≡ split_by ns (map settled_kept ks) → result ≡ spec_of modulo groups → Takes 64 t result
