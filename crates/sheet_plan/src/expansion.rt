@@ -124,6 +124,7 @@ impl<'s> Expansion<'s> {
     pub fn slots(&self, sheet: u32) -> u16
         requires { sheet < length self.now.sheets }
         ensures value { result ≡ length (pages_on self.now sheet) }
+        ensures some { 0 < result }
         ensures few { result ≤ 64 }
     {
         self.groups[(sheet % self.groups.len() as u32) as usize].len() as u16

@@ -78,10 +78,11 @@ impl<'s> Plan<'s> {
         self.expansion.sheets()
     }
 
-    /// How many slots a sheet has, blank ones counted: at most 64.
+    /// How many slots a sheet has, blank ones counted: 1 to 64.
     pub fn slots(&self, sheet: u32) -> u16
         requires { sheet < length self.now.sheets }
         ensures value { result ≡ length (pages_on self.now sheet) }
+        ensures some { 0 < result }
         ensures few { result ≤ 64 }
     {
         self.expansion.slots(sheet)
