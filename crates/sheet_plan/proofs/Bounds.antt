@@ -64,11 +64,11 @@ sound spec n a =
       few_sheets = a.few_sheets;
       few_places = a.few_places;
       narrow = λ s lt.
-        let at = is_sheet spec n s lt in
-        let count = slot_count spec n s lt in
-        let filled = a.filled (s % length spec.groups) [] at.group in
-        let thin = b.narrow (s % length spec.groups) [] at.group in
-        (omega arith, omega arith);
+          let at = is_sheet spec n s lt in
+          let count = slot_count spec n s lt in
+          let filled = a.filled (s % length spec.groups) [] at.group in
+          let thin = b.narrow (s % length spec.groups) [] at.group in
+          (omega arith, omega arith);
       paged = paged_at spec n;
     }
 
