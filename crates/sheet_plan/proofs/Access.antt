@@ -1,6 +1,6 @@
 -- A slot of a plan, read from its specification.
-use Rattle.std.proofs.Common.{arith, ◌≡◌, ℕ, ◌+◌, ◌*◌, ◌/◌, ◌%◌, ◌<◌, ◌≤◌, ◌^◌, List, [], length, map, get_or, take, refl, sym, ap, ◌∙◌, Option, Some, None, subst}
-use Rattle.std.specs.Prelude.{vec_len, slice_get, option_map, nat_lt, sum_by, All}
+use Rattle.std.proofs.Common.{arith, ◌≡◌, ℕ, ◌+◌, ◌*◌, ◌/◌, ◌%◌, ◌<◌, ◌≤◌, List, [], length, map, get_or, take, sym, ap, ◌∙◌, Some, None, subst}
+use Rattle.std.specs.Prelude.{vec_len, slice_get, option_map, sum_by}
 use Rattle.std.specs.declared.vec.Vec.{Vec}
 use Rattle.std.specs.declared.alloc.Global.{Global}
 use Rattle.std.proofs.lemmas.Bool.Decides.{nat_tests}
@@ -16,8 +16,8 @@ use Rattle.profile.proofs.Counts.{sheet_count}
 use Rattle.sheet_plan.specs.Plans.{planned, pages_on, items_on, IsSound, IsOfSpec}
 use Rattle.sheet_plan.specs.Refusals.{IsAccepted}
 use Rattle.sheet_plan.proofs.Admitted.{IsBounded, bounded}
-use Rattle.sheet_plan.proofs.Rows.{IsSheet, is_sheet, pages_row, items_row, slot_count}
-use Rattle.sheet_plan.proofs.Bounds.{sound, of_spec, blocks_times}
+use Rattle.sheet_plan.proofs.Rows.{is_sheet, pages_row, items_row, slot_count}
+use Rattle.sheet_plan.proofs.Bounds.{sound, of_spec}
 
 -- the specification that these fields make
 abbrev pub spec_of : ℕ → List (Vec PageItem Global) → Spec

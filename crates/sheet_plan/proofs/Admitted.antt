@@ -1,12 +1,14 @@
 -- What an admissible specification keeps to.
-use Rattle.std.proofs.Common.{arith, ◌≡◌, ℕ, ◌+◌, ◌-◌, ◌<◌, ◌≤◌, Bool, true, false, ◌||◌, ltb, leb, List, [], ◌∷◌, ◌++◌, length, map, get_or, refl, sym, ap, ◌∙◌, Option, Some, None, subst}
+use Rattle.std.proofs.Common.{arith, ◌≡◌, ℕ, ◌+◌, ◌<◌, ◌≤◌, Bool, true, false, ◌||◌, List, [], ◌∷◌, length, map, get_or, refl, sym, Option, Some, None, subst, inl, inr}
 use Rattle.std.specs.Prelude.{if◌then◌else◌, nat_lt, nat_le, position, flat_map, All, ◌==◌}
 use Rattle.std.proofs.lemmas.Bool.Decides.{nat_tests}
-use Rattle.std.proofs.lemmas.List.{length-map, get_or-map, get_or_append_left, get_or-append-add, length-append}
+use Rattle.std.proofs.lemmas.List.{length-map, get_or_append_left, get_or-append-add, length-append}
 use Rattle.std.proofs.lemmas.List.Sums.{fails_before_first}
 use Rattle.std.proofs.lemmas.List.Elements.{All-nil, All-cons, All-map}
-use Rattle.profile.specs.Specification.{WrittenSpec, WrittenItem, Spec, Item, settled, settled_item}
-use Rattle.profile.specs.Admissible.{Fault, TooLarge, ModuloZero, PageOutOfBlock, ScaleZero, Repeated, TooManySlots, TooManyGroups, IsAdmissible, fault_of, else_first, only_if, at_lowest, any_too_large, items, repeats, is_flat, has_large}
+use Rattle.profile.specs.Bytes.{comma, plus_sign}
+use Rattle.pagespec.specs.Admitted.{IsAdmitted}
+use Rattle.profile.specs.Specification.{IsJoined, IsItem, IsSpec, AreGroups, WrittenSpec, WrittenItem, Spec, settled, settled_item}
+use Rattle.profile.specs.Admissible.{Takes, Fault, TooLarge, ModuloZero, PageOutOfBlock, ScaleZero, Repeated, TooManySlots, TooManyGroups, IsAdmissible, fault_of, else_first, only_if, at_lowest, any_too_large, items, repeats, is_flat}
 use Rattle.std.specs.List.{list_any, position_or_len}
 
 -- a list of checks without a fault
@@ -104,3 +106,33 @@ bounded_written w e =
 
 pub bounded : (spec : Spec) → IsAdmissible 64 spec → IsBounded spec
 bounded spec a = subst IsBounded (sym a.settles) (bounded_written a.written a.faultless)
+
+-- ---- a group of a text has an item
+joined_some : {X : Type 0} (c : ℕ) (R : List ℕ → X → Type 0) (text : List ℕ) (xs : List X) → IsJoined c R text xs → 0 < length xs
+joined_some c R text [] j = absurd j
+joined_some c R text (x ∷ xs) j = omega arith
+
+joined_all : {X : Type 0} (P : X → Type 0) (c : ℕ) (R : List ℕ → X → Type 0) → ((t : List ℕ) (x : X) → R t x → P x) → (text : List ℕ) (xs : List X) → IsJoined c R text xs → All P xs
+joined_all P c R h text [] j = All-nil P
+joined_all P c R h text (x ∷ []) j = All-cons P x [] (h text x j) (All-nil P)
+joined_all P c R h text (x ∷ y ∷ xs) (front, rest, is, first, more) = All-cons P x (y ∷ xs) (h front x first) (joined_all P c R h rest (y ∷ xs) more)
+
+abbrev HasItem : List WrittenItem → Type 0
+HasItem g = 0 < length g
+
+groups_some : (text : List ℕ) (groups : List (List WrittenItem)) → AreGroups text groups → All HasItem groups
+groups_some text groups (inl j) = joined_all HasItem comma (IsJoined plus_sign IsItem) (λ t g k. joined_some plus_sign IsItem t g k) text groups j
+groups_some text groups (inr (i, is, bare)) = subst (All HasItem) (sym is) (All-cons HasItem (i ∷ []) [] (let one : 0 < length (i ∷ []) = omega arith in one) (All-nil HasItem))
+
+written_some : (text : List ℕ) (w : WrittenSpec) → IsSpec text w → All HasItem w.groups
+written_some text w (inl (one, groups)) = groups_some text w.groups groups
+written_some text w (inr (digits, rest, is, number, groups)) = groups_some rest w.groups groups
+
+filled_written : (text : List ℕ) (w : WrittenSpec) → IsSpec text w → All (λ g. 0 < length g) (settled w).groups
+filled_written text w s = map_all (λ g. 0 < length g) (λ g. map settled_item g) w.groups (λ k d lt. let h = written_some text w s k d lt in let l = length-map (get_or w.groups k d) settled_item in omega arith)
+
+pub filled : (spec : Spec) → IsAdmitted spec → All (λ g. 0 < length g) spec.groups
+filled spec a = from_text a.text spec a.taken
+  where
+    from_text : (text : List ℕ) (spec : Spec) → Takes 64 text spec → All (λ g. 0 < length g) spec.groups
+    from_text text spec (short, written, stands, faultless, settles) = subst (λ (s : Spec). All (λ g. 0 < length g) s.groups) (sym settles) (filled_written text written stands)

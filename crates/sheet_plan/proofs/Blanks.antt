@@ -1,5 +1,5 @@
 -- Which slots have no page.
-use Rattle.std.proofs.Common.{arith, ◌≡◌, ℕ, zero, suc, ◌+◌, ◌-◌, ◌*◌, ◌^◌, ◌%◌, ◌<◌, ◌≤◌, ◌≢◌, List, [], ◌∷◌, ◌++◌, length, get_or, take, refl, sym, ap, ◌∙◌, subst, Option, Some, None, true, false, Bool, ◌⊎◌, inl, inr, cond}
+use Rattle.std.proofs.Common.{arith, ◌≡◌, ℕ, zero, suc, ◌+◌, ◌*◌, ◌^◌, ◌%◌, ◌<◌, ◌≤◌, List, [], ◌∷◌, ◌++◌, length, take, refl, sym, ap, ◌∙◌, subst, Option, Some, None, true, false, Bool, inl, inr, cond}
 use Rattle.std.specs.Prelude.{if◌then◌else◌, slice_get, is_none, is_some, bit_or, filter}
 use Rattle.std.specs.List.{list_all, range_with_len}
 use Rattle.std.proofs.lemmas.List.{map-id, append-nil}
@@ -7,7 +7,7 @@ use Rattle.std.proofs.lemmas.List.FromFn.{filter_of_map_range_with_len_more}
 use Rattle.std.specs.Int.{bit_at, w64}
 use Rattle.std.proofs.lemmas.Bool.{cases_lt, cases_eq}
 use Rattle.std.proofs.lemmas.Nat.Bits.{bit_at_set_same, bit_at_set_other, bit_at-zero}
-use Rattle.std.proofs.lemmas.Option.{slice_get_within, slice_get_past}
+use Rattle.std.proofs.lemmas.Option.{slice_get_past}
 use Rattle.sheet_plan.specs.Plans.{is_page}
 
 -- so far no slot has a page
@@ -44,14 +44,15 @@ pub marked_page : (xs : List (Option ℕ)) (k p word : ℕ) → IsMarked xs k wo
 marked_page xs k p word m in64 e =
     record {
       told = λ j lt. elim (cases_eq j k) [
-        inl same ↦ at_k j same
-      | inr other ↦ bit_at_set_other w64 word k in64 j other ∙ m.told j (less j k (omega arith) other)
+        | inl same ↦ at_k j same
+        | inr other ↦ bit_at_set_other w64 word k in64 j other ∙ m.told j (less j k (omega arith) other)
       ];
       rest = λ j le. bit_at_set_other w64 word k in64 j (λ same. omega arith) ∙ m.rest j (omega arith);
     }
   where
     less : (a b : ℕ) → a ≤ b → (a ≡ b → ⊥) → a < b
     less a b le ne = elim (cases_lt a b) [ inl lt ↦ lt | inr ge ↦ absurd (ne (omega arith)) ]
+
     at_k : (j : ℕ) → j ≡ k → bit_at (bit_or word (1 * 2 ^ k % 2 ^ 64)) j ≡ bit_of xs j
     at_k j same =
         ap (bit_at (bit_or word (1 * 2 ^ k % 2 ^ 64))) same ∙ bit_at_set_same w64 word k in64
@@ -61,8 +62,8 @@ pub marked_blank : (xs : List (Option ℕ)) (k word : ℕ) → IsMarked xs k wor
 marked_blank xs k word m e =
     record {
       told = λ j lt. elim (cases_lt j k) [
-        inl low ↦ m.told j low
-      | inr high ↦ at_k j (omega arith)
+        | inl low ↦ m.told j low
+        | inr high ↦ at_k j (omega arith)
       ];
       rest = λ j le. m.rest j (omega arith);
     }
@@ -72,9 +73,9 @@ marked_blank xs k word m e =
 
 pub marked_all : (xs : List (Option ℕ)) (k word : ℕ) → IsMarked xs k word → length xs ≤ k → (j : ℕ) → bit_at word j ≡ bit_of xs j
 marked_all xs k word m le j = elim (cases_lt j k) [
-    inl low ↦ m.told j low
+  | inl low ↦ m.told j low
   | inr high ↦ m.rest j high ∙ sym (ap (λ o. if is_page o then 1 else 0) (slice_get_past xs j (omega arith)))
-  ]
+]
 
 -- ---- by the test of a slot
 pub none_more : (k : ℕ) (o : Option ℕ) (xs : List (Option ℕ)) → list_all is_none (take k xs) ≡ true → slice_get xs k ≡ Some o → is_some o ≡ false → list_all is_none (take (k + 1) xs) ≡ true

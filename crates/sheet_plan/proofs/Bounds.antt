@@ -1,17 +1,15 @@
 -- What is accepted keeps to the limits of a plan.
-use Rattle.std.proofs.Common.{arith, ◌≡◌, ℕ, zero, suc, ◌+◌, ◌-◌, ◌*◌, ◌/◌, ◌%◌, ◌<◌, ◌≤◌, List, [], ◌∷◌, ◌++◌, length, map, get_or, refl, sym, ap, ◌∙◌, Option, Some, None, subst, min, true, false, Bool}
-use Rattle.std.specs.Prelude.{sum_by, slice_get, option_map, if◌then◌else◌, nat_lt, All}
-use Rattle.std.proofs.lemmas.Nat.{div-add-mod', mod_below, div_below, div-mul-add, mul-le, mul-add-lt}
-use Rattle.std.proofs.lemmas.List.{length-map, get_or-map}
-use Rattle.std.proofs.lemmas.List.Sums.{sum_by-le}
+use Rattle.std.proofs.Common.{arith, ◌≡◌, ℕ, zero, suc, ◌+◌, ◌-◌, ◌*◌, ◌/◌, ◌%◌, ◌<◌, ◌≤◌, [], length, get_or, refl, sym, ap, ◌∙◌, Option, Some, None, min}
+use Rattle.std.specs.Prelude.{slice_get, option_map}
+use Rattle.std.proofs.lemmas.Nat.{div-add-mod', mod_below, div_below, div-mul-add, mul-le}
 use Rattle.std.proofs.lemmas.Option.{slice_get-map, same_Some, none-some}
 use Rattle.std.proofs.lemmas.Bool.Decides.{nat_tests}
 use Rattle.profile.specs.Specification.{Spec, Item}
-use Rattle.profile.specs.Sheets.{Plan, sheets, place, page_at, blocks}
-use Rattle.sheet_plan.specs.Plans.{planned, pages_on, items_on, IsSound, IsOfSpec}
+use Rattle.profile.specs.Sheets.{sheets, place, page_at, blocks}
+use Rattle.sheet_plan.specs.Plans.{planned, pages_on, IsSound, IsOfSpec}
 use Rattle.sheet_plan.specs.Refusals.{IsAccepted}
-use Rattle.sheet_plan.proofs.Admitted.{IsBounded, bounded}
-use Rattle.sheet_plan.proofs.Rows.{IsSheet, is_sheet, pages_row, slot_count}
+use Rattle.sheet_plan.proofs.Admitted.{bounded}
+use Rattle.sheet_plan.proofs.Rows.{is_sheet, pages_row, slot_count}
 
 -- ---- blocks
 pub blocks_ceil : (n m : ℕ) → 0 < m → n / m + min 1 (n % m) ≡ blocks m n
@@ -19,10 +17,12 @@ blocks_ceil n m pos = by_rest (n / m) (n % m) (mod_below n m pos) (div-add-mod' 
   where
     whole : (q m : ℕ) → 0 < m → q * m ≡ n → q ≡ (n + (m - 1)) / m
     whole q m pos e = sym (div-mul-add q m (m - 1) (omega arith)) ∙ ap (λ k. (k + (m - 1)) / m) e
+
     more : (q r m : ℕ) → suc r < m → q * m + suc r ≡ n → q + 1 ≡ (n + (m - 1)) / m
     more q r m lt e =
         let s : (q + 1) * m + r ≡ n + (m - 1) = grind arith in
         sym (div-mul-add (q + 1) m r (omega arith)) ∙ ap (λ k. k / m) s
+
     by_rest : (q r : ℕ) → r < m → q * m + r ≡ n → q + min 1 r ≡ (n + (m - 1)) / m
     by_rest q zero lt e = let z : q + min 1 0 ≡ q = omega arith in z ∙ whole q m pos (omega arith)
     by_rest q (suc r) lt e = let z : q + min 1 (suc r) ≡ q + 1 = omega arith in z ∙ more q r m lt e
@@ -51,6 +51,7 @@ paged_at spec n s k p lt e =
   where
     test : (x q : ℕ) → page_at n x ≡ Some q → q < n
     test x q h = grind (arith, nat_tests)
+
     named : (o : Option Item) (at : Item → Option ℕ) → ((i : Item) (q : ℕ) → at i ≡ Some q → q < n) → option_map at o ≡ Some (Some p) → p < n
     named None at h e = absurd (none-some (Some p) e)
     named (Some i) at h e = h i p (same_Some (at i) (Some p) e)
@@ -63,10 +64,11 @@ sound spec n a =
       few_sheets = a.few_sheets;
       few_places = a.few_places;
       narrow = λ s lt.
-        let at = is_sheet spec n s lt in
-        let count = slot_count spec n s lt in
-        let thin = b.narrow (s % length spec.groups) [] at.group in
-        omega arith;
+          let at = is_sheet spec n s lt in
+          let count = slot_count spec n s lt in
+          let filled = a.filled (s % length spec.groups) [] at.group in
+          let thin = b.narrow (s % length spec.groups) [] at.group in
+          (omega arith, omega arith);
       paged = paged_at spec n;
     }
 

@@ -1,11 +1,10 @@
 -- The first limit that is passed.
-use Rattle.std.proofs.Common.{arith, ◌≡◌, ℕ, ◌+◌, ◌*◌, ◌/◌, ◌%◌, ◌<◌, ◌≤◌, List, [], length, map, refl, sym, ap, ◌∙◌, subst, min, Bool, true, false, Result, Ok, Err}
-use Rattle.std.specs.Prelude.{sum_by, nat_lt}
+use Rattle.std.proofs.Common.{arith, ◌≡◌, ℕ, ◌+◌, ◌*◌, ◌/◌, ◌%◌, ◌<◌, ◌≤◌, List, length, map, refl, sym, ap, ◌∙◌, subst, min, Bool, true, false, Result, Ok, Err}
+use Rattle.std.specs.Prelude.{sum_by, nat_lt, All}
 use Rattle.std.specs.declared.vec.Vec.{Vec}
 use Rattle.std.specs.declared.alloc.Global.{Global}
 use Rattle.std.proofs.lemmas.Bool.Decides.{nat_tests}
 use Rattle.std.proofs.lemmas.List.{length-map}
-use Rattle.std.proofs.lemmas.Nat.{mul-le}
 use Rattle.pagespec.specs.declared.item.Item.{Item as PageItem}
 use Rattle.pagespec.specs.Items.{groups_of, item_of}
 use Rattle.profile.specs.Specification.{Spec}
@@ -14,7 +13,7 @@ use Rattle.profile.specs.Sheets.{Slot, sheets, blocks}
 use Rattle.profile.specs.Run.{plan_of, refuse_if, PlanFault, PlanTooManyPages, TooManySheets, TooManyPlaces}
 use Rattle.profile.proofs.Counts.{sheet_count}
 use Rattle.sheet_plan.specs.Refusals.{IsAccepted}
-use Rattle.sheet_plan.proofs.Admitted.{IsBounded, bounded}
+use Rattle.sheet_plan.proofs.Admitted.{bounded}
 use Rattle.sheet_plan.proofs.Rows.{place_count}
 use Rattle.sheet_plan.proofs.Bounds.{blocks_ceil, blocks_le}
 use Rattle.sheet_plan.proofs.Access.{spec_of, few_in_block}
@@ -94,5 +93,5 @@ counted spec n modulo many groups m g admissible is =
     subst (λ s. IsCounted s n modulo many groups) same (counted_fields n modulo many groups (subst (IsAdmissible 64) (sym same) admissible) is)
 
 -- an accepted specification, by its fields
-pub accepted_fields : (spec : Spec) (n modulo : ℕ) (groups : List (Vec PageItem Global)) → spec_of modulo groups ≡ spec → IsAdmissible 64 spec → n ≤ 1_000_000 → length (sheets spec n) ≤ 1_000_000 → sum_by length (sheets spec n) ≤ 4_000_000 → IsAccepted (spec_of modulo groups) n
-accepted_fields spec n modulo groups same admissible le few fit = subst (λ s. IsAccepted s n) (sym same) (record { admissible = admissible; few_pages = le; few_sheets = few; few_places = fit })
+pub accepted_fields : (spec : Spec) (n modulo : ℕ) (groups : List (Vec PageItem Global)) → spec_of modulo groups ≡ spec → IsAdmissible 64 spec → All (λ g. 0 < length g) spec.groups → n ≤ 1_000_000 → length (sheets spec n) ≤ 1_000_000 → sum_by length (sheets spec n) ≤ 4_000_000 → IsAccepted (spec_of modulo groups) n
+accepted_fields spec n modulo groups same admissible filled le few fit = subst (λ s. IsAccepted s n) (sym same) (record { admissible = admissible; filled = filled; few_pages = le; few_sheets = few; few_places = fit })

@@ -1,12 +1,12 @@
 -- Which sheet is which group of which block, and how many sheets and slots there are.
-use Rattle.std.proofs.Common.{arith, ◌≡◌, ℕ, zero, suc, ◌+◌, ◌-◌, ◌*◌, ◌/◌, ◌%◌, ◌<◌, ◌≤◌, List, [], ◌∷◌, ◌++◌, length, map, get_or, refl, sym, ap, ◌∙◌, Option, Some, None, subst, min}
-use Rattle.std.specs.Prelude.{flat_map, sum_by, slice_index_or}
+use Rattle.std.proofs.Common.{arith, ◌≡◌, ℕ, zero, suc, ◌+◌, ◌*◌, ◌/◌, ◌%◌, ◌<◌, List, [], ◌∷◌, ◌++◌, length, map, get_or, refl, sym, ap, ◌∙◌}
+use Rattle.std.specs.Prelude.{flat_map, sum_by}
 use Rattle.std.specs.List.{range_with_len}
-use Rattle.std.proofs.lemmas.Nat.{div-add-mod', mod_below, div_below, div-mul-add, mul-le, mul-add-lt}
-use Rattle.std.proofs.lemmas.List.{length-map, get_or-map, get_or_append_left, get_or-append-add, length-append}
+use Rattle.std.proofs.lemmas.Nat.{div-add-mod', mod_below, div_below}
+use Rattle.std.proofs.lemmas.List.{length-map, get_or-map, get_or_append_left, get_or-append-add}
 use Rattle.std.proofs.lemmas.List.Sums.{sum_by-append, sum_by-cons}
 use Rattle.profile.specs.Specification.{Spec, Item}
-use Rattle.profile.specs.Sheets.{Plan, Slot, sheets, place, page_at, blocks, layout}
+use Rattle.profile.specs.Sheets.{Slot, sheets, place, page_at, blocks}
 use Rattle.profile.proofs.Counts.{sheet_count}
 use Rattle.sheet_plan.specs.Plans.{planned, pages_on, items_on}
 

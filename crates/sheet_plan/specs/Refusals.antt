@@ -1,5 +1,5 @@
 -- Which specifications are planned, and why the others are refused.
-use Rattle.std.specs.Prelude.{◌≡◌, ℕ, ◌≤◌, Ok, Err, length, sum_by}
+use Rattle.std.specs.Prelude.{◌≡◌, ℕ, ◌<◌, ◌≤◌, Ok, Err, length, sum_by, All}
 use Rattle.profile.specs.Specification.{Spec}
 use Rattle.profile.specs.Admissible.{IsAdmissible}
 use Rattle.profile.specs.Sheets.{sheets}
@@ -18,6 +18,7 @@ Refuses spec n NoMemory = plan_of spec n ≡ Ok (sheets spec n)
 -- the specification is admissible, and the limits of a plan hold on n pages
 pub record IsAccepted (spec : Spec) (n : ℕ) : Type 0 where
   pub admissible : IsAdmissible 64 spec
+  pub filled : All (λ g. 0 < length g) spec.groups
   pub few_pages : n ≤ 1_000_000
   pub few_sheets : length (sheets spec n) ≤ 1_000_000
   pub few_places : sum_by length (sheets spec n) ≤ 4_000_000

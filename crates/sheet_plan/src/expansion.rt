@@ -11,7 +11,9 @@ use pagespec::{Item, Spec};
 use std::marker::Model;
 
 const MOST_PAGES: u32 = 1_000_000;
+
 const MOST_SHEETS: u64 = 1_000_000;
+
 const MOST_PLACES: u64 = 4_000_000;
 
 /// The sheets of an accepted specification. A contract sees the plan that they make.
@@ -35,10 +37,8 @@ impl<'s> Model for Expansion<'s> {
 
     ghost view = { λ e. planned (record { modulo = e.modulo; groups = groups_of e.groups.now }) e.pages };
 
-    ghost invariant = {
-        λ e. IsAccepted (record { modulo = e.modulo; groups = groups_of e.groups.now }) e.pages
-            × (e.blocks ≡ blocks_of e.modulo e.pages)
-    };
+    ghost invariant = { λ e. IsAccepted (record { modulo = e.modulo; groups = groups_of e.groups.now }) e.pages
+        × (e.blocks ≡ blocks_of e.modulo e.pages) };
 }
 
 /// How many slots one block has.
@@ -124,6 +124,7 @@ impl<'s> Expansion<'s> {
     pub fn slots(&self, sheet: u32) -> u16
         requires { sheet < length self.now.sheets }
         ensures value { result ≡ length (pages_on self.now sheet) }
+        ensures some { 0 < result }
         ensures few { result ≤ 64 }
     {
         self.groups[(sheet % self.groups.len() as u32) as usize].len() as u16
@@ -145,6 +146,10 @@ impl<'s> Expansion<'s> {
         let item = item_at(self.groups, sheet, slot);
         let block = sheet / self.groups.len() as u32;
         let place = place_of(self.modulo, self.blocks, block, item);
-        if place < self.pages { Some(place) } else { None }
+        if place < self.pages {
+            Some(place)
+        } else {
+            None
+        }
     }
 }

@@ -27,7 +27,11 @@ pub fn placed_pages(alloc: Global, expansion: &Expansion) -> Result<Vec<PlacedPa
 }
 
 /// Adds the placed pages of a sheet.
-fn list_sheet(expansion: &Expansion, sheet: u32, placed: &mut Vec<PlacedPage>) -> Result<(), AllocError>
+fn list_sheet(
+    expansion: &Expansion,
+    sheet: u32,
+    placed: &mut Vec<PlacedPage>,
+) -> Result<(), AllocError>
     requires { sheet < length expansion.now.sheets }
     ensures { OnOk result (placed.new.items ≡ placed.old.items ++ placed_in sheet 0 (pages_on expansion.now sheet)) }
 {

@@ -41,10 +41,8 @@ impl<'s> Model for Plan<'s> {
 
     ghost view = { λ p. p.expansion };
 
-    ghost invariant = {
-        λ p. (p.index ≡ map (places_of (layout p.expansion)) (range_with_len 0 p.expansion.pages))
-            × (p.born.items ≡ born_complete (layout p.expansion))
-    };
+    ghost invariant = { λ p. (p.index ≡ map (places_of (layout p.expansion)) (range_with_len 0 p.expansion.pages))
+        × (p.born.items ≡ born_complete (layout p.expansion)) };
 }
 
 impl<'s> Plan<'s> {
@@ -80,10 +78,11 @@ impl<'s> Plan<'s> {
         self.expansion.sheets()
     }
 
-    /// How many slots a sheet has, blank ones counted: at most 64.
+    /// How many slots a sheet has, blank ones counted: 1 to 64.
     pub fn slots(&self, sheet: u32) -> u16
         requires { sheet < length self.now.sheets }
         ensures value { result ≡ length (pages_on self.now sheet) }
+        ensures some { 0 < result }
         ensures few { result ≤ 64 }
     {
         self.expansion.slots(sheet)

@@ -49,7 +49,12 @@ fn pages_on_sheets(rt: HostRuntime) -> Result<(), Fail> {
     let cases = [
         ("2:-0", 5, "4; 2; 0", "2.0; ; 1.0; ; 0.0"),
         (BOOKLET, 5, "- 0; 1 -; 3 4; - 2", "0.1; 1.0; 3.1; 2.0; 2.1"),
-        ("4:0,1,2,3", 5, "0; 1; 2; 3; 4; -; -; -", "0.0; 1.0; 2.0; 3.0; 4.0"),
+        (
+            "4:0,1,2,3",
+            5,
+            "0; 1; 2; 3; 4; -; -; -",
+            "0.0; 1.0; 2.0; 3.0; 4.0",
+        ),
         ("0+0", 1, "0 0", "0.0 0.1"),
         ("0", 0, "", ""),
     ];
@@ -96,9 +101,24 @@ fn item_of_a_slot(rt: HostRuntime) -> Result<(), Fail> {
 fn limits(rt: HostRuntime) -> Result<(), Fail> {
     let alloc = rt.alloc();
     let cases = [
-        ("0", 1_000_001, PlanError::TooManyPages, "plan: too many pages"),
-        ("0,0", 1_000_000, PlanError::TooManySheets, "plan: too many sheets"),
-        ("0+0+0+0+0", 1_000_000, PlanError::TooManyPlaces, "plan: too many places"),
+        (
+            "0",
+            1_000_001,
+            PlanError::TooManyPages,
+            "plan: too many pages",
+        ),
+        (
+            "0,0",
+            1_000_000,
+            PlanError::TooManySheets,
+            "plan: too many sheets",
+        ),
+        (
+            "0+0+0+0+0",
+            1_000_000,
+            PlanError::TooManyPlaces,
+            "plan: too many places",
+        ),
     ];
     for (text, pages, refusal, line) in cases {
         let spec = read_spec(alloc, text)?;
@@ -120,6 +140,9 @@ fn four_million_places(rt: HostRuntime) -> Result<(), Fail> {
     let plan = Plan::new(alloc, &spec, 1_000_000)?;
     assert_eq!(rt; plan.sheets(), 1_000_000);
     assert_eq!(rt; plan.pages(), 1_000_000);
-    assert_eq!(rt; plan.slots_of_page(999_999), [(999_999, 0), (999_999, 1), (999_999, 2), (999_999, 3)].as_slice());
+    assert_eq!(rt;
+        plan.slots_of_page(999_999),
+        [(999_999, 0), (999_999, 1), (999_999, 2), (999_999, 3)].as_slice()
+    );
     Ok(())
 }

@@ -1,4 +1,4 @@
-use Rattle.std.proofs.Common.{◌≡◌, sym, ap, ◌∙◌}
+use Rattle.std.proofs.Common.{sym, ◌∙◌}
 use Rattle.sheet_plan.specs.Plans.{pages_on}
 use Rattle.sheet_plan.proofs.Blanks.{none_more, some_breaks}
 use Rattle.sheet_plan.proofs.born.is_blank.Goals as goal

@@ -1,7 +1,4 @@
-use Rattle.std.proofs.Common.{arith, ◌≡◌, ◌+◌, ◌<◌, ◌≤◌, length, take, ap, ◌∙◌}
-use Rattle.std.proofs.lemmas.List.{take_all}
-use Rattle.pagespec.specs.Items.{groups_of}
-use Rattle.std.specs.Prelude.{sum_by}
+use Rattle.std.proofs.Common.{arith, ◌+◌}
 use Rattle.sheet_plan.proofs.Access.{block_more, block_part}
 use Rattle.sheet_plan.proofs.expansion.slots_in_block.Goals as goal
 

@@ -1,4 +1,4 @@
-use Rattle.std.proofs.Common.{arith, ◌≡◌, ◌++◌, ◌<◌, ◌≤◌, sym, ap, ◌∙◌}
+use Rattle.std.proofs.Common.{arith, ◌++◌, sym, ap, ◌∙◌}
 use Rattle.sheet_plan.specs.Plans.{pages_on}
 use Rattle.sheet_plan.specs.Placed.{placed_in}
 use Rattle.sheet_plan.proofs.Listing.{sheet_more_of, whole_of}

@@ -1,4 +1,4 @@
-use Rattle.std.proofs.Common.{arith, ◌≡◌, ℕ, ◌+◌, ◌*◌, ◌<◌, ◌≤◌, length, sym, ap, ◌∙◌, subst}
+use Rattle.std.proofs.Common.{◌<◌, ap, ◌∙◌, subst}
 use Rattle.std.specs.Prelude.{slice_get}
 use Rattle.sheet_plan.proofs.Access.{at_sheet}
 use Rattle.sheet_plan.proofs.expansion.Expansion.item_of.Goals as goal

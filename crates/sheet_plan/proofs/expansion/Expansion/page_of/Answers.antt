@@ -1,4 +1,4 @@
-use Rattle.std.proofs.Common.{arith, ◌≡◌, ℕ, ◌+◌, ◌*◌, ◌/◌, ◌%◌, ◌<◌, map, ◌≤◌, length, sym, ap, ◌∙◌, subst}
+use Rattle.std.proofs.Common.{arith, ◌/◌, ◌%◌, ◌<◌, map, length, sym, subst}
 use Rattle.std.proofs.lemmas.List.{length-map}
 use Rattle.pagespec.specs.Items.{item_of}
 use Rattle.sheet_plan.proofs.Access.{at_sheet, spec_of, paged_item, page_there, page_blank}

@@ -1,4 +1,4 @@
-use Rattle.std.proofs.Common.{arith, ◌≡◌, ℕ, ◌+◌, ◌*◌, ◌<◌, ◌≤◌, length, sym, ap, ◌∙◌, subst}
+use Rattle.std.proofs.Common.{arith, ◌*◌, length, ap, ◌∙◌}
 use Rattle.sheet_plan.proofs.Access.{sheets_of, sound_of}
 use Rattle.sheet_plan.proofs.expansion.Expansion.sheets.Goals as goal
 
