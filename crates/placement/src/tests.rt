@@ -92,14 +92,14 @@ fn a_page_with_a_border_on_paper_in_centimetres(rt: HostRuntime) -> Result<(), F
     let mut out = Vec::from_slice(rt.alloc(), b"% page\n")?;
     opening_text(&placed, &paper, border, &mut out)?;
     closing_text(&mut out)?;
-    assert_eq!(rt; out.as_slice(), b"% page
-userdict /ImposeSave save put
-userdict /showpage {} put
-[1 0 0 1 0 0] concat
-newpath 0 0 moveto 595.27559 0 lineto 595.27559 841.88976 lineto 0 841.88976 lineto closepath clip newpath
-gsave 1 setlinewidth newpath 0 0 moveto 595.27559 0 lineto 595.27559 841.88976 lineto 0 841.88976 lineto closepath stroke grestore
-ImposeSave restore
-");
+    let wanted = "% page\n\
+        userdict /ImposeSave save put\n\
+        userdict /showpage {} put\n\
+        [1 0 0 1 0 0] concat\n\
+        newpath 0 0 moveto 595.27559 0 lineto 595.27559 841.88976 lineto 0 841.88976 lineto closepath clip newpath\n\
+        gsave 1 setlinewidth newpath 0 0 moveto 595.27559 0 lineto 595.27559 841.88976 lineto 0 841.88976 lineto closepath stroke grestore\n\
+        ImposeSave restore\n";
+    assert_eq!(rt; out.as_slice(), wanted.as_bytes());
     Ok(())
 }
 
@@ -114,10 +114,10 @@ fn a_page_without_a_border(rt: HostRuntime) -> Result<(), Fail> {
     );
     let mut out = Vec::new(rt.alloc());
     opening_text(&turned, &a4, None, &mut out)?;
-    assert_eq!(rt; out.as_slice(), b"userdict /ImposeSave save put
-userdict /showpage {} put
-[0 0.7 -0.7 0 595.27559 420.94488] concat
-newpath 0 0 moveto 595 0 lineto 595 842 lineto 0 842 lineto closepath clip newpath
-");
+    let wanted = "userdict /ImposeSave save put\n\
+        userdict /showpage {} put\n\
+        [0 0.7 -0.7 0 595.27559 420.94488] concat\n\
+        newpath 0 0 moveto 595 0 lineto 595 842 lineto 0 842 lineto closepath clip newpath\n";
+    assert_eq!(rt; out.as_slice(), wanted.as_bytes());
     Ok(())
 }
