@@ -1,5 +1,5 @@
 -- A printed matrix sends points nearly to where the matrix does.
-use Rattle.std.proofs.Common.{arith, ℕ, ◌≤◌}
+use Rattle.std.proofs.Common.{arith, ◌≤◌}
 use Rattle.std.specs.Prelude.{ℤ, pos, negsuc, nat_abs, ◌+ℤ◌, ◌*ℤ◌, ◌-ℤ◌}
 use Rattle.std.proofs.lemmas.Int.{ints}
 use Rattle.placement.specs.Printed.{nearest, PrintedIsNear}

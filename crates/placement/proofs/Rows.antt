@@ -1,15 +1,14 @@
 -- What is read of a printed matrix.
-use Rattle.std.proofs.Common.{arith, ◌≡◌, ◌≢◌, ℕ, ◌+◌, ◌*◌, ◌^◌, ◌/◌, ◌<◌, ◌≤◌, List, [], ◌∷◌, ◌++◌, Bool, refl, sym, ap, subst, ◌∙◌, length, append-nil}
+use Rattle.std.proofs.Common.{arith, ◌≡◌, ◌≢◌, ℕ, ◌*◌, ◌^◌, ◌/◌, ◌<◌, ◌≤◌, List, [], ◌∷◌, ◌++◌, refl, sym, ap, subst, ◌∙◌, length, append-nil}
 use Rattle.std.specs.Prelude.{ℤ, pos, negsuc, nat_abs, ◌*ℤ◌, codes}
 use Rattle.std.proofs.lemmas.Int.{ints}
 use Rattle.std.proofs.lemmas.List.{append_cancel_left, append_cancel_right}
 use Rattle.profile.specs.Bytes.{space}
-use Rattle.profile.specs.Numbers.{IsNumber, IsSign, IsFraction, IsPrinted, is_negative, sign_text, fraction_text, signed, number_of, decimals_value, printed, points_text, rounded}
+use Rattle.profile.specs.Numbers.{IsNumber, IsSign, IsFraction, is_negative, sign_text, fraction_text, signed, decimals_value, printed, points_text, rounded}
 use Rattle.profile.specs.Specification.{IsJoined}
-use Rattle.profile.specs.Placement.{matrix_text}
 use Rattle.profile.proofs.Printed.{printed_is_number, printed_is_printed}
 use Rattle.profile.proofs.OneNumber.{one_number}
-use Rattle.placement.specs.Printed.{IsRow, FitsMatrix, nearest, PrintedIsRow, OneRow}
+use Rattle.placement.specs.Printed.{nearest, PrintedIsRow, OneRow}
 
 -- five decimals at most, in 10^-9
 in_nine : (ds : List ℕ) → length ds ≤ 5 → decimals_value 9 ds ≡ decimals_value 5 ds * 10_000
@@ -69,11 +68,31 @@ pub printed_row : PrintedIsRow
 printed_row m fits = (
   _,
   refl,
-  (_, _, refl, scale_is m.a fits.a,
-  (_, _, refl, scale_is m.b fits.b,
-  (_, _, refl, scale_is m.c fits.c,
-  (_, _, refl, scale_is m.d fits.d,
-  (_, _, refl, points_are m.tx fits.tx, points_are m.ty fits.ty))))),
+  (
+    _,
+    _,
+    refl,
+    scale_is m.a fits.a,
+    (
+      _,
+      _,
+      refl,
+      scale_is m.b fits.b,
+      (
+        _,
+        _,
+        refl,
+        scale_is m.c fits.c,
+        (
+          _,
+          _,
+          refl,
+          scale_is m.d fits.d,
+          (_, _, refl, points_are m.tx fits.tx, points_are m.ty fits.ty),
+        ),
+      ),
+    ),
+  ),
 )
 
 same_tail : (b c : ℕ) (xs ys : List ℕ) → b ∷ xs ≡ c ∷ ys → xs ≡ ys

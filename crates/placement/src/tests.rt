@@ -51,7 +51,13 @@ fn turns_scales_and_offsets_are_written_as_matrices(rt: HostRuntime) -> Result<(
         (Turn::None, one, none, none, "[1 0 0 1 0 0]"),
         (Turn::Half, one, none, none, "[-1 0 0 -1 0 0]"),
         (Turn::Right, 2 * one, none, none, "[0 -2 2 0 0 0]"),
-        (Turn::None, one, half_width, inch_down, "[1 0 0 1 297.5 -72]"),
+        (
+            Turn::None,
+            one,
+            half_width,
+            inch_down,
+            "[1 0 0 1 297.5 -72]",
+        ),
         (
             Turn::Left,
             part,
@@ -68,7 +74,11 @@ fn turns_scales_and_offsets_are_written_as_matrices(rt: HostRuntime) -> Result<(
         ),
     ] {
         let matrix = matrix_of(&item(turn, scale, x, y), &a4);
-        assert_eq!(rt; text(rt.alloc(), &matrix)?.as_slice(), wanted.as_bytes(), "at {wanted}");
+        assert_eq!(rt;
+            text(rt.alloc(), &matrix)?.as_slice(),
+            wanted.as_bytes(),
+            "at {wanted}"
+        );
     }
     Ok(())
 }
@@ -81,7 +91,10 @@ fn half_a_width_to_the_right_and_an_inch_down(rt: HostRuntime) {
         measure(-1_000_000_000, Unit::In),
     );
     let matrix = matrix_of(&item(Turn::None, 1_000_000_000, x, y), &a4);
-    assert_eq!(rt; matrix.apply(10, 20), (39_052_500_000_000, -6_604_000_000_000));
+    assert_eq!(rt;
+        matrix.apply(10, 20),
+        (39_052_500_000_000, -6_604_000_000_000)
+    );
 }
 
 #[test]

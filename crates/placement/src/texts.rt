@@ -76,7 +76,10 @@ fn append_opening(
         OnOk result (out.new.items ≡ out.old.items ++ opening frame (item_of item.now)) }
     ensures kept { Keeps out.old.items out.new.items }
 {
-    append_text(b"userdict /ImposeSave save put\nuserdict /showpage {} put\n", out)?;
+    append_text(
+        b"userdict /ImposeSave save put\nuserdict /showpage {} put\n",
+        out,
+    )?;
     append_matrix(&matrix_of(item, paper), out)?;
     append_text(b" concat\n", out)?;
     append_edge(paper, out)?;
@@ -100,11 +103,7 @@ fn append_matrix(matrix: &Matrix, out: &mut Vec<u8>) -> Result<(), AllocError>
 
 /// The line that draws a border, if there is one.
 #[tactic(auto, using(crate::proofs::Keeping::keeps_more))]
-fn append_border(
-    paper: &Paper,
-    border: Option<Grains>,
-    out: &mut Vec<u8>,
-) -> Result<(), AllocError>
+fn append_border(paper: &Paper, border: Option<Grains>, out: &mut Vec<u8>) -> Result<(), AllocError>
     ensures appended { OnOk result (out.new.items ≡ out.old.items ++ border_text paper.now border) }
     ensures kept { Keeps out.old.items out.new.items }
 {
