@@ -49,10 +49,10 @@ large_item i = nat_lt 99_999 i.page || list_any has_large i.modifiers
 capped_test : (n m : ℕ) → n ≡ min 100_000 m → nat_lt 99_999 n ≡ nat_lt 99_999 m
 capped_test n m e = grind (arith, common_steps)
 
-capped_small : (n m : ℕ) → n ≡ min 100_000 m → nat_lt 99_999 m ≡ false → n ≡ m
+pub capped_small : (n m : ℕ) → n ≡ min 100_000 m → nat_lt 99_999 m ≡ false → n ≡ m
 capped_small n m e h = grind (arith, common_steps)
 
-neither : (a b : Bool) → (a || b) ≡ false → (a ≡ false) × (b ≡ false)
+pub neither : (a b : Bool) → (a || b) ≡ false → (a ≡ false) × (b ≡ false)
 neither true b e = absurd (cc (e))
 neither false b e = (refl, e)
 

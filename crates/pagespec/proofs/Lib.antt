@@ -14,3 +14,9 @@ pub mod Wholes
 pub mod Faults
 pub mod Modulos
 pub mod Settling
+pub mod Decimals
+pub mod Short
+pub mod Outcomes
+pub mod Ascii
+pub mod Joining
+pub mod Normal

@@ -40,7 +40,7 @@ turn_is q n e = rw (same_turn q n e) refl
 abbrev item : ℕ → Bool → Turn → ℤ → Measure → Measure → Item
 item page from_end turn scale x y = record { page = page; from_end = from_end; turn = turn; scale = scale; x = x; y = y }
 
-same_item : (p p' : ℕ) (b b' : Bool) (t t' : Turn) (s s' : ℤ) (x x' y y' : Measure) → p ≡ p' → b ≡ b' → t ≡ t' → s ≡ s' → x ≡ x' → y ≡ y' → item p b t s x y ≡ item p' b' t' s' x' y'
+pub same_item : (p p' : ℕ) (b b' : Bool) (t t' : Turn) (s s' : ℤ) (x x' y y' : Measure) → p ≡ p' → b ≡ b' → t ≡ t' → s ≡ s' → x ≡ x' → y ≡ y' → item p b t s x y ≡ item p' b' t' s' x' y'
 same_item p p' b b' t t' s s' x x' y y' ep eb et es ex ey = rw ep (rw eb (rw et (rw es (rw ex (rw ey refl)))))
 
 -- what is kept of an item with small numbers comes to the item's own
@@ -79,7 +79,7 @@ lengths_fit [] = tt
 lengths_fit (g ∷ gs) =
     (omega (arith, length-append g (flat_map (λ h. h) gs)), subst (AreLengths (map length gs)) (sym (drop_front g (flat_map (λ h. h) gs))) (lengths_fit gs))
 
-map_row : {X Y : Type 0} (f : X → Y) (gs : List (List X)) → map f (flat_map (λ g. g) gs) ≡ flat_map (λ g. g) (map (λ g. map f g) gs)
+pub map_row : {X Y : Type 0} (f : X → Y) (gs : List (List X)) → map f (flat_map (λ g. g) gs) ≡ flat_map (λ g. g) (map (λ g. map f g) gs)
 map_row f [] = refl
 map_row f (g ∷ gs) = map-append f g (flat_map (λ h. h) gs) ∙ ap (λ xs. map f g ++ xs) (map_row f gs)
 
@@ -95,7 +95,7 @@ groups_settle ks gs lengths zip e =
     ∙ (ap (split_by (map length (map (λ g. map settled_item g) gs))) (settles ks (flat_map (λ g. g) gs) zip ∙ map_row settled_item gs)
     ∙ split_groups (map (λ g. map settled_item g) gs))
 
-lengths_zip : {X Y : Type 0} (R : X → Y → Type 0) (xs : List X) (ys : List Y) → AllZip R xs ys → length xs ≡ length ys
+pub lengths_zip : {X Y : Type 0} (R : X → Y → Type 0) (xs : List X) (ys : List Y) → AllZip R xs ys → length xs ≡ length ys
 lengths_zip R [] [] h = refl
 lengths_zip R [] (y ∷ ys) h = absurd h
 lengths_zip R (x ∷ xs) [] h = absurd h

@@ -1,5 +1,6 @@
 -- What the items of the code stand for.
-use Rattle.std.specs.Prelude.{List, map}
+use Rattle.std.specs.Prelude.{ℕ, List, map}
+use Rattle.profile.specs.Bytes.{plus_sign, comma}
 use Rattle.std.specs.declared.vec.Vec.{Vec}
 use Rattle.profile.specs.Specification as profile
 use Rattle.std.specs.declared.alloc.Global.{Global}
@@ -24,3 +25,10 @@ item_of i = record { page = i.page; from_end = i.from_end; turn = turn_of i.turn
 -- the groups, as lists of what their items stand for
 abbrev pub groups_of : List (Vec Item Global) → List (List profile.Item)
 groups_of groups = map (λ g. map item_of g.items) groups
+
+-- how a group is written, and the groups of a specification
+abbrev pub group_text : List profile.Item → List ℕ
+group_text items = profile.joined_by plus_sign (map profile.item_text items)
+
+abbrev pub groups_text : List (List profile.Item) → List ℕ
+groups_text groups = profile.joined_by comma (map group_text groups)

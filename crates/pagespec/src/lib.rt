@@ -7,12 +7,17 @@ mod error;
 mod groups;
 mod item;
 mod kept;
+pub mod laws;
 mod read;
 mod scan;
 mod settle;
 mod spec;
+#[cfg(test)]
+mod tests;
+mod write;
 
 pub use error::SpecError;
 pub use item::{Item, Measure, Turn};
 pub use read::read_spec;
 pub use spec::Spec;
+pub use write::write_spec;
