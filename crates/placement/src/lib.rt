@@ -3,9 +3,11 @@
 
 pub mod laws;
 mod matrix;
+mod place;
 mod texts;
 
-pub use matrix::{Matrix, matrix_of};
+pub use matrix::Matrix;
+pub use place::matrix_of;
 pub use texts::{closing_text, matrix_text, opening_text};
 
 #[cfg(test)]

@@ -7,7 +7,8 @@ ghost use Rattle.pagespec.specs.Items.{item_of};
 ghost use Rattle.placement.specs.Kept.{Keeps};
 ghost use Rattle.placement.specs.Matrices.{numbers_of};
 
-use super::matrix::{Matrix, matrix_of};
+use super::matrix::Matrix;
+use super::place::matrix_of;
 use lengths::{Grains, Number, Paper, print_points, print_scale};
 use pagespec::Item;
 use std::alloc::AllocError;
