@@ -16,7 +16,7 @@ edge_joined :
     (o w h v1 v2 v3 v4 : List ℕ) → v1 ≡ o ++ (codes "newpath 0 0 moveto " ++ w) → v2 ≡ v1 ++ (codes " 0 lineto " ++ w) → v3 ≡ v2 ++ (codes " " ++ h)
     → v4 ≡ v3 ++ (codes " lineto 0 " ++ h)
     → v4 ++ codes " lineto closepath"
-      ≡ o ++ (codes "newpath 0 0 moveto " ++ w ++ codes " 0 lineto " ++ w ++ codes " " ++ h ++ codes " lineto 0 " ++ h ++ codes " lineto closepath")
+    ≡ o ++ (codes "newpath 0 0 moveto " ++ w ++ codes " 0 lineto " ++ w ++ codes " " ++ h ++ codes " lineto 0 " ++ h ++ codes " lineto closepath")
 edge_joined o w h v1 v2 v3 v4 e1 e2 e3 e4 = rw (e4, e3, e2, e1) (simp append_assoc)
 
 pub path_joined :
@@ -26,10 +26,10 @@ pub path_joined :
     → v4 ++ codes " lineto closepath" ≡ o ++ edge_text paper
 path_joined paper width height w h o v1 v2 v3 v4 e1 e2 e3 e4 =
     edge_joined o (points_text paper.width) (points_text paper.height) v1 v2 v3 v4
-      (e1 ∙ ap (λ x. o ++ (codes "newpath 0 0 moveto " ++ points_text x)) w)
-      (e2 ∙ ap (λ x. v1 ++ (codes " 0 lineto " ++ points_text x)) w)
-      (e3 ∙ ap (λ y. v2 ++ (codes " " ++ points_text y)) h)
-      (e4 ∙ ap (λ y. v3 ++ (codes " lineto 0 " ++ points_text y)) h)
+    (e1 ∙ ap (λ x. o ++ (codes "newpath 0 0 moveto " ++ points_text x)) w)
+    (e2 ∙ ap (λ x. v1 ++ (codes " 0 lineto " ++ points_text x)) w)
+    (e3 ∙ ap (λ y. v2 ++ (codes " " ++ points_text y)) h)
+    (e4 ∙ ap (λ y. v3 ++ (codes " lineto 0 " ++ points_text y)) h)
 
 pub border_joined :
     (o width edge v1 v2 v3 : List ℕ) → v1 ≡ o ++ (codes "gsave " ++ width) → v2 ≡ v1 ++ codes " setlinewidth " → v3 ≡ v2 ++ edge
@@ -40,8 +40,8 @@ pub opening_joined :
     (o matrix edge border v1 v2 v3 v4 v5 : List ℕ) → v1 ≡ o ++ codes "userdict /ImposeSave save put\nuserdict /showpage {} put\n" → v2 ≡ v1 ++ matrix
     → v3 ≡ v2 ++ codes " concat\n" → v4 ≡ v3 ++ edge → v5 ≡ v4 ++ codes " clip newpath\n"
     → v5 ++ border
-      ≡ o
-      ++ ((codes "userdict /ImposeSave save put" ++ 10 ∷ []) ++ (codes "userdict /showpage {} put" ++ 10 ∷ []) ++ ((matrix ++ codes " concat") ++ 10 ∷ [])
-      ++ ((edge ++ codes " clip newpath") ++ 10 ∷ [])
-      ++ border)
+    ≡ o
+    ++ ((codes "userdict /ImposeSave save put" ++ 10 ∷ []) ++ (codes "userdict /showpage {} put" ++ 10 ∷ []) ++ ((matrix ++ codes " concat") ++ 10 ∷ [])
+    ++ ((edge ++ codes " clip newpath") ++ 10 ∷ [])
+    ++ border)
 opening_joined o matrix edge border v1 v2 v3 v4 v5 e1 e2 e3 e4 e5 = rw (e5, e4, e3, e2, e1) (simp append_assoc)

@@ -1,5 +1,5 @@
 -- Appends one after another keep what stood there at the start.
-use Rattle.std.proofs.Common.{◌≡◌, ℕ, List, ◌++◌, ◌∙◌, ap, append_assoc}
+use Rattle.std.proofs.Common.{ℕ, List, ◌++◌, ◌∙◌, ap, append_assoc}
 use Rattle.placement.specs.Kept.{Keeps}
 
 pub keeps_more : (old middle new : List ℕ) → Keeps old middle → Keeps middle new → Keeps old new

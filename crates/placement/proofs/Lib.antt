@@ -1,3 +1,5 @@
 pub mod Joining
 pub mod Keeping
+pub mod Near
 pub mod Putting
+pub mod Rows

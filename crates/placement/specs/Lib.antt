@@ -1,2 +1,3 @@
-pub mod Matrices
 pub mod Kept
+pub mod Matrices
+pub mod Printed

@@ -1,8 +1,14 @@
 //! Where the page of an item stands on its sheet: the matrix that puts it there, and the texts before and behind it.
 #![tactic(auto)]
 
+pub mod laws;
 mod matrix;
+mod place;
 mod texts;
 
-pub use matrix::{Matrix, matrix_of};
+pub use matrix::Matrix;
+pub use place::matrix_of;
 pub use texts::{closing_text, matrix_text, opening_text};
+
+#[cfg(test)]
+mod tests;

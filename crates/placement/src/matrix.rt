@@ -2,10 +2,9 @@
 ghost use Rattle.std.specs.Prelude.{◌≡◌, ◌≤◌, ◌*◌, ◌^◌, ◌+ℤ◌, ◌*ℤ◌, pos, nat_abs};
 ghost use Rattle.profile.specs.Papers.{Paper as Size};
 ghost use Rattle.profile.specs.Specification.{Item as Taken};
-ghost use Rattle.profile.specs.Placement.{Point, put, applied, matrix_of as matrix_for};
+ghost use Rattle.profile.specs.Placement.{put, applied, matrix_of};
 
-use lengths::{Grains, Number, Paper, to_grains};
-use pagespec::{Item, Turn};
+use lengths::{Grains, Number};
 
 /// The matrix `[a b c d tx ty]` of PostScript (Language Reference, coordinate systems and transformations): it sends the point
 /// (x, y) to (a x + c y + tx, b x + d y + ty). The shift is kept in grains.
@@ -27,7 +26,7 @@ impl Matrix {
         ensures sent { point result.0 result.1 ≡ applied (numbers_of self.now) (point x y) }
 
         // The matrix of an item scales, then turns, then moves.
-        ensures put { (paper : Size) (item : Taken) → numbers_of self.now ≡ matrix_for paper item →
+        ensures put { (paper : Size) (item : Taken) → numbers_of self.now ≡ matrix_of paper item →
             point result.0 result.1 ≡ put paper item (point x y) }
     {
         (
@@ -50,32 +49,4 @@ fn times(number: Number, factor: i32) -> i128
     ensures in_range { nat_abs result ≤ 10 ^ 24 }
 {
     i128::from(number.billionths()) * i128::from(factor)
-}
-
-ghost use Rattle.pagespec.specs.Items.{item_of};
-ghost use Rattle.placement.specs.Matrices.{numbers_of};
-
-/// The matrix that places an item's page on this paper. The page is scaled from its lower left corner, then turned about it,
-/// then moved (pstops manual, page specifications).
-pub fn matrix_of(item: &Item, paper: &Paper) -> Matrix
-    ensures numbers { numbers_of result ≡ matrix_for paper.now (item_of item.now) }
-    ensures put { (p : Point) → applied (numbers_of result) p ≡ put paper.now (item_of item.now) p }
-{
-    let scale = item.scale;
-    let zero = Number::ZERO;
-    let (a, b, c, d) = match item.turn {
-        Turn::None => (scale, zero, zero, scale),
-        Turn::Left => (zero, scale, -scale, zero),
-        Turn::Half => (-scale, zero, zero, -scale),
-        Turn::Right => (zero, -scale, scale, zero),
-    };
-    let (x, y) = item.offset;
-    Matrix {
-        a,
-        b,
-        c,
-        d,
-        tx: to_grains(x.number, x.unit, paper),
-        ty: to_grains(y.number, y.unit, paper),
-    }
 }

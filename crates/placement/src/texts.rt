@@ -7,7 +7,8 @@ ghost use Rattle.pagespec.specs.Items.{item_of};
 ghost use Rattle.placement.specs.Kept.{Keeps};
 ghost use Rattle.placement.specs.Matrices.{numbers_of};
 
-use super::matrix::{Matrix, matrix_of};
+use super::matrix::Matrix;
+use super::place::matrix_of;
 use lengths::{Grains, Number, Paper, print_points, print_scale};
 use pagespec::Item;
 use std::alloc::AllocError;
@@ -76,7 +77,10 @@ fn append_opening(
         OnOk result (out.new.items ≡ out.old.items ++ opening frame (item_of item.now)) }
     ensures kept { Keeps out.old.items out.new.items }
 {
-    append_text(b"userdict /ImposeSave save put\nuserdict /showpage {} put\n", out)?;
+    append_text(
+        b"userdict /ImposeSave save put\nuserdict /showpage {} put\n",
+        out,
+    )?;
     append_matrix(&matrix_of(item, paper), out)?;
     append_text(b" concat\n", out)?;
     append_edge(paper, out)?;
@@ -100,11 +104,7 @@ fn append_matrix(matrix: &Matrix, out: &mut Vec<u8>) -> Result<(), AllocError>
 
 /// The line that draws a border, if there is one.
 #[tactic(auto, using(crate::proofs::Keeping::keeps_more))]
-fn append_border(
-    paper: &Paper,
-    border: Option<Grains>,
-    out: &mut Vec<u8>,
-) -> Result<(), AllocError>
+fn append_border(paper: &Paper, border: Option<Grains>, out: &mut Vec<u8>) -> Result<(), AllocError>
     ensures appended { OnOk result (out.new.items ≡ out.old.items ++ border_text paper.now border) }
     ensures kept { Keeps out.old.items out.new.items }
 {

@@ -1,4 +1,3 @@
-use Rattle.std.proofs.Common.{◌≡◌, ap, subst, ◌∙◌, ◌++◌}
 use Rattle.std.proofs.lemmas.Result.{IfOk-equal}
 use Rattle.profile.specs.Numbers.{points_text}
 use Rattle.profile.specs.Output.{edge_text}
@@ -8,5 +7,5 @@ use Rattle.placement.proofs.texts.append_border.Goals as goal
 pub returns-clause-appended : goal.returns-clause-appended
 returns-clause-appended c =
     rw c.in-Some.is
-      (IfOk-equal _ _ _ _ c.append_text-2.ensures.appended
-        (border_joined c.args.out.now.items (points_text c.in-Some.width) (edge_text c.args.paper.now) _ _ _ c.in_ok-append_points.ensures.appended c.in_ok-append_text.ensures.appended c.in_ok-append_edge.ensures.appended))
+    (IfOk-equal _ _ _ _ c.append_text-2.ensures.appended
+    (border_joined c.args.out.now.items (points_text c.in-Some.width) (edge_text c.args.paper.now) _ _ _ c.in_ok-append_points.ensures.appended c.in_ok-append_text.ensures.appended c.in_ok-append_edge.ensures.appended))

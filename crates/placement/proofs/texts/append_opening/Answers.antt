@@ -12,12 +12,12 @@ returns-clause-appended c =
     let paper = c.args.paper.now in
     let placed = matrix_text (matrix_of paper (item_of c.args.item.now)) in
     IfOk-equal _ _ _ _ c.append_border.ensures.appended
-      (opening_joined c.args.out.now.items placed (edge_text paper) (border_text paper c.args.border) _ _ _ _ _
-        c.in_ok-append_text.ensures.appended
-        (c.in_ok-append_matrix.ensures.appended ∙ ap (λ m. c.append_text.new.out.items ++ matrix_text m) c.matrix_of.ensures.numbers)
-        c.in_ok-append_text-2.ensures.appended c.in_ok-append_edge.ensures.appended c.in_ok-append_text-3.ensures.appended)
+    (opening_joined c.args.out.now.items placed (edge_text paper) (border_text paper c.args.border) _ _ _ _ _
+    c.in_ok-append_text.ensures.appended
+    (c.in_ok-append_matrix.ensures.appended ∙ ap (λ m. c.append_text.new.out.items ++ matrix_text m) c.matrix_of.ensures.numbers)
+    c.in_ok-append_text-2.ensures.appended c.in_ok-append_edge.ensures.appended c.in_ok-append_text-3.ensures.appended)
 
 pub returns-clause-kept : goal.returns-clause-kept
 returns-clause-kept c =
     keeps_more _ _ _ c.in_ok-append_text.ensures.kept (keeps_more _ _ _ c.in_ok-append_matrix.ensures.kept (keeps_more _ _ _ c.in_ok-append_text-2.ensures.kept
-      (keeps_more _ _ _ c.in_ok-append_edge.ensures.kept (keeps_more _ _ _ c.in_ok-append_text-3.ensures.kept c.append_border.ensures.kept))))
+    (keeps_more _ _ _ c.in_ok-append_edge.ensures.kept (keeps_more _ _ _ c.in_ok-append_text-3.ensures.kept c.append_border.ensures.kept))))
