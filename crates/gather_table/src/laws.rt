@@ -1,4 +1,5 @@
 //! What holds of every legal history of the table. The functions do nothing: each one's contract is a law.
+ghost use Rattle.gather_table.specs.Lanes.{LanesInside, LanesApart, LanesPlaced};
 ghost use Rattle.gather_table.specs.Laws.{AtMostOneCompleting, CompleteFromCompletingOn, NoneWhereBornComplete, OneWhereCompleted, IndexStays, PagesOfComplete, LookShows};
 
 /// At most one mark of a sheet is answered Completing.
@@ -34,4 +35,20 @@ pub fn pages_of_complete()
 /// A look that is answered 0 shows the sheet complete, for good.
 pub fn look_shows()
     ensures { LookShows }
+{}
+
+/// A sheet's lane lies inside one word.
+pub fn lanes_inside()
+    ensures { LanesInside }
+{}
+
+/// The lanes of two sheets don't overlap.
+pub fn lanes_apart()
+    ensures { LanesApart }
+{}
+
+/// Each sheet takes the next free bits of the current word where they suffice, else the first bits of the next word, and no
+/// bit that was passed over is used later.
+pub fn lanes_placed()
+    ensures { LanesPlaced }
 {}
