@@ -12,3 +12,4 @@ pub mod Sheets
 pub mod Views
 pub mod Seats
 pub mod Laying
+pub mod Calls

@@ -4,6 +4,7 @@ pub mod Table
 pub mod History
 pub mod Laws
 pub mod Shared
+pub mod Seating
 pub mod Words
 pub mod Lanes
 pub mod Sight
