@@ -10,7 +10,7 @@ use Rattle.gather_table.specs.declared.answers.Published.{Published}
 use Rattle.gather_table.specs.Table.{TableState, slots, start, IsMarkable}
 use Rattle.gather_table.specs.History.{Entry, Publish, Mark, Look, PageAt, Fits, AllFit, after, after_all, after_history, IsLegal, IsComplete}
 use Rattle.gather_table.specs.Shared.{SeatView, IsSeat, Made, Makes, Joined, own_calls}
-use Rattle.gather_table.specs.Seating.{StandAt, StandInOneHistory, CallsStandInOneHistory, LookShowsSeat, CompleteStays, LookUpsFind, PublishedMayBeMarked, MarkableStays, OwnCallsAreKept, WholeSeatMadeAll}
+use Rattle.gather_table.specs.Seating.{StandAt, StandInOneHistory, CallsStandInOneHistory, LookShowsSeat, CompleteStays, LookUpsFind, PublishedMayBeMarked, FoundMayBeMarked, MarkableStays, OwnCallsAreKept, WholeSeatMadeAll}
 use Rattle.gather_table.proofs.Histories.{after_all-append, after_history_push, AllFit_back, keeps_indexes, markable_later}
 use Rattle.gather_table.proofs.Legal.{pages_of}
 use Rattle.gather_table.proofs.Shows.{look_shows, stays_marked}
@@ -144,6 +144,17 @@ published_may_be_marked old new s k p i r m at =
       index = unwrap_or (t.index p) i;
       needed = at;
       published = ap (λ (z : SeatView). (after_history old.layout z.front).index p) m.grown ∙ now
+    }
+
+pub found_may_be_marked : FoundMayBeMarked
+found_may_be_marked old new s k p i m at =
+    let log : List Entry = old.front ++ m.between in
+    let fits = (AllFit_back old.layout (start old.layout) log (PageAt p (Some i) ∷ []) (legal_made old new (PageAt p (Some i)) m)).0 in
+    record {
+      page = p;
+      index = i;
+      needed = at;
+      published = ap (λ (z : SeatView). (after_history old.layout z.front).index p) m.grown ∙ ap (λ (z : TableState). z.index p) (after_history_push old.layout log (PageAt p (Some i))) ∙ sym fits.1
     }
 
 pub markable_stays : MarkableStays

@@ -49,6 +49,10 @@ LookUpsFind = (seat : SeatView) (s k p : ℕ) → IsSeat seat → IsComplete sea
 abbrev pub PublishedMayBeMarked : Type 0
 PublishedMayBeMarked = (old new : SeatView) (s k p i : ℕ) (r : Published) → Made old (Publish p i r) new → slice_get (slots old.layout s) k ≡ Some (Some p) → IsMarkable old.layout (after_history old.layout new.front) s k
 
+-- and after a look-up that finds it
+abbrev pub FoundMayBeMarked : Type 0
+FoundMayBeMarked = (old new : SeatView) (s k p i : ℕ) → Made old (PageAt p (Some i)) new → slice_get (slots old.layout s) k ≡ Some (Some p) → IsMarkable old.layout (after_history old.layout new.front) s k
+
 -- and they may be in every history that goes on from there
 abbrev pub MarkableStays : Type 0
 MarkableStays = (layout : Layout) (front later : List Entry) (s k : ℕ) → IsPrefix front later → IsMarkable layout (after_history layout front) s k → IsMarkable layout (after_history layout later) s k

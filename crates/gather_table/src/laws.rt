@@ -1,7 +1,7 @@
 //! What holds of every legal history of the table, of its lanes, and of its seats by the contracts of their calls. The functions
 //! do nothing: each one's contract is a law.
 ghost use Rattle.gather_table.specs.Lanes.{LanesInside, LanesApart, LanesPlaced};
-ghost use Rattle.gather_table.specs.Seating.{CallsStandInOneHistory, LookShowsSeat, CompleteStays, LookUpsFind, PublishedMayBeMarked, MarkableStays, OwnCallsAreKept, WholeSeatMadeAll};
+ghost use Rattle.gather_table.specs.Seating.{CallsStandInOneHistory, LookShowsSeat, CompleteStays, LookUpsFind, PublishedMayBeMarked, FoundMayBeMarked, MarkableStays, OwnCallsAreKept, WholeSeatMadeAll};
 ghost use Rattle.gather_table.specs.Laws.{AtMostOneCompleting, CompleteFromCompletingOn, NoneWhereBornComplete, OneWhereCompleted, IndexStays, PagesOfComplete, LookShows};
 
 /// At most one mark of a sheet is answered Completing.
@@ -79,6 +79,11 @@ pub fn look_ups_find()
 /// After a publish of a page its slots may be marked.
 pub fn published_may_be_marked()
     ensures { PublishedMayBeMarked }
+{}
+
+/// And after a look-up that finds it.
+pub fn found_may_be_marked()
+    ensures { FoundMayBeMarked }
 {}
 
 /// A slot that may be marked may be marked later too.
