@@ -1,0 +1,3 @@
+mod Histories
+mod Steps
+mod Views
