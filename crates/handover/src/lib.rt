@@ -1,6 +1,7 @@
 //! What preparers hand over to imposers: prepared pages on a shelf, and the sheets that are ready in a queue.
 #![tactic(auto)]
 
+pub mod laws;
 mod pass;
 mod prepared;
 mod ready;
@@ -13,3 +14,6 @@ pub use crate::prepared::Prepared;
 pub use crate::ready::{Full, Ready};
 pub use crate::receipts::{Overflow, PutError, Receipt};
 pub use crate::shelf::Shelf;
+
+#[cfg(test)]
+mod tests;
