@@ -1,21 +1,12 @@
 -- The word of the blank slots of a sheet, slot by slot.
-use Rattle.std.proofs.Common.{◌≡◌, ℕ, zero, suc, ◌+◌, ◌*◌, ◌%◌, ◌<◌, ◌≤◌, ◌^◌, Bool, true, false, true≢false, not, List, [], ◌∷◌, length, get_or, refl, sym, ap, subst, arith}
-use Rattle.std.specs.Prelude.{Some, None, Option, is_some, if◌then◌else◌}
+use Rattle.std.proofs.Common.{◌≡◌, ℕ, zero, suc, ◌+◌, ◌*◌, ◌%◌, ◌<◌, ◌≤◌, ◌^◌, Bool, true, false, true≢false, not, List, [], ◌∷◌, length, refl, sym, ap, ◌∙◌, subst, arith}
+use Rattle.std.specs.Prelude.{Some, None, Option, is_none, is_some, slice_get, if◌then◌else◌}
 use mathlib.Core.Logic.{dite}
 use native.Mathlib.Decide.{ℕ_discrete}
 use Rattle.std.proofs.lemmas.Nat.{one_shl, pow_below}
 use Rattle.std.proofs.Math.Nat.{two-pow-succ}
 use Rattle.gather_table.specs.Table.{is_blank, bits}
 use Rattle.gather_table.proofs.Bits.{bits_lt}
-
-pub blank_at : (xs : List (Option ℕ)) (k : ℕ) (b : Bool) → k < length xs → is_some (get_or xs k None) ≡ not b → is_blank xs k ≡ b
-blank_at [] k b lt e = absurd (omega arith)
-blank_at (None ∷ xs) zero true lt e = refl
-blank_at (None ∷ xs) zero false lt e = absurd (true≢false (sym e))
-blank_at (Some p ∷ xs) zero true lt e = absurd (true≢false e)
-blank_at (Some p ∷ xs) zero false lt e = refl
-blank_at (None ∷ xs) (suc k) b lt e = blank_at xs k b (omega arith) e
-blank_at (Some p ∷ xs) (suc k) b lt e = blank_at xs k b (omega arith) e
 
 pub bits_more : (xs : List (Option ℕ)) (k word : ℕ) (b : Bool) → word ≡ bits (is_blank xs) k → is_blank xs k ≡ b → word + (if b then 2 ^ k else 0) ≡ bits (is_blank xs) (k + 1)
 bits_more xs k word b e is =
@@ -33,3 +24,22 @@ bit_fits f k word lt e =
   where
     up : (j : ℕ) → j ≤ 64 → 2 ^ j ≤ 18446744073709551616
     up j le = dite (ℕ_discrete j 64) (λ e. let z : 2 ^ j ≡ 18446744073709551616 = ap (λ (k : ℕ). 2 ^ k) e in omega arith) (λ ne. let p = pow_below j 64 (omega arith) in omega arith)
+
+-- what a read of a slot shows
+pub blank_read : (xs : List (Option ℕ)) (k : ℕ) (o : Option ℕ) → slice_get xs k ≡ Some o → is_blank xs k ≡ is_none o
+blank_read [] k o e = absurd (cc)
+blank_read (None ∷ xs) zero None e = refl
+blank_read (None ∷ xs) zero (Some q) e = absurd (cc)
+blank_read (Some p ∷ xs) zero None e = absurd (cc)
+blank_read (Some p ∷ xs) zero (Some q) e = refl
+blank_read (None ∷ xs) (suc k) o e = blank_read xs k o e
+blank_read (Some p ∷ xs) (suc k) o e = blank_read xs k o e
+
+pub blank_told : (xs : List (Option ℕ)) (k : ℕ) (o : Option ℕ) (b : Bool) → slice_get xs k ≡ Some o → is_some o ≡ not b → is_blank xs k ≡ b
+blank_told xs k o b e is = blank_read xs k o e ∙ told o b is
+  where
+    told : (o : Option ℕ) (b : Bool) → is_some o ≡ not b → is_none o ≡ b
+    told None true is = refl
+    told None false is = absurd (true≢false (sym is))
+    told (Some p) true is = absurd (true≢false is)
+    told (Some p) false is = refl

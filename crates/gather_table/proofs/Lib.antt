@@ -5,4 +5,11 @@ pub mod Shows
 pub mod Blanks
 pub mod Replies
 pub mod Stored
-pub mod Markable
+pub mod Lanes
+pub mod Moves
+pub mod Pages
+pub mod Sheets
+pub mod Views
+pub mod Seats
+pub mod Laying
+pub mod Calls

@@ -20,7 +20,7 @@ grows t (Mark r j q) s k h = dite (ℕ_discrete s r)
     (λ ne. ap (λ (b : Bool). if b then true else t.marked r k) (ne_eqb k j ne) ∙ ap (λ (z : ℕ). t.marked z k) (sym same) ∙ h))
     (λ other. ap (λ (b : Bool). (if b then with_mark (t.marked r) j else t.marked s) k) (ne_eqb s r other) ∙ h)
 
-stays_marked : (t : TableState) (es : List Entry) (s k : ℕ) → t.marked s k ≡ true → (after_all t es).marked s k ≡ true
+pub stays_marked : (t : TableState) (es : List Entry) (s k : ℕ) → t.marked s k ≡ true → (after_all t es).marked s k ≡ true
 stays_marked t [] s k h = h
 stays_marked t (e ∷ es) s k h = stays_marked (after t e) es s k (grows t e s k h)
 

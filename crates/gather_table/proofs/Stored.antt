@@ -12,7 +12,7 @@ use Rattle.std.proofs.lemmas.Nat.{pow_below, mod_low}
 use Rattle.gather_table.specs.declared.answers.Reply.{Reply}
 use Rattle.gather_table.specs.Table.{slots, slot_count, start, is_blank, bits, missing, with_mark, with_marked, mark_reply, IsSound, IsMarkable}
 use Rattle.gather_table.specs.Words.{has_bit, reply_in}
-use Rattle.gather_table.specs.Plain.{PlainView, layout_of, state_of, IsPlain}
+use Rattle.gather_table.specs.Plain.{PlainView, state_of, IsPlain}
 use Rattle.gather_table.proofs.Bits.{bits_lt, bits_of, bits_not, bit_of_bits, or_bits, with_else}
 use Rattle.gather_table.proofs.Histories.{below_length}
 use Rattle.gather_table.proofs.Replies.{reply_shown}
@@ -65,15 +65,6 @@ words_marked words s n k lt small in_n r j = dite (ℕ_discrete r s)
     ap (λ (z : ℕ). has_bit z j) (get_or-set_other words s r (bit_or (slice_index words s) (2 ^ k)) 0 other)
     ∙ sym (ap (λ (b : Bool). (if b then with_mark (has_bit (slice_index words s)) k else has_bit (slice_index words r)) j) (ne_eqb r s other)))
 
-pub sheet_there : (pages : ℕ) (sheets : List (Vec (Option ℕ))) (s : ℕ) → s < length (layout_of pages sheets).sheets → s < length sheets
-sheet_there pages sheets s lt = let l = length-map sheets (λ (v : Vec (Option ℕ)). v.items) in omega arith
-
-pub slots_at : (pages : ℕ) (sheets : List (Vec (Option ℕ))) (s : ℕ) (x : Vec (Option ℕ)) → s < length sheets → slots (layout_of pages sheets) s ≡ (get_or sheets s x).items
-slots_at pages sheets s x lt = get_or-map (λ (v : Vec (Option ℕ)). v.items) sheets s x [] lt
-
-pub narrow_at : (pages : ℕ) (sheets : List (Vec (Option ℕ))) (s : ℕ) (x : Vec (Option ℕ)) → IsSound (layout_of pages sheets) → s < length sheets → (0 < length (get_or sheets s x).items) × (length (get_or sheets s x).items ≤ 64)
-narrow_at pages sheets s x ok lt = subst (λ (row : List (Option ℕ)). (0 < length row) × (length row ≤ 64)) (slots_at pages sheets s x lt) (ok.narrow s (let l = length-map sheets (λ (v : Vec (Option ℕ)). v.items) in omega arith))
-
 -- the words of the first n sheets when no page has come
 pub record AreBlanks (layout : Layout) (n : ℕ) (words : List ℕ) : Type 0 where
   pub count : length words ≡ n
@@ -115,53 +106,45 @@ state_at_start layout words b = λ i. record { index = λ p. no_index p i; marke
         (λ gt. blanks_shown (slots layout s) (slice_index words s) (b.blanks s (omega arith)) k)
 
 -- a table that was just made
-module _ (pages : ℕ) (sheets : List (Vec (Option ℕ))) (index : List (Option ℕ)) (words : List ℕ) (n : ℕ) (no_index : index ≡ start_index (layout_of pages sheets)) (all_sheets : n ≡ length sheets) (blanks : AreBlanks (layout_of pages sheets) n words) where
-  all_pages : length index ≡ pages
-  all_pages = ap length no_index ∙ length-replicate pages None
+module _ (layout : Layout) (index : List (Option ℕ)) (words : List ℕ) (n : ℕ) (no_index : index ≡ start_index layout) (all_sheets : n ≡ length layout.sheets) (blanks : AreBlanks layout n words) where
+  complete_blanks : AreBlanks layout (length layout.sheets) words
+  complete_blanks = subst (λ (m : ℕ). AreBlanks layout m words) all_sheets blanks
 
-  complete_blanks : AreBlanks (layout_of pages sheets) (length (layout_of pages sheets).sheets) words
-  complete_blanks = subst (λ (m : ℕ). AreBlanks (layout_of pages sheets) m words) (all_sheets ∙ sym (length-map sheets (λ (v : Vec (Option ℕ)). v.items))) blanks
+  pub plain_made : IsSound layout → IsPlain (record { layout = layout; index = index; marked = words })
+  plain_made ok = subst (λ (is : List (Option ℕ)). IsPlain (record { layout = layout; index = is; marked = words })) (sym no_index) (plain_at_start layout words ok complete_blanks)
 
-  pub plain_made : IsSound (layout_of pages sheets) → IsPlain (record { layout = layout_of (length index) sheets; index = index; marked = words })
-  plain_made ok = subst (λ (m : ℕ). IsPlain (record { layout = layout_of m sheets; index = index; marked = words })) (sym all_pages)
-      (subst (λ (is : List (Option ℕ)). IsPlain (record { layout = layout_of pages sheets; index = is; marked = words })) (sym no_index) (plain_at_start (layout_of pages sheets) words ok complete_blanks))
+  pub state_made : state_of (record { layout = layout; index = index; marked = words }) ≡ start layout
+  state_made = subst (λ (is : List (Option ℕ)). state_of (record { layout = layout; index = is; marked = words }) ≡ start layout) (sym no_index) (state_at_start layout words complete_blanks)
 
-  pub state_made : state_of (record { layout = layout_of (length index) sheets; index = index; marked = words }) ≡ start (layout_of (length index) sheets)
-  state_made = subst (λ (m : ℕ). state_of (record { layout = layout_of m sheets; index = index; marked = words }) ≡ start (layout_of m sheets)) (sym all_pages)
-      (subst (λ (is : List (Option ℕ)). state_of (record { layout = layout_of pages sheets; index = is; marked = words }) ≡ start (layout_of pages sheets)) (sym no_index) (state_at_start (layout_of pages sheets) words complete_blanks))
-
--- a table as it stands in the program, where `old` is what callers see of it, and x any row
-module _ (sheets : List (Vec (Option ℕ))) (index : List (Option ℕ)) (words : List ℕ) (old : PlainView) (seen : record { layout = layout_of (length index) sheets; index = index; marked = words } ≡ old)
-    (plain : IsPlain (record { layout = layout_of (length index) sheets; index = index; marked = words })) (s : ℕ) (x : Vec (Option ℕ)) (lt : s < length old.layout.sheets) where
-  there : s < length (layout_of (length index) sheets).sheets
+-- a table as it stands in the program, where `old` is what callers see of it
+module _ (layout : Layout) (index : List (Option ℕ)) (words : List ℕ) (old : PlainView) (seen : record { layout = layout; index = index; marked = words } ≡ old)
+    (plain : IsPlain (record { layout = layout; index = index; marked = words })) (s : ℕ) (lt : s < length old.layout.sheets) where
+  there : s < length layout.sheets
   there = subst (λ (t : PlainView). s < length t.layout.sheets) (sym seen) lt
 
-  row : slots (layout_of (length index) sheets) s ≡ (get_or sheets s x).items
-  row = slots_at (length index) sheets s x (sheet_there (length index) sheets s there)
+  pub row_narrow : (0 < slot_count layout s) × (slot_count layout s ≤ 64)
+  row_narrow = plain.sound.narrow s there
 
-  pub row_narrow : (0 < length (get_or sheets s x).items) × (length (get_or sheets s x).items ≤ 64)
-  row_narrow = subst (λ (r : List (Option ℕ)). (0 < length r) × (length r ≤ 64)) row (plain.sound.narrow s there)
-
-  module _ (w full : ℕ) (is : w ≡ get_or words s w) (is_full : full ≡ 2 ^ length (get_or sheets s x).items - 1) where
+  module _ (w full slots : ℕ) (is : w ≡ get_or words s w) (is_slots : slots ≡ slot_count layout s) (is_full : full ≡ 2 ^ slots - 1) where
     word : w ≡ slice_index words s
     word = let c = plain.sheets in let t = there in is ∙ get_or_default words s w 0 (omega arith)
 
-    full_here : full ≡ 2 ^ slot_count (layout_of (length index) sheets) s - 1
-    full_here = is_full ∙ ap (λ (r : List (Option ℕ)). 2 ^ length r - 1) (sym row)
+    full_here : full ≡ 2 ^ slot_count layout s - 1
+    full_here = is_full ∙ ap (λ (n : ℕ). 2 ^ n - 1) is_slots
 
-    small : slice_index words s < 2 ^ slot_count (layout_of (length index) sheets) s
+    small : slice_index words s < 2 ^ slot_count layout s
     small = plain.marks s there
 
     pub looked : (w ≤ full) × (full - w ≡ missing old.layout (state_of old) s)
     looked = subst (λ (t : PlainView). (w ≤ full) × (full - w ≡ missing t.layout (state_of t) s)) seen
-        (let made = made_of_bits (slice_index words s) (slot_count (layout_of (length index) sheets) s) small in
-        let lacking = bits_not (has_bit (slice_index words s)) (slot_count (layout_of (length index) sheets) s) in
-        let a = word in let b = full_here in
-        (omega arith, omega arith))
+        (let made = made_of_bits (slice_index words s) (slot_count layout s) small in
+         let lacking = bits_not (has_bit (slice_index words s)) (slot_count layout s) in
+         let a = word in let b = full_here in
+         (omega arith, omega arith))
 
     module _ (k bit : ℕ) (may : IsMarkable old.layout (state_of old) s k) (is_bit : bit ≡ 2 ^ k) where
-      in_sheet : k < slot_count (layout_of (length index) sheets) s
-      in_sheet = subst (λ (t : PlainView). k < slot_count t.layout s) (sym seen) (below_length (slots old.layout s) k (Some may.page) may.needed)
+      in_sheet : k < slot_count layout s
+      in_sheet = subst (λ (t : PlainView). k < slot_count t.layout s) (sym seen) (below_length (Rattle.gather_table.specs.Table.slots old.layout s) k (Some may.page) may.needed)
 
       pub slot_narrow : k < 64
       slot_narrow = let n = plain.sound.narrow s there in let i = in_sheet in omega arith
@@ -169,24 +152,24 @@ module _ (sheets : List (Vec (Option ℕ))) (index : List (Option ℕ)) (words :
       written : bit_or w bit ≡ bit_or (slice_index words s) (2 ^ k)
       written = λ i. bit_or (word i) (is_bit i)
 
-      pub still_plain : IsPlain (record { layout = layout_of (length index) sheets; index = index; marked = set words s (bit_or w bit) })
+      pub still_plain : IsPlain (record { layout = layout; index = index; marked = set words s (bit_or w bit) })
       still_plain = record {
         sound = plain.sound;
         pages = plain.pages;
         sheets = length-set words s (bit_or w bit) ∙ plain.sheets;
         marks = λ r below. dite (ℕ_discrete r s)
             (λ (same : r ≡ s). let c = plain.sheets in
-            let m = marked_below (slice_index words s) (slot_count (layout_of (length index) sheets) s) k small in_sheet in
-            let here : slice_index (set words s (bit_or w bit)) r ≡ bit_or (slice_index words s) (2 ^ k) = ap (slice_index (set words s (bit_or w bit))) same ∙ get_or-set_same words s (bit_or w bit) 0 (omega arith) ∙ written in
-            subst (λ (z : ℕ). slice_index (set words s (bit_or w bit)) r < 2 ^ slot_count (layout_of (length index) sheets) z) (sym same) (omega arith))
-            (λ other. let old_word = get_or-set_other words s r (bit_or w bit) 0 other in let m = plain.marks r below in omega arith);
+              let m = marked_below (slice_index words s) (slot_count layout s) k small in_sheet in
+              let here : slice_index (set words s (bit_or w bit)) r ≡ bit_or (slice_index words s) (2 ^ k) = ap (slice_index (set words s (bit_or w bit))) same ∙ get_or-set_same words s (bit_or w bit) 0 (omega arith) ∙ written in
+              subst (λ (z : ℕ). slice_index (set words s (bit_or w bit)) r < 2 ^ slot_count layout z) (sym same) (omega arith))
+            (λ other. let old_word = get_or-set_other words s r (bit_or w bit) 0 other in let m = plain.marks r below in omega arith)
       }
 
-      pub state_marked : state_of (record { layout = layout_of (length index) sheets; index = index; marked = set words s (bit_or w bit) }) ≡ with_marked (state_of old) s k
-      state_marked = subst (λ (t : PlainView). state_of (record { layout = layout_of (length index) sheets; index = index; marked = set words s (bit_or w bit) }) ≡ with_marked (state_of t) s k) seen
-          (ap (λ (z : ℕ). state_of (record { layout = layout_of (length index) sheets; index = index; marked = set words s z })) written
-          ∙ (λ i. record { index = λ p. slice_index_or index p None; marked = λ r j. words_marked words s (slot_count (layout_of (length index) sheets) s) k (let c = plain.sheets in let t = there in omega arith) small in_sheet r j i }))
+      pub state_marked : state_of (record { layout = layout; index = index; marked = set words s (bit_or w bit) }) ≡ with_marked (state_of old) s k
+      state_marked = subst (λ (t : PlainView). state_of (record { layout = layout; index = index; marked = set words s (bit_or w bit) }) ≡ with_marked (state_of t) s k) seen
+          (ap (λ (z : ℕ). state_of (record { layout = layout; index = index; marked = set words s z })) written
+           ∙ (λ i. record { index = λ p. slice_index_or index p None; marked = λ r j. words_marked words s (slot_count layout s) k (let c = plain.sheets in let t = there in omega arith) small in_sheet r j i }))
 
       pub replied : (r : Reply) → r ≡ reply_in w bit full → r ≡ mark_reply ((state_of old).marked s) (slot_count old.layout s) k
       replied r said = subst (λ (t : PlainView). r ≡ mark_reply ((state_of t).marked s) (slot_count t.layout s) k) seen
-          (said ∙ (λ i. reply_in w (is_bit i) (full_here i)) ∙ reply_shown (has_bit (slice_index words s)) (slot_count (layout_of (length index) sheets) s) k w in_sheet (word ∙ sym (made_of_bits (slice_index words s) (slot_count (layout_of (length index) sheets) s) small)))
+          (said ∙ (λ i. reply_in w (is_bit i) (full_here i)) ∙ reply_shown (has_bit (slice_index words s)) (slot_count layout s) k w in_sheet (word ∙ sym (made_of_bits (slice_index words s) (slot_count layout s) small)))

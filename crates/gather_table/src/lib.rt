@@ -1,9 +1,25 @@
 //! The gathering table: which pages have come and which slots of a sheet still miss theirs.
 #![tactic(auto)]
 
-pub mod answers;
+mod answers;
+mod joins;
+mod lane;
 pub mod laws;
-pub mod plain;
+mod making;
+mod plain;
+mod plays;
+mod rule;
+mod seat;
+mod shape;
+mod table;
+mod words;
+
+pub use crate::answers::{Published, Reply};
+pub use crate::plain::PlainTable;
+pub use crate::seat::Seat;
+pub use crate::shape::Shape;
+pub use crate::table::GatherTable;
+
+
 #[cfg(test)]
 mod tests;
-mod words;

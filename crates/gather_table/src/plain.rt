@@ -1,9 +1,10 @@
 //! The gathering table for one thread.
 ghost use Rattle.std.specs.Prelude.{◌≡◌, ◌<◌, length, IfOk};
-ghost use Rattle.gather_table.specs.Plain.{state_of, layout_of};
-ghost use Rattle.gather_table.specs.Table.{IsSound, IsMarkable, start, with_index, publish_reply, with_marked, mark_reply, slot_count, missing};
+ghost use Rattle.gather_table.specs.Plain.{state_of};
+ghost use Rattle.gather_table.specs.Table.{IsMarkable, start, with_index, publish_reply, with_marked, mark_reply, slot_count, missing};
 
 use crate::answers::{Published, Reply};
+use crate::shape::Shape;
 use crate::words::{blank_bits, full_bits, reply_by};
 use std::alloc::{AllocError, Global};
 use std::marker::Model;
@@ -13,42 +14,36 @@ use std::marker::Model;
 /// A sheet is complete where none of its slots is missing. Blank slots are marked from the start.
 /// The four calls take no memory and always answer.
 #[derive(Drop)]
-pub struct PlainTable<'s> {
-    sheets: &'s [Vec<Option<u32>>],
+pub struct PlainTable<'p> {
+    plan: &'p Shape<'p>,
     indexes: Vec<Option<u32>>,
     marked: Vec<u64>,
 }
 
-impl<'s> Model for PlainTable<'s> {
-    ghost use Rattle.std.specs.Prelude.{length};
-    ghost use Rattle.gather_table.specs.Plain.{PlainView, IsPlain, layout_of};
+impl<'p> Model for PlainTable<'p> {
+    ghost use Rattle.gather_table.specs.Plain.{PlainView, IsPlain};
 
     ghost Value = { PlainView };
 
-    ghost view = { λ t. record { layout = layout_of (length t.indexes.items) t.sheets.now; index = t.indexes.items; marked = t.marked.items } };
+    ghost view = { λ t. record { layout = t.plan.now; index = t.indexes.items; marked = t.marked.items } };
 
-    ghost invariant = { λ t. IsPlain record { layout = layout_of (length t.indexes.items) t.sheets.now; index = t.indexes.items; marked = t.marked.items } };
+    ghost invariant = { λ t. IsPlain record { layout = t.plan.now; index = t.indexes.items; marked = t.marked.items } };
 }
 
-impl<'s> PlainTable<'s> {
-    /// A table for this many pages and these sheets: each sheet has 1 to 64 slots, and each slot its
-    /// page, or None where it is blank. There are at most 1,000,000 pages and 1,000,000 sheets.
-    pub fn of_sheets(
-        alloc: Global,
-        pages: u32,
-        sheets: &'s [Vec<Option<u32>>],
-    ) -> Result<PlainTable<'s>, AllocError>
-        requires { IsSound (layout_of pages sheets.now) }
-        ensures layout { IfOk result (λ t. t.layout ≡ layout_of pages sheets.now) }
-        ensures state { IfOk result (λ t. state_of t ≡ start t.layout) }
+impl<'p> PlainTable<'p> {
+    /// A table for a plan: no page has an index, and the blank slots alone are marked.
+    pub fn new(alloc: Global, plan: &'p Shape<'p>) -> Result<PlainTable<'p>, AllocError>
+        ensures layout { IfOk result (λ table. table.layout ≡ plan.now) }
+        ensures state { IfOk result (λ table. state_of table ≡ start table.layout) }
     {
-        let indexes = Vec::from_elem(alloc, None, pages as usize)?;
-        let mut marked = Vec::with_capacity(alloc, sheets.len())?;
-        for slots in sheets {
-            marked.push(blank_bits(slots))?;
+        let indexes = Vec::from_elem(alloc, None, plan.pages() as usize)?;
+        let sheets = plan.sheets();
+        let mut marked = Vec::with_capacity(alloc, sheets as usize)?;
+        for sheet in 0..sheets {
+            marked.push(blank_bits(plan, sheet))?;
         }
         Ok(PlainTable {
-            sheets,
+            plan,
             indexes,
             marked,
         })
@@ -76,7 +71,7 @@ impl<'s> PlainTable<'s> {
         ensures state { state_of self.new ≡ with_marked (state_of self.old) sheet slot }
         ensures layout { self.new.layout ≡ self.old.layout }
     {
-        let full = full_bits(&self.sheets[sheet as usize]);
+        let full = full_bits(self.plan.slots(sheet));
         let bit = 1u64 << slot;
         let marked = self.marked[sheet as usize];
         self.marked[sheet as usize] = marked | bit;
@@ -88,7 +83,7 @@ impl<'s> PlainTable<'s> {
         requires { sheet < length self.now.layout.sheets }
         ensures { result ≡ missing self.now.layout (state_of self.now) sheet }
     {
-        let full = full_bits(&self.sheets[sheet as usize]);
+        let full = full_bits(self.plan.slots(sheet));
         let marked = self.marked[sheet as usize];
         full - marked
     }

@@ -1,31 +1,54 @@
-//! The slots of a sheet as the bits of a word, bit k for slot k.
+//! What words stand for: the slots of a sheet, bit k for slot k, and the index of a page.
 ghost use Rattle.std.specs.Prelude.{◌≡◌, ◌-◌, ◌<◌, ◌≤◌, ◌^◌, length};
-ghost use Rattle.gather_table.specs.Table.{is_blank, bits};
-ghost use Rattle.gather_table.specs.Words.{reply_in};
+ghost use Rattle.gather_table.specs.Table.{is_blank, bits, slots, slot_count, publish_reply};
+ghost use Rattle.gather_table.specs.Words.{index_in, reply_in};
 
-use crate::answers::Reply;
+use crate::answers::{Published, Reply};
+use crate::shape::Shape;
 
 // The blank slots of a sheet.
-pub(crate) fn blank_bits(slots: &Vec<Option<u32>>) -> u64
-    requires { length slots.now.items ≤ 64 }
-    ensures { result ≡ bits (is_blank slots.now.items) (length slots.now.items) }
+pub(crate) fn blank_bits(plan: &Shape, sheet: u32) -> u64
+    requires sheet { sheet < length plan.now.sheets }
+    requires narrow { slot_count plan.now sheet ≤ 64 }
+    ensures { result ≡ bits (is_blank (slots plan.now sheet)) (slot_count plan.now sheet) }
 {
     let mut word = 0u64;
-    for (k, slot) in slots.iter().enumerate() {
-        if slot.is_none() {
-            word += 1u64 << k;
+    for slot in 0..plan.slots(sheet) {
+        if plan.page_of(sheet, slot).is_none() {
+            word += 1u64 << slot;
         }
     }
     word
 }
 
 // All slots of a sheet.
-pub(crate) fn full_bits(slots: &Vec<Option<u32>>) -> u64
-    requires { (0 < length slots.now.items) × (length slots.now.items ≤ 64) }
-    ensures { result ≡ 2 ^ length slots.now.items - 1 }
+pub(crate) fn full_bits(slots: u16) -> u64
+    requires { (0 < slots) × (slots ≤ 64) }
+    ensures { result ≡ 2 ^ slots - 1 }
 {
-    let row = slots.as_slice();
-    u64::MAX >> (64 - row.len())
+    u64::MAX >> (64 - slots)
+}
+
+// The index of a page, by its word: the index and one more, or 0 where there is none.
+pub(crate) fn index_by(word: u64) -> Option<u32>
+    requires { word ≤ 2 ^ 32 }
+    ensures { result ≡ index_in word }
+{
+    if word == 0 {
+        return None;
+    }
+    Some((word - 1) as u32)
+}
+
+// The answer of a publish, by the word that it found.
+pub(crate) fn published_by(found: u64) -> Published
+    requires { found ≤ 2 ^ 32 }
+    ensures { result ≡ publish_reply (index_in found) }
+{
+    match index_by(found) {
+        Some(held) => Published::Held(held),
+        None => Published::Stored,
+    }
 }
 
 // The answer of a mark, by the marked slots that it found, its own bit, and all slots.

@@ -14,7 +14,4 @@ ones_of n m e =
     omega arith
 
 pub returns : goal.returns
-returns c =
-    let n = ap length c.as_slice-row.ensures.value in
-    let r = c.requires in
-    ones_of (length c.args.slots.now.items) (64 - length c.as_slice-row.result.now) (omega arith)
+returns c = ones_of c.args.slots (64 - c.args.slots) (omega arith)

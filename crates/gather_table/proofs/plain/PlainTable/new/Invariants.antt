@@ -1,0 +1,5 @@
+use Rattle.gather_table.proofs.Stored.{AreBlanks}
+use Rattle.gather_table.proofs.plain.PlainTable.new.Given as goal
+
+abbrev pub invariant-loop-sheet : goal.invariant-loop-sheet
+invariant-loop-sheet l = AreBlanks l.plan l.sheet l.marked.items

@@ -1,0 +1,4 @@
+mod Histories
+mod Steps
+mod Views
+mod Moves

@@ -1,0 +1,8 @@
+-- Read in this order: prepared pages, the shelf and its tokens; histories of the queue, the queue and its passes as clauses
+-- see them, the rule that every step keeps, and what holds of every history and of every pass.
+pub mod Pages
+pub mod Shelves
+pub mod Queue
+pub mod Passes
+pub mod Rule
+pub mod Laws

@@ -1,0 +1,54 @@
+-- Histories of a queue of sheets, and which of them are legal.
+use Rattle.std.specs.Prelude.{◌≡◌, ℕ, ◌<◌, List, [], ◌∷◌, ◌++◌, length}
+
+-- an accepted put of a sheet, or a take that gave it
+pub data Move : Type 0 where
+  Put : ℕ → Move
+  Take : ℕ → Move
+
+-- what is left when the oldest is gone
+abbrev pub without_oldest : List ℕ → List ℕ
+without_oldest [] = []
+without_oldest (x ∷ xs) = xs
+
+-- the sheets in the queue after one move, the oldest first
+abbrev pub after : List ℕ → Move → List ℕ
+after sheets (Put s) = sheets ++ s ∷ []
+after sheets (Take s) = without_oldest sheets
+
+abbrev pub after_all : List ℕ → List Move → List ℕ
+after_all sheets [] = sheets
+after_all sheets (m ∷ ms) = after_all (after sheets m) ms
+
+-- what was put and not yet taken, the oldest first
+abbrev pub content : List Move → List ℕ
+content log = after_all [] log
+
+abbrev pub IsOldest : ℕ → List ℕ → Type 0
+IsOldest s [] = ⊥
+IsOldest s (x ∷ xs) = s ≡ x
+
+-- the move may be made at this content: a put where there is room, and a take of the oldest
+abbrev pub Fits : (capacity : ℕ) → List ℕ → Move → Type 0
+Fits capacity sheets (Put s) = length sheets < capacity
+Fits capacity sheets (Take s) = IsOldest s sheets
+
+-- each of them may be made where it stands
+abbrev pub AllFit : (capacity : ℕ) → List ℕ → List Move → Type 0
+AllFit capacity sheets [] = Unit {0}
+AllFit capacity sheets (m ∷ ms) = Fits capacity sheets m × AllFit capacity (after sheets m) ms
+
+-- a history of a queue of this capacity, from the empty queue on
+abbrev pub IsQueueHistory : (capacity : ℕ) → List Move → Type 0
+IsQueueHistory capacity log = AllFit capacity [] log
+
+-- the sheets that were put, and those that were taken, in order
+abbrev pub sheets_put : List Move → List ℕ
+sheets_put [] = []
+sheets_put (Put s ∷ ms) = s ∷ sheets_put ms
+sheets_put (Take s ∷ ms) = sheets_put ms
+
+abbrev pub sheets_taken : List Move → List ℕ
+sheets_taken [] = []
+sheets_taken (Put s ∷ ms) = sheets_taken ms
+sheets_taken (Take s ∷ ms) = s ∷ sheets_taken ms

@@ -1,0 +1,15 @@
+-- The shelf, and the tokens of its entries.
+use Rattle.std.specs.Prelude.{◌≡◌, ◌<◌}
+use Rattle.boxcar.specs.Table.{Shows, Shelves, Where}
+use Rattle.handover.specs.Pages.{PreparedPage}
+use Rattle.handover.specs.declared.receipts.PutError.{PutError}
+use Rattle.handover.specs.declared.receipts.PutError.TheVariants.{NoMemory, ShelfFull}
+
+-- the token was given for an entry of this shelf
+abbrev pub IsOn : Shelves → Where PreparedPage → Type 0
+IsOn shelf token = Shows shelf token
+
+-- what a put that gives no receipt leaves: the page comes back, or it is on the shelf at an index of more than 32 bits
+abbrev pub GivesNoReceipt : Shelves → PreparedPage → PutError → Type 0
+GivesNoReceipt shelf page (NoMemory back) = back ≡ page
+GivesNoReceipt shelf page (ShelfFull token) = IsOn shelf token × (token.value ≡ page) × (4_294_967_295 < token.index)

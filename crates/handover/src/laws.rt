@@ -1,0 +1,32 @@
+//! Laws: what holds of every history of the queue, and of every pass. Each is a function that does nothing.
+ghost use Rattle.handover.specs.Laws.{FirstPutIsFirstTaken, NeverOverfull, WholePassMadeAll, WholePassLosesNone, OwnMovesAreKept, MovesStandInOneHistory};
+
+/// Sheets are taken in the order in which they were put, and none is lost or doubled.
+pub fn first_put_is_first_taken()
+    ensures { FirstPutIsFirstTaken }
+{}
+
+/// There are never more sheets in the queue than it has room for.
+pub fn never_overfull()
+    ensures { NeverOverfull }
+{}
+
+/// A pass that has all shares made all moves of its front.
+pub fn whole_pass_made_all()
+    ensures { WholePassMadeAll }
+{}
+
+/// The sheets that a pass with all shares took, and those left, are those that it put, each as often.
+pub fn whole_pass_loses_none()
+    ensures { WholePassLosesNone }
+{}
+
+/// A move is one more own move of its pass, and a joined pass has those of both.
+pub fn own_moves_are_kept()
+    ensures { OwnMovesAreKept }
+{}
+
+/// The moves of a pass stand in one history of the queue, each once and in order, behind all that its caller had seen.
+pub fn moves_stand_in_one_history()
+    ensures { MovesStandInOneHistory }
+{}

@@ -1,0 +1,19 @@
+//! What preparers hand over to imposers: prepared pages on a shelf, and the sheets that are ready in a queue.
+#![tactic(auto)]
+
+pub mod laws;
+mod pass;
+mod prepared;
+mod ready;
+mod receipts;
+mod rule;
+mod shelf;
+
+pub use crate::pass::Pass;
+pub use crate::prepared::Prepared;
+pub use crate::ready::{Full, Ready};
+pub use crate::receipts::{Overflow, PutError, Receipt};
+pub use crate::shelf::Shelf;
+
+#[cfg(test)]
+mod tests;

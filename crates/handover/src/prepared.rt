@@ -1,0 +1,69 @@
+//! A prepared page.
+ghost use Rattle.std.specs.Prelude.{◌≡◌, IfOk, IfErr, Ok};
+ghost use Rattle.profile.specs.Filters.{prepared};
+ghost use Rattle.dsc.specs.Views.{Gives};
+ghost use Rattle.dsc.specs.Faults.{page_fault_told, IsPageError};
+ghost use Rattle.dsc.specs.Laws.{HasBody};
+ghost use Rattle.dsc.specs.declared.errors.DscError.TheVariants.{NoMemory};
+
+use dsc::{DscError, prepare};
+use std::alloc::Global;
+use std::marker::Model;
+
+/// A page of a document with its prepared body: what is kept of its bytes when it is placed on a sheet (the page comments
+/// and the page setup lines of DSC 3.0 are dropped).
+#[derive(Drop)]
+pub struct Prepared<'d> {
+    page: u32,
+    raw: &'d [u8],
+    kept: Vec<u8>,
+}
+
+impl<'d> Model for Prepared<'d> {
+    ghost use Rattle.std.specs.Prelude.{◌≡◌, Ok};
+    ghost use Rattle.profile.specs.Filters.{prepared};
+    ghost use Rattle.handover.specs.Pages.{PreparedPage};
+
+    ghost Value = { PreparedPage };
+
+    ghost view = { λ p. record { page = p.page; raw = p.raw.now; body = p.kept.items } };
+
+    ghost invariant = { λ p. prepared p.raw.now ≡ Ok p.kept.items };
+}
+
+impl<'d> Prepared<'d> {
+    /// Prepares a page from its bytes, `raw`. `page` is its number, counted from 0.
+    /// Refused with BadCount or ShortData, for the first faulty data block of `raw`, or with NoMemory. A page of an accepted
+    /// document has no faulty block.
+    pub fn new(alloc: Global, page: u32, raw: &'d [u8]) -> Result<Prepared<'d>, DscError>
+        ensures answer { Gives (λ p. p.body) page_fault_told result (prepared raw.now) }
+        ensures page { IfOk result (λ p. (p.page ≡ page) × (p.raw ≡ raw.now)) }
+        ensures refusals { IfErr result IsPageError }
+        ensures memory_alone { HasBody raw.now → IfErr result (λ e. e ≡ NoMemory) }
+    {
+        let kept = prepare(alloc, raw)?;
+        Ok(Prepared { page, raw, kept })
+    }
+
+    /// The number of the page in its document, counted from 0.
+    pub fn page(&self) -> u32
+        ensures { result ≡ self.now.page }
+    {
+        self.page
+    }
+
+    /// The bytes of the page, as they stand in the input.
+    pub fn raw(&self) -> &'d [u8]
+        ensures { result.now ≡ self.now.raw }
+    {
+        self.raw
+    }
+
+    /// The prepared body.
+    pub fn body(&self) -> &[u8]
+        ensures body { result.now ≡ self.now.body }
+        ensures prepared { prepared self.now.raw ≡ Ok result.now }
+    {
+        self.kept.as_slice()
+    }
+}

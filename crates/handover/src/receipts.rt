@@ -1,0 +1,71 @@
+//! What the shelf answers a put with.
+ghost use Rattle.std.specs.Prelude.{◌≡◌, ◌<◌};
+
+use crate::prepared::Prepared;
+use boxcar::{Anything, Pushed};
+use std::alloc::Global;
+use std::marker::Model;
+
+/// The token of an entry of a shelf: which page was put, and at which index.
+#[derive(Drop)]
+pub struct Receipt<'d> {
+    pub(crate) token: Pushed<Prepared<'d>, Global, Anything>,
+}
+
+impl<'d> Model for Receipt<'d> {
+    ghost use Rattle.std.specs.Prelude.{◌<◌};
+    ghost use Rattle.boxcar.specs.Table.{Where};
+    ghost use Rattle.handover.specs.Pages.{PreparedPage};
+
+    ghost Value = { Where PreparedPage };
+
+    ghost view = { λ r. r.token };
+
+    ghost invariant = { λ r. r.token.index < 4_294_967_296 };
+}
+
+impl<'d> Receipt<'d> {
+    /// The index of the entry, by which others find it.
+    pub fn index(&self) -> u32
+        ensures { result ≡ self.now.index }
+    {
+        self.token.index() as u32
+    }
+}
+
+/// The token of an entry whose index has more than 32 bits, so that no receipt names it. The entry stays on the shelf.
+#[derive(Drop)]
+pub struct Overflow<'d> {
+    pub(crate) token: Pushed<Prepared<'d>, Global, Anything>,
+}
+
+impl<'d> Model for Overflow<'d> {
+    ghost use Rattle.std.specs.Prelude.{◌<◌};
+    ghost use Rattle.boxcar.specs.Table.{Where};
+    ghost use Rattle.handover.specs.Pages.{PreparedPage};
+
+    ghost Value = { Where PreparedPage };
+
+    ghost view = { λ o. o.token };
+
+    ghost invariant = { λ o. 4_294_967_295 < o.token.index };
+}
+
+impl<'d> Overflow<'d> {
+    /// The index of the entry.
+    pub fn index(&self) -> u64
+        ensures index { result ≡ self.now.index }
+        ensures too_large { 4_294_967_295 < result }
+    {
+        self.token.index() as u64
+    }
+}
+
+/// Why a put gives no receipt.
+#[derive(Drop)]
+pub enum PutError<'d> {
+    /// A growth was refused. The shelf is as it was, and the page comes back.
+    NoMemory(Prepared<'d>),
+    /// The page is on the shelf, at an index past those that a receipt can name.
+    ShelfFull(Overflow<'d>),
+}

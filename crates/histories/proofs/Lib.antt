@@ -1,0 +1,4 @@
+pub mod Totals
+pub mod Fronts
+pub mod Shares
+pub mod Own

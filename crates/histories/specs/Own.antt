@@ -1,0 +1,21 @@
+-- What every seat keeps to, and its own entries.
+use Rattle.std.specs.Prelude.{ℕ, ◌≡◌, ◌<◌, ◌≤◌, List, length, take, drop, flat_map}
+use Rattle.histories.specs.Seats.{times, whole_share}
+
+module _ {E : Type 0} where
+  -- the entry at a place, as a list of one
+  abbrev pub entry_at : List E → ℕ → List E
+  entry_at log x = take 1 (drop x log)
+
+  -- the entries at these places
+  abbrev pub entries_at : List E → List ℕ → List E
+  entries_at log places = flat_map (entry_at log) places
+
+  -- the front is legal, the own places lie in it, each once, and with all shares they are all places of it
+  pub record IsHeld (Legal : List E → Type 0) (front : List E) (own : List ℕ) (share : ℕ) : Type 0 where
+    pub legal : Legal front
+    pub inside : (x : ℕ) → 0 < times x own → x < length front
+    pub once : (x : ℕ) → times x own ≤ 1
+    pub some_share : 0 < share
+    pub most_share : share ≤ whole_share
+    pub every : share ≡ whole_share → (x : ℕ) → x < length front → 0 < times x own
