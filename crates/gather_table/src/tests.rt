@@ -68,7 +68,13 @@ impl<'p> Calls for OneThread<'p> {
 }
 
 // Marks a slot through a seat, where it isn't blank and the page has an index.
-fn mark_checked(table: &GatherTable, plan: &Shape, seat: &mut Seat, sheet: u32, slot: u16) -> Option<Reply>
+fn mark_checked(
+    table: &GatherTable,
+    plan: &Shape,
+    seat: &mut Seat,
+    sheet: u32,
+    slot: u16,
+) -> Option<Reply>
     requires plan { table.now.layout ≡ plan.now }
     requires seat { IsSeatOf table.now seat.old }
     ensures { IsSeatOf table.now seat.new }
@@ -85,7 +91,14 @@ fn mark_checked(table: &GatherTable, plan: &Shape, seat: &mut Seat, sheet: u32, 
 }
 
 // Publishes the page of a slot, where it has one, and marks the slot.
-fn bring_one(table: &GatherTable, plan: &Shape, seat: &mut Seat, sheet: u32, slot: u16, index: u32) -> Option<Reply>
+fn bring_one(
+    table: &GatherTable,
+    plan: &Shape,
+    seat: &mut Seat,
+    sheet: u32,
+    slot: u16,
+    index: u32,
+) -> Option<Reply>
     requires plan { table.now.layout ≡ plan.now }
     requires seat { IsSeatOf table.now seat.old }
     ensures { IsSeatOf table.now seat.new }
@@ -126,7 +139,13 @@ struct Sent<T: OfTable> {
 }
 
 // Brings two slots, one after the other.
-fn bring_two<T: OfTable>(table: &GatherTable, plan: &Shape, sent: Sent<T>, slots: [(u32, u16); 2], index: u32) -> (Sent<T>, Answers)
+fn bring_two<T: OfTable>(
+    table: &GatherTable,
+    plan: &Shape,
+    sent: Sent<T>,
+    slots: [(u32, u16); 2],
+    index: u32,
+) -> (Sent<T>, Answers)
     requires plan { table.now.layout ≡ plan.now }
     requires table { table.now ≡ T.table }
 {
@@ -223,7 +242,11 @@ impl<'t, 's> Calls for Caller<'t, 's> {
 }
 
 // Sheets with these slots, one after the other, until there are so many.
-fn sheets_of(alloc: Global, rows: &[&[Option<u32>]], count: usize) -> Result<Vec<Vec<Option<u32>>>, AllocError> {
+fn sheets_of(
+    alloc: Global,
+    rows: &[&[Option<u32>]],
+    count: usize,
+) -> Result<Vec<Vec<Option<u32>>>, AllocError> {
     let mut sheets = Vec::new(alloc);
     for number in 0..count {
         if let Some(row) = rows.get(number % rows.len().max(1)) {
@@ -267,7 +290,14 @@ fn one_caller_brings_two_pages(rt: HostRuntime) -> Result<(), Fail> {
     let table = PlainTable::new(rt.alloc(), &plan)?;
     brings_two_pages(&rt, &mut OneThread { table, plan: &plan });
     let (table, seat) = GatherTable::new(rt.alloc(), &plan)?;
-    brings_two_pages(&rt, &mut Caller { table: &table, plan: &plan, seat });
+    brings_two_pages(
+        &rt,
+        &mut Caller {
+            table: &table,
+            plan: &plan,
+            seat,
+        },
+    );
     Ok(())
 }
 
@@ -280,7 +310,14 @@ fn a_blank_slot_counts_as_marked(rt: HostRuntime) -> Result<(), Fail> {
     let table = PlainTable::new(rt.alloc(), &plan)?;
     brings_a_page_beside_a_blank(&rt, &mut OneThread { table, plan: &plan });
     let (table, seat) = GatherTable::new(rt.alloc(), &plan)?;
-    brings_a_page_beside_a_blank(&rt, &mut Caller { table: &table, plan: &plan, seat });
+    brings_a_page_beside_a_blank(
+        &rt,
+        &mut Caller {
+            table: &table,
+            plan: &plan,
+            seat,
+        },
+    );
     Ok(())
 }
 
@@ -300,15 +337,35 @@ fn a_table_without_pages_has_a_seat(rt: HostRuntime) -> Result<(), Fail> {
 #[test]
 fn lanes_follow_one_another(rt: HostRuntime) -> Result<(), Fail> {
     let sheets = sheets_of(rt.alloc(), &[&[Some(0), Some(1)]], 50)?;
-    lanes_are(&rt, rt.alloc(), sheets.as_slice(), &[(0, (0, 0)), (31, (0, 62)), (32, (1, 0))])?;
+    lanes_are(
+        &rt,
+        rt.alloc(),
+        sheets.as_slice(),
+        &[(0, (0, 0)), (31, (0, 62)), (32, (1, 0))],
+    )?;
     let sheets = sheets_of(rt.alloc(), &[&[Some(0), Some(1)], &[Some(2)]], 68)?;
-    lanes_are(&rt, rt.alloc(), sheets.as_slice(), &[(40, (0, 60)), (41, (0, 62)), (42, (1, 0)), (43, (1, 2))])?;
+    lanes_are(
+        &rt,
+        rt.alloc(),
+        sheets.as_slice(),
+        &[(40, (0, 60)), (41, (0, 62)), (42, (1, 0)), (43, (1, 2))],
+    )?;
     let sheets = sheets_of(rt.alloc(), &[&[Some(0); 64]], 2)?;
-    lanes_are(&rt, rt.alloc(), sheets.as_slice(), &[(0, (0, 0)), (1, (1, 0))])
+    lanes_are(
+        &rt,
+        rt.alloc(),
+        sheets.as_slice(),
+        &[(0, (0, 0)), (1, (1, 0))],
+    )
 }
 
 // Of a table of these sheets on 100 pages, which lanes some sheets have.
-fn lanes_are<R: Abort>(rt: &R, alloc: Global, sheets: &[Vec<Option<u32>>], lanes: &[(u32, (u32, u8))]) -> Result<(), Fail> {
+fn lanes_are<R: Abort>(
+    rt: &R,
+    alloc: Global,
+    sheets: &[Vec<Option<u32>>],
+    lanes: &[(u32, (u32, u8))],
+) -> Result<(), Fail> {
     let Some(plan) = Shape::new(100, sheets) else {
         panic!(rt; "pages below 100")
     };
@@ -341,7 +398,14 @@ fn two_threads_complete_a_sheet_once(rt: HostRuntime) -> Result<(), Fail> {
         panic!(rt; "two slots with pages 0 and 1")
     };
     let (table, seat) = GatherTable::new(rt.alloc(), &plan)?;
-    let (share, one, two) = bring_in_two_threads(&rt, &table, &plan, seat, [(0, 0); 2], [(0, 1); 2]);
+    let (share, one, two) = bring_in_two_threads(
+        &rt,
+        &table,
+        &plan,
+        seat,
+        [(0, 0); 2],
+        [(0, 1); 2],
+    );
     assert_eq!(rt; share, 4_294_967_296);
     let first = (Some(Reply::Fresh), Some(Reply::Repeated));
     let last = (Some(Reply::Completing), Some(Reply::Repeated));
@@ -356,7 +420,14 @@ fn two_threads_bring_the_same_page(rt: HostRuntime) -> Result<(), Fail> {
         panic!(rt; "one slot with page 0")
     };
     let (table, seat) = GatherTable::new(rt.alloc(), &plan)?;
-    let (_share, one, two) = bring_in_two_threads(&rt, &table, &plan, seat, [(0, 0); 2], [(0, 0); 2]);
+    let (_share, one, two) = bring_in_two_threads(
+        &rt,
+        &table,
+        &plan,
+        seat,
+        [(0, 0); 2],
+        [(0, 0); 2],
+    );
     let first = (Some(Reply::Completing), Some(Reply::Repeated));
     let last = (Some(Reply::Repeated), Some(Reply::Repeated));
     assert!(rt; (one, two) == (first, last) || (one, two) == (last, first));
@@ -370,7 +441,14 @@ fn two_threads_on_one_word_do_not_disturb_each_other(rt: HostRuntime) -> Result<
         panic!(rt; "two sheets with two of four pages each")
     };
     let (table, seat) = GatherTable::new(rt.alloc(), &plan)?;
-    let (_share, one, two) = bring_in_two_threads(&rt, &table, &plan, seat, [(0, 0), (0, 1)], [(1, 0), (1, 1)]);
+    let (_share, one, two) = bring_in_two_threads(
+        &rt,
+        &table,
+        &plan,
+        seat,
+        [(0, 0), (0, 1)],
+        [(1, 0), (1, 1)],
+    );
     let completed = (Some(Reply::Fresh), Some(Reply::Completing));
     assert_eq!(rt; one, completed);
     assert_eq!(rt; two, completed);

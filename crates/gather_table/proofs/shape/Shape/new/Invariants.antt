@@ -1,5 +1,4 @@
-use Rattle.std.proofs.Common.{◌≡◌, ℕ, ◌<◌, List}
-use Rattle.std.specs.Prelude.{Some, slice_get}
+use Rattle.std.proofs.Common.{ℕ, ◌<◌}
 use Rattle.gather_table.specs.Plain.{layout_of, IsSheet}
 use Rattle.gather_table.specs.Table.{slots}
 use Rattle.gather_table.proofs.shape.Shape.new.Given as goal
