@@ -1,16 +1,14 @@
 -- The calls of a seat, one after the other.
-use Rattle.std.proofs.Common.{◌≡◌, ◌≢◌, ℕ, zero, suc, ◌+◌, ◌<◌, ◌≤◌, List, [], ◌∷◌, ◌++◌, length, take, true, refl, sym, ap, ◌∙◌, subst, arith, eq-eqb, append_assoc, append-nil, length-append}
-use Rattle.std.specs.Prelude.{Some, None, Option, unwrap_or, slice_get, if◌then◌else◌}
+use Rattle.std.proofs.Common.{◌≡◌, ℕ, zero, suc, List, [], ◌∷◌, ◌++◌, length, take, true, refl, sym, ap, ◌∙◌, subst, arith, eq-eqb, append_assoc, append-nil, length-append}
+use Rattle.std.specs.Prelude.{Some, Option, unwrap_or, slice_get, if◌then◌else◌}
 use mathlib.Core.List.{IsPrefix}
 use Rattle.profile.specs.Sheets.{Layout}
-use Rattle.histories.specs.Seats.{whole_share, longer, total}
-use Rattle.histories.specs.Own.{entries_at, IsHeld}
+use Rattle.histories.specs.Seats.{whole_share}
 use Rattle.histories.proofs.Own.{entries_added, entries_joined, whole_weight}
-use Rattle.gather_table.specs.declared.answers.Published.{Published}
-use Rattle.gather_table.specs.Table.{TableState, slots, start, IsMarkable}
-use Rattle.gather_table.specs.History.{Entry, Publish, Mark, Look, PageAt, Fits, AllFit, after, after_all, after_history, IsLegal, IsComplete}
-use Rattle.gather_table.specs.Shared.{SeatView, IsSeat, Made, Makes, Joined, own_calls}
-use Rattle.gather_table.specs.Seating.{StandAt, StandInOneHistory, CallsStandInOneHistory, LookShowsSeat, CompleteStays, LookUpsFind, PublishedMayBeMarked, FoundMayBeMarked, MarkableStays, OwnCallsAreKept, WholeSeatMadeAll}
+use Rattle.gather_table.specs.Table.{TableState, start}
+use Rattle.gather_table.specs.History.{Entry, Publish, Look, PageAt, Fits, AllFit, after, after_all, after_history, IsLegal, IsComplete}
+use Rattle.gather_table.specs.Shared.{SeatView, IsSeat, Made, Makes, own_calls}
+use Rattle.gather_table.specs.Seating.{StandAt, CallsStandInOneHistory, LookShowsSeat, CompleteStays, LookUpsFind, PublishedMayBeMarked, FoundMayBeMarked, MarkableStays, OwnCallsAreKept, WholeSeatMadeAll}
 use Rattle.gather_table.proofs.Histories.{after_all-append, after_history_push, AllFit_back, keeps_indexes, markable_later}
 use Rattle.gather_table.proofs.Legal.{pages_of}
 use Rattle.gather_table.proofs.Shows.{look_shows, stays_marked}
@@ -101,7 +99,7 @@ calls_stand old new es k m =
       calls = stand old new es m;
       replies = λ x e at. fits_at old.layout (start old.layout) new.front x e legal at;
       others = alone old new es m;
-      same = same_makes old new es m
+      same = same_makes old new es m;
     }
 
 -- the front after a call, as a legal history of the layout
@@ -115,7 +113,7 @@ look_shows_seat old new s m = subst (λ (f : List Entry). IsComplete old.layout 
 pub complete_stays : CompleteStays
 complete_stays layout front later s p c = record {
   sheet = c.sheet;
-  marked = λ k lt. subst (λ (t : TableState). t.marked s k ≡ true) (sym (after_all-append (start layout) front p.0) ∙ ap (after_history layout) p.1) (stays_marked (after_history layout front) p.0 s k (c.marked k lt))
+  marked = λ k lt. subst (λ (t : TableState). t.marked s k ≡ true) (sym (after_all-append (start layout) front p.0) ∙ ap (after_history layout) p.1) (stays_marked (after_history layout front) p.0 s k (c.marked k lt));
 }
 
 pub index_stays : (layout : Layout) (front later : List Entry) (p i : ℕ) → IsPrefix front later → (after_history layout front).index p ≡ Some i → (after_history layout later).index p ≡ Some i
@@ -129,21 +127,23 @@ finds_index old new p i found m at =
 
 pub look_ups_find : LookUpsFind
 look_ups_find seat s k p ok complete at =
-    let i = pages_of seat.layout seat.front s k p ok.legal complete at in
-    (i.0, λ old new found same b m. finds_index old new p i.0 found m
-      (subst (λ (l : Layout). (after_history l old.front).index p ≡ Some i.0) (sym same) (index_stays seat.layout seat.front old.front p i.0 b i.1)))
+    let i = pages_of seat.layout seat.front s k p ok.legal complete at in (
+      i.0,
+      λ old new found same b m. finds_index old new p i.0 found m
+          (subst (λ (l : Layout). (after_history l old.front).index p ≡ Some i.0) (sym same) (index_stays seat.layout seat.front old.front p i.0 b i.1)),
+    )
 
 pub published_may_be_marked : PublishedMayBeMarked
 published_may_be_marked old new s k p i r m at =
     let log : List Entry = old.front ++ m.between in
     let t : TableState = after_history old.layout log in
     let now : (after_history old.layout (log ++ Publish p i r ∷ [])).index p ≡ Some (unwrap_or (t.index p) i) =
-        ap (λ (z : TableState). z.index p) (after_history_push old.layout log (Publish p i r)) ∙ ap (λ b. if b then Some (unwrap_or (t.index p) i) else t.index p) (eq-eqb p p refl) in
+    ap (λ (z : TableState). z.index p) (after_history_push old.layout log (Publish p i r)) ∙ ap (λ b. if b then Some (unwrap_or (t.index p) i) else t.index p) (eq-eqb p p refl) in
     record {
       page = p;
       index = unwrap_or (t.index p) i;
       needed = at;
-      published = ap (λ (z : SeatView). (after_history old.layout z.front).index p) m.grown ∙ now
+      published = ap (λ (z : SeatView). (after_history old.layout z.front).index p) m.grown ∙ now;
     }
 
 pub found_may_be_marked : FoundMayBeMarked
@@ -154,7 +154,7 @@ found_may_be_marked old new s k p i m at =
       page = p;
       index = i;
       needed = at;
-      published = ap (λ (z : SeatView). (after_history old.layout z.front).index p) m.grown ∙ ap (λ (z : TableState). z.index p) (after_history_push old.layout log (PageAt p (Some i))) ∙ sym fits.1
+      published = ap (λ (z : SeatView). (after_history old.layout z.front).index p) m.grown ∙ ap (λ (z : TableState). z.index p) (after_history_push old.layout log (PageAt p (Some i))) ∙ sym fits.1;
     }
 
 pub markable_stays : MarkableStays

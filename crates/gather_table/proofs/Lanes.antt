@@ -1,17 +1,15 @@
 -- Bits of words, and lanes.
-use Rattle.std.proofs.Common.{◌≡◌, ◌≢◌, ◌⊎◌, ℕ, zero, suc, ◌+◌, ◌-◌, ◌*◌, ◌/◌, ◌%◌, ◌<◌, ◌≤◌, ◌^◌, eqb, ltb, Bool, true, false, not, true≢false, List, length, refl, sym, ap, ◌∙◌, subst, arith, eq-eqb, ne_eqb}
-use Rattle.std.specs.Prelude.{if◌then◌else◌, ◌==◌, bit_and, bit_or, nat_lt}
+use Rattle.std.proofs.Common.{◌≡◌, ◌≢◌, ℕ, zero, suc, ◌+◌, ◌*◌, ◌/◌, ◌<◌, ◌≤◌, ◌^◌, ltb, Bool, true, false, length, refl, sym, ap, ◌∙◌, subst, arith}
+use Rattle.std.specs.Prelude.{if◌then◌else◌}
 use mathlib.Core.Logic.{dite}
 use native.Mathlib.Decide.{ℕ_discrete}
-use Rattle.std.proofs.Math.Nat.{two-pow-succ}
 use Rattle.std.proofs.lemmas.Bool.{ltb-true, ltb-false}
-use Rattle.std.proofs.lemmas.Nat.{pow_pos, pow_below, mod-pow-add, shr-shr, shr_high, mod_low, mod_below, and_mask}
 use Rattle.profile.specs.Sheets.{Layout}
 use Rattle.gather_table.specs.declared.lane.Lane.{Lane}
 use Rattle.gather_table.specs.Lanes.{fitted, free, lane, in_lane, LanesInside, LanesApart, LanesPlaced}
-use Rattle.gather_table.specs.Table.{slot_count, bits, with_mark}
+use Rattle.gather_table.specs.Table.{slot_count, bits}
 use Rattle.gather_table.specs.Words.{has_bit}
-use Rattle.gather_table.proofs.Bits.{bits_lt, bits_same, bits_of, has_later}
+use Rattle.gather_table.proofs.Bits.{bits_same, bits_of, has_later}
 
 -- the lane of a set's bits is its word
 pub lane_shown : (f : ℕ → Bool) (word first n : ℕ) → ((k : ℕ) → k < n → has_bit word (first + k) ≡ f k) → in_lane word first n ≡ bits f n
@@ -85,7 +83,7 @@ pub are_placed : LanesPlaced
 are_placed layout ok = record {
   opens = λ some. let n = ok.narrow 0 some in fitted_fits (free layout 0) (slot_count layout 0) (let b = n.1 in omega arith);
   follows = λ s lt le. ap (λ (k : ℕ). lane layout k) (one s) ∙ fitted_fits (free layout (suc s)) (slot_count layout (suc s)) (subst (λ (k : ℕ). (lane layout s).first + slot_count layout s + slot_count layout k ≤ 64) (one s) le);
-  turns = λ s lt le. ap (λ (k : ℕ). lane layout k) (one s) ∙ fitted_turns (free layout (suc s)) (slot_count layout (suc s)) (subst (λ (k : ℕ). 64 < (lane layout s).first + slot_count layout s + slot_count layout k) (one s) le)
+  turns = λ s lt le. ap (λ (k : ℕ). lane layout k) (one s) ∙ fitted_turns (free layout (suc s)) (slot_count layout (suc s)) (subst (λ (k : ℕ). 64 < (lane layout s).first + slot_count layout s + slot_count layout k) (one s) le);
 }
   where
     one : (s : ℕ) → s + 1 ≡ suc s

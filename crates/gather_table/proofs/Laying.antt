@@ -1,22 +1,17 @@
 -- The words at the start, sheet by sheet.
-use Rattle.std.proofs.Common.{◌≡◌, ◌≢◌, ◌⊎◌, ℕ, zero, suc, ◌+◌, ◌-◌, ◌*◌, ◌%◌, ◌<◌, ◌≤◌, ◌^◌, Bool, true, false, true≢false, not, List, [], ◌∷◌, ◌++◌, length, map, set, get_or, refl, sym, ap, ◌∙◌, subst, arith, length-append, ltb, get_or-set_same, get_or-set_other}
-use Rattle.std.specs.Prelude.{Some, None, Option, slice_index, slice_index_or, is_some, nat_lt, if◌then◌else◌}
-use mathlib.Core.Option.{some, none, some-ne-none, some-injective}
+use Rattle.std.proofs.Common.{◌≡◌, ◌≢◌, ℕ, zero, suc, ◌+◌, ◌-◌, ◌*◌, ◌%◌, ◌<◌, ◌≤◌, ◌^◌, Bool, true, false, List, [], ◌∷◌, ◌++◌, length, set, get_or, refl, sym, ap, ◌∙◌, subst, arith, length-append, ltb, get_or-set_same, get_or-set_other}
+use Rattle.std.specs.Prelude.{slice_index, slice_index_or, nat_lt, if◌then◌else◌}
 use mathlib.Core.Logic.{dite}
 use native.Mathlib.Decide.{ℕ_discrete}
-use lib.ListN.{get_elem?}
-use Rattle.std.proofs.lemmas.Nat.{one_shl}
-use Rattle.std.proofs.lemmas.List.{get_or_append_left, get_or-append-add, get_or-map}
-use Rattle.std.proofs.Math.ListN.{length-map}
-use Rattle.std.proofs.Math.Nat.{two-pow-succ}
+use Rattle.std.proofs.lemmas.List.{get_or_append_left, get_or-append-add}
 use Rattle.std.proofs.lemmas.Nat.{pow_below}
-use Rattle.atomic_table.specs.Table.{State, opening}
+use Rattle.atomic_table.specs.Table.{opening}
 use Rattle.profile.specs.Sheets.{Layout}
 use Rattle.gather_table.specs.declared.lane.Lane.{Lane}
 use Rattle.gather_table.specs.Counts.{KeepsCounts}
 use Rattle.gather_table.specs.Lanes.{lane, free, fitted, behind}
 use Rattle.gather_table.specs.Rule.{Kept}
-use Rattle.gather_table.specs.Table.{IsSound, slots, slot_count, is_blank, bits, start}
+use Rattle.gather_table.specs.Table.{IsSound, slots, slot_count, is_blank, bits}
 use Rattle.gather_table.specs.Words.{has_bit}
 use Rattle.gather_table.proofs.Bits.{bit_above, bit_below, bit_of_bits, bits_lt}
 use Rattle.gather_table.proofs.Lanes.{fitted_fits, fitted_turns, behind_it, apart, facts}
@@ -48,18 +43,20 @@ laid_fitted layout n words words' masks lanes next next' count ok lt l is_next i
     two true e =
         let t = ltb-true 64 (next.first + count) e in
         let new : next' ≡ record { word = next.word + 1; first = 0 } = is' ∙ fitted_turns next count (omega arith) in
-        let more : words' ≡ words ++ 0 ∷ [] = isw ∙ ap (λ (b : Bool). if b then words ++ 0 ∷ [] else words) e in
-        (subst (λ (z : List ℕ × Lane). Laid layout n z.0 masks lanes z.1) (λ i. (sym more i, sym new i)) (record {
-          room = let r = l.room in omega (arith, length-append words (0 ∷ []));
-          page = λ p low. let r = l.room in get_or_append_left words (0 ∷ []) 0 p (omega arith) ∙ l.page p low;
-          slot = λ s k low within. let r = l.room in let b = (behind_it layout ok.narrow s n low (omega arith)).1 in let f = ap (λ (z : Lane). z.word) is_next in
-              ap (λ (z : ℕ). has_bit z ((lane layout s).first + k)) (get_or_append_left words (0 ∷ []) 0 (layout.pages + (lane layout s).word) (omega arith)) ∙ l.slot s k low within;
-          rest = let r = l.room in let at : layout.pages + (next.word + 1) ≡ length words + 0 = omega arith in let z : get_or (words ++ 0 ∷ []) (layout.pages + (next.word + 1)) 0 ≡ 0 = ap (λ (i : ℕ). get_or (words ++ 0 ∷ []) i 0) at ∙ get_or-append-add words (0 ∷ []) 0 0 in omega arith;
-          masks = l.masks;
-          full = l.full;
-          count = l.count;
-          places = l.places
-        }), is_lane)
+        let more : words' ≡ words ++ 0 ∷ [] = isw ∙ ap (λ (b : Bool). if b then words ++ 0 ∷ [] else words) e in (
+          subst (λ (z : List ℕ × Lane). Laid layout n z.0 masks lanes z.1) (λ i. (sym more i, sym new i)) (record {
+            room = let r = l.room in omega (arith, length-append words (0 ∷ []));
+            page = λ p low. let r = l.room in get_or_append_left words (0 ∷ []) 0 p (omega arith) ∙ l.page p low;
+            slot = λ s k low within. let r = l.room in let b = (behind_it layout ok.narrow s n low (omega arith)).1 in let f = ap (λ (z : Lane). z.word) is_next in
+                ap (λ (z : ℕ). has_bit z ((lane layout s).first + k)) (get_or_append_left words (0 ∷ []) 0 (layout.pages + (lane layout s).word) (omega arith)) ∙ l.slot s k low within;
+            rest = let r = l.room in let at : layout.pages + (next.word + 1) ≡ length words + 0 = omega arith in let z : get_or (words ++ 0 ∷ []) (layout.pages + (next.word + 1)) 0 ≡ 0 = ap (λ (i : ℕ). get_or (words ++ 0 ∷ []) i 0) at ∙ get_or-append-add words (0 ∷ []) 0 0 in omega arith;
+            masks = l.masks;
+            full = l.full;
+            count = l.count;
+            places = l.places;
+          }),
+          is_lane,
+        )
     two false e =
         let t = ltb-false 64 (next.first + count) e in
         let new : next' ≡ next = is' ∙ fitted_fits next count (omega arith) in
@@ -89,7 +86,7 @@ laid_more layout n words masks lanes next b m x ok lt l is is_b is_m is_x = reco
   count = let r = l.count in omega (arith, length-append lanes (next ∷ []));
   places = λ s d low. let r = l.count in dite (ℕ_discrete s n)
       (λ same. let at' : s ≡ length lanes + 0 = omega arith in ap (λ (i : ℕ). get_or (lanes ++ next ∷ []) i d) at' ∙ get_or-append-add lanes (next ∷ []) 0 d ∙ is ∙ ap (λ (q : ℕ). lane layout q) (sym same))
-      (λ other. get_or_append_left lanes (next ∷ []) d s (omega arith) ∙ l.places s d (omega arith))
+      (λ other. get_or_append_left lanes (next ∷ []) d s (omega arith) ∙ l.places s d (omega arith));
 }
   where
     at : ℕ
@@ -121,15 +118,15 @@ laid_more layout n words masks lanes next b m x ok lt l is is_b is_m is_x = reco
     older : (s k : ℕ) → s < n → k < slot_count layout s → has_bit (slice_index (set words at x) (layout.pages + (lane layout s).word)) ((lane layout s).first + k) ≡ is_blank (slots layout s) k
     older s k low within = dite (ℕ_discrete (lane layout s).word next.word)
         (λ (same : (lane layout s).word ≡ next.word).
-          let a = apart layout ok.narrow s n low lt (same ∙ word_of) in
-          let f = first_of in
-          ap (λ (z : ℕ). has_bit (slice_index (set words at x) (layout.pages + z)) ((lane layout s).first + k)) same
-          ∙ ap (λ (z : ℕ). has_bit z ((lane layout s).first + k)) (here ∙ turned)
-          ∙ bit_below b next.first old ((lane layout s).first + k) l.rest (omega arith)
-          ∙ ap (λ (z : ℕ). has_bit (slice_index words (layout.pages + z)) ((lane layout s).first + k)) (sym same)
-          ∙ l.slot s k low within)
+        let a = apart layout ok.narrow s n low lt (same ∙ word_of) in
+        let f = first_of in
+        ap (λ (z : ℕ). has_bit (slice_index (set words at x) (layout.pages + z)) ((lane layout s).first + k)) same
+        ∙ ap (λ (z : ℕ). has_bit z ((lane layout s).first + k)) (here ∙ turned)
+        ∙ bit_below b next.first old ((lane layout s).first + k) l.rest (omega arith)
+        ∙ ap (λ (z : ℕ). has_bit (slice_index words (layout.pages + z)) ((lane layout s).first + k)) (sym same)
+        ∙ l.slot s k low within)
         (λ other. let ne : layout.pages + (lane layout s).word ≢ at = λ e. other (omega arith) in
-          ap (λ (z : ℕ). has_bit z ((lane layout s).first + k)) (get_or-set_other words at (layout.pages + (lane layout s).word) x 0 ne) ∙ l.slot s k low within)
+        ap (λ (z : ℕ). has_bit z ((lane layout s).first + k)) (get_or-set_other words at (layout.pages + (lane layout s).word) x 0 ne) ∙ l.slot s k low within)
 
 pub power_most : (j : ℕ) → j ≤ 64 → 2 ^ j ≤ 18446744073709551616
 power_most j le = dite (ℕ_discrete j 64) (λ e. let z : 2 ^ j ≡ 18446744073709551616 = ap (λ (k : ℕ). 2 ^ k) e in omega arith) (λ ne. let p = pow_below j 64 (omega arith) in omega arith)
@@ -145,16 +142,19 @@ sum_fits b w f n lb lw le =
 
 -- the rule holds of the words at the start
 pub opens : (layout : Layout) (words masks : List ℕ) (lanes : List Lane) (next : Lane) → Laid layout (length layout.sheets) words masks lanes next → next ≡ free layout (length layout.sheets) → Kept layout (opening words [] (opening_sight layout))
-opens layout words masks lanes next l is = ([], record {
-  legal = tt;
-  words = record {
-    room = let r = l.room in let e = ap (λ (z : Lane). z.word) is in omega arith;
-    page = l.page;
-    slot = l.slot
-  };
-  small = λ p i e. absurd (cc);
-  seats = Rattle.histories.proofs.Shares.opens layout
-})
+opens layout words masks lanes next l is = (
+  [],
+  record {
+    legal = tt;
+    words = record {
+      room = let r = l.room in let e = ap (λ (z : Lane). z.word) is in omega arith;
+      page = l.page;
+      slot = l.slot;
+    };
+    small = λ p i e. absurd (cc);
+    seats = Rattle.histories.proofs.Shares.opens layout;
+  },
+)
 
 pub all_laid : (layout : Layout) (n m : ℕ) (words masks : List ℕ) (lanes : List Lane) (next : Lane) → m ≤ n → n ≤ m → m ≡ length layout.sheets → Laid layout n words masks lanes next × (next ≡ free layout n) → Laid layout (length layout.sheets) words masks lanes next × (next ≡ free layout (length layout.sheets))
 all_laid layout n m words masks lanes next a b e l = let same : n ≡ length layout.sheets = omega arith in subst (λ (k : ℕ). Laid layout k words masks lanes next × (next ≡ free layout k)) same l
@@ -167,7 +167,7 @@ counts_kept layout words masks lanes next ok l next_is n pages e is = record {
   full = l.full;
   count_full = l.masks;
   count_lanes = l.count;
-  lanes = l.places
+  lanes = l.places;
 }
 
 -- there is a word to load

@@ -1,14 +1,13 @@
 -- The steps on the word of a page.
-use Rattle.std.proofs.Common.{◌≡◌, ◌≢◌, ◌⊎◌, ℕ, zero, suc, ◌+◌, ◌-◌, ◌<◌, ◌≤◌, ◌^◌, eqb, Bool, true, false, List, [], ◌∷◌, ◌++◌, length, set, get_or, refl, sym, ap, ◌∙◌, subst, arith, eq-eqb, ne_eqb, get_or-set_same, get_or-set_other}
+use Rattle.std.proofs.Common.{◌≡◌, ◌≢◌, ℕ, zero, suc, ◌+◌, ◌-◌, ◌<◌, ◌≤◌, ◌^◌, eqb, List, [], ◌∷◌, ◌++◌, length, set, refl, sym, ap, subst, arith, eq-eqb, ne_eqb, get_or-set_same, get_or-set_other}
 use Rattle.std.proofs.Math.ListN.{length-set}
-use Rattle.std.specs.Prelude.{Some, None, Option, unwrap_or, slice_index, if◌then◌else◌, ◌==◌}
-use mathlib.Core.Option.{some, none}
+use Rattle.std.specs.Prelude.{Some, None, Option, unwrap_or, slice_index, if◌then◌else◌}
+use mathlib.Core.Option.{none}
 use mathlib.Core.Logic.{dite}
 use native.Mathlib.Decide.{ℕ_discrete}
 use prog.Atomic.{either}
-use lib.ListN.{get_elem?}
-use Rattle.atomic_table.specs.Table.{State, Me, step, Allows, keeps}
-use Rattle.atomic_table.proofs.Lists.{exchanged, set_again}
+use Rattle.atomic_table.specs.Table.{Me, step, Allows, keeps}
+use Rattle.atomic_table.proofs.Lists.{exchanged}
 use Rattle.profile.specs.Sheets.{Layout}
 use Rattle.gather_table.specs.History.{Entry, Publish, PageAt, after_history}
 use Rattle.gather_table.specs.Lanes.{lane}
@@ -47,10 +46,10 @@ page_written layout t words p i x h lt is = record {
   room = let l = length-set words p x in let r = h.room in omega arith;
   page = λ q below. dite (ℕ_discrete q p)
       (λ same. subst (λ b. slice_index (set words p x) q ≡ page_word (if b then Some (unwrap_or (t.index p) i) else t.index q)) (sym (eq-eqb q p same))
-          (subst (λ r. slice_index (set words p x) r ≡ page_word (Some (unwrap_or (t.index p) i))) (sym same) (let r = h.room in let here : p < length words = omega arith in rw get_or-set_same is)))
+      (subst (λ r. slice_index (set words p x) r ≡ page_word (Some (unwrap_or (t.index p) i))) (sym same) (let r = h.room in let here : p < length words = omega arith in rw get_or-set_same is)))
       (λ other. subst (λ b. slice_index (set words p x) q ≡ page_word (if b then Some (unwrap_or (t.index p) i) else t.index q)) (sym (ne_eqb q p other))
-          (rw get_or-set_other (h.page q below)));
-  slot = λ s k below within. let other : layout.pages + (lane layout s).word ≢ p = λ e. absurd (omega arith) in rw get_or-set_other (h.slot s k below within)
+      (rw get_or-set_other (h.page q below)));
+  slot = λ s k below within. let other : layout.pages + (lane layout s).word ≢ p = λ e. absurd (omega arith) in rw get_or-set_other (h.slot s k below within);
 }
 
 pub publish_moves : (layout : Layout) (slots id : ℕ) (me : Me Unit Sight) (p i : ℕ) → p < layout.pages → i < 2 ^ 32 → 0 < me.0.mine.share
@@ -64,9 +63,9 @@ publish_moves layout slots id me p i below fits pos s kept homes at lt =
     let same : i + 1 - 1 ≡ i = omega arith in
     let written = page_written layout t s.words p i (either (eqb n 0) (i + 1) n) k.words below (exchanged_word (t.index p) i n shown) in
     let step = adds layout s log id me.0 e (set s.words p (either (eqb n 0) (i + 1) n)) k at pos
-        (below, omega arith, ap publish_reply (index_shown (t.index p) n shown))
-        (subst (λ j. Holds layout (with_index t p j) (set s.words p (either (eqb n 0) (i + 1) n))) (sym same) written)
-        (stored_small t p (i + 1 - 1) k.small (omega arith)) in
+    (below, omega arith, ap publish_reply (index_shown (t.index p) n shown))
+    (subst (λ j. Holds layout (with_index t p j) (set s.words p (either (eqb n 0) (i + 1) n))) (sym same) written)
+    (stored_small t p (i + 1 - 1) k.small (omega arith)) in
     (added me.0 log e, keeps, tt, (log ++ e ∷ [], step.0), (refl, word_small (t.index p) n (k.small p) shown, step.1))
 
 pub unwritten : (words : List ℕ) (i : ℕ) → set words i (slice_index words i) ≡ words
@@ -83,7 +82,7 @@ find_moves layout slots id me p below pos s kept homes at lt =
     let shown = k.words.page p below in
     let e : Entry = PageAt p (index_in n) in
     let step = adds layout s log id me.0 e (set s.words p n) k at pos
-        (below, index_shown (t.index p) n shown)
-        (subst (Holds layout t) (sym (unwritten s.words p)) k.words)
-        k.small in
+    (below, index_shown (t.index p) n shown)
+    (subst (Holds layout t) (sym (unwritten s.words p)) k.words)
+    k.small in
     (added me.0 log e, keeps, tt, (log ++ e ∷ [], step.0), (refl, word_small (t.index p) n (k.small p) shown, step.1))

@@ -1,24 +1,22 @@
 -- The steps on the word of a sheet.
-use Rattle.std.proofs.Common.{◌≡◌, ◌≢◌, ◌⊎◌, ℕ, zero, suc, ◌+◌, ◌-◌, ◌*◌, ◌/◌, ◌<◌, ◌≤◌, ◌^◌, eqb, Bool, true, false, not, List, [], ◌∷◌, ◌++◌, length, set, get_or, refl, sym, ap, ◌∙◌, subst, arith, eq-eqb, ne_eqb, get_or-set_same, get_or-set_other}
+use Rattle.std.proofs.Common.{◌≡◌, ◌≢◌, ℕ, zero, suc, ◌+◌, ◌-◌, ◌/◌, ◌<◌, ◌≤◌, ◌^◌, Bool, true, List, [], ◌∷◌, ◌++◌, length, set, get_or, refl, sym, ap, ◌∙◌, subst, arith, eq-eqb, ne_eqb, get_or-set_same, get_or-set_other}
 use Rattle.std.proofs.Math.ListN.{length-set}
-use Rattle.std.specs.Prelude.{Some, None, Option, unwrap_or, slice_index, slice_index_or, slice_get, if◌then◌else◌, ◌==◌, bit_and, bit_or}
-use mathlib.Core.Option.{some, none}
+use Rattle.std.specs.Prelude.{Some, Option, slice_index, slice_get, if◌then◌else◌, bit_and, bit_or}
+use mathlib.Core.Option.{none}
 use mathlib.Core.Logic.{dite}
-use native.Mathlib.Decide.{ℕ_discrete, dec_le}
-use Rattle.std.proofs.lemmas.Nat.{pow_pos, pow_below, and_mask}
-use lib.ListN.{get_elem?}
-use Rattle.atomic_table.specs.Table.{State, Me, step, Allows, keeps}
+use native.Mathlib.Decide.{ℕ_discrete}
+use Rattle.std.proofs.lemmas.Nat.{and_mask}
+use Rattle.atomic_table.specs.Table.{Me, step, Allows, keeps}
 use Rattle.profile.specs.Sheets.{Layout}
 use Rattle.gather_table.specs.declared.answers.Reply.{Reply}
-use Rattle.gather_table.specs.declared.answers.Reply.TheVariants.{Fresh, Repeated, Completing}
-use Rattle.gather_table.specs.History.{Entry, Publish, Mark, Look, PageAt, after, after_all, after_history}
+use Rattle.gather_table.specs.History.{Entry, Mark, Look, after_history}
 use Rattle.gather_table.specs.Lanes.{lane}
 use Rattle.gather_table.specs.Plays.{calls, mark_of, look_of, lane_found}
 use Rattle.gather_table.specs.Rule.{Holds, Kept}
 use Rattle.gather_table.specs.Sight.{Sight}
-use Rattle.gather_table.specs.Table.{TableState, slots, slot_count, start, with_marked, with_mark, all_below, bits, missing, IsMarkable, mark_reply}
+use Rattle.gather_table.specs.Table.{TableState, slots, slot_count, with_marked, with_mark, bits, missing, IsMarkable}
 use Rattle.gather_table.specs.Words.{has_bit, reply_in}
-use Rattle.gather_table.proofs.Bits.{bit_or_at, bits_not, or_bits, and_bits, full_bits}
+use Rattle.gather_table.proofs.Bits.{bit_or_at, bits_not}
 use Rattle.gather_table.proofs.Histories.{markable_later, below_length}
 use Rattle.gather_table.proofs.Lanes.{inside, within, other_bit, lane_shown}
 use Rattle.gather_table.proofs.Moves.{adds}
@@ -32,7 +30,7 @@ slot_written : (layout : Layout) (t : TableState) (words : List ℕ) (s k n : �
 slot_written layout t words s k n narrow h lt in_sheet found small = record {
   room = let l = length-set words w x in let r = h.room in omega arith;
   page = λ p below. let other : p ≢ w = λ e. absurd (omega arith) in rw get_or-set_other (h.page p below);
-  slot = at
+  slot = at;
 }
   where
     w : ℕ
@@ -47,19 +45,19 @@ slot_written layout t words s k n narrow h lt in_sheet found small = record {
     at : (r j : ℕ) → r < length layout.sheets → j < slot_count layout r → has_bit (slice_index (set words w x) (layout.pages + (lane layout r).word)) ((lane layout r).first + j) ≡ (with_marked t s k).marked r j
     at r j below in_r = dite (ℕ_discrete (lane layout r).word (lane layout s).word)
         (λ (same : (lane layout r).word ≡ (lane layout s).word).
-          let room = h.room in
-          let inner = inside layout narrow s lt in
-          let inner_r = inside layout narrow r below in
-          let most = within layout narrow s lt in
-          let here : w < length words = omega arith in
-          let now : slice_index (set words w x) (layout.pages + (lane layout r).word) ≡ x = ap (λ (z : ℕ). slice_index (set words w x) (layout.pages + z)) same ∙ get_or-set_same words w x 0 here in
-          ap (λ (z : ℕ). has_bit z ((lane layout r).first + j)) now ∙ bit_or_at n bit ((lane layout r).first + j) small (omega arith) (omega arith) ∙ two same)
+        let room = h.room in
+        let inner = inside layout narrow s lt in
+        let inner_r = inside layout narrow r below in
+        let most = within layout narrow s lt in
+        let here : w < length words = omega arith in
+        let now : slice_index (set words w x) (layout.pages + (lane layout r).word) ≡ x = ap (λ (z : ℕ). slice_index (set words w x) (layout.pages + z)) same ∙ get_or-set_same words w x 0 here in
+        ap (λ (z : ℕ). has_bit z ((lane layout r).first + j)) now ∙ bit_or_at n bit ((lane layout r).first + j) small (omega arith) (omega arith) ∙ two same)
         (λ other.
-          let apart : layout.pages + (lane layout r).word ≢ w = λ e. other (omega arith) in
-          let ne : r ≢ s = λ e. other (ap (λ (z : ℕ). (lane layout z).word) e) in
-          let old = h.slot r j below in_r in
-          ap (λ (z : ℕ). has_bit z ((lane layout r).first + j)) (get_or-set_other words w (layout.pages + (lane layout r).word) x 0 apart) ∙ old
-          ∙ ap (λ (b : Bool). (if b then with_mark (t.marked s) k else t.marked r) j) (sym (ne_eqb r s ne)))
+        let apart : layout.pages + (lane layout r).word ≢ w = λ e. other (omega arith) in
+        let ne : r ≢ s = λ e. other (ap (λ (z : ℕ). (lane layout z).word) e) in
+        let old = h.slot r j below in_r in
+        ap (λ (z : ℕ). has_bit z ((lane layout r).first + j)) (get_or-set_other words w (layout.pages + (lane layout r).word) x 0 apart) ∙ old
+        ∙ ap (λ (b : Bool). (if b then with_mark (t.marked s) k else t.marked r) j) (sym (ne_eqb r s ne)))
       where
         before : (lane layout r).word ≡ (lane layout s).word → has_bit n ((lane layout r).first + j) ≡ t.marked r j
         before same = ap (λ (z : ℕ). has_bit z ((lane layout r).first + j)) (found ∙ ap (λ (z : ℕ). slice_index words (layout.pages + z)) (sym same)) ∙ h.slot r j below in_r
@@ -67,20 +65,20 @@ slot_written layout t words s k n narrow h lt in_sheet found small = record {
         two : (lane layout r).word ≡ (lane layout s).word → with_mark (has_bit n) bit ((lane layout r).first + j) ≡ (with_marked t s k).marked r j
         two same = dite (ℕ_discrete r s)
             (λ (is : r ≡ s). dite (ℕ_discrete j k)
-              (λ (both : j ≡ k).
-                let e : (lane layout r).first + j ≡ bit = λ i. (lane layout (is i)).first + both i in
-                ap (λ (b : Bool). if b then true else has_bit n ((lane layout r).first + j)) (eq-eqb ((lane layout r).first + j) bit e)
-                ∙ sym (ap (λ (b : Bool). (if b then with_mark (t.marked s) k else t.marked r) j) (eq-eqb r s is) ∙ ap (λ (b : Bool). if b then true else t.marked s j) (eq-eqb j k both)))
-              (λ ne.
-                let first : (lane layout r).first ≡ (lane layout s).first = ap (λ (z : ℕ). (lane layout z).first) is in
-                let e : (lane layout r).first + j ≢ bit = λ z. ne (omega arith) in
-                ap (λ (b : Bool). if b then true else has_bit n ((lane layout r).first + j)) (ne_eqb ((lane layout r).first + j) bit e) ∙ before same
-                ∙ ap (λ (z : ℕ). t.marked z j) is
-                ∙ sym (ap (λ (b : Bool). (if b then with_mark (t.marked s) k else t.marked r) j) (eq-eqb r s is) ∙ ap (λ (b : Bool). if b then true else t.marked s j) (ne_eqb j k ne))))
+            (λ (both : j ≡ k).
+            let e : (lane layout r).first + j ≡ bit = λ i. (lane layout (is i)).first + both i in
+            ap (λ (b : Bool). if b then true else has_bit n ((lane layout r).first + j)) (eq-eqb ((lane layout r).first + j) bit e)
+            ∙ sym (ap (λ (b : Bool). (if b then with_mark (t.marked s) k else t.marked r) j) (eq-eqb r s is) ∙ ap (λ (b : Bool). if b then true else t.marked s j) (eq-eqb j k both)))
             (λ ne.
-              let e : (lane layout r).first + j ≢ bit = other_bit layout narrow r s j k below lt in_r in_sheet ne same in
-              ap (λ (b : Bool). if b then true else has_bit n ((lane layout r).first + j)) (ne_eqb ((lane layout r).first + j) bit e) ∙ before same
-              ∙ sym (ap (λ (b : Bool). (if b then with_mark (t.marked s) k else t.marked r) j) (ne_eqb r s ne)))
+            let first : (lane layout r).first ≡ (lane layout s).first = ap (λ (z : ℕ). (lane layout z).first) is in
+            let e : (lane layout r).first + j ≢ bit = λ z. ne (omega arith) in
+            ap (λ (b : Bool). if b then true else has_bit n ((lane layout r).first + j)) (ne_eqb ((lane layout r).first + j) bit e) ∙ before same
+            ∙ ap (λ (z : ℕ). t.marked z j) is
+            ∙ sym (ap (λ (b : Bool). (if b then with_mark (t.marked s) k else t.marked r) j) (eq-eqb r s is) ∙ ap (λ (b : Bool). if b then true else t.marked s j) (ne_eqb j k ne))))
+            (λ ne.
+            let e : (lane layout r).first + j ≢ bit = other_bit layout narrow r s j k below lt in_r in_sheet ne same in
+            ap (λ (b : Bool). if b then true else has_bit n ((lane layout r).first + j)) (ne_eqb ((lane layout r).first + j) bit e) ∙ before same
+            ∙ sym (ap (λ (b : Bool). (if b then with_mark (t.marked s) k else t.marked r) j) (ne_eqb r s ne)))
 
 -- the bits of the lane are the marked slots
 shown : (layout : Layout) (t : TableState) (words : List ℕ) (s : ℕ) → Holds layout t words → s < length layout.sheets → lane_found layout s (slice_index words (layout.pages + (lane layout s).word)) ≡ bits (t.marked s) (slot_count layout s)
@@ -97,9 +95,9 @@ mark_moves layout slots id me s k narrow below pos markable st kept homes at lt 
     let in_sheet : k < slot_count layout s = below_length _ k _ there.needed in
     let e : Entry = mark_of layout s k n in
     let moved = adds layout st log id me.0 e (set st.words (layout.pages + (lane layout s).word) (bit_or n (2 ^ ((lane layout s).first + k)))) kp at pos
-        (below, there, reply_shown (t.marked s) (slot_count layout s) k (lane_found layout s n) in_sheet (shown layout t st.words s kp.words below))
-        (slot_written layout t st.words s k n narrow kp.words below in_sheet refl lt)
-        kp.small in
+    (below, there, reply_shown (t.marked s) (slot_count layout s) k (lane_found layout s n) in_sheet (shown layout t st.words s kp.words below))
+    (slot_written layout t st.words s k n narrow kp.words below in_sheet refl lt)
+    kp.small in
     (added me.0 log e, keeps, tt, (log ++ e ∷ [], moved.0), (refl, moved.1))
 
 -- the same at the operands that the code has
@@ -118,9 +116,9 @@ look_moves layout slots id me s below pos st kept homes at lt =
     let lacks : 2 ^ slot_count layout s - 1 - lane_found layout s n ≡ missing layout t s = let b = bits_not (t.marked s) (slot_count layout s) in omega arith in
     let e : Entry = look_of layout s n in
     let moved = adds layout st log id me.0 e (set st.words (layout.pages + (lane layout s).word) n) kp at pos
-        (below, lacks)
-        (subst (Holds layout t) (sym (unwritten st.words (layout.pages + (lane layout s).word))) kp.words)
-        kp.small in
+    (below, lacks)
+    (subst (Holds layout t) (sym (unwritten st.words (layout.pages + (lane layout s).word))) kp.words)
+    kp.small in
     (added me.0 log e, keeps, tt, (log ++ e ∷ [], moved.0), (refl, moved.1))
 
 pub look_moves_at : (layout : Layout) (slots id : ℕ) (me : Me Unit Sight) (s word : ℕ) (entry : ℕ → Entry) → s < length layout.sheets → 0 < me.0.mine.share → word ≡ layout.pages + (lane layout s).word → entry ≡ look_of layout s

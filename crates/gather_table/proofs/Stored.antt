@@ -1,13 +1,12 @@
 -- The one-thread table as it is stored: lists, and the state that they stand for.
 use Rattle.std.proofs.Common.{◌≡◌, ℕ, zero, suc, ◌+◌, ◌-◌, ◌*◌, ◌/◌, ◌%◌, ◌<◌, ◌≤◌, ◌^◌, Bool, false, List, [], ◌∷◌, ◌++◌, length, set, get_or, refl, sym, ap, ◌∙◌, subst, arith, eq-eqb, ne_eqb, get_or-set_same, get_or-set_other}
 use Rattle.std.specs.Prelude.{Some, None, Option, slice_index, slice_index_or, replicate, if◌then◌else◌, ◌==◌, bit_or}
-use Rattle.std.specs.Global.{Vec}
 use Rattle.profile.specs.Sheets.{Layout}
 use mathlib.Core.Logic.{dite}
 use native.Mathlib.Decide.{ℕ_discrete, dec_le}
 use Rattle.std.proofs.Math.Nat.{div-eq_of_lt}
-use Rattle.std.proofs.Math.ListN.{length-set, length-map}
-use Rattle.std.proofs.lemmas.List.{get_or_default, get_or-map, get_or-replicate, get_or_append_left, get_or_past, get_or_push, length-append, length-replicate}
+use Rattle.std.proofs.Math.ListN.{length-set}
+use Rattle.std.proofs.lemmas.List.{get_or_default, get_or-replicate, get_or_append_left, get_or_past, get_or_push, length-append, length-replicate}
 use Rattle.std.proofs.lemmas.Nat.{pow_below, mod_low}
 use Rattle.gather_table.specs.declared.answers.Reply.{Reply}
 use Rattle.gather_table.specs.Table.{slots, slot_count, start, is_blank, bits, missing, with_mark, with_marked, mark_reply, IsSound, IsMarkable}
@@ -138,9 +137,9 @@ module _ (layout : Layout) (index : List (Option ℕ)) (words : List ℕ) (old :
     pub looked : (w ≤ full) × (full - w ≡ missing old.layout (state_of old) s)
     looked = subst (λ (t : PlainView). (w ≤ full) × (full - w ≡ missing t.layout (state_of t) s)) seen
         (let made = made_of_bits (slice_index words s) (slot_count layout s) small in
-         let lacking = bits_not (has_bit (slice_index words s)) (slot_count layout s) in
-         let a = word in let b = full_here in
-         (omega arith, omega arith))
+        let lacking = bits_not (has_bit (slice_index words s)) (slot_count layout s) in
+        let a = word in let b = full_here in
+        (omega arith, omega arith))
 
     module _ (k bit : ℕ) (may : IsMarkable old.layout (state_of old) s k) (is_bit : bit ≡ 2 ^ k) where
       in_sheet : k < slot_count layout s
@@ -159,16 +158,16 @@ module _ (layout : Layout) (index : List (Option ℕ)) (words : List ℕ) (old :
         sheets = length-set words s (bit_or w bit) ∙ plain.sheets;
         marks = λ r below. dite (ℕ_discrete r s)
             (λ (same : r ≡ s). let c = plain.sheets in
-              let m = marked_below (slice_index words s) (slot_count layout s) k small in_sheet in
-              let here : slice_index (set words s (bit_or w bit)) r ≡ bit_or (slice_index words s) (2 ^ k) = ap (slice_index (set words s (bit_or w bit))) same ∙ get_or-set_same words s (bit_or w bit) 0 (omega arith) ∙ written in
-              subst (λ (z : ℕ). slice_index (set words s (bit_or w bit)) r < 2 ^ slot_count layout z) (sym same) (omega arith))
-            (λ other. let old_word = get_or-set_other words s r (bit_or w bit) 0 other in let m = plain.marks r below in omega arith)
+            let m = marked_below (slice_index words s) (slot_count layout s) k small in_sheet in
+            let here : slice_index (set words s (bit_or w bit)) r ≡ bit_or (slice_index words s) (2 ^ k) = ap (slice_index (set words s (bit_or w bit))) same ∙ get_or-set_same words s (bit_or w bit) 0 (omega arith) ∙ written in
+            subst (λ (z : ℕ). slice_index (set words s (bit_or w bit)) r < 2 ^ slot_count layout z) (sym same) (omega arith))
+            (λ other. let old_word = get_or-set_other words s r (bit_or w bit) 0 other in let m = plain.marks r below in omega arith);
       }
 
       pub state_marked : state_of (record { layout = layout; index = index; marked = set words s (bit_or w bit) }) ≡ with_marked (state_of old) s k
       state_marked = subst (λ (t : PlainView). state_of (record { layout = layout; index = index; marked = set words s (bit_or w bit) }) ≡ with_marked (state_of t) s k) seen
           (ap (λ (z : ℕ). state_of (record { layout = layout; index = index; marked = set words s z })) written
-           ∙ (λ i. record { index = λ p. slice_index_or index p None; marked = λ r j. words_marked words s (slot_count layout s) k (let c = plain.sheets in let t = there in omega arith) small in_sheet r j i }))
+          ∙ (λ i. record { index = λ p. slice_index_or index p None; marked = λ r j. words_marked words s (slot_count layout s) k (let c = plain.sheets in let t = there in omega arith) small in_sheet r j i }))
 
       pub replied : (r : Reply) → r ≡ reply_in w bit full → r ≡ mark_reply ((state_of old).marked s) (slot_count old.layout s) k
       replied r said = subst (λ (t : PlainView). r ≡ mark_reply ((state_of t).marked s) (slot_count t.layout s) k) seen

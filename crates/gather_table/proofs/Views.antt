@@ -1,11 +1,10 @@
 -- What a step tells, as clauses see it.
-use Rattle.std.proofs.Common.{◌≡◌, ℕ, ◌+◌, ◌-◌, ◌<◌, ◌≤◌, List, [], ◌∷◌, ◌++◌, length, refl, sym, ap, ◌∙◌, subst, arith}
+use Rattle.std.proofs.Common.{◌≡◌, ℕ, ◌+◌, ◌-◌, ◌<◌, [], refl, sym, ap, ◌∙◌, subst}
 use Rattle.atomic_table.specs.Seated.{TableId}
 use Rattle.atomic_table.specs.Table.{Me}
 use Rattle.profile.specs.Sheets.{Layout}
-use Rattle.histories.specs.Seats.{nothing, side_by_side, longest, levelled, merged, keeps_back, given, first_of_two, second_of_two, opening_sight, Meets, times}
+use Rattle.histories.specs.Seats.{side_by_side, longest, levelled, merged, keeps_back, given, first_of_two, second_of_two, opening_sight, Meets}
 use Rattle.histories.specs.Own.{IsHeld}
-use Rattle.histories.proofs.Totals.{total-append}
 use Rattle.histories.proofs.Own.{held_added, held_joined, held_met, held_keeps, held_given, held_opens}
 use Rattle.gather_table.specs.History.{Entry, IsLegal}
 use Rattle.gather_table.specs.Shared.{SeatView, Made, Joined, Met, opening_seat}
@@ -28,7 +27,7 @@ stands_after me new share e slots a s = record {
   no_slots = slots ∙ s.no_slots;
   one_part = ap (λ (u : Sight). u.other) a.grown ∙ s.one_part;
   share = s.share ∙ sym (ap (λ (u : Sight). u.mine.share) a.grown);
-  held = held_after me.0 new.0 e a s.held
+  held = held_after me.0 new.0 e a s.held;
 }
 
 pub made : (t t' : TableId) (v w : Sight) (e e' : Entry) (old : SeatView) → Adds v e w → Held v → t' ≡ t → e ≡ e' → seat_view t v ≡ old → Made old e' (seat_view t' w)
@@ -42,7 +41,7 @@ stands_kept me new share rest give slots is some less is_rest s = record {
   no_slots = slots ∙ s.no_slots;
   one_part = ap (λ (u : Sight). u.other) is ∙ s.one_part;
   share = is_rest ∙ ap (λ (n : ℕ). n - give) s.share ∙ sym (ap (λ (u : Sight). u.mine.share) is);
-  held = subst Held (sym is) (held_keeps (IsLegal me.0.key) me.0.mine.front me.0.mine.own me.0.mine.share give s.held some less)
+  held = subst Held (sym is) (held_keeps (IsLegal me.0.key) me.0.mine.front me.0.mine.own me.0.mine.share give s.held some less);
 }
 
 pub stands_given : (me new : Me Unit Sight) (share give : ℕ) → new.1 ≡ [] → new.0 ≡ given give me.0 → 0 < give → give < me.0.mine.share → StandsAlone me share → StandsAlone new give
@@ -50,7 +49,7 @@ stands_given me new share give slots is some less s = record {
   no_slots = slots;
   one_part = ap (λ (u : Sight). u.other) is;
   share = sym (ap (λ (u : Sight). u.mine.share) is);
-  held = subst Held (sym is) (held_given (IsLegal me.0.key) me.0.mine.front me.0.mine.own me.0.mine.share give s.held some less)
+  held = subst Held (sym is) (held_given (IsLegal me.0.key) me.0.mine.front me.0.mine.own me.0.mine.share give s.held some less);
 }
 
 -- a join
@@ -67,14 +66,14 @@ stands_joined a b new v share part sum is_v is slots m key is_sum sa sb =
       no_slots = slots;
       one_part = ap (λ (u : Sight). u.other) e;
       share = is_sum ∙ (λ i. sa.share i + sb.share i) ∙ sym (ap (λ (u : Sight). u.mine.share) e);
-      held = subst Held (sym e) (held_merged a.0 b.0 (subst Meets is_v m) key sa.held sb.held)
+      held = subst Held (sym e) (held_merged a.0 b.0 (subst Meets is_v m) key sa.held sb.held);
     }
 
 joined_base : (t tb : TableId) (v w : Sight) → Meets (side_by_side v w) → w.key ≡ v.key → Held v → Held w → Joined (seat_view t v) (seat_view tb w) (seat_view t (merged (side_by_side v w)))
 joined_base t tb v w m key hv hw = record {
   joined = refl;
   agree = record { one = m.mine; two = m.other; apart = m.apart; shares = m.shares };
-  seat = held_merged v w m key hv hw
+  seat = held_merged v w m key hv hw;
 }
 
 pub joined : (t tb t' : TableId) (v w x y : Sight) (a b : SeatView) → seat_view t v ≡ a → seat_view tb w ≡ b → x ≡ side_by_side v w → y ≡ merged x → Meets x → t' ≡ t → w.key ≡ v.key → Held v → Held w → Joined a b (seat_view t' y)
@@ -93,7 +92,7 @@ stands_first a b new x y share is_x is_y is slots m key sa hb =
       no_slots = slots;
       one_part = ap (λ (u : Sight). u.other) e;
       share = sa.share ∙ sym (ap (λ (u : Sight). u.mine.share) e);
-      held = subst Held (sym e) (held_levelled a.0 b.0 (subst Meets is_x m) key sa.held hb).0
+      held = subst Held (sym e) (held_levelled a.0 b.0 (subst Meets is_x m) key sa.held hb).0;
     }
 
 pub stands_second : (a b new : Me Unit Sight) (x y : Sight) (part : ℕ) → x ≡ side_by_side a.0 b.0 → y ≡ levelled x → new.0 ≡ second_of_two y → new.1 ≡ [] → Meets x → b.0.key ≡ a.0.key → Held a.0 → StandsAlone b part → StandsAlone new part
@@ -103,7 +102,7 @@ stands_second a b new x y part is_x is_y is slots m key ha sb =
       no_slots = slots;
       one_part = ap (λ (u : Sight). u.other) e;
       share = sb.share ∙ sym (ap (λ (u : Sight). u.mine.share) e);
-      held = subst Held (sym e) (held_levelled a.0 b.0 (subst Meets is_x m) key ha sb.held).1
+      held = subst Held (sym e) (held_levelled a.0 b.0 (subst Meets is_x m) key ha sb.held).1;
     }
 
 met_base : (t tb : TableId) (v w : Sight) → Meets (side_by_side v w) → w.key ≡ v.key → Held v → Held w
@@ -114,7 +113,7 @@ met_base t tb v w m key hv hw =
       one = refl;
       two = refl;
       agree = record { one = m.mine; two = m.other; apart = m.apart; shares = m.shares };
-      seats = (both.0, subst (λ (k : Layout). IsHeld (IsLegal k) (longest (side_by_side v w)) w.mine.own w.mine.share) (sym key) both.1)
+      seats = (both.0, subst (λ (k : Layout). IsHeld (IsLegal k) (longest (side_by_side v w)) w.mine.own w.mine.share) (sym key) both.1);
     }
 
 -- the second seat of a meeting has the layout of the first, which is its own
@@ -123,7 +122,7 @@ pub met : (t tb t' t'' : TableId) (v w x y p q : Sight) (a b : SeatView) → sea
 met t tb t' t'' v w x y p q a b is_a is_b is_x is_y is_p is_q m same same' key hv hw =
     let e : y ≡ levelled (side_by_side v w) = is_y ∙ ap levelled is_x in
     let second : record { table = tb; layout = w.key; front = longest (side_by_side v w); own = w.mine.own; share = w.mine.share } ≡ seat_view t'' q =
-        (λ i. record { table = sym same' i; layout = key i; front = longest (side_by_side v w); own = w.mine.own; share = w.mine.share }) ∙ ap (λ (u : Sight). seat_view t'' (second_of_two u)) (sym e) ∙ ap (seat_view t'') (sym is_q) in
+    (λ i. record { table = sym same' i; layout = key i; front = longest (side_by_side v w); own = w.mine.own; share = w.mine.share }) ∙ ap (λ (u : Sight). seat_view t'' (second_of_two u)) (sym e) ∙ ap (seat_view t'') (sym is_q) in
     let first : seat_view t (first_of_two (levelled (side_by_side v w))) ≡ seat_view t' p = (λ i. seat_view (sym same i) (first_of_two (sym e i))) ∙ ap (seat_view t') (sym is_p) in
     subst (λ (z : SeatView × SeatView × SeatView × SeatView). Met z.0 z.1 z.2 z.3) (λ i. (is_a i, is_b i, first i, second i)) (met_base t tb v w (subst Meets is_x m) key hv hw)
 
@@ -133,7 +132,7 @@ stands_open new layout share slots is all = record {
   no_slots = slots;
   one_part = ap (λ (u : Sight). u.other) is;
   share = all ∙ sym (ap (λ (u : Sight). u.mine.share) is);
-  held = subst Held (sym is) (held_opens (IsLegal layout) tt)
+  held = subst Held (sym is) (held_opens (IsLegal layout) tt);
 }
 
 pub view_opens : (t t' : TableId) (v : Sight) (layout key : Layout) → t ≡ t' → v ≡ opening_sight layout → key ≡ layout → seat_view t v ≡ opening_seat (record { table = t'; layout = key })

@@ -1,10 +1,7 @@
 -- What each step tells.
-use Rattle.std.specs.Prelude.{◌≡◌, ℕ, zero, suc, ◌+◌, ◌-◌, ◌^◌, ◌<◌, ◌≤◌, ◌==◌, if◌then◌else◌, List, [], ◌∷◌, ◌++◌, length, Option, Some, None, bit_and, bit_or}
-use mathlib.Core.List.{IsPrefix}
+use Rattle.std.specs.Prelude.{◌≡◌, ℕ, ◌-◌, ◌^◌, ◌≤◌}
 use Rattle.atomic_table.specs.Table.{Me, Step}
 use Rattle.profile.specs.Sheets.{Layout}
-use Rattle.gather_table.specs.declared.answers.Reply.{Reply}
-use Rattle.gather_table.specs.declared.answers.Reply.TheVariants.{Fresh, Repeated, Completing}
 use Rattle.gather_table.specs.History.{Entry, Publish, Mark, Look, PageAt}
 use Rattle.gather_table.specs.Lanes.{lane, in_lane}
 use Rattle.gather_table.specs.Rule.{Adds}

@@ -1,7 +1,5 @@
 -- The rule that holds between any two steps, and what a step tells.
-use Rattle.std.specs.Prelude.{◌≡◌, ℕ, zero, suc, ◌+◌, ◌-◌, ◌^◌, ◌<◌, ◌≤◌, ◌==◌, not, if◌then◌else◌, List, [], ◌∷◌, ◌++◌, length, Option, Some, None, slice_index}
-use mathlib.Core.Option.{some}
-use lib.ListN.{get_elem?}
+use Rattle.std.specs.Prelude.{◌≡◌, ℕ, ◌+◌, ◌^◌, ◌<◌, List, length, Option, Some, None, slice_index}
 use Rattle.atomic_table.specs.Table.{State}
 use Rattle.profile.specs.Sheets.{Layout}
 use Rattle.gather_table.specs.History.{Entry, IsLegal, after_history}

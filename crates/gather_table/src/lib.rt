@@ -20,6 +20,5 @@ pub use crate::seat::Seat;
 pub use crate::shape::Shape;
 pub use crate::table::GatherTable;
 
-
 #[cfg(test)]
 mod tests;

@@ -1,7 +1,7 @@
 //! Stands for a plan until there is one: the numbers of its pages, sheets and slots, and the page of each slot.
-ghost use Rattle.std.specs.Prelude.{◌≡◌, ◌<◌, length, Some, slice_get};
+ghost use Rattle.std.specs.Prelude.{◌≡◌, ◌<◌, length, Some, IfSome, IsTrue, slice_get};
 ghost use Rattle.gather_table.specs.Table.{IsSound, slots, slot_count};
-ghost use Rattle.gather_table.specs.Plain.{layout_of};
+ghost use Rattle.gather_table.specs.Plain.{layout_of, IsSheet};
 
 use std::marker::Model;
 
@@ -24,12 +24,37 @@ impl<'s> Model for Shape<'s> {
     ghost invariant = { λ s. IsSound (layout_of s.pages s.sheets.now) };
 }
 
+// Whether a sheet has 1 to 64 slots, each blank or with a page below this one.
+fn is_sheet(pages: u32, slots: &[Option<u32>]) -> bool
+    ensures { IsTrue result → IsSheet pages slots.now }
+{
+    if slots.is_empty() || slots.len() > 64 {
+        return false;
+    }
+    for slot in slots {
+        if let Some(page) = slot {
+            if *page >= pages {
+                return false;
+            }
+        }
+    }
+    true
+}
+
 impl<'s> Shape<'s> {
-    pub fn new(pages: u32, sheets: &'s [Vec<Option<u32>>]) -> Shape<'s>
-        requires { IsSound (layout_of pages sheets.now) }
-        ensures { result ≡ layout_of pages sheets.now }
+    /// None where a sheet hasn't 1 to 64 slots, a slot names a page that isn't there, or there are over 1,000,000 pages or sheets.
+    pub fn new(pages: u32, sheets: &'s [Vec<Option<u32>>]) -> Option<Shape<'s>>
+        ensures { IfSome result (λ shape. shape ≡ layout_of pages sheets.now) }
     {
-        Shape { pages, sheets }
+        if pages > 1_000_000 || sheets.len() > 1_000_000 {
+            return None;
+        }
+        for slots in sheets {
+            if !is_sheet(pages, slots) {
+                return None;
+            }
+        }
+        Some(Shape { pages, sheets })
     }
 
     pub fn pages(&self) -> u32

@@ -50,12 +50,10 @@ impl<'s> GatherTable<'s> {
         ensures { Made seat.old (Publish page index result) seat.new }
     {
         let word = u64::from(index) + 1;
-        let found = self.table.shared.compare_exchange::<Publishes>(
-            &mut seat.seat,
-            page as usize,
-            0,
-            word,
-        );
+        let found = self
+            .table
+            .shared
+            .compare_exchange::<Publishes>(&mut seat.seat, page as usize, 0, word);
         published_by(found)
     }
 
@@ -65,7 +63,10 @@ impl<'s> GatherTable<'s> {
         requires page { page < self.now.layout.pages }
         ensures { Made seat.old (PageAt page result) seat.new }
     {
-        let found = self.table.shared.load::<Finds>(&mut seat.seat, page as usize);
+        let found = self
+            .table
+            .shared
+            .load::<Finds>(&mut seat.seat, page as usize);
         index_by(found)
     }
 
@@ -90,7 +91,10 @@ impl<'s> GatherTable<'s> {
         let full = self.full[sheet as usize];
         let word = self.pages + lane.word as usize;
         let place = u32::from(lane.first) + u32::from(slot);
-        let found = self.table.shared.fetch_or::<Calls<E>>(&mut seat.seat, word, 1u64 << place);
+        let found = self
+            .table
+            .shared
+            .fetch_or::<Calls<E>>(&mut seat.seat, word, 1u64 << place);
         reply_by((found >> lane.first) & full, 1u64 << slot, full)
     }
 

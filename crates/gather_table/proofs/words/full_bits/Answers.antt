@@ -1,4 +1,4 @@
-use Rattle.std.proofs.Common.{arith, length, ◌≡◌, ◌+◌, ◌-◌, ◌*◌, ◌/◌, ◌^◌, ◌<◌, ◌≤◌, ℕ, ap, sym, ◌∙◌, add-mul, le-div_iff_mul-le}
+use Rattle.std.proofs.Common.{arith, ◌≡◌, ◌+◌, ◌-◌, ◌*◌, ◌/◌, ◌^◌, ◌<◌, ◌≤◌, ℕ, ap, sym, ◌∙◌, add-mul, le-div_iff_mul-le}
 use Rattle.std.proofs.Math.Nat.{div-lt_iff_lt-mul}
 use Rattle.std.proofs.lemmas.Nat.{pow-add, pow_pos}
 use Rattle.gather_table.proofs.words.full_bits.Goals as goal

@@ -1,5 +1,5 @@
-use Rattle.std.proofs.Common.{rules, arith, ◌≡◌, ◌≤◌, replicate, ap, ◌∙◌}
-use Rattle.std.specs.Prelude.{Option, None}
+use Rattle.std.proofs.Common.{rules, arith, replicate, ap, ◌∙◌}
+use Rattle.std.specs.Prelude.{None}
 use Rattle.gather_table.proofs.Stored.{plain_made, state_made}
 use Rattle.gather_table.proofs.plain.PlainTable.new.Goals as goal
 

@@ -1,7 +1,6 @@
-use Rattle.std.proofs.Common.{arith, rules, ◌≡◌, ◌<◌, ◌≤◌, ◌∙◌, length, List, [], ℕ, sym, ap, subst}
+use Rattle.std.proofs.Common.{arith, rules, ◌<◌, ◌≤◌, length, [], sym, ap, subst}
 use Rattle.profile.specs.Sheets.{Layout}
 use Rattle.gather_table.specs.Plain.{layout_of}
-use Rattle.gather_table.specs.Table.{slot_count}
 use Rattle.std.proofs.lemmas.List.{get_or-map}
 use Rattle.std.proofs.Math.ListN.{length-map}
 use Rattle.gather_table.proofs.shape.Shape.slots.Goals as goal

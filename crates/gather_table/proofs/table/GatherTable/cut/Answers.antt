@@ -1,4 +1,4 @@
-use Rattle.std.proofs.Common.{rules, refl, arith, sym, ap, ◌∙◌, subst, ◌≡◌, ◌<◌}
+use Rattle.std.proofs.Common.{refl, arith, sym, ap, ◌∙◌}
 use Rattle.gather_table.proofs.Laying.{some_word}
 use Rattle.gather_table.proofs.Seats.{splits}
 use Rattle.histories.specs.Seats.{keeps_back, given}

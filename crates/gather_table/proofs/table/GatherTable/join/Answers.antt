@@ -1,4 +1,4 @@
-use Rattle.std.proofs.Common.{rules, refl, arith, sym, ap, ◌∙◌, subst, ◌≡◌, ◌<◌}
+use Rattle.std.proofs.Common.{refl, sym, ap, ◌∙◌, subst, ◌<◌}
 use Rattle.gather_table.specs.Sight.{Sight}
 use Rattle.gather_table.proofs.Laying.{some_word}
 use Rattle.gather_table.proofs.Seats.{joins, merges_moves}

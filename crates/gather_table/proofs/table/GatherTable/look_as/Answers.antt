@@ -1,4 +1,4 @@
-use Rattle.std.proofs.Common.{rules, arith, sym, ap, ◌∙◌, subst, ◌≡◌, ◌<◌, ◌≤◌, ◌+◌, ◌*◌, ◌%◌, ◌^◌, length}
+use Rattle.std.proofs.Common.{arith, sym, ap, ◌∙◌, subst, ◌≡◌, ◌<◌, length}
 use Rattle.profile.specs.Sheets.{Layout}
 use Rattle.gather_table.specs.declared.lane.Lane.{Lane}
 use Rattle.gather_table.specs.Lanes.{lane}
@@ -31,7 +31,7 @@ returns g c =
     let full = c.index-full.ensures ∙ any_default c.self.inside.full.items c.args.sheet c.index-full.result.now 0 (omega arith) ∙ c.self.invariant.full c.args.sheet below in
     made _ _ _ _ _ _ _ c.load-found.ensures.2.1 c.seat.invariant.held c.load-found.ensures.0
     (ap (λ (f : _). f c.load-found.result) (c.requires.entry ∙ ap (λ (p : Layout). look_of p c.args.sheet) (sym same))
-      ∙ look_told layout c.args.sheet c.load-found.result c.index-full.result.now c.index-lane.result.now.first (ap (λ (l : Lane). l.first) is) full)
+    ∙ look_told layout c.args.sheet c.load-found.result c.index-full.result.now c.index-lane.result.now.first (ap (λ (l : Lane). l.first) is) full)
     c.seat.view_is
 
 pub invariant_of-seat : goal.invariant_of-seat

@@ -1,4 +1,4 @@
-use Rattle.std.proofs.Common.{rules, arith, sym, ap, ◌∙◌, subst, ◌≡◌, ◌<◌, ◌≤◌, ◌+◌, ◌*◌, ◌%◌, ◌^◌, length}
+use Rattle.std.proofs.Common.{arith, sym, ap, ◌∙◌, subst, ◌≡◌, ◌<◌, ◌+◌, ◌^◌, length}
 use Rattle.std.proofs.lemmas.Nat.{one_shl}
 use Rattle.profile.specs.Sheets.{Layout}
 use Rattle.gather_table.specs.declared.lane.Lane.{Lane}
@@ -19,8 +19,8 @@ fetch_or-found-requires g c =
     let layout = c.self.inside.table.shared.key in
     let below : c.args.sheet < length layout.sheets = subst (λ p. c.args.sheet < length p.sheets) (sym same) c.requires.sheet in
     let markable : IsMarkable layout (after_history layout c.seat.inside.seat.me.0.mine.front) c.args.sheet c.args.slot =
-        subst (λ (f : _). IsMarkable layout (after_history layout f) c.args.sheet c.args.slot) (sym (ap (λ t. t.front) c.seat.view_is))
-        (subst (λ (p : Layout). IsMarkable p (after_history p c.args.seat.now.front) c.args.sheet c.args.slot) (sym same) c.requires.slot) in
+    subst (λ (f : _). IsMarkable layout (after_history layout f) c.args.sheet c.args.slot) (sym (ap (λ t. t.front) c.seat.view_is))
+    (subst (λ (p : Layout). IsMarkable p (after_history p c.args.seat.now.front) c.args.sheet c.args.slot) (sym same) c.requires.slot) in
     let in_sheet : c.args.slot < slot_count layout c.args.sheet = below_length _ c.args.slot _ markable.needed in
     let inner = inside layout c.self.invariant.sound.narrow c.args.sheet below in
     let most = within layout c.self.invariant.sound.narrow c.args.sheet below in
@@ -31,10 +31,13 @@ fetch_or-found-requires g c =
     let first = ap (λ (l : Lane). l.first) is in
     let one = c.from.ensures in
     let two = c.from-2.ensures in
-    let place : c.from.result + c.from-2.result ≡ (lane layout c.args.sheet).first + c.args.slot = omega arith in
-    (ours, omega arith, mark_moves_at _ _ _ _ _ c.args.slot _ _ _ c.self.invariant.sound.narrow below c.seat.invariant.held.some_share markable (omega arith)
-      (one_shl (c.from.result + c.from-2.result) 64 (omega arith) ∙ ap (λ (k : _). 2 ^ k) place)
-      (c.requires.entry ∙ ap (λ (p : Layout). mark_of p c.args.sheet c.args.slot) (sym same)))
+    let place : c.from.result + c.from-2.result ≡ (lane layout c.args.sheet).first + c.args.slot = omega arith in (
+      ours,
+      omega arith,
+      mark_moves_at _ _ _ _ _ c.args.slot _ _ _ c.self.invariant.sound.narrow below c.seat.invariant.held.some_share markable (omega arith)
+          (one_shl (c.from.result + c.from-2.result) 64 (omega arith) ∙ ap (λ (k : _). 2 ^ k) place)
+          (c.requires.entry ∙ ap (λ (p : Layout). mark_of p c.args.sheet c.args.slot) (sym same)),
+    )
 
 pub overflow_shl-slot : goal.overflow_shl-slot
 overflow_shl-slot g c = slot_narrow _ _ c.args.sheet c.args.slot _ (ap (λ t. t.layout) c.self.view_is) c.self.invariant.sound.narrow c.requires.sheet c.requires.slot.needed
@@ -50,7 +53,7 @@ returns g c =
     let full = c.index-full.ensures ∙ any_default c.self.inside.full.items c.args.sheet c.index-full.result.now 0 (omega arith) ∙ c.self.invariant.full c.args.sheet below in
     made _ _ _ _ _ _ _ c.fetch_or-found.ensures.2.1 c.seat.invariant.held c.fetch_or-found.ensures.0
     (ap (λ (f : _). f c.fetch_or-found.result) (c.requires.entry ∙ ap (λ (p : Layout). mark_of p c.args.sheet c.args.slot) (sym same))
-      ∙ mark_told layout c.args.sheet c.args.slot c.fetch_or-found.result _ c.index-full.result.now c.index-lane.result.now.first c.reply_by.result (ap (λ (l : Lane). l.first) is) full (one_shl c.args.slot 64 narrow) c.reply_by.ensures)
+    ∙ mark_told layout c.args.sheet c.args.slot c.fetch_or-found.result _ c.index-full.result.now c.index-lane.result.now.first c.reply_by.result (ap (λ (l : Lane). l.first) is) full (one_shl c.args.slot 64 narrow) c.reply_by.ensures)
     c.seat.view_is
 
 pub invariant_of-seat : goal.invariant_of-seat

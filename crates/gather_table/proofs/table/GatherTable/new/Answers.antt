@@ -1,10 +1,10 @@
-use Rattle.std.proofs.Common.{arith, rules, ◌≡◌, ◌<◌, ◌≤◌, ◌+◌, ◌-◌, ◌*◌, ◌%◌, ◌^◌, List, [], length, map, ℕ, suc, refl, sym, ap, ◌∙◌, subst}
-use Rattle.std.specs.Prelude.{Option, slice_index, slice_set}
+use Rattle.std.proofs.Common.{arith, rules, ◌≡◌, ◌<◌, ◌+◌, ◌-◌, ◌*◌, ◌%◌, ◌^◌, List, length, ℕ, suc, refl, sym, ap, ◌∙◌, subst}
+use Rattle.std.specs.Prelude.{slice_index, slice_set}
 use Rattle.profile.specs.Sheets.{Layout}
 use Rattle.gather_table.specs.declared.lane.Lane.{Lane}
 use Rattle.gather_table.specs.Counts.{KeepsCounts}
-use Rattle.gather_table.specs.Lanes.{lane, free, behind}
-use Rattle.gather_table.specs.Table.{slots, slot_count, is_blank, bits}
+use Rattle.gather_table.specs.Lanes.{free, behind}
+use Rattle.gather_table.specs.Table.{slots, slot_count, is_blank}
 use Rattle.gather_table.proofs.Bits.{bits_lt}
 use Rattle.gather_table.proofs.Lanes.{inside, free_inside}
 use Rattle.gather_table.proofs.Laying.{Laid, laid_fitted, laid_more, opens, all_laid, counts_kept, word_below, sum_fits}
@@ -69,10 +69,11 @@ loop-sheet-preserved c =
     let m = c.full_bits.ensures ∙ ap (λ (k : ℕ). 2 ^ k - 1) count in
     let more = laid_more layout at c.fit.new.words.items c.loop-sheet.full.items c.loop-sheet.lanes.items c.in_ok-next.next c.blank_bits.result c.full_bits.result x sound lt f.0 f.1 b m is_x in
     let next : record { word = c.in_ok-next.next.word; first = c.in_ok-next.next.first + c.slots-slots.result } ≡ behind c.in_ok-next.next (slot_count layout at) = ap (λ (k : ℕ). behind c.in_ok-next.next k) count in
-    let one : suc at ≡ at + 1 = omega arith in
-    (subst (λ (z : List ℕ × List ℕ × List Lane × Lane). Laid layout (at + 1) z.0 z.1 z.2 z.3)
-      (λ i. (slice_set c.fit.new.words.items (sym pages i + c.in_ok-next.next.word) x, sym c.in_ok-push.ensures.items i, sym c.in_ok-push-2.ensures.items i, sym next i)) more,
-     next ∙ ap (λ (z : Lane). behind z (slot_count layout at)) f.1 ∙ ap (λ (k : ℕ). free layout k) one)
+    let one : suc at ≡ at + 1 = omega arith in (
+      subst (λ (z : List ℕ × List ℕ × List Lane × Lane). Laid layout (at + 1) z.0 z.1 z.2 z.3)
+          (λ i. (slice_set c.fit.new.words.items (sym pages i + c.in_ok-next.next.word) x, sym c.in_ok-push.ensures.items i, sym c.in_ok-push-2.ensures.items i, sym next i)) more,
+      next ∙ ap (λ (z : Lane). behind z (slot_count layout at)) f.1 ∙ ap (λ (k : ℕ). free layout k) one,
+    )
 
 pub of_words-requires : goal.of_words-requires
 of_words-requires c =

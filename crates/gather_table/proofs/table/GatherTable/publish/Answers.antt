@@ -1,4 +1,4 @@
-use Rattle.std.proofs.Common.{rules, arith, sym, ap, ◌∙◌, subst, ◌≡◌, ◌<◌, ◌+◌, ◌-◌}
+use Rattle.std.proofs.Common.{arith, sym, ap, ◌∙◌, subst, ◌≡◌, ◌<◌, ◌+◌, ◌-◌}
 use Rattle.gather_table.specs.History.{Publish}
 use Rattle.gather_table.proofs.Views.{made, stands_after}
 use Rattle.gather_table.proofs.Pages.{publish_moves}
