@@ -37,7 +37,8 @@ reports_of frame s us plan report n text count plan_is pages_are sheets_are born
       sheet_count = sheets_are ∙ ap (λ p. length p.sheets) planned_is;
       born_blank = born_are ∙ ap (λ p. length (born_complete (layout p))) planned_is;
       swept_within = omega (arith, none);
-      byte_count = bytes_are ∙ ap (λ t. length t) text_is }
+      byte_count = bytes_are ∙ ap (λ t. length t) text_is;
+    }
 
 -- a row that keeps some of n entries has at most n
 kept_few : {X : Type 0} (p : X → Bool) (xs : List X) → length (filter p xs) ≤ length xs
@@ -66,8 +67,13 @@ made_is r spec spec' us us' plan plan' n job text report spec_is us_is plan_is o
     let accepted_here : plan_of spec n ≡ Ok (sheets spec n) = subst (λ s. plan_of s n ≡ Ok (sheets s n)) spec_is accepted in
     let text_here : text ≡ output_of (record { plan = plan; units = us; frame = frame_of r.options }) =
     text_is ∙ ap output_of (job_is ∙ ap (λ p. record { plan = p; units = us'; frame = frame_of r.options }) plan_is ∙ ap (λ u. record { plan = plan; units = u; frame = frame_of r.options }) us_is) in
-    let defined : text ≡ output (frame_of r.options) spec us = output_is_defined (frame_of r.options) spec us plan n text counted plan_here text_here in
-    (spec, us, accepted_of r spec us n options takes document counted accepted_here,
-    (defined,
-    reports_of (frame_of r.options) spec us plan report n text counted plan_here (pages_are ∙ ap (λ p. p.pages) plan_is) (sheets_are ∙ ap (λ p. length p.sheets) plan_is)
-    (born_are ∙ ap (λ p. length (born_complete (layout p))) plan_is) none bytes_are defined))
+    let defined : text ≡ output (frame_of r.options) spec us = output_is_defined (frame_of r.options) spec us plan n text counted plan_here text_here in (
+      spec,
+      us,
+      accepted_of r spec us n options takes document counted accepted_here,
+      (
+        defined,
+        reports_of (frame_of r.options) spec us plan report n text counted plan_here (pages_are ∙ ap (λ p. p.pages) plan_is) (sheets_are ∙ ap (λ p. length p.sheets) plan_is)
+            (born_are ∙ ap (λ p. length (born_complete (layout p))) plan_is) none bytes_are defined,
+      ),
+    )

@@ -57,7 +57,7 @@ slot_more slots it text front k at =
     let next : suc k ≡ k + 1 = omega arith in
     flat_map_more text front (take k slots) it
     ∙ ap (λ xs. front ++ flat_map text xs)
-        (ap (λ x. take k slots ++ x ∷ []) (sym (get_or_from_slice_get slots k it it at)) ∙ sym (take-suc slots k it within) ∙ ap (λ n. take n slots) next)
+    (ap (λ x. take k slots ++ x ∷ []) (sym (get_or_from_slice_get slots k it it at)) ∙ sym (take-suc slots k it within) ∙ ap (λ n. take n slots) next)
 
 -- all slots
 pub slots_done : (job : JobView) (s k : ℕ) → k ≡ length (pages_on job.plan s) → slots_text job (take k (slots_of job s)) ≡ slots_text job (slots_of job s)

@@ -31,7 +31,12 @@ impl<'j, 'd> Model for Job<'j, 'd> {
 
 impl<'j, 'd> Job<'j, 'd> {
     /// The plan is one of the document's pages.
-    pub fn new(plan: &'j Plan<'j>, document: &'j Document<'d>, paper: Paper, border: Option<Grains>) -> Self
+    pub fn new(
+        plan: &'j Plan<'j>,
+        document: &'j Document<'d>,
+        paper: Paper,
+        border: Option<Grains>,
+    ) -> Self
         requires same_pages { plan.now.pages ≡ length (pages document.now) }
         requires border { IsTrue (is_border border) }
         ensures { result ≡ record { plan = plan.now; units = document.now; frame = record { paper = paper; border = border } } }

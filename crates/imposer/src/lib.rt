@@ -9,6 +9,8 @@ mod output;
 mod runs;
 mod sheet;
 mod sink;
+#[cfg(test)]
+mod tests;
 
 pub use gate::{Gate, Open, Step};
 pub use job::Job;

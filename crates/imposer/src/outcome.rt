@@ -1,7 +1,7 @@
 //! What a run answers.
+use dsc::DscError;
 use pagespec::SpecError;
 use sheet_plan::PlanError;
-use dsc::DscError;
 use std::alloc::AllocError;
 use thiserror::Error;
 

@@ -2,10 +2,9 @@
 ghost use Rattle.std.specs.Prelude.{◌≡◌, IfOk};
 ghost use Rattle.imposer.specs.Jobs.{output_of};
 
-use std::alloc::{AllocError, Global};
-
 use crate::job::Job;
 use crate::sheet::append_sheet;
+use std::alloc::{AllocError, Global};
 
 /// The header with the number of sheets, the sheets in order, the trailer.
 pub(crate) fn output_text(alloc: Global, job: &Job<'_, '_>) -> Result<Vec<u8>, AllocError>

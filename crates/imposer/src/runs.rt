@@ -4,17 +4,16 @@ ghost use Rattle.std.specs.Io.KnownBytes.{Appends};
 ghost use Rattle.profile.specs.Output.{output};
 ghost use Rattle.imposer.specs.Runs.{request, frame_of, Accepted, IsRefusal, HasWritten, Reports, failures_of, IsUnwritten};
 
-use dsc::Document;
-use pagespec::read_spec;
-use sheet_plan::Plan;
-use std::alloc::Global;
-
 use crate::gate::Gate;
 use crate::job::Job;
 use crate::options::{Options, are_valid};
 use crate::outcome::{Report, RunError};
 use crate::output::output_text;
 use crate::sink::{Sink, write_all};
+use dsc::Document;
+use pagespec::read_spec;
+use sheet_plan::Plan;
+use std::alloc::Global;
 
 /// Reads the specification and the document, and hands the sink the sheets.
 ///

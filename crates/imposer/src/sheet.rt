@@ -8,12 +8,11 @@ ghost use Rattle.profile.specs.Output.{slot_text, opening_text as opening, closi
 ghost use Rattle.sheet_plan.specs.Plans.{pages_on};
 ghost use Rattle.imposer.specs.Jobs.{slots_of, slots_text, text_of};
 
+use crate::job::Job;
 use dsc::{DscError, prepare};
 use itoa::Buffer;
 use placement::{closing_text, opening_text};
 use std::alloc::{AllocError, Global};
-
-use crate::job::Job;
 
 /// The text of a sheet, counted from 0: its page line, each slot's page in order, placed on the sheet, and one `showpage`.
 /// The bodies are prepared anew from the document.
@@ -27,7 +26,12 @@ pub fn sheet_text(alloc: Global, job: &Job<'_, '_>, sheet: u32) -> Result<Vec<u8
 }
 
 /// Appends the text of a sheet.
-pub(crate) fn append_sheet(alloc: Global, text: &mut Vec<u8>, job: &Job<'_, '_>, sheet: u32) -> Result<(), AllocError>
+pub(crate) fn append_sheet(
+    alloc: Global,
+    text: &mut Vec<u8>,
+    job: &Job<'_, '_>,
+    sheet: u32,
+) -> Result<(), AllocError>
     requires { sheet < length job.now.plan.sheets }
     ensures { OnOk result (text.new.items ≡ text.old.items ++ text_of job.now sheet) }
 {
@@ -52,7 +56,12 @@ fn append_page_line(text: &mut Vec<u8>, sheet: u32) -> Result<(), AllocError>
 }
 
 /// Appends the texts of all slots of a sheet, in order.
-fn append_slots(alloc: Global, text: &mut Vec<u8>, job: &Job<'_, '_>, sheet: u32) -> Result<(), AllocError>
+fn append_slots(
+    alloc: Global,
+    text: &mut Vec<u8>,
+    job: &Job<'_, '_>,
+    sheet: u32,
+) -> Result<(), AllocError>
     requires { sheet < length job.now.plan.sheets }
     ensures { OnOk result (text.new.items ≡ text.old.items ++ slots_text job.now (slots_of job.now sheet)) }
 {

@@ -1,0 +1,288 @@
+//! Runs on small documents, and sinks that fail.
+use crate::{Job, MemorySink, Open, Options, Report, RunError, Sink, Workers, run, sheet_text};
+use dsc::Document;
+use lengths::{Grains, Paper, paper_by_name};
+use pagespec::{SpecError, read_spec};
+use sheet_plan::Plan;
+use std::process::Abort;
+use std::test::Fail;
+
+/// One page.
+const ONE_PAGE: &str =
+    "%!PS-Adobe-3.0\n%%Pages: 1\n%%EndComments\n%%Page: 1 1\n(0) pop\nshowpage\n%%Trailer\n%%EOF\n";
+
+/// Five pages.
+const FIVE_PAGES: &str =
+    "%!PS-Adobe-3.0\n%%Pages: 5\n%%EndComments\n%%Page: 1 1\n(0) pop\nshowpage\n%%Page: 2 2\n(1) pop\nshowpage\n%%Page: 3 3\n(2) pop\nshowpage\n%%Page: 4 4\n(3) pop\nshowpage\n%%Page: 5 5\n(4) pop\nshowpage\n%%Trailer\n%%EOF\n";
+
+/// The one page on one sheet.
+const ONE_SHEET: &str =
+    "%!PS-Adobe-3.0\n%%Pages: 1\n%%EndComments\n%%Page: 1 1\nuserdict /ImposeSave save put\nuserdict /showpage {} put\n[1 0 0 1 0 0] concat\nnewpath 0 0 moveto 595 0 lineto 595 842 lineto 0 842 lineto closepath clip newpath\n(0) pop\nshowpage\nImposeSave restore\nshowpage\n%%Trailer\n%%EOF\n";
+
+/// The second page of a block of two, of a document with one page.
+const BLANK_SHEET: &str =
+    "%!PS-Adobe-3.0\n%%Pages: 1\n%%EndComments\n%%Page: 1 1\nshowpage\n%%Trailer\n%%EOF\n";
+
+/// Two pages.
+const TWO_PAGES: &str =
+    "%!PS-Adobe-3.0\n%%Pages: 2\n%%EndComments\n%%Page: 1 1\n(0) pop\nshowpage\n%%Page: 2 2\n(1) pop\nshowpage\n%%Trailer\n%%EOF\n";
+
+/// Two pages on one sheet, turned to the left.
+const TWO_UP: &str = "2:0L@.7(21cm,0)+1L@.7(21cm,14.85cm)";
+
+/// What that gives.
+const TURNED_PAIR: &str =
+    "%!PS-Adobe-3.0\n%%Pages: 1\n%%EndComments\n%%Page: 1 1\nuserdict /ImposeSave save put\nuserdict /showpage {} put\n[0 0.7 -0.7 0 595.27559 0] concat\nnewpath 0 0 moveto 595 0 lineto 595 842 lineto 0 842 lineto closepath clip newpath\n(0) pop\nshowpage\nImposeSave restore\nuserdict /ImposeSave save put\nuserdict /showpage {} put\n[0 0.7 -0.7 0 595.27559 420.94488] concat\nnewpath 0 0 moveto 595 0 lineto 595 842 lineto 0 842 lineto closepath clip newpath\n(1) pop\nshowpage\nImposeSave restore\nshowpage\n%%Trailer\n%%EOF\n";
+
+fn a4(rt: &impl Abort) -> Paper {
+    paper_by_name("a4").expect(rt, "a4 is a paper")
+}
+
+fn workers(rt: &impl Abort, preparers: u32, imposers: u32) -> Options {
+    Options {
+        paper: a4(rt),
+        border: None,
+        workers: Workers {
+            preparers,
+            imposers,
+        },
+    }
+}
+
+fn bordered(rt: &impl Abort, border: i128) -> Options {
+    Options {
+        paper: a4(rt),
+        border: Grains::new(border),
+        workers: Workers {
+            preparers: 1,
+            imposers: 1,
+        },
+    }
+}
+
+#[test]
+fn two_pages_turned_to_the_left(rt: HostRuntime) -> Result<(), Fail> {
+    let mut sink = MemorySink::new(rt.alloc(), 1_000, 1_000, 100)?;
+    let report = run(
+        rt.alloc(),
+        TWO_PAGES.as_bytes(),
+        TWO_UP,
+        &workers(&rt, 1, 1),
+        &Open {},
+        &mut sink,
+    )?;
+    assert_eq!(rt; sink.bytes(), TURNED_PAIR.as_bytes());
+    assert_eq!(rt;
+        report,
+        Report {
+            pages: 2,
+            sheets: 1,
+            born: 0,
+            swept: 0,
+            bytes: 503
+        }
+    );
+    Ok(())
+}
+
+#[test]
+fn selections_have_their_lengths(rt: HostRuntime) -> Result<(), Fail> {
+    let point = 127_000_000_000;
+    let cases = [
+        (FIVE_PAGES, "2:-0", workers(&rt, 1, 1), 707u64, 3u32),
+        (ONE_PAGE, "0+0", workers(&rt, 1, 1), 469, 1),
+        (ONE_PAGE, "0", bordered(&rt, point), 380, 1),
+    ];
+    for (document, spec, options, bytes, sheets) in cases {
+        let mut sink = MemorySink::new(rt.alloc(), 2_000, 2_000, 100)?;
+        let report = run(
+            rt.alloc(),
+            document.as_bytes(),
+            spec,
+            &options,
+            &Open {},
+            &mut sink,
+        )?;
+        assert_eq!(rt; report.bytes, bytes, "{spec}");
+        assert_eq!(rt; report.sheets, sheets, "{spec}");
+    }
+    Ok(())
+}
+
+#[test]
+fn a_sheet_alone(rt: HostRuntime) -> Result<(), Fail> {
+    let spec = read_spec(rt.alloc(), "0")?;
+    let document = Document::read(rt.alloc(), ONE_PAGE.as_bytes())?;
+    if document.pages() != 1 {
+        panic!(rt; "one page is read as {}", document.pages());
+    }
+    let plan = Plan::new(rt.alloc(), &spec, document.pages())?;
+    if plan.sheets() != 1 {
+        panic!(rt; "one page stands on {} sheets", plan.sheets());
+    }
+    let job = Job::new(&plan, &document, a4(&rt), None);
+    let text = sheet_text(rt.alloc(), &job, 0)?;
+    let (_, behind) = ONE_SHEET.as_bytes().split_at(40);
+    assert!(rt; behind.starts_with(text.as_slice()));
+    assert_eq!(rt; text.len(), 273 - 40 - 16);
+    Ok(())
+}
+
+#[test]
+fn a_border_is_wider_than_nothing(rt: HostRuntime) -> Result<(), Fail> {
+    for border in [0, -1] {
+        let mut sink = MemorySink::new(rt.alloc(), 1_000, 1_000, 100)?;
+        let answer = run(
+            rt.alloc(),
+            ONE_PAGE.as_bytes(),
+            "0",
+            &bordered(&rt, border),
+            &Open {},
+            &mut sink,
+        );
+        assert!(rt; matches!(answer, Err(RunError::Options)));
+    }
+    Ok(())
+}
+
+#[test]
+fn one_page_is_copied(rt: HostRuntime) -> Result<(), Fail> {
+    let mut sink = MemorySink::new(rt.alloc(), 1_000, 1_000, 100)?;
+    let report = run(
+        rt.alloc(),
+        ONE_PAGE.as_bytes(),
+        "0",
+        &workers(&rt, 1, 1),
+        &Open {},
+        &mut sink,
+    )?;
+    assert_eq!(rt; sink.bytes(), ONE_SHEET.as_bytes());
+    assert_eq!(rt;
+        report,
+        Report {
+            pages: 1,
+            sheets: 1,
+            born: 0,
+            swept: 0,
+            bytes: 273
+        }
+    );
+    Ok(())
+}
+
+#[test]
+fn a_sheet_without_pages(rt: HostRuntime) -> Result<(), Fail> {
+    let mut sink = MemorySink::new(rt.alloc(), 1_000, 1_000, 100)?;
+    let report = run(
+        rt.alloc(),
+        ONE_PAGE.as_bytes(),
+        "2:1",
+        &workers(&rt, 16, 16),
+        &Open {},
+        &mut sink,
+    )?;
+    assert_eq!(rt; sink.bytes(), BLANK_SHEET.as_bytes());
+    assert_eq!(rt;
+        report,
+        Report {
+            pages: 1,
+            sheets: 1,
+            born: 1,
+            swept: 0,
+            bytes: 77
+        }
+    );
+    Ok(())
+}
+
+#[test]
+fn five_pages_in_blocks_of_four(rt: HostRuntime) -> Result<(), Fail> {
+    let mut sink = MemorySink::new(rt.alloc(), 2_000, 2_000, 100)?;
+    let report = run(
+        rt.alloc(),
+        FIVE_PAGES.as_bytes(),
+        "4:0,1,2,3",
+        &workers(&rt, 2, 3),
+        &Open {},
+        &mut sink,
+    )?;
+    assert_eq!(rt;
+        report,
+        Report {
+            pages: 5,
+            sheets: 8,
+            born: 3,
+            swept: 0,
+            bytes: 1_204
+        }
+    );
+    let last =
+        "%%Page: 6 6\nshowpage\n%%Page: 7 7\nshowpage\n%%Page: 8 8\nshowpage\n%%Trailer\n%%EOF\n";
+    assert!(rt; sink.bytes().ends_with(last.as_bytes()));
+    Ok(())
+}
+
+#[test]
+fn a_sink_that_fails_has_the_first_bytes(rt: HostRuntime) -> Result<(), Fail> {
+    for room in 0..273usize {
+        let mut sink = MemorySink::new(rt.alloc(), room, 1_000, 1_000)?;
+        let answer = run(
+            rt.alloc(),
+            ONE_PAGE.as_bytes(),
+            "0",
+            &workers(&rt, 1, 1),
+            &Open {},
+            &mut sink,
+        );
+        let Err(RunError::Write { written }) = answer else {
+            panic!(rt; "room for {room} bytes is enough");
+        };
+        assert_eq!(rt; written, room as u64);
+        let (first, _) = ONE_SHEET.as_bytes().split_at(room);
+        assert_eq!(rt; sink.bytes(), first);
+    }
+    Ok(())
+}
+
+#[test]
+fn a_sink_that_takes_one_byte_a_call(rt: HostRuntime) -> Result<(), Fail> {
+    let mut sink = MemorySink::new(rt.alloc(), 273, 1, 273)?;
+    let report = run(
+        rt.alloc(),
+        ONE_PAGE.as_bytes(),
+        "0",
+        &workers(&rt, 1, 1),
+        &Open {},
+        &mut sink,
+    )?;
+    assert_eq!(rt; report.bytes, 273);
+    assert_eq!(rt; sink.bytes(), ONE_SHEET.as_bytes());
+    assert!(rt; sink.accept(b"x").is_err());
+    Ok(())
+}
+
+#[test]
+fn options_are_checked_first_and_then_the_specification(rt: HostRuntime) -> Result<(), Fail> {
+    for options in [
+        workers(&rt, 0, 1),
+        workers(&rt, 1, 0),
+        workers(&rt, 1, 17),
+        workers(&rt, 17, 1),
+    ] {
+        let mut sink = MemorySink::new(rt.alloc(), 1_000, 1_000, 100)?;
+        let answer = run(rt.alloc(), b"", "x", &options, &Open {}, &mut sink);
+        assert!(rt; matches!(answer, Err(RunError::Options)));
+        assert!(rt; sink.bytes().is_empty());
+    }
+    let mut sink = MemorySink::new(rt.alloc(), 1_000, 1_000, 100)?;
+    let answer = run(
+        rt.alloc(),
+        b"",
+        "x",
+        &workers(&rt, 1, 1),
+        &Open {},
+        &mut sink,
+    );
+    assert!(rt; matches!(answer, Err(RunError::Spec(SpecError::Syntax(_)))));
+    Ok(())
+}
