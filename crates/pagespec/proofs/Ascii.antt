@@ -1,7 +1,7 @@
 -- Canonical texts are ASCII.
-use Rattle.std.proofs.Common.{arith, rules, ◌≡◌, ◌⊎◌, inl, inr, ℕ, zero, suc, ◌+◌, ◌/◌, ◌^◌, ◌<◌, ◌≤◌, List, [], ◌∷◌, ◌++◌, Bool, true, false, None, refl, sym, ap, subst, ◌∙◌}
-use Rattle.std.specs.Prelude.{ℤ, nat_abs, ◌&&◌, ◌==◌, ◌||◌, nat_lt, map, flat_map, decimal, if◌then◌else◌}
-use Rattle.std.specs.List.{AllPass, list_any, slice_index}
+use Rattle.std.proofs.Common.{arith, ◌≡◌, ℕ, zero, suc, ◌^◌, ◌<◌, List, [], ◌∷◌, ◌++◌, Bool, true, false, None, sym, subst, ◌∙◌}
+use Rattle.std.specs.Prelude.{ℤ, ◌&&◌, ◌==◌, nat_lt, map, decimal, if◌then◌else◌}
+use Rattle.std.specs.List.{AllPass, list_any}
 use Rattle.std.specs.Char.{is_ascii_digit}
 use Rattle.std.specs.Str.{IsAscii}
 use Rattle.std.proofs.lemmas.Grind.{common_steps}
@@ -10,7 +10,7 @@ use Rattle.std.proofs.lemmas.Fmt.{IsAscii-decimal_wide}
 use Rattle.std.proofs.lemmas.List.Elements.{All-head, All-tail}
 use Rattle.profile.specs.Numbers.{is_large, number_text, IsNumber, IsSign, IsFraction}
 use Rattle.profile.specs.Papers.{LengthUnit, Pt, Cm, Mm, In, Width, Height}
-use Rattle.profile.specs.Specification.{Measure, Modifier, WrittenItem, WrittenSpec, Spec, Turn, Upright, Left, Half, Right, minus_text, unit_text, measure_text, turn_text, turn_of, quarters, scale, offset_x, offset_y, scale_part, is_one, offset_part, is_zero_points, item_text, joined_by, modulo_text, settled_item, settled, canonical}
+use Rattle.profile.specs.Specification.{Measure, WrittenItem, WrittenSpec, Spec, Turn, Upright, Left, Half, Right, minus_text, unit_text, measure_text, turn_text, turn_of, quarters, scale, offset_x, offset_y, scale_part, is_one, offset_part, is_zero_points, item_text, joined_by, modulo_text, settled_item, settled, canonical}
 use Rattle.profile.specs.Admissible.{IsAdmissible, fault_of, has_large, items}
 use Rattle.profile.proofs.Printed.{IsDigit, number_text_is_number}
 use Rattle.pagespec.specs.Items.{group_text, groups_text}

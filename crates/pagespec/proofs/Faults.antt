@@ -1,16 +1,16 @@
 -- The first fault on what the code keeps, against the first fault of the tree.
-use Rattle.std.proofs.Common.{◌≡◌, ℕ, List, [], ◌∷◌, Bool, true, false, Option, Some, None, refl, sym, ap, ◌∙◌, suc, ◌+◌, length, cond}
+use Rattle.std.proofs.Common.{◌≡◌, ℕ, List, [], ◌∷◌, Bool, true, false, Option, Some, None, refl, ap, ◌∙◌, suc, ◌+◌, length, cond}
 use Rattle.std.specs.Prelude.{position, ◌||◌, nat_lt, not}
 use Rattle.std.specs.Prelude.{◌==◌, nat_le, map}
 use Rattle.std.proofs.Common.{arith, min}
 use Rattle.std.proofs.lemmas.List.{length-map}
 use Rattle.std.proofs.lemmas.Grind.{common_steps}
 use Rattle.std.specs.List.{AllZip, list_any, position_or_len, prefix_len}
-use Rattle.std.specs.Prelude.{option_map, if◌then◌else◌}
+use Rattle.std.specs.Prelude.{option_map}
 use Rattle.std.specs.Option.{option_or}
 use Rattle.profile.specs.Specification.{WrittenItem, WrittenSpec}
 use Rattle.profile.specs.Admissible.{items, has_large, is_flat, Fault, fault_of, else_first, only_if, at_lowest, TooLarge, ModuloZero, PageOutOfBlock, ScaleZero, Repeated, TooManySlots, TooManyGroups}
-use Rattle.pagespec.specs.Kept.{Shows, Known, is_repeated, ItemShows}
+use Rattle.pagespec.specs.Kept.{is_repeated, ItemShows}
 use Rattle.pagespec.specs.Groups.{AreKept}
 use Rattle.pagespec.specs.Faults.{fault_named, first_fault_of, has_too_large, where_fails}
 use Rattle.pagespec.specs.declared.kept.KeptItem.{KeptItem}

@@ -1,12 +1,12 @@
 -- The loops over items and over groups.
-use Rattle.std.proofs.Common.{rules, arith, ◌≡◌, ◌≢◌, ℕ, zero, suc, ◌+◌, List, [], ◌∷◌, ◌++◌, Bool, true, false, Option, Some, None, refl, sym, ap, subst, ◌∙◌, append_assoc, append-nil, length, true≢false}
+use Rattle.std.proofs.Common.{arith, ◌≡◌, ◌≢◌, ℕ, suc, ◌+◌, List, [], ◌∷◌, ◌++◌, Bool, true, false, Option, Some, None, refl, sym, ap, subst, ◌∙◌, append_assoc, append-nil, length, true≢false}
 use Rattle.std.specs.Prelude.{map, flat_map, if◌then◌else◌, ◌==◌}
 use Rattle.std.proofs.lemmas.List.{length-append, map-append, nil_from_length}
 use Rattle.profile.specs.Specification.{WrittenItem}
 use Rattle.pagespec.specs.Reading.{byte_at, item_at, group_at, groups_at, bare_at, whole, item_of, is_minus, past_minus, modifiers_at}
 use Rattle.lengths.specs.Reading.{is_empty}
 use Rattle.pagespec.specs.Kept.{ItemShows, ModifiersRead}
-use Rattle.pagespec.specs.Groups.{AreKept, ItemKept, GroupRead, GroupsRead, KeptGroups, BareRead, IsStop}
+use Rattle.pagespec.specs.Groups.{AreKept, ItemKept, GroupRead, GroupsRead, BareRead, IsStop}
 use Rattle.pagespec.specs.declared.kept.KeptItem.{KeptItem}
 use Rattle.pagespec.specs.declared.kept.Modifiers.{Modifiers}
 use Rattle.pagespec.specs.declared.groups.Kept.{Kept}

@@ -1,18 +1,18 @@
 -- Items at the front of a text.
-use Rattle.std.proofs.Common.{inl, inr, ◌⊎◌, rules, arith, ◌≡◌, ◌≢◌, ℕ, zero, suc, ◌+◌, ◌-◌, ◌*◌, ◌^◌, ◌<◌, ◌≤◌, List, [], ◌∷◌, ◌++◌, Bool, true, false, Option, Some, None, refl, sym, ap, subst, ◌∙◌, append_assoc, length, take, drop, cond}
-use Rattle.std.specs.Prelude.{◌==◌, ◌||◌, if◌then◌else◌}
+use Rattle.std.proofs.Common.{inl, inr, arith, ◌≡◌, ◌≢◌, ℕ, ◌≤◌, List, [], ◌∷◌, ◌++◌, Bool, true, false, Some, None, refl, sym, ap, subst, ◌∙◌, append_assoc, length}
+use Rattle.std.specs.Prelude.{◌==◌}
 use Rattle.std.specs.List.{AllPass}
 use Rattle.std.specs.Char.{is_ascii_digit}
 use Rattle.std.proofs.lemmas.Grind.{common_steps}
 use Rattle.std.proofs.lemmas.List.{append-nil, length-append}
 use Rattle.std.proofs.lemmas.List.Elements.{All-head}
 use Rattle.profile.specs.Numbers.{number_of}
-use Rattle.profile.specs.Specification.{Modifier, Quarters, Scaled, Moved, WrittenItem, IsItem, IsBareItem, IsDigits, IsModifier, AreModifiers, minus_text}
+use Rattle.profile.specs.Specification.{Modifier, Quarters, Scaled, Moved, WrittenItem, IsItem, IsDigits, IsModifier, AreModifiers, minus_text}
 use Rattle.lengths.specs.Reading.{Ends, digits, past_digits, is_empty}
 use Rattle.lengths.proofs.Digits.{IsDigit, by_test, digits_whole, digits_pass, digits-append, past_digits-append}
-use Rattle.lengths.proofs.Numbers.{some_same, same_byte, chosen_some, not_empty, ends_digits, taken, no_minus}
+use Rattle.lengths.proofs.Numbers.{same_byte, chosen_some, not_empty, ends_digits, taken, no_minus}
 use Rattle.pagespec.proofs.Letters.{turn_letter}
-use Rattle.pagespec.specs.Reading.{quarters_of, ◌>>=◌, byte_at, modifier_at, modifiers_at, is_minus, past_minus, item_of, item_from, item_at, bare_at, whole}
+use Rattle.pagespec.specs.Reading.{modifier_at, modifiers_at, is_minus, past_minus, item_of, item_from, item_at}
 use Rattle.pagespec.proofs.Modifiers.{Stood, modifiers_found, modifiers_read, modifiers_end, few_modifiers}
 
 -- no modifier and no number goes on

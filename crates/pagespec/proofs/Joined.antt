@@ -1,12 +1,12 @@
 -- Rows of parts with a byte between them.
-use Rattle.std.proofs.Common.{inl, inr, ◌⊎◌, rules, arith, ◌≡◌, ◌≢◌, ℕ, zero, suc, ◌+◌, ◌-◌, ◌*◌, ◌^◌, ◌<◌, ◌≤◌, List, [], ◌∷◌, ◌++◌, Bool, true, false, Option, Some, None, refl, sym, ap, subst, ◌∙◌, append_assoc, length, take, drop, cond}
-use Rattle.std.specs.Prelude.{◌==◌, if◌then◌else◌}
+use Rattle.std.proofs.Common.{inl, inr, arith, ◌≡◌, ℕ, zero, suc, ◌≤◌, List, [], ◌∷◌, ◌++◌, Option, Some, None, refl, sym, ap, subst, ◌∙◌, append_assoc, length}
+use Rattle.std.specs.Prelude.{◌==◌}
 use Rattle.std.proofs.lemmas.Grind.{common_steps}
-use Rattle.std.proofs.lemmas.List.{append-nil, length-append}
+use Rattle.std.proofs.lemmas.List.{length-append}
 use Rattle.profile.specs.Specification.{IsJoined}
 use Rattle.lengths.proofs.Digits.{by_test}
 use Rattle.lengths.proofs.Numbers.{some_same}
-use Rattle.pagespec.specs.Reading.{◌>>=◌, byte_at, joined_at, more_at, with_part}
+use Rattle.pagespec.specs.Reading.{byte_at, joined_at, more_at, with_part}
 use Rattle.pagespec.proofs.Parts.{bind_some, byte_found}
 use Rattle.pagespec.proofs.Modifiers.{Stood}
 

@@ -1,5 +1,5 @@
 -- Texts written one behind the other, with a byte between them.
-use Rattle.std.proofs.Common.{◌≡◌, ℕ, List, [], ◌∷◌, ◌++◌, refl, sym, ap, ◌∙◌, append_assoc, append-nil}
+use Rattle.std.proofs.Common.{◌≡◌, ℕ, List, [], ◌∷◌, ◌++◌, sym, ap, ◌∙◌, append_assoc, append-nil}
 use Rattle.std.specs.Prelude.{map, flat_map, Result, Ok, Err, OnOk}
 use Rattle.profile.specs.Specification.{joined_by, Item, Spec, modulo_text, canonical}
 use Rattle.pagespec.specs.Items.{groups_text}

@@ -1,8 +1,8 @@
 -- A loop over modifiers.
-use Rattle.std.proofs.Common.{rules, arith, ◌≡◌, ℕ, zero, suc, ◌+◌, ◌-◌, ◌<◌, ◌≤◌, List, [], ◌∷◌, ◌++◌, Option, Some, None, refl, sym, ap, subst, ◌∙◌, append_assoc, length}
+use Rattle.std.proofs.Common.{◌≡◌, ℕ, zero, suc, List, [], ◌∷◌, ◌++◌, Some, None, refl, sym, ap, ◌∙◌, append_assoc, length}
 use Rattle.std.proofs.lemmas.List.{append-nil}
 use Rattle.profile.specs.Specification.{Modifier}
-use Rattle.pagespec.specs.Reading.{modifier_at, modifiers_at, modifiers_or, with_modifier}
+use Rattle.pagespec.specs.Reading.{modifier_at, modifiers_at, with_modifier}
 use Rattle.pagespec.specs.Views.{Stands, ModifierRead}
 use Rattle.pagespec.specs.Kept.{Shows, ModifiersRead}
 use Rattle.pagespec.specs.declared.kept.Modifiers.{Modifiers}

@@ -1,17 +1,16 @@
 -- Modifiers at the front of a text.
-use Rattle.std.proofs.Common.{inl, inr, ◌⊎◌, rules, arith, ◌≡◌, ◌≢◌, ℕ, zero, suc, ◌+◌, ◌-◌, ◌*◌, ◌^◌, ◌<◌, ◌≤◌, List, [], ◌∷◌, ◌++◌, Bool, true, false, Option, Some, None, refl, sym, ap, subst, ◌∙◌, append_assoc, length, take, drop, cond}
-use Rattle.std.specs.Prelude.{All, ◌==◌, ◌||◌, ◌&&◌, ℤ, if◌then◌else◌, codes}
+use Rattle.std.proofs.Common.{inl, inr, arith, ◌≡◌, ◌≢◌, ℕ, zero, suc, ◌<◌, ◌≤◌, List, [], ◌∷◌, ◌++◌, Bool, true, false, Option, Some, None, refl, sym, ap, subst, ◌∙◌, append_assoc, length}
+use Rattle.std.specs.Prelude.{◌==◌, ℤ, if◌then◌else◌}
 use Rattle.std.proofs.lemmas.Grind.{common_steps}
-use Rattle.std.proofs.lemmas.List.{append-nil, length-append, nil_from_length}
+use Rattle.std.proofs.lemmas.List.{length-append}
 use Rattle.profile.specs.Numbers.{IsNumber}
-use Rattle.profile.specs.Papers.{LengthUnit, Pt, Cm, Mm, In, Width, Height}
-use Rattle.profile.specs.Specification.{Measure, Modifier, Quarters, Scaled, Moved, IsMeasure, IsTurn, IsModifier, AreModifiers, unit_name}
+use Rattle.profile.specs.Specification.{Measure, Modifier, Quarters, Scaled, Moved, IsMeasure, IsTurn, IsModifier, AreModifiers}
 use Rattle.std.specs.Char.{is_ascii_digit}
 use Rattle.lengths.specs.Reading.{number_at, Ends}
 use Rattle.lengths.proofs.Digits.{by_test}
 use Rattle.lengths.proofs.Numbers.{number_found, number_read, some_same, same_byte}
 use Rattle.pagespec.proofs.Letters.{letter_turn, turn_letter}
-use Rattle.pagespec.specs.Reading.{quarters_of, ◌>>=◌, byte_at, unit_at, measure_at, offset_at, scale_at, modifier_at, modifiers_at, modifiers_or, with_modifier}
+use Rattle.pagespec.specs.Reading.{quarters_of, byte_at, measure_at, offset_at, scale_at, modifier_at, modifiers_at, modifiers_or, with_modifier}
 use Rattle.pagespec.proofs.Parts.{bind_some, byte_found, measure_found, measure_read, NoUnit}
 
 -- a value was read, and its text is the front

@@ -1,10 +1,9 @@
 -- A whole text: its modulo and its groups.
-use Rattle.std.proofs.Common.{◌≡◌, ℕ, List, Option, Some, None, refl, sym, ap, subst, ◌∙◌, min}
-use Rattle.profile.specs.Specification.{WrittenItem, WrittenSpec}
+use Rattle.std.proofs.Common.{◌≡◌, ℕ, List, Option, Some, None, refl, sym, ap, ◌∙◌}
 use Rattle.profile.specs.Numbers.{number_of}
 use Rattle.lengths.specs.Reading.{digits}
 use Rattle.pagespec.specs.Reading.{◌>>=◌, all_groups_at, past_modulo, tree_from, tree_of, spec_at}
-use Rattle.pagespec.specs.Groups.{IsStop, KeptShows, KeptGroups}
+use Rattle.pagespec.specs.Groups.{IsStop, KeptShows}
 use Rattle.pagespec.specs.Written.{ModuloRead, WrittenRead}
 use Rattle.pagespec.specs.declared.groups.Kept.{Kept}
 use Rattle.pagespec.specs.declared.groups.Stop.{Stop}

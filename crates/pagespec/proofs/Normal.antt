@@ -1,13 +1,13 @@
 -- What a canonical text stands for: the items with the fewest modifiers.
-use Rattle.std.proofs.Common.{arith, rules, ◌≡◌, ◌≢◌, ◌⊎◌, inl, inr, ℕ, zero, suc, ◌+◌, ◌^◌, ◌<◌, ◌≤◌, List, [], ◌∷◌, ◌++◌, Bool, true, false, Option, Some, None, refl, sym, ap, subst, ◌∙◌, length, append_assoc, append-nil, cond}
-use Rattle.std.specs.Prelude.{ℤ, pos, negsuc, nat_abs, int_le, nat_lt, nat_le, ◌||◌, ◌&&◌, ◌==◌, map, flat_map, position, decimal, not, if◌then◌else◌}
-use Rattle.std.specs.List.{list_any, position_or_len, prefix_len}
+use Rattle.std.proofs.Common.{arith, rules, ◌≡◌, ◌≢◌, ◌⊎◌, inl, inr, ℕ, suc, ◌+◌, ◌^◌, ◌<◌, List, [], ◌∷◌, ◌++◌, Bool, true, false, Option, Some, None, refl, sym, ap, subst, ◌∙◌, length, append_assoc, append-nil, cond}
+use Rattle.std.specs.Prelude.{ℤ, pos, negsuc, nat_abs, int_le, nat_lt, nat_le, ◌||◌, ◌&&◌, ◌==◌, map, flat_map, position, decimal, if◌then◌else◌}
+use Rattle.std.specs.List.{list_any, position_or_len}
 use Rattle.std.proofs.lemmas.List.{length-map}
 use Rattle.lengths.proofs.Digits.{by_test}
 use Rattle.lengths.proofs.Numbers.{same_byte}
 use Rattle.profile.specs.Numbers.{is_large, number_text, IsNumber}
 use Rattle.profile.specs.Papers.{LengthUnit, Pt, Cm, Mm, In, Width, Height}
-use Rattle.profile.specs.Specification.{Measure, Modifier, Quarters, Scaled, Moved, WrittenItem, WrittenSpec, Item, Spec, Turn, Upright, Left, Half, Right, IsJoined, IsDigits, IsMeasure, IsModifier, AreModifiers, IsItem, AreGroups, IsSpec, minus_text, unit_name, unit_text, measure_text, turn_text, turn_of, quarters, scale, offset_x, offset_y, zero_points, scale_part, is_one, offset_part, is_points, is_zero_points, item_text, joined_by, modulo_text, settled_item, settled, canonical}
+use Rattle.profile.specs.Specification.{Measure, Modifier, Quarters, Scaled, Moved, WrittenItem, WrittenSpec, Spec, Turn, Upright, Left, Half, Right, IsJoined, IsDigits, IsMeasure, IsModifier, AreModifiers, IsItem, AreGroups, IsSpec, minus_text, unit_name, unit_text, measure_text, turn_text, turn_of, quarters, scale, offset_x, offset_y, zero_points, scale_part, is_one, offset_part, is_points, is_zero_points, item_text, joined_by, settled_item, settled, canonical}
 use Rattle.profile.specs.Admissible.{Fault, TooLarge, ModuloZero, PageOutOfBlock, ScaleZero, Repeated, TooManySlots, TooManyGroups, items, fault_of, else_first, only_if, at_lowest, any_too_large, has_large, is_flat, repeats, Takes}
 use Rattle.profile.proofs.Printed.{Writes, decimal_writes, number_text_is_number}
 use Rattle.pagespec.specs.Items.{group_text, groups_text}

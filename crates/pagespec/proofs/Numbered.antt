@@ -1,13 +1,11 @@
 -- An item, as its reader found it.
-use Rattle.std.proofs.Common.{rules, arith, ◌≡◌, ◌≢◌, ℕ, List, [], ◌∷◌, Bool, true, false, Option, Some, None, refl, sym, ap, subst, ◌∙◌, length, min}
+use Rattle.std.proofs.Common.{◌≡◌, ◌≢◌, ℕ, List, [], Bool, Some, None, sym, ap, ◌∙◌, length, min}
 use Rattle.std.specs.Prelude.{if◌then◌else◌}
 use Rattle.profile.specs.Numbers.{number_of}
-use Rattle.profile.specs.Specification.{WrittenItem, Modifier}
 use Rattle.lengths.specs.Reading.{digits, past_digits, is_empty}
 use Rattle.lengths.proofs.Numbers.{taken}
 use Rattle.pagespec.specs.Reading.{modifiers_at, is_minus, past_minus, item_of, item_from, item_at}
-use Rattle.pagespec.specs.Kept.{Shows, ModifiersRead, ItemShows, ItemRead}
-use Rattle.pagespec.specs.declared.kept.KeptItem.{KeptItem}
+use Rattle.pagespec.specs.Kept.{ModifiersRead, ItemRead}
 use Rattle.pagespec.specs.declared.kept.Modifiers.{Modifiers}
 
 pub no_item : (t body : List ℕ) → body ≡ past_minus t → digits body ≡ [] → item_at t ≡ None

@@ -1,13 +1,13 @@
 -- What reading a whole text came to.
-use Rattle.std.proofs.Common.{rules, arith, ◌≡◌, ◌≤◌, ◌<◌, ◌+◌, ◌^◌, ℕ, suc, List, [], ◌∷◌, ◌++◌, Bool, true, false, Option, Some, None, refl, sym, ap, subst, ◌∙◌, inl, inr, length, map, min}
+use Rattle.std.proofs.Common.{arith, ◌≡◌, ◌≤◌, ◌<◌, ◌^◌, ℕ, suc, List, [], ◌∷◌, Bool, true, false, Option, Some, None, refl, sym, ap, subst, ◌∙◌, inl, inr, length, map, min}
 use Rattle.std.specs.Prelude.{flat_map, option_map, ◌==◌, nat_lt, nat_le, position}
-use Rattle.std.specs.List.{AllZip, list_any}
+use Rattle.std.specs.List.{list_any}
 use Rattle.std.proofs.lemmas.List.{length-append, length-map, append-nil}
-use Rattle.profile.specs.Specification.{WrittenItem, WrittenSpec, Item, Spec, IsSpec, IsItem, IsJoined, AreGroups, settled, settled_item, canonical}
-use Rattle.profile.specs.Admissible.{Fault, TooLong, Syntax, TooLarge, ModuloZero, PageOutOfBlock, ScaleZero, Repeated, TooManySlots, TooManyGroups, items, fault_of, else_first, only_if, at_lowest, any_too_large, is_flat, repeats, Refuses, Takes, IsAdmissible}
+use Rattle.profile.specs.Specification.{WrittenItem, WrittenSpec, Item, Spec, IsSpec, IsItem, IsJoined, AreGroups, settled, canonical}
+use Rattle.profile.specs.Admissible.{Fault, TooLong, Syntax, TooLarge, ModuloZero, PageOutOfBlock, ScaleZero, Repeated, TooManySlots, TooManyGroups, items, fault_of, else_first, only_if, at_lowest, any_too_large, is_flat, repeats, Refuses, Takes}
 use Rattle.pagespec.specs.Admitted.{IsAdmitted}
 use Rattle.pagespec.specs.Reading.{spec_at}
-use Rattle.pagespec.specs.Groups.{AreKept, KeptGroups}
+use Rattle.pagespec.specs.Groups.{AreKept}
 use Rattle.pagespec.specs.Faults.{fault_named, first_fault_of}
 use Rattle.pagespec.specs.Settled.{settled_kept, split_by, AreLengths}
 use Rattle.pagespec.specs.Written.{WrittenRead}
@@ -19,7 +19,7 @@ use Rattle.pagespec.specs.declared.error.SpecError.{SpecError}
 use Rattle.lengths.proofs.Numbers.{some_same}
 use Rattle.pagespec.proofs.Joined.{few_parts}
 use Rattle.pagespec.proofs.Texts.{IsGroup, spec_found, no_tree}
-use Rattle.pagespec.proofs.Faults.{told_fault, no_fault, neither, Small, small_items, capped_small}
+use Rattle.pagespec.proofs.Faults.{told_fault, no_fault, neither, small_items, capped_small}
 use Rattle.pagespec.proofs.Settling.{groups_settle, kept_fit, lengths_zip}
 use Rattle.pagespec.proofs.Short.{short_enough}
 

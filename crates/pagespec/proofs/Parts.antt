@@ -1,15 +1,13 @@
 -- Units, amounts and modifiers at the front of a text.
-use Rattle.std.proofs.Common.{inl, inr, ◌⊎◌, rules, arith, ◌≡◌, ◌≢◌, ℕ, zero, suc, ◌+◌, ◌-◌, ◌*◌, ◌^◌, ◌<◌, ◌≤◌, List, [], ◌∷◌, ◌++◌, Bool, true, false, Option, Some, None, refl, sym, ap, subst, ◌∙◌, append_assoc, length, take, drop, cond}
-use Rattle.std.specs.Prelude.{All, ◌==◌, ◌||◌, ◌&&◌, ℤ, if◌then◌else◌, codes}
+use Rattle.std.proofs.Common.{inl, inr, ◌⊎◌, arith, ◌≡◌, ℕ, List, [], ◌∷◌, ◌++◌, Bool, true, false, Option, Some, None, refl, sym, ap, subst, ◌∙◌, append_assoc}
+use Rattle.std.specs.Prelude.{◌==◌, ◌&&◌, if◌then◌else◌, codes}
 use Rattle.std.proofs.lemmas.Grind.{common_steps}
-use Rattle.std.proofs.lemmas.List.{append-nil, length-append, nil_from_length}
-use Rattle.profile.specs.Numbers.{IsNumber}
 use Rattle.profile.specs.Papers.{LengthUnit, Pt, Cm, Mm, In, Width, Height}
-use Rattle.profile.specs.Specification.{Measure, Modifier, Quarters, Scaled, Moved, IsMeasure, IsModifier, unit_name}
+use Rattle.profile.specs.Specification.{Measure, IsMeasure, unit_name}
 use Rattle.lengths.specs.Reading.{number_at, Ends}
 use Rattle.lengths.proofs.Digits.{by_test}
 use Rattle.lengths.proofs.Numbers.{number_found, number_read, some_same, same_byte}
-use Rattle.pagespec.specs.Reading.{◌>>=◌, byte_at, second_letter, unit_at, measure_from, measure_at, offset_at, scale_at, modifier_at}
+use Rattle.pagespec.specs.Reading.{◌>>=◌, byte_at, second_letter, unit_at, measure_from, measure_at}
 
 -- what a step took, and what the next made of it
 pub bind_some : {A B : Type 0} (o : Option A) (f : A → Option B) (y : B) → (o >>= f) ≡ Some y → (x : A) × (o ≡ Some x) × (f x ≡ Some y)

@@ -1,7 +1,7 @@
 -- A loop over parts with a byte between them.
-use Rattle.std.proofs.Common.{rules, arith, ◌≡◌, ℕ, zero, suc, ◌+◌, List, [], ◌∷◌, ◌++◌, Option, Some, None, refl, sym, ap, subst, ◌∙◌, append_assoc, length}
+use Rattle.std.proofs.Common.{◌≡◌, ℕ, zero, suc, List, [], ◌∷◌, ◌++◌, Option, Some, None, refl, sym, ap, ◌∙◌, append_assoc, length}
 use Rattle.std.specs.List.{AllZip}
-use Rattle.pagespec.specs.Reading.{◌>>=◌, byte_at, joined_at, more_at, with_part}
+use Rattle.pagespec.specs.Reading.{◌>>=◌, byte_at, joined_at, with_part}
 
 -- parts read before, and those behind them
 abbrev pub with_parts : {X : Type 0} → List X → Option (List X × List ℕ) → Option (List X × List ℕ)

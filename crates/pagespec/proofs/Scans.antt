@@ -1,5 +1,5 @@
 -- What the readers of the code found, against reading off the front.
-use Rattle.std.proofs.Common.{inl, inr, ◌⊎◌, rules, arith, ◌≡◌, ◌≢◌, ℕ, zero, suc, ◌+◌, ◌-◌, ◌<◌, ◌≤◌, List, [], ◌∷◌, ◌++◌, Bool, true, false, Option, Some, None, refl, sym, ap, subst, ◌∙◌, length, take, drop}
+use Rattle.std.proofs.Common.{arith, ◌≡◌, ◌≢◌, ℕ, List, [], ◌∷◌, Bool, true, false, Option, Some, None, refl, sym, ap, subst, ◌∙◌, drop}
 use Rattle.std.specs.Prelude.{ℤ, if◌then◌else◌, ◌==◌}
 use Rattle.profile.specs.Papers.{LengthUnit}
 use Rattle.profile.specs.Specification.{Measure, Modifier, Scaled, Moved, Quarters}
@@ -11,7 +11,7 @@ use Rattle.profile.specs.Admissible.{has_large}
 use Rattle.lengths.specs.Refusals.{IsRefused}
 use Rattle.lengths.specs.declared.read.NumberError.{NumberError}
 use Rattle.lengths.specs.declared.read.NumberError.TheVariants.{NotANumber, TooLarge}
-use Rattle.pagespec.specs.Reading.{◌>>=◌, byte_at, unit_at, measure_from, measure_at, scale_at, offset_at, modifier_at, quarters_of}
+use Rattle.pagespec.specs.Reading.{byte_at, unit_at, measure_from, measure_at, scale_at, offset_at, modifier_at, quarters_of}
 
 pub measure_there : (t behind rest : List ℕ) (v : ℤ) (u : LengthUnit) → number_at t ≡ Some (v, behind) → (unit_at behind).0 ≡ u → (unit_at behind).1 ≡ rest → measure_at t ≡ Some (record { number = v; unit = u }, rest)
 unfolding measure_at

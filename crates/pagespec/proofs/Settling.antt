@@ -1,11 +1,11 @@
 -- What the kept items come to, against what the written ones do.
-use Rattle.std.proofs.Common.{rules, arith, ◌≡◌, ◌≤◌, ◌+◌, ◌%◌, ℕ, suc, List, [], ◌∷◌, ◌++◌, Bool, true, false, Option, Some, None, refl, sym, ap, subst, ◌∙◌, append_assoc, length, take, drop, min}
-use Rattle.std.specs.Prelude.{map, flat_map, unwrap_or, option_map, pos, ℤ, sum}
+use Rattle.std.proofs.Common.{arith, ◌≡◌, ◌%◌, ℕ, suc, List, [], ◌∷◌, ◌++◌, Bool, Option, Some, None, refl, sym, ap, subst, ◌∙◌, length, take, drop}
+use Rattle.std.specs.Prelude.{map, flat_map, unwrap_or, option_map, pos, ℤ}
 use Rattle.std.specs.List.{AllZip}
 use Rattle.std.proofs.lemmas.List.{length-append, length-map, length-drop, map-append}
 use Rattle.profile.specs.Specification.{Measure, Modifier, Quarters, Scaled, Moved, Turn, WrittenItem, Item, settled_item, quarters, turn_of, scale, offset_x, offset_y, zero_points}
 use Rattle.pagespec.specs.Items.{measure_of}
-use Rattle.pagespec.specs.Kept.{ItemShows, Shows, Known, first_scale, first_offset}
+use Rattle.pagespec.specs.Kept.{Known, first_scale, first_offset}
 use Rattle.pagespec.specs.Settled.{settled_kept, offset_kept, split_by, AreLengths}
 use Rattle.pagespec.specs.declared.item.Measure.{Measure as KeptMeasure}
 use Rattle.pagespec.specs.declared.kept.KeptItem.{KeptItem}

@@ -1,13 +1,13 @@
 -- The canonical text of what was read is short enough.
-use Rattle.std.proofs.Common.{arith, rules, ◌≡◌, ◌≢◌, ◌⊎◌, inl, inr, ℕ, zero, suc, ◌+◌, ◌^◌, ◌<◌, ◌≤◌, List, [], ◌∷◌, ◌++◌, Bool, true, false, Option, Some, None, refl, sym, ap, subst, ◌∙◌, length, append_assoc}
-use Rattle.std.specs.Prelude.{ℤ, pos, nat_lt, ◌||◌, ◌&&◌, ◌==◌, map, flat_map, decimal, if◌then◌else◌}
+use Rattle.std.proofs.Common.{arith, rules, ◌≡◌, ◌⊎◌, inl, inr, ℕ, suc, ◌+◌, ◌^◌, ◌<◌, ◌≤◌, List, [], ◌∷◌, ◌++◌, Bool, true, false, None, refl, sym, ap, subst, ◌∙◌, length}
+use Rattle.std.specs.Prelude.{ℤ, nat_lt, ◌||◌, ◌&&◌, ◌==◌, map, flat_map, decimal, if◌then◌else◌}
 use Rattle.std.specs.List.{list_any}
-use Rattle.std.proofs.lemmas.List.{length-append, append-nil}
+use Rattle.std.proofs.lemmas.List.{length-append}
 use Rattle.std.proofs.lemmas.List.Folds.{list_any-append}
 use Rattle.std.proofs.lemmas.Fmt.{length-decimal-le_wide}
-use Rattle.profile.specs.Numbers.{is_large, number_text, IsNumber, number_of}
+use Rattle.profile.specs.Numbers.{is_large, number_text}
 use Rattle.profile.specs.Papers.{LengthUnit, Pt, Cm, Mm, In, Width, Height}
-use Rattle.profile.specs.Specification.{Measure, Modifier, Quarters, Scaled, Moved, WrittenItem, WrittenSpec, Item, Turn, Upright, Left, Half, Right, IsJoined, IsDigits, IsMeasure, IsModifier, AreModifiers, IsItem, IsBareItem, AreGroups, IsSpec, minus_text, unit_name, unit_text, measure_text, turn_text, turn_of, quarters, scale, offset_x, offset_y, zero_points, scale_part, is_one, offset_part, is_zero_points, item_text, joined_by, modulo_text, settled_item, settled, canonical}
+use Rattle.profile.specs.Specification.{Measure, Modifier, Quarters, Scaled, Moved, WrittenItem, WrittenSpec, Turn, Upright, Left, Half, Right, IsJoined, IsDigits, IsMeasure, AreModifiers, IsItem, IsBareItem, AreGroups, IsSpec, minus_text, unit_name, unit_text, measure_text, turn_text, turn_of, quarters, scale, offset_x, offset_y, scale_part, is_one, offset_part, is_zero_points, item_text, joined_by, modulo_text, settled_item, settled, canonical}
 use Rattle.profile.specs.Admissible.{fault_of, has_large, items}
 use Rattle.pagespec.proofs.Letters.{turn_letter}
 use Rattle.pagespec.proofs.Faults.{no_fault, neither}

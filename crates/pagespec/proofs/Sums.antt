@@ -1,6 +1,6 @@
 -- What modifiers come to, with one more.
-use Rattle.std.proofs.Common.{inl, inr, ◌⊎◌, rules, arith, ◌≡◌, ◌≢◌, ℕ, zero, suc, ◌+◌, ◌-◌, ◌%◌, ◌<◌, ◌≤◌, List, [], ◌∷◌, ◌++◌, Bool, true, false, Option, Some, None, cond, refl, sym, ap, subst, ◌∙◌, length}
-use Rattle.std.specs.Prelude.{ℤ, pos, int_le, not, ◌||◌, ◌&&◌, if◌then◌else◌, nat_lt, count_by, option_map}
+use Rattle.std.proofs.Common.{arith, ◌≡◌, ℕ, ◌+◌, ◌%◌, List, [], ◌∷◌, ◌++◌, Bool, true, false, Option, Some, None, cond, refl, sym, ap, subst, ◌∙◌}
+use Rattle.std.specs.Prelude.{ℤ, pos, int_le, not, ◌||◌, nat_lt, count_by, option_map}
 use Rattle.std.specs.List.{list_any}
 use Rattle.std.specs.Option.{option_or, is_some}
 use Rattle.std.proofs.lemmas.Grind.{common_steps}
@@ -10,7 +10,7 @@ use Rattle.profile.specs.Specification.{Measure, Modifier, Quarters, Scaled, Mov
 use Rattle.profile.specs.Admissible.{has_large, is_scale, is_offset, is_flat}
 use Rattle.pagespec.specs.Items.{measure_of}
 use Rattle.pagespec.specs.Views.{Stands}
-use Rattle.pagespec.specs.Kept.{Shows, Known, first_scale, first_offset, is_repeated}
+use Rattle.pagespec.specs.Kept.{Shows, first_scale, first_offset, is_repeated}
 use Rattle.pagespec.specs.declared.item.Measure.{Measure as KeptMeasure}
 use Rattle.pagespec.specs.declared.kept.Modifiers.{Modifiers}
 use Rattle.pagespec.specs.declared.scan.Modifier.{Modifier as Part}

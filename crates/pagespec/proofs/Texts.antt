@@ -1,20 +1,19 @@
 -- Whole texts.
-use Rattle.std.proofs.Common.{inl, inr, ◌⊎◌, rules, arith, ◌≡◌, ◌≢◌, ℕ, zero, suc, ◌+◌, ◌-◌, ◌*◌, ◌^◌, ◌<◌, ◌≤◌, List, [], ◌∷◌, ◌++◌, Bool, true, false, Option, Some, None, refl, sym, ap, subst, ◌∙◌, append_assoc, length, take, drop, cond}
-use Rattle.std.specs.Prelude.{◌==◌, ◌||◌, if◌then◌else◌}
+use Rattle.std.proofs.Common.{inl, inr, arith, ◌≡◌, ◌≢◌, ℕ, suc, List, [], ◌∷◌, ◌++◌, Bool, true, false, Option, Some, None, refl, sym, ap, subst, ◌∙◌, length}
+use Rattle.std.specs.Prelude.{if◌then◌else◌}
 use Rattle.std.specs.List.{AllPass}
 use Rattle.std.specs.Char.{is_ascii_digit}
-use Rattle.std.proofs.lemmas.Grind.{common_steps}
 use Rattle.std.proofs.lemmas.List.{append-nil, length-append}
 use Rattle.profile.specs.Numbers.{number_of}
-use Rattle.profile.specs.Specification.{WrittenItem, WrittenSpec, IsJoined, IsItem, IsBareItem, IsDigits, AreModifiers, AreGroups, IsSpec, minus_text}
-use Rattle.lengths.specs.Reading.{Ends, digits, past_digits, is_empty}
-use Rattle.lengths.proofs.Digits.{IsDigit, by_test, digits_whole, digits_pass, digits-append, past_digits-append}
-use Rattle.lengths.proofs.Numbers.{some_same, same_byte, chosen_some, not_empty, ends_digits, taken}
+use Rattle.profile.specs.Specification.{WrittenItem, WrittenSpec, IsJoined, IsItem, IsBareItem, AreModifiers, AreGroups, IsSpec}
+use Rattle.lengths.specs.Reading.{digits, past_digits, is_empty}
+use Rattle.lengths.proofs.Digits.{digits_whole, digits_pass, digits-append, past_digits-append}
+use Rattle.lengths.proofs.Numbers.{some_same, not_empty, ends_digits}
 use Rattle.pagespec.specs.Reading.{◌>>=◌, byte_at, modifier_at, modifiers_at, is_minus, past_minus, item_of, item_from, item_at, bare_at, whole, joined_at, group_at, groups_at, or_bare, all_groups_at, tree_of, past_modulo, tree_from, spec_at}
 use Rattle.pagespec.proofs.Parts.{bind_some, byte_found}
 use Rattle.pagespec.proofs.Modifiers.{Stood, modifiers_found, modifiers_read, modifiers_end, few_modifiers}
 use Rattle.pagespec.proofs.Joined.{joined_found, joined_read, few_parts}
-use Rattle.pagespec.proofs.Items.{Closed, minus_whole, item_found, item_read, minus_taken, modifiers_unsigned, Unsigned, digits_unsigned}
+use Rattle.pagespec.proofs.Items.{Closed, minus_whole, item_found, item_read, minus_taken, modifiers_unsigned}
 
 abbrev pub IsGroup : List ℕ → List WrittenItem → Type 0
 IsGroup text g = IsJoined 43 IsItem text g

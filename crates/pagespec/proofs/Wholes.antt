@@ -1,12 +1,11 @@
 -- Groups to the end of a text, or the one item whose page number is left out.
-use Rattle.std.proofs.Common.{◌≡◌, ◌≢◌, ℕ, List, [], ◌∷◌, Option, Some, None, refl, sym, ap, subst, ◌∙◌, inl, inr}
+use Rattle.std.proofs.Common.{◌≡◌, ◌≢◌, ℕ, List, [], ◌∷◌, Option, Some, None, refl, sym, ap, subst, ◌∙◌, inr}
 use Rattle.std.specs.List.{AllZip}
-use Rattle.std.specs.Prelude.{MatchResult, Result, Ok, Err, IfOk, IfErr, if◌then◌else◌}
+use Rattle.std.specs.Prelude.{MatchResult, Result, Ok, Err, IfOk, IfErr}
 use Rattle.profile.specs.Specification.{WrittenItem}
-use Rattle.lengths.specs.Reading.{is_empty}
 use Rattle.pagespec.specs.Reading.{◌>>=◌, groups_at, bare_at, all_groups_at, whole, or_bare}
 use Rattle.pagespec.specs.Kept.{ItemShows}
-use Rattle.pagespec.specs.Groups.{GroupsRead, KeptShows, KeptGroups, BareRead, IsStop}
+use Rattle.pagespec.specs.Groups.{GroupsRead, KeptShows, BareRead, IsStop}
 use Rattle.pagespec.specs.declared.kept.KeptItem.{KeptItem}
 use Rattle.pagespec.specs.declared.groups.Kept.{Kept}
 use Rattle.pagespec.specs.declared.groups.Stop.{Stop}

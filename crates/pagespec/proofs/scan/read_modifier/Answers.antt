@@ -1,4 +1,4 @@
-use Rattle.std.proofs.Common.{refl, sym, ap, subst, ◌∙◌, ◌≡◌, Some, None, List, ℕ, Option}
+use Rattle.std.proofs.Common.{refl, sym, subst, ◌≡◌, Some, None, List, ℕ, Option}
 use Rattle.std.specs.Prelude.{MatchResult}
 use Rattle.std.proofs.lemmas.List.{nil_from_length}
 use Rattle.profile.specs.Specification.{Modifier}

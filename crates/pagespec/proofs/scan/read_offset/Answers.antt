@@ -1,4 +1,3 @@
-use Rattle.std.proofs.Common.{refl}
 use Rattle.pagespec.proofs.Scans.{offset_from, no_first, no_comma, no_second, no_bracket}
 use Rattle.pagespec.proofs.scan.read_offset.Goals as goal
 

@@ -1,8 +1,5 @@
-use Rattle.std.proofs.Common.{refl, sym, ap, subst, ◌∙◌, ◌≡◌, ◌++◌, ◌∷◌, [], List}
+use Rattle.std.proofs.Common.{ap, ◌∙◌}
 use Rattle.std.specs.Prelude.{◌||◌, not}
-use Rattle.profile.specs.Specification.{Modifier}
-use Rattle.pagespec.specs.Kept.{Shows}
-use Rattle.pagespec.specs.Views.{Stands}
 use Rattle.pagespec.proofs.Sums.{shows_turn, shows_scale, shows_move, shows_large, not_not, turn_stands, scale_stands, move_stands, large_stands, shows_same}
 use Rattle.pagespec.proofs.kept.Modifiers.and.Goals as goal
 
