@@ -1,11 +1,17 @@
-//! The program: it reads a document on standard input and writes its sheets on standard output.
+//! The program: it reads a document and writes its sheets, each from or to a file that the command line names, or the
+//! standard one.
 #![tactic(auto)]
 
 use imposer::{RunError, WriteSink};
-use pstops_cli::{CommandFault, Fault, ReadSource, fault_line, read_command, read_input, run_request};
+use pstops_cli::{
+    CommandFault, Fault, ReadFault, ReadSource, Request, fault_line, read_command, read_input,
+    run_request,
+};
+use std::alloc::Global;
 use std::env;
 use std::env::Env;
-use std::io::{ErrorKind, Write};
+use std::fs::File;
+use std::io::{ErrorKind, Read, Write};
 use std::process::ExitCode;
 
 fn main(rt: HostRuntime) -> ExitCode {
@@ -24,20 +30,23 @@ fn main(rt: HostRuntime) -> ExitCode {
     }
 }
 
-// Reads the words, then the input, and runs the request: the exit status and the line for standard error.
+// Reads the words, then the input, then creates the output and runs the request: the exit status and the line for standard
+// error.
 fn status_and_line(rt: &HostRuntime) -> Result<(u8, Vec<u8>), Fault> {
     let words = words(rt).map_err(Fault::Command)?;
     let request = read_command(rt.alloc(), words.as_slice()).map_err(Fault::Command)?;
-    let mut source = ReadSource::new(rt.stdin());
-    let input = read_input(rt.alloc(), &mut source).map_err(Fault::Read)?;
-    let stdout = rt.stdout();
-    let mut sink = WriteSink::new(&stdout);
-    let (status, line) = run_request(rt.alloc(), &request, input.as_slice(), &mut sink);
-    if status == 0 && (&stdout).flush().is_err() {
-        // A failed flush is a failed write, whose line doesn't say how much was written.
-        return Err(Fault::Run(RunError::Write { written: 0 }));
+    // The input is read whole and closed before the output is created, so both may be one file.
+    let input = input_of(rt, &request).map_err(Fault::Read)?;
+    match &request.outfile {
+        None => run_into(rt.alloc(), &request, input.as_slice(), rt.stdout()),
+        Some(path) => match File::create(rt, path.as_str()) {
+            Ok(file) => run_into(rt.alloc(), &request, input.as_slice(), file),
+            Err(error) if error.kind() == ErrorKind::OutOfMemory => {
+                Err(Fault::Run(RunError::NoMemory { written: 0 }))
+            }
+            Err(_) => Err(Fault::Create),
+        },
     }
-    Ok((status, line))
 }
 
 // The words after the program's name. Words that are no UTF-8 text are a bad command line.
@@ -47,4 +56,37 @@ fn words(rt: &(impl Env + AllocGlobal)) -> Result<Vec<String>, CommandFault> {
         Err(error) if error.kind() == ErrorKind::OutOfMemory => Err(CommandFault::NoMemory),
         Err(_) => Err(CommandFault::BadWords),
     }
+}
+
+// The whole input. A file that can't be opened can't be read.
+fn input_of(rt: &HostRuntime, request: &Request) -> Result<Vec<u8>, ReadFault> {
+    match &request.infile {
+        None => read_from(rt.alloc(), rt.stdin()),
+        Some(path) => match File::open(rt, path.as_str()) {
+            Ok(file) => read_from(rt.alloc(), file),
+            Err(error) if error.kind() == ErrorKind::OutOfMemory => Err(ReadFault::NoMemory),
+            Err(_) => Err(ReadFault::Device),
+        },
+    }
+}
+
+fn read_from(alloc: Global, reader: impl Read + Drop) -> Result<Vec<u8>, ReadFault> {
+    let mut source = ReadSource::new(reader);
+    read_input(alloc, &mut source)
+}
+
+// Runs the request and flushes what it wrote.
+fn run_into(
+    alloc: Global,
+    request: &Request,
+    input: &[u8],
+    mut output: impl Write + Drop,
+) -> Result<(u8, Vec<u8>), Fault> {
+    let mut sink = WriteSink::new(&mut output);
+    let (status, line) = run_request(alloc, request, input, &mut sink);
+    if status == 0 && output.flush().is_err() {
+        // A failed flush is a failed write, whose line doesn't say how much was written.
+        return Err(Fault::Run(RunError::Write { written: 0 }));
+    }
+    Ok((status, line))
 }

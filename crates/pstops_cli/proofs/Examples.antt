@@ -1,10 +1,13 @@
 -- Command lines whose words are written out, with what comes of them.
-use Rattle.std.proofs.Common.{◌≡◌, refl, [], ◌∷◌, Some}
+use Rattle.std.proofs.Common.{◌≡◌, refl, [], ◌∷◌, Some, Err}
 use Rattle.std.specs.Prelude.{codes}
 use Rattle.clap.specs.Words.{fault_of, first_of, matches_of}
-use Rattle.clap.specs.declared.error.kind.ErrorKind.TheVariants.{ArgumentConflict, MissingRequiredArgument, UnknownArgument}
+use Rattle.clap.specs.declared.error.kind.ErrorKind.TheVariants.{ArgumentConflict, InvalidValue, MissingRequiredArgument, UnknownArgument}
+use Rattle.lengths.specs.Reading.{number_at}
 use Rattle.clap.proofs.OnLiterals.{clap_on_literals}
-use Rattle.pstops_cli.specs.Command.{Takes, pstops}
+use Rattle.pstops_cli.specs.Command.{Takes, options_found, pstops}
+use Rattle.pstops_cli.specs.Values.{letter_w, options_named}
+use Rattle.pstops_cli.specs.declared.command.CommandFault.TheVariants.{BadLength, UnknownPaper}
 
 pub no_words : fault_of pstops [] ≡ MissingRequiredArgument ∷ []
 unfolding clap_on_literals pstops
@@ -26,9 +29,33 @@ pub quiet_twice : fault_of pstops (codes "-q" ∷ codes "-q" ∷ codes "0" ∷ [
 unfolding clap_on_literals pstops
 quiet_twice = refl
 
-pub two_specifications : fault_of pstops (codes "0" ∷ codes "1" ∷ []) ≡ UnknownArgument ∷ []
+pub input_and_output : first_of (codes "outfile") (matches_of pstops (codes "0" ∷ codes "in.ps" ∷ codes "out.ps" ∷ [])) ≡ Some (codes "out.ps")
 unfolding clap_on_literals pstops
-two_specifications = refl
+input_and_output = refl
+
+pub one_word_more : fault_of pstops (codes "0" ∷ codes "in.ps" ∷ codes "out.ps" ∷ codes "more" ∷ []) ≡ UnknownArgument ∷ []
+unfolding clap_on_literals pstops
+one_word_more = refl
+
+pub minus_as_next_word : fault_of pstops (codes "-w" ∷ codes "-5" ∷ codes "0" ∷ []) ≡ UnknownArgument ∷ []
+unfolding clap_on_literals pstops
+minus_as_next_word = refl
+
+pub option_as_next_word : fault_of pstops (codes "-w" ∷ codes "-q" ∷ codes "0" ∷ []) ≡ InvalidValue ∷ []
+unfolding clap_on_literals pstops
+option_as_next_word = refl
+
+pub paper_in_one_word : first_of (codes "paper") (matches_of pstops (codes "-qpa5" ∷ codes "0" ∷ [])) ≡ Some (codes "a5")
+unfolding clap_on_literals pstops
+paper_in_one_word = refl
+
+pub no_such_paper : options_found (matches_of pstops (codes "-p" ∷ codes "b9" ∷ codes "0" ∷ [])) ≡ Err UnknownPaper
+unfolding clap_on_literals pstops options_named
+no_such_paper = refl
+
+pub no_width : options_found (matches_of pstops (codes "-w0" ∷ codes "0" ∷ [])) ≡ Err (BadLength letter_w)
+unfolding clap_on_literals pstops options_named number_at
+no_width = refl
 
 pub unknown_letter : fault_of pstops (codes "-x" ∷ codes "0" ∷ []) ≡ UnknownArgument ∷ []
 unfolding clap_on_literals pstops

@@ -1,5 +1,6 @@
 pub mod Chain
 pub mod Pstops
 pub mod Reading
+pub mod ValueFaults
 pub mod Statuses
 pub mod Examples

@@ -1,5 +1,5 @@
--- The command line: pstops [-q] SPECS.
-use Rattle.std.specs.Prelude.{◌≡◌, ◌≢◌, ◌∷◌, ◌&&◌, Bool, true, false, not, List, [], Some, None, Option, codes, string_bytes, ℕ, ⊤, is_some, map}
+-- The command line: pstops [-q] [-p paper] [-w W] [-h H] [-d width] SPECS [INFILE [OUTFILE]].
+use Rattle.std.specs.Prelude.{◌≡◌, ◌≢◌, ◌∷◌, ◌&&◌, Bool, true, false, not, List, [], Some, None, Option, Result, Ok, Err, codes, string_bytes, ℕ, ⊤, is_some, map, option_map}
 use Rattle.std.specs.List.{list_any}
 use Rattle.std.specs.Str.{bytes_eq}
 use Rattle.clap.specs.Words.{AddsArg, AddsInTurn, App, Row, Rule, Text, app_of, args_of, fault_of, first_of, first_value, found_of, groups_of, matches_of, new_app, new_rule, rows_of, rule_of}
@@ -9,10 +9,11 @@ use Rattle.clap.specs.declared.builder.arg.Arg.{Arg}
 use Rattle.clap.specs.declared.builder.command.Command.{Command}
 use Rattle.clap.specs.declared.builder.command.Command.TheViews.{out-Command}
 use Rattle.clap.specs.declared.parser.matches.ArgMatches.{ArgMatches}
-use Rattle.imposer.specs.declared.options.Workers.{Workers}
+use Rattle.imposer.specs.declared.options.Options.{Options}
 use Rattle.pstops_cli.specs.declared.command.Request.{Request}
 use Rattle.pstops_cli.specs.declared.command.CommandFault.{CommandFault}
 use Rattle.pstops_cli.specs.declared.command.CommandFault.TheVariants.{BadLength, BadWords, NoMemory, UnknownPaper}
+use Rattle.pstops_cli.specs.Values.{letter_d, letter_h, letter_p, letter_w, options_named}
 
 -- ---- the command
 
@@ -22,12 +23,25 @@ positional_rule id = record (new_rule id) { action = Some Set }
 abbrev pub flag_rule : Text → (letter : ℕ) → Rule
 flag_rule id letter = record (new_rule id) { short = Some letter; action = Some SetTrue }
 
+-- an option with a value
+abbrev pub valued_rule : Text → (letter : ℕ) → Rule
+valued_rule id letter = record (new_rule id) { short = Some letter; action = Some Set }
+
 abbrev pub letter_q : ℕ
 letter_q = 113
 
--- the arguments: SPECS, which is required, and -q
+-- the arguments: SPECS, which is required, INFILE and OUTFILE, and the options
 abbrev pub rules : List Rule
-rules = record (positional_rule (codes "specs")) { required = true } ∷ flag_rule (codes "quiet") letter_q ∷ []
+rules =
+    record (positional_rule (codes "specs")) { required = true }
+    ∷ positional_rule (codes "infile")
+    ∷ positional_rule (codes "outfile")
+    ∷ flag_rule (codes "quiet") letter_q
+    ∷ valued_rule (codes "paper") letter_p
+    ∷ valued_rule (codes "width") letter_w
+    ∷ valued_rule (codes "height") letter_h
+    ∷ valued_rule (codes "border") letter_d
+    ∷ []
 
 -- no word is the program's name, and -h, --help, -V and --version aren't added
 abbrev pub bare : Shape → Shape
@@ -48,24 +62,41 @@ abbrev pub has_true : Option Text → Bool
 has_true None = false
 has_true (Some text) = bytes_eq text (codes "true")
 
--- where no option names them
-abbrev pub default_workers : Workers
-default_workers = record { preparers = 2; imposers = 2 }
+-- what the values found of -p, -w, -h and -d name, or the fault of the first of them, in this order, that names nothing
+abbrev pub options_found : (found : List Row) → Result Options CommandFault
+options_found found =
+    options_named (first_of (codes "paper") found) (first_of (codes "width") found) (first_of (codes "height") found) (first_of (codes "border") found)
 
 -- the request is what was found
 pub record Reads (found : List Row) (r : Request) : Type 0 where
   pub spec : first_of (codes "specs") found ≡ Some (string_bytes r.spec)
+  pub infile : first_of (codes "infile") found ≡ option_map string_bytes r.infile
+  pub outfile : first_of (codes "outfile") found ≡ option_map string_bytes r.outfile
+  pub options : options_found found ≡ Ok r.options
   pub quiet : has_true (first_of (codes "quiet") found) ≡ r.quiet
-  pub workers : r.options.workers ≡ default_workers
 
--- what a refusal says of the words
+-- what a refusal says of what was found: a value that names nothing, the first of them
+abbrev pub RefusesFound : (found : List Row) → CommandFault → Type 0
+RefusesFound found BadWords = ⊥
+RefusesFound found UnknownPaper = options_found found ≡ Err UnknownPaper
+RefusesFound found (BadLength letter) = options_found found ≡ Err (BadLength letter)
+RefusesFound found NoMemory = ⊤
+
+-- what a refusal says of the words: they aren't taken, or they are and a value names nothing
 abbrev pub Refuses : (words : List Text) → CommandFault → Type 0
 Refuses words BadWords = fault_of pstops words ≢ []
-Refuses words UnknownPaper = ⊥
-Refuses words (BadLength letter) = ⊥
+Refuses words UnknownPaper = Takes words × (options_found (matches_of pstops words) ≡ Err UnknownPaper)
+Refuses words (BadLength letter) = Takes words × (options_found (matches_of pstops words) ≡ Err (BadLength letter))
 Refuses words NoMemory = ⊤
 
 -- ---- how the command is made
+
+-- what a refusal says of the words before their values are looked at
+abbrev pub ParseRefuses : (words : List Text) → CommandFault → Type 0
+ParseRefuses words BadWords = fault_of pstops words ≢ []
+ParseRefuses words UnknownPaper = ⊥
+ParseRefuses words (BadLength letter) = ⊥
+ParseRefuses words NoMemory = ⊤
 
 -- these are the words' matches, and SPECS is among them
 pub record Finds (words : List Text) (m : ArgMatches) : Type 0 where

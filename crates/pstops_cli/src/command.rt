@@ -1,12 +1,13 @@
 //! What the words after the program's name ask for.
 ghost use Rattle.std.specs.Prelude.{◌≡◌, IfOk, IfErr, codes, is_some, map, option_map, true, string_bytes};
 ghost use Rattle.clap.specs.Words.{first_of, first_value, found_of, is_simple, matches_of, rows_of, rule_of};
-ghost use Rattle.pstops_cli.specs.Command.{Finds, IsChain, Reads, Refuses, Takes, flag_rule, has_true, positional_rule, pstops, rules};
+ghost use Rattle.pstops_cli.specs.Command.{Finds, IsChain, ParseRefuses, Reads, RefusesFound, Refuses, Takes, flag_rule, has_true, options_found, positional_rule, pstops, rules, valued_rule};
 ghost use Rattle.pstops_cli.specs.declared.command.CommandFault.TheVariants.{NoMemory};
 
+use crate::values::options_named;
 use clap::error::ErrorKind;
 use clap::{Arg, ArgAction, ArgMatches, Command};
-use imposer::{Options, Workers};
+use imposer::Options;
 use std::alloc::{AllocError, Global};
 
 /// What a command line asks for.
@@ -14,6 +15,10 @@ use std::alloc::{AllocError, Global};
 pub struct Request {
     /// The page specification, as it was written.
     pub spec: String,
+    /// The file that is read; standard input where there is none.
+    pub infile: Option<String>,
+    /// The file that is written; standard output where there is none.
+    pub outfile: Option<String>,
     /// What a run is told besides.
     pub options: Options,
     /// Whether the report line is left out.
@@ -41,28 +46,36 @@ impl From<AllocError> for CommandFault {
     }
 }
 
-/// The request that the words after the program's name make: `[-q] SPECS`.
+/// The request that the words after the program's name make:
+/// `[-q] [-p paper] [-w W] [-h H] [-d width] SPECS [INFILE [OUTFILE]]`, as in pstops(1).
 ///
-/// `-q` leaves the report line out, and SPECS is a page specification, which isn't looked at here. The workers are two
-/// preparers and two imposers. No option names a paper or a length yet, so those faults don't come.
+/// `-q` leaves the report line out, and SPECS is a page specification, which isn't looked at here. `-p` names the paper,
+/// which is a4 where none is named; `-w` replaces its width and `-h` its height. `-d` asks for a border of this width round
+/// each page, and a width of 0 for none. A length is a number and its unit, `pt`, `cm`, `mm` or `in`, without which it is
+/// in points. The workers are two preparers and two imposers.
+///
+/// Words that the command doesn't take are `BadWords`. Among words that it takes, a paper without a name comes first as
+/// `UnknownPaper`, then as `BadLength` the values of `-w` and `-h`, which are lengths above zero, and of `-d`, which isn't
+/// below zero, whatever order they stand in.
 #[tactic(auto, using(crate::proofs::Pstops::pstops_is_simple))]
 pub fn read_command(alloc: Global, words: &[String]) -> Result<Request, CommandFault>
     ensures taken { IfOk result (λ _. Takes (map string_bytes words.now)) }
     ensures read { IfOk result (Reads (matches_of pstops (map string_bytes words.now))) }
-    // BadWords comes only where the command doesn't take the words.
+    // BadWords comes only where the command doesn't take the words, and another refusal only where a value is no paper or
+    // no length.
     ensures refused { IfErr result (Refuses (map string_bytes words.now)) }
     // What the command takes and finds is a function of the words, since it is a simple one.
     ensures simple { is_simple pstops ≡ true }
 {
     let matches = parse(alloc, words)?;
-    Ok(request_of(alloc, &matches)?)
+    request_of(alloc, &matches)
 }
 
 // What the command finds among the words.
 fn parse<'a>(alloc: Global, words: &'a [String]) -> Result<ArgMatches<'a>, CommandFault>
     ensures taken { IfOk result (λ _. Takes (map string_bytes words.entry.now)) }
     ensures found { IfOk result (Finds (map string_bytes words.entry.now)) }
-    ensures refused { IfErr result (Refuses (map string_bytes words.entry.now)) }
+    ensures refused { IfErr result (ParseRefuses (map string_bytes words.entry.now)) }
 {
     let command = command(alloc)?;
     match command.try_get_matches_from(words) {
@@ -78,21 +91,35 @@ fn parse<'a>(alloc: Global, words: &'a [String]) -> Result<ArgMatches<'a>, Comma
 }
 
 // The request that the matches make.
-fn request_of(alloc: Global, matches: &ArgMatches<'_>) -> Result<Request, AllocError>
+fn request_of(alloc: Global, matches: &ArgMatches<'_>) -> Result<Request, CommandFault>
     requires { is_some (first_value (found_of matches.now) (codes "specs")) ≡ true }
-    ensures { IfOk result (Reads (rows_of (found_of matches.now))) }
+    ensures read { IfOk result (Reads (rows_of (found_of matches.now))) }
+    ensures refused { IfErr result (RefusesFound (rows_of (found_of matches.now))) }
 {
+    let options = options_of(matches)?;
     let quiet = is_set(text_of(matches, "quiet"));
     let spec = String::from_str(alloc, text_of(matches, "specs").unwrap())?;
-    let workers = Workers {
-        preparers: 2,
-        imposers: 2,
-    };
+    let infile = owned(alloc, text_of(matches, "infile"))?;
+    let outfile = owned(alloc, text_of(matches, "outfile"))?;
     Ok(Request {
         spec,
-        options: Options { workers },
+        infile,
+        outfile,
+        options,
         quiet,
     })
+}
+
+// The options that the matches name.
+fn options_of(matches: &ArgMatches<'_>) -> Result<Options, CommandFault>
+    ensures { result ≡ options_found (rows_of (found_of matches.now)) }
+{
+    options_named(
+        text_of(matches, "paper"),
+        text_of(matches, "width"),
+        text_of(matches, "height"),
+        text_of(matches, "border"),
+    )
 }
 
 // The command. Its own help and version options are switched off, so that their letters are free.
@@ -112,7 +139,13 @@ fn args<'a>(alloc: Global) -> Result<Vec<Arg<'a>>, AllocError>
 {
     let args = vec![in alloc;
         positional(alloc, "specs").required(true),
+        positional(alloc, "infile"),
+        positional(alloc, "outfile"),
         flag(alloc, "quiet", 'q'),
+        valued(alloc, "paper", 'p'),
+        valued(alloc, "width", 'w'),
+        valued(alloc, "height", 'h'),
+        valued(alloc, "border", 'd'),
     ]?;
     Ok(args)
 }
@@ -127,6 +160,13 @@ fn flag<'a>(alloc: Global, id: &'a str, short: char) -> Arg<'a>
     ensures { rule_of result ≡ flag_rule id.entry.now short }
 {
     Arg::new(alloc, id).short(short).action(ArgAction::SetTrue)
+}
+
+// An option with a value.
+fn valued<'a>(alloc: Global, id: &'a str, short: char) -> Arg<'a>
+    ensures { rule_of result ≡ valued_rule id.entry.now short }
+{
+    Arg::new(alloc, id).short(short).action(ArgAction::Set)
 }
 
 // The value of an argument as text.
@@ -144,5 +184,15 @@ fn is_set(text: Option<&str>) -> bool
     match text {
         Some(text) => text == "true",
         None => false,
+    }
+}
+
+// The text as one of the request's own.
+fn owned(alloc: Global, text: Option<&str>) -> Result<Option<String>, AllocError>
+    ensures { IfOk result (λ own. option_map string_bytes own ≡ option_map (λ s. s.now) text.entry) }
+{
+    match text {
+        None => Ok(None),
+        Some(text) => Ok(Some(String::from_str(alloc, text)?)),
     }
 }

@@ -5,6 +5,7 @@ mod command;
 mod input;
 mod lines;
 mod requests;
+mod values;
 
 pub use command::{CommandFault, Request, read_command};
 pub use input::{MOST_BYTES, ReadFault, ReadSource, Source, SourceFault, read_input};

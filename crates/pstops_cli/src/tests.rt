@@ -1,8 +1,11 @@
 //! The worked examples: words, inputs, lines and requests.
+mod commands;
+
 use crate::*;
+use commands::read;
 use dsc::DscError;
-use imposer::{MemorySink, Options, PlanError, RunError, SpecError, Workers};
-use std::alloc::{AllocError, Global};
+use imposer::{MemorySink, PlanError, RunError, SpecError};
+use std::alloc::AllocError;
 use std::process::Abort;
 use std::str;
 use std::test::Fail;
@@ -13,45 +16,14 @@ const ONE_PAGE: &str =
 const ONE_SHEET: &str =
     "%!PS-Adobe-3.0\n%%Pages: 1\n%%EndComments\n%%Page: 1 1\nuserdict /ImposeSave save put\nuserdict /showpage {} put\n[1 0 0 1 0 0] concat\nnewpath 0 0 moveto 595 0 lineto 595 842 lineto 0 842 lineto closepath clip newpath\n(0) pop\nshowpage\nImposeSave restore\nshowpage\n%%Trailer\n%%EOF\n";
 
-// What is asked for by words with spaces between them.
-fn read(alloc: Global, line: &str) -> Result<Request, CommandFault> {
-    let mut words = Vec::new(alloc);
-    for word in line.split_whitespace() {
-        let word = String::from_str(alloc, word)?;
-        words.push(word).map_err(|_| CommandFault::NoMemory)?;
-    }
-    read_command(alloc, words.as_slice())
-}
+const TWO_PAGES: &str =
+    "%!PS-Adobe-3.0\n%%Pages: 2\n%%EndComments\n%%Page: 1 1\n(0) pop\nshowpage\n%%Page: 2 2\n(1) pop\nshowpage\n%%Trailer\n%%EOF\n";
 
-#[test]
-fn words_that_are_taken(rt: HostRuntime) -> Result<(), Fail> {
-    let rows = [
-        ("-q 0", "0", true),
-        ("0", "0", false),
-        ("2:0,1 -q", "2:0,1", true),
-        ("-- -0", "-0", false),
-    ];
-    for (line, spec, quiet) in rows {
-        let request = read(rt.alloc(), line)?;
-        assert_eq!(rt; request.spec.as_str(), spec);
-        assert_eq!(rt; request.quiet, quiet, "at {line}");
-        assert_eq!(rt; request.options.workers.preparers, 2);
-        assert_eq!(rt; request.options.workers.imposers, 2);
-    }
-    Ok(())
-}
+const TWO_PAGES_ON_A_SHEET: &str =
+    "%!PS-Adobe-3.0\n%%Pages: 1\n%%EndComments\n%%Page: 1 1\nuserdict /ImposeSave save put\nuserdict /showpage {} put\n[0 0.7 -0.7 0 595.27559 0] concat\nnewpath 0 0 moveto 595 0 lineto 595 842 lineto 0 842 lineto closepath clip newpath\n(0) pop\nshowpage\nImposeSave restore\nuserdict /ImposeSave save put\nuserdict /showpage {} put\n[0 0.7 -0.7 0 595.27559 420.94488] concat\nnewpath 0 0 moveto 595 0 lineto 595 842 lineto 0 842 lineto closepath clip newpath\n(1) pop\nshowpage\nImposeSave restore\nshowpage\n%%Trailer\n%%EOF\n";
 
-#[test]
-fn words_that_are_refused(rt: HostRuntime) {
-    for line in [
-        "", "-q", "-q -q 0", "0 1", "-x 0", "-0", "--help", "-j 17 0",
-    ] {
-        match read(rt.alloc(), line) {
-            Ok(_) => assert!(rt; false, "taken: {line}"),
-            Err(fault) => assert_eq!(rt; fault, CommandFault::BadWords, "at {line}"),
-        }
-    }
-}
+const ONE_SHEET_WITH_A_BORDER: &str =
+    "%!PS-Adobe-3.0\n%%Pages: 1\n%%EndComments\n%%Page: 1 1\nuserdict /ImposeSave save put\nuserdict /showpage {} put\n[1 0 0 1 0 0] concat\nnewpath 0 0 moveto 595.27559 0 lineto 595.27559 841.88976 lineto 0 841.88976 lineto closepath clip newpath\ngsave 1 setlinewidth newpath 0 0 moveto 595.27559 0 lineto 595.27559 841.88976 lineto 0 841.88976 lineto closepath stroke grestore\n(0) pop\nshowpage\nImposeSave restore\nshowpage\n%%Trailer\n%%EOF\n";
 
 #[test]
 fn an_input_is_read_whole(rt: HostRuntime) -> Result<(), Fail> {
@@ -255,56 +227,70 @@ fn each_refusal_has_its_line(rt: HostRuntime) -> Result<(), Fail> {
     Ok(())
 }
 
-fn request(alloc: Global, spec: &str, quiet: bool, preparers: u32) -> Result<Request, AllocError> {
-    let workers = Workers {
-        preparers,
-        imposers: 1,
-    };
-    Ok(Request {
-        spec: String::from_str(alloc, spec)?,
-        options: Options { workers },
-        quiet,
-    })
-}
-
+// What a command line gives on an input: the exit status, the line on standard error and the output.
 #[test]
-fn requests_and_what_is_said_of_them(rt: HostRuntime) -> Result<(), Fail> {
+fn command_lines_and_their_runs(rt: HostRuntime) -> Result<(), Fail> {
     let rows = [
-        ("0", true, 1, ONE_PAGE, 0, ""),
+        ("-q 0", ONE_PAGE, 0, "", ONE_SHEET),
         (
             "0",
-            false,
-            1,
             ONE_PAGE,
             0,
             "pstops: pages 1, sheets 1, bytes 273\n",
+            ONE_SHEET,
         ),
         (
-            "2:2",
-            true,
-            1,
+            "2:0L@.7(21cm,0)+1L@.7(21cm,14.85cm)",
+            TWO_PAGES,
+            0,
+            "pstops: pages 2, sheets 1, bytes 503\n",
+            TWO_PAGES_ON_A_SHEET,
+        ),
+        (
+            "-w21cm -h29.7cm -d1 0 -q",
+            ONE_PAGE,
+            0,
+            "",
+            ONE_SHEET_WITH_A_BORDER,
+        ),
+        (
+            "2:2 -q",
             ONE_PAGE,
             1,
             "pstops: specification: item 0: page number not below modulo\n",
+            "",
         ),
-        ("0", false, 1, "", 1, "pstops: input is not PostScript\n"),
-        ("0", true, 0, ONE_PAGE, 2, "pstops: bad options\n"),
+        ("0", "", 1, "pstops: input is not PostScript\n", ""),
     ];
-    for (spec, quiet, preparers, input, status, line) in rows {
-        let request = request(rt.alloc(), spec, quiet, preparers)?;
+    for (words, input, status, line, output) in rows {
+        let request = read(rt.alloc(), words)?;
         let mut sink = MemorySink::new(rt.alloc(), 1000, 1000, 1000)?;
         let told = run_request(rt.alloc(), &request, input.as_bytes(), &mut sink);
         assert_eq!(rt; str::from_utf8(told.1.as_slice()), Ok(line));
-        assert_eq!(rt; told.0, status, "at {line}");
-        let written = if status == 0 { ONE_SHEET } else { "" };
-        assert_eq!(rt; sink.bytes(), written.as_bytes());
+        assert_eq!(rt; told.0, status, "at {words}");
+        assert_eq!(rt; str::from_utf8(sink.bytes()), Ok(output));
     }
     Ok(())
 }
 
 #[test]
+fn no_preparer_is_a_bad_option(rt: HostRuntime) -> Result<(), Fail> {
+    let mut request = read(rt.alloc(), "-q 0")?;
+    request.options.workers.preparers = 0;
+    let mut sink = MemorySink::new(rt.alloc(), 1000, 1000, 1000)?;
+    let told = run_request(rt.alloc(), &request, ONE_PAGE.as_bytes(), &mut sink);
+    assert_eq!(rt;
+        str::from_utf8(told.1.as_slice()),
+        Ok("pstops: bad options\n")
+    );
+    assert_eq!(rt; told.0, 2);
+    assert_eq!(rt; sink.bytes().len(), 0);
+    Ok(())
+}
+
+#[test]
 fn a_sink_that_fails_after_a_hundred_bytes(rt: HostRuntime) -> Result<(), Fail> {
-    let request = request(rt.alloc(), "0", false, 1)?;
+    let request = read(rt.alloc(), "0")?;
     let mut sink = MemorySink::new(rt.alloc(), 100, 1000, 1000)?;
     let told = run_request(rt.alloc(), &request, ONE_PAGE.as_bytes(), &mut sink);
     assert_eq!(rt;

@@ -1,0 +1,51 @@
+-- The faults of the options' values.
+use Rattle.std.proofs.Common.{◌≡◌, ◌∙◌, ap, sym, subst, ok_or, List, Option, Some, None, Result, Ok, Err, IsErrAnd}
+use Rattle.std.specs.Prelude.{codes, ⊤}
+use Rattle.clap.specs.Words.{Row, Text, fault_of, first_of, matches_of}
+use Rattle.imposer.specs.declared.options.Options.{Options}
+use Rattle.pstops_cli.specs.declared.command.CommandFault.{CommandFault}
+use Rattle.pstops_cli.specs.declared.command.CommandFault.TheVariants.{BadLength, BadWords, NoMemory, UnknownPaper}
+use Rattle.pstops_cli.specs.Values.{and_then, border_named, letter_d, letter_h, letter_w, options_named, paper_or_a4, with_height, with_width}
+use Rattle.pstops_cli.specs.Command.{Refuses, RefusesFound, Takes, options_found, pstops}
+
+abbrev IsOfValue : CommandFault → Type 0
+IsOfValue BadWords = ⊥
+IsOfValue UnknownPaper = ⊤
+IsOfValue (BadLength letter) = ⊤
+IsOfValue NoMemory = ⊥
+
+step : {X : Type 0} (o : Option X) (e f : CommandFault) (k : X → Result Options CommandFault) → IsOfValue e
+    → ((x : X) → k x ≡ Err f → IsOfValue f) → and_then (ok_or o e) k ≡ Err f → IsOfValue f
+step None e f k he hk h = let same : e ≡ f = cc in subst IsOfValue same he
+step (Some x) e f k he hk h = hk x h
+
+-- a fault of the values is no other one
+of_value : (p w h d : Option Text) (f : CommandFault) → options_named p w h d ≡ Err f → IsOfValue f
+unfolding options_named
+of_value p w h d f =
+    step (paper_or_a4 p) UnknownPaper f _ tt (λ named.
+    step (with_width named w) (BadLength letter_w) f _ tt (λ wide.
+    step (with_height wide h) (BadLength letter_h) f _ tt (λ sides.
+    step (border_named sides d) (BadLength letter_d) f _ tt (λ border e. cc))))
+
+refused_as : (found : List Row) (f : CommandFault) → IsOfValue f → options_found found ≡ Err f → RefusesFound found f
+refused_as found BadWords is e = is
+refused_as found UnknownPaper is e = e
+refused_as found (BadLength letter) is e = e
+refused_as found NoMemory is e = absurd is
+
+pub refuses_found : (found : List Row) (f : CommandFault) → options_found found ≡ Err f → RefusesFound found f
+refuses_found found f e =
+    refused_as found f (of_value (first_of (codes "paper") found) (first_of (codes "width") found) (first_of (codes "height") found) (first_of (codes "border") found) f e) e
+
+-- what was found is that of words which are taken
+pub refuses_words : (words : List Text) (found : List Row) (f : CommandFault) → Takes words → found ≡ matches_of pstops words → RefusesFound found f → Refuses words f
+refuses_words words found NoMemory taken is h = tt
+refuses_words words found UnknownPaper taken is h = (taken, ap options_found (sym is) ∙ h)
+refuses_words words found (BadLength letter) taken is h = (taken, ap options_found (sym is) ∙ h)
+refuses_words words found BadWords taken is h = absurd h
+
+-- a fault that is handed on by `?`
+pub handed_on : {T : Type 0} (r : Result T CommandFault) (f : CommandFault) → IsErrAnd r (λ g. g ≡ f) → r ≡ Err f
+handed_on (Ok x) f h = absurd h
+handed_on (Err g) f h = ap Err h

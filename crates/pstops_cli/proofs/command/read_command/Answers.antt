@@ -1,0 +1,13 @@
+use Rattle.std.proofs.Common.{map}
+use Rattle.std.specs.Prelude.{string_bytes}
+use Rattle.std.proofs.lemmas.Result.{IfErr-weaker}
+use Rattle.clap.specs.Words.{found_of, rows_of}
+use Rattle.pstops_cli.specs.Command.{Refuses}
+use Rattle.pstops_cli.proofs.ValueFaults.{refuses_words}
+use Rattle.pstops_cli.proofs.command.read_command.Goals as goal
+
+pub returns-clause-refused : goal.returns-clause-refused
+returns-clause-refused c =
+    let words = map string_bytes c.args.words.now in
+    let found = rows_of (found_of c.in_ok-matches.matches) in
+    IfErr-weaker c.request_of.result _ (Refuses words) (λ f h. refuses_words words found f c.in_ok-matches.ensures.taken c.in_ok-matches.ensures.found.rows h) c.request_of.ensures.refused

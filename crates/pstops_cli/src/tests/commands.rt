@@ -1,0 +1,167 @@
+//! Command lines as they are typed, and what each gives.
+use crate::*;
+use std::alloc::Global;
+use std::test::Fail;
+
+// What is asked for by words with a space between them; two single quotes are the empty word.
+pub(super) fn read(alloc: Global, line: &str) -> Result<Request, CommandFault> {
+    let mut words = Vec::new(alloc);
+    for word in line.split_whitespace() {
+        let word = if word == "''" { "" } else { word };
+        let word = String::from_str(alloc, word)?;
+        words.push(word).map_err(|_| CommandFault::NoMemory)?;
+    }
+    read_command(alloc, words.as_slice())
+}
+
+const STANDARD: &str = "standard input or output";
+
+fn name_of(file: &Option<String>) -> &str {
+    match file {
+        Some(name) => name.as_str(),
+        None => STANDARD,
+    }
+}
+
+#[test]
+fn words_that_are_taken(rt: HostRuntime) -> Result<(), Fail> {
+    let rows = [
+        ("-q 0", "0", STANDARD, STANDARD, true),
+        ("0", "0", STANDARD, STANDARD, false),
+        ("0 in.ps", "0", "in.ps", STANDARD, false),
+        ("2:0,1 in.ps out.ps", "2:0,1", "in.ps", "out.ps", false),
+        // An option may stand behind or between the other words, and in one word with others.
+        ("0 -q in.ps -pa5", "0", "in.ps", STANDARD, true),
+        ("-qpa5 0", "0", STANDARD, STANDARD, true),
+        // After two dashes no word is an option.
+        ("-- -0", "-0", STANDARD, STANDARD, false),
+        ("0 -- in.ps -q", "0", "in.ps", "-q", false),
+        ("-", "-", STANDARD, STANDARD, false),
+        // A value is taken for no other word.
+        ("-p a5 0 in.ps", "0", "in.ps", STANDARD, false),
+        ("''", "", STANDARD, STANDARD, false),
+        ("0 '' ''", "0", "", "", false),
+        ("é naïve.ps 東京.ps", "é", "naïve.ps", "東京.ps", false),
+    ];
+    for (line, spec, infile, outfile, quiet) in rows {
+        let request = read(rt.alloc(), line)?;
+        assert_eq!(rt; request.spec.as_str(), spec);
+        assert_eq!(rt; name_of(&request.infile), infile);
+        assert_eq!(rt; name_of(&request.outfile), outfile);
+        assert_eq!(rt; request.quiet, quiet, "at {line}");
+        assert_eq!(rt; request.options.workers.preparers, 2);
+        assert_eq!(rt; request.options.workers.imposers, 2);
+    }
+    Ok(())
+}
+
+#[test]
+fn words_that_are_refused(rt: HostRuntime) {
+    let lines = [
+        "",
+        "-q",
+        "-d 0",
+        "0 in.ps out.ps more",
+        // Each option at most once.
+        "-q -q 0",
+        "-qq 0",
+        "-w1 -w2 0",
+        // A value that is the next word doesn't begin with a minus, and doesn't lack.
+        "-w -5 0",
+        "-w -q 0",
+        "-w -- 0",
+        "0 -w",
+        // Words that begin with a minus are options, and of those there are no others.
+        "-0",
+        "-x 0",
+        "-é 0",
+        "-q=1 0",
+        "-V 0",
+        "--help",
+        "--quiet 0",
+        "-j 17 0",
+        "-k 2 0",
+        "-s 8 0",
+    ];
+    for line in lines {
+        match read(rt.alloc(), line) {
+            Ok(_) => assert!(rt; false, "taken: {line}"),
+            Err(fault) => assert_eq!(rt; fault, CommandFault::BadWords, "at {line}"),
+        }
+    }
+}
+
+// A point is 127,000,000,000 grains, and a centimetre 3,600,000,000,000.
+#[test]
+fn papers_and_borders(rt: HostRuntime) -> Result<(), Fail> {
+    let rows = [
+        ("0", 75_565_000_000_000, 106_934_000_000_000, 0),
+        (
+            "-w21cm -h29.7cm -d1 0",
+            75_600_000_000_000,
+            106_920_000_000_000,
+            127_000_000_000,
+        ),
+        (
+            "-w 595 -h 842pt -d 1mm 0",
+            75_565_000_000_000,
+            106_934_000_000_000,
+            360_000_000_000,
+        ),
+        // -w and -h replace a side of the paper, also where they stand before its name.
+        (
+            "-h1in -p LETTER 0",
+            77_724_000_000_000,
+            9_144_000_000_000,
+            0,
+        ),
+        ("-p a5 -w .5in 0", 4_572_000_000_000, 75_565_000_000_000, 0),
+        ("-d0 0", 75_565_000_000_000, 106_934_000_000_000, 0),
+        ("-d-0cm 0", 75_565_000_000_000, 106_934_000_000_000, 0),
+        // An equals sign behind the letter isn't part of the value.
+        ("-w=21 0", 2_667_000_000_000, 106_934_000_000_000, 0),
+    ];
+    for (line, width, height, border) in rows {
+        let options = read(rt.alloc(), line)?.options;
+        assert_eq!(rt; options.paper.width().get(), width, "at {line}");
+        assert_eq!(rt; options.paper.height().get(), height, "at {line}");
+        let asked = match options.border {
+            Some(width) => width.get(),
+            None => 0,
+        };
+        assert_eq!(rt; asked, border, "at {line}");
+    }
+    Ok(())
+}
+
+#[test]
+fn values_that_are_refused(rt: HostRuntime) {
+    let rows = [
+        ("-p b9 0", CommandFault::UnknownPaper),
+        ("-p '' 0", CommandFault::UnknownPaper),
+        ("-p - 0", CommandFault::UnknownPaper),
+        ("-w0 0", CommandFault::BadLength('w')),
+        ("-w-5 0", CommandFault::BadLength('w')),
+        ("-w - 0", CommandFault::BadLength('w')),
+        ("-w '' 0", CommandFault::BadLength('w')),
+        ("-w wide 0", CommandFault::BadLength('w')),
+        ("-w 100000 0", CommandFault::BadLength('w')),
+        ("-w 21q 0", CommandFault::BadLength('w')),
+        ("-h 0.0000000001 0", CommandFault::BadLength('h')),
+        ("-h 1h 0", CommandFault::BadLength('h')),
+        ("-h 29.7CM 0", CommandFault::BadLength('h')),
+        ("-h 5inch 0", CommandFault::BadLength('h')),
+        ("-d-1 0", CommandFault::BadLength('d')),
+        ("-d 1e3 0", CommandFault::BadLength('d')),
+        // The order is that of the options in the usage, whatever order the words have.
+        ("-w x -p b9 0", CommandFault::UnknownPaper),
+        ("-d x -h x -w x 0", CommandFault::BadLength('w')),
+        ("-d x -h x 0", CommandFault::BadLength('h')),
+    ];
+    for (line, wanted) in rows {
+        match read(rt.alloc(), line) {
+            Ok(_) => assert!(rt; false, "taken: {line}"),
+            Err(fault) => assert_eq!(rt; fault, wanted, "at {line}"),
+        }
+    }
+}

@@ -1,0 +1,104 @@
+//! What the values of the options stand for.
+ghost use Rattle.std.specs.Prelude.{◌≡◌, option_map};
+ghost use Rattle.lengths.specs.Units.{length_unit};
+ghost use Rattle.pstops_cli.specs.Values as meaning;
+
+use crate::command::CommandFault;
+use imposer::{Options, Workers};
+use lengths::{Grains, Paper, Unit, paper_by_name, read_number, to_grains};
+
+// The options that the values of `-p`, `-w`, `-h` and `-d` name. The first in this order that names none is the fault.
+pub(crate) fn options_named(
+    paper: Option<&str>,
+    width: Option<&str>,
+    height: Option<&str>,
+    border: Option<&str>,
+) -> Result<Options, CommandFault>
+    ensures { result ≡ meaning.options_named (option_map (λ s. s.now) paper.entry) (option_map (λ s. s.now) width.entry)
+        (option_map (λ s. s.now) height.entry) (option_map (λ s. s.now) border.entry) }
+{
+    let named = paper_or_a4(paper).ok_or(CommandFault::UnknownPaper)?;
+    let wide = with_width(named, width).ok_or(CommandFault::BadLength('w'))?;
+    let sides = with_height(wide, height).ok_or(CommandFault::BadLength('h'))?;
+    let border = border_named(&sides, border).ok_or(CommandFault::BadLength('d'))?;
+    Ok(Options {
+        paper: sides,
+        border,
+        workers: Workers {
+            preparers: 2,
+            imposers: 2,
+        },
+    })
+}
+
+fn paper_or_a4(name: Option<&str>) -> Option<Paper>
+    ensures { result ≡ meaning.paper_or_a4 (option_map (λ s. s.now) name.entry) }
+{
+    paper_by_name(name.unwrap_or("a4"))
+}
+
+fn with_width(paper: Paper, width: Option<&str>) -> Option<Paper>
+    ensures { result ≡ meaning.with_width paper (option_map (λ s. s.now) width.entry) }
+{
+    match width {
+        None => Some(paper),
+        Some(width) => Paper::new(length_named(&paper, width)?, paper.height()),
+    }
+}
+
+fn with_height(paper: Paper, height: Option<&str>) -> Option<Paper>
+    ensures { result ≡ meaning.with_height paper (option_map (λ s. s.now) height.entry) }
+{
+    match height {
+        None => Some(paper),
+        Some(height) => Paper::new(paper.width(), length_named(&paper, height)?),
+    }
+}
+
+// The width of a border, where there is to be one.
+fn border_named(paper: &Paper, width: Option<&str>) -> Option<Option<Grains>>
+    ensures { result ≡ meaning.border_named paper.now (option_map (λ s. s.now) width.entry) }
+{
+    match width {
+        None => Some(None),
+        Some(width) => border_of(length_named(paper, width)?),
+    }
+}
+
+fn border_of(width: Grains) -> Option<Option<Grains>>
+    ensures { result ≡ meaning.border_of width }
+{
+    if width.get() >= 1 {
+        Some(Some(width))
+    } else if width.get() >= 0 {
+        Some(None)
+    } else {
+        None
+    }
+}
+
+// The length that the text names.
+fn length_named(paper: &Paper, text: &str) -> Option<Grains>
+    ensures { result ≡ meaning.length_named paper.now text.now }
+{
+    let bytes = text.as_bytes();
+    let (number, len) = read_number(bytes).ok()?;
+    let unit = unit_named(&bytes[len..])?;
+    Some(to_grains(number, unit, paper))
+}
+
+fn unit_named(text: &[u8]) -> Option<Unit>
+    ensures { option_map length_unit result ≡ meaning.unit_named text.now }
+{
+    if text.is_empty() || text == "pt".as_bytes() {
+        Some(Unit::Pt)
+    } else if text == "cm".as_bytes() {
+        Some(Unit::Cm)
+    } else if text == "mm".as_bytes() {
+        Some(Unit::Mm)
+    } else if text == "in".as_bytes() {
+        Some(Unit::In)
+    } else {
+        None
+    }
+}
