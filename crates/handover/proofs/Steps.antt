@@ -2,12 +2,12 @@
 use Rattle.std.proofs.Common.{◌≡◌, ℕ, ◌<◌, List, [], ◌∷◌, ◌++◌, length, set, refl, sym, ap, ◌∙◌, arith, subst}
 use mathlib.Core.Option.{some}
 use lib.ListN.{get_elem?}
-use Rattle.crossbeam_queue.specs.Fifo.{Pushes, Pops, Forks, Merges}
+use Rattle.crossbeam_queue.specs.Fifo.{Pushes, Pops, Forks, Merges, Learns}
 use Rattle.histories.specs.Seats.{AreSeats, nothing, nobody, whole_share, share_of, owned, opening_sight, keeps_back, given, absorbed, added}
 use Rattle.histories.proofs.Shares.{adds, splits, absorbs, opens, whole_front, whole_owns, rekeys}
 use Rattle.histories.proofs.Totals.{total_has}
 use Rattle.handover.specs.Queue.{Move, Put, Take, content, after, Fits, IsQueueHistory}
-use Rattle.handover.specs.Rule.{Sight, IsKept, Kept, Adds, Sees, Learned, spent}
+use Rattle.handover.specs.Rule.{Sight, IsKept, Kept, Adds, Sees, Learned, Knows, spent}
 use Rattle.handover.proofs.Histories.{after_push, AllFit_push}
 
 -- a move that fits the content keeps the rule
@@ -28,10 +28,10 @@ puts n port v x pos is items views room h at =
 pub takes : (port : ℕ) (v : Sight) → 0 < v.mine.share → Pops Kept port v (λ x w. Adds v (Take x) w)
 takes port v pos x items views h at = moves (x ∷ items) views port v (Take x) h at pos refl
 
-pub sees : (port : ℕ) (v : Sight) → Rattle.crossbeam_queue.specs.Fifo.Learns Kept port v (Sees v)
+pub sees : (port : ℕ) (v : Sight) → Learns Kept port v (Sees v)
 sees port v items views h at whole = ap content (whole_front h.0 h.1 views port v h.2.seats at whole) ∙ h.2.holds
 
-pub learns : (port : ℕ) (v : Sight) → v.other ≡ nothing → Rattle.crossbeam_queue.specs.Fifo.Learns Kept port v (Rattle.handover.specs.Rule.Learns v)
+pub learns : (port : ℕ) (v : Sight) → v.other ≡ nothing → Learns Kept port v (Knows v)
 learns port v alone items views h at = record {
   log = h.1;
   met = (h.2.seats.seats port v at).met;

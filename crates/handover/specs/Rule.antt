@@ -38,8 +38,8 @@ pub record Learned (v : Sight) : Type 0 where
   pub shares : v.mine.share ≤ whole_share
   pub every : v.mine.share ≡ whole_share → (x : ℕ) → x < length v.mine.front → 0 < times x v.mine.own
 
-abbrev pub Learns : Sight → List ℕ → Type 0
-Learns v items = Learned v
+abbrev pub Knows : Sight → List ℕ → Type 0
+Knows v items = Learned v
 
 -- a pass between two calls: it has no slot of the queue and no second part, it has this share, and it keeps what every pass keeps
 pub record StandsAlone (v : Sight) (its_share : ℕ) : Type 0 where

@@ -1,5 +1,5 @@
 -- The shelf, and the tokens of its entries.
-use Rattle.std.specs.Prelude.{◌≡◌, ◌<◌}
+use Rattle.std.specs.Prelude.{◌≡◌, ℕ, ◌<◌}
 use Rattle.boxcar.specs.Table.{Shows, Shelves, Where}
 use Rattle.handover.specs.Pages.{PreparedPage}
 use Rattle.handover.specs.declared.receipts.PutError.{PutError}
@@ -8,6 +8,13 @@ use Rattle.handover.specs.declared.receipts.PutError.TheVariants.{NoMemory, Shel
 -- the token was given for an entry of this shelf
 abbrev pub IsOn : Shelves → Where PreparedPage → Type 0
 IsOn shelf token = Shows shelf token
+
+-- this page was put on the shelf at this index
+pub record LiesAt (shelf : Shelves) (index : ℕ) (page : PreparedPage) : Type 0 where
+  pub token : Where PreparedPage
+  pub on : IsOn shelf token
+  pub at : token.index ≡ index
+  pub is : token.value ≡ page
 
 -- what a put that gives no receipt leaves: the page comes back, or it is on the shelf at an index of more than 32 bits
 abbrev pub GivesNoReceipt : Shelves → PreparedPage → PutError → Type 0

@@ -1,5 +1,5 @@
 //! The queue of sheets that are ready.
-ghost use Rattle.std.specs.Prelude.{◌≡◌, ◌<◌, ◌-◌, [], length, IfOk, IfErr, IfSome, IfNone};
+ghost use Rattle.std.specs.Prelude.{◌≡◌, ◌<◌, ◌-◌, [], length, OnOk, OnErr, IfOk, IfErr, IfSome, IfNone};
 ghost use Rattle.crossbeam_queue.specs.Passes.{view};
 ghost use Rattle.histories.specs.Seats.{whole_share, opening_sight};
 ghost use Rattle.handover.specs.Queue.{Put, Take, content};
@@ -60,11 +60,11 @@ impl Ready {
     pub fn put<R: Wait>(&self, rt: &R, pass: &mut Pass, sheet: u32) -> Result<(), Full>
         requires { IsPassOf self.now pass.old }
         ensures pass { IsPassOf self.now pass.new }
-        ensures put { IfOk result (λ _. Made pass.old (Put sheet) pass.new) }
+        ensures put { OnOk result (Made pass.old (Put sheet) pass.new) }
         ensures full { IfErr result (λ full. (full.0 ≡ sheet) × (pass.new ≡ pass.old)) }
 
         // A pass that has all shares has seen the whole history.
-        ensures full_only_at_capacity { IfErr result (λ _. pass.old.share ≡ whole_share → length (content pass.old.front) ≡ self.now.capacity) }
+        ensures full_only_at_capacity { OnErr result (pass.old.share ≡ whole_share → length (content pass.old.front) ≡ self.now.capacity) }
     {
         match self.line.push_as::<Puts, R>(rt, &mut pass.token, sheet) {
             Ok(()) => Ok(()),

@@ -105,7 +105,7 @@ impl Join<View> for Both {
 }
 
 impl Lesson<u32, View> for Both {
-    ghost use Rattle.handover.specs.Rule.{Learns};
+    ghost use Rattle.handover.specs.Rule.{Knows};
 
-    ghost fact = { Learns };
+    ghost fact = { Knows };
 }

@@ -1,7 +1,7 @@
 //! The shelf of prepared pages.
 ghost use Rattle.std.specs.Prelude.{◌≡◌, IfOk, IfErr, IfSome};
 ghost use Rattle.handover.specs.Pages.{IsPrepared};
-ghost use Rattle.handover.specs.Shelves.{IsOn, GivesNoReceipt};
+ghost use Rattle.handover.specs.Shelves.{IsOn, LiesAt, GivesNoReceipt};
 
 use crate::prepared::Prepared;
 use crate::receipts::{Overflow, PutError, Receipt};
@@ -56,12 +56,15 @@ impl<'d> Shelf<'d> {
         self.list.value(&receipt.token)
     }
 
-    /// The page at an index, where the shelf shows one.
+    /// The page that was put at an index, where the shelf shows one.
     pub fn at(&self, index: u32) -> Option<&Prepared<'d>>
-        ensures { IfSome result (λ p. IsPrepared p.now) }
+        ensures shown { IfSome result (λ page. LiesAt self.now index page.now) }
+        ensures prepared { IfSome result (λ page. IsPrepared page.now) }
     {
-        let prepared = self.list.get(index as usize)?;
-        let _ = prepared.body();
+        let token = self.list.witness(index as usize)?;
+        let prepared = self.list.value(&token);
+        // It tells that its body is the prepared form of its bytes.
+        prepared.body();
         Some(prepared)
     }
 }
