@@ -1,0 +1,12 @@
+-- The slots of a sheet as the bits of a word, bit k for slot k.
+use Rattle.std.specs.Prelude.{ℕ, ◌/◌, ◌%◌, ◌^◌, ◌==◌, Bool, if◌then◌else◌, bit_and, bit_or}
+use Rattle.gather_table.specs.declared.answers.Reply.{Reply}
+use Rattle.gather_table.specs.declared.answers.Reply.TheVariants.{Fresh, Repeated, Completing}
+
+-- bit i of the number is set
+abbrev pub has_bit : ℕ → ℕ → Bool
+has_bit n i = n / 2 ^ i % 2 == 1
+
+-- what a mark answers by the bits that it found, its own bit, and the bits of a complete sheet
+abbrev pub reply_in : ℕ → ℕ → ℕ → Reply
+reply_in found bit full = if bit_and found bit == 0 then (if bit_or found bit == full then Completing else Fresh) else Repeated
