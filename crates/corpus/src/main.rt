@@ -1,0 +1,51 @@
+//! Imposes the documents of `examples/documents` as a user would, and prints how many pages and sheets each has and how many
+//! bytes are written for it. The folder is this program's `data`; its `stdout` was made by a separate program.
+#![tactic(auto)]
+
+use imposer::MemorySink;
+use pstops_cli::{ReadSource, read_command, read_input, run_request};
+use std::fs::File;
+
+/// The documents, by the programs that wrote them.
+const DOCUMENTS: [&str; 7] = [
+    "groff.ps",
+    "figure.ps",
+    "ps2write.ps",
+    "pdftops.ps",
+    "cairo.ps",
+    "a2ps.ps",
+    "enscript.ps",
+];
+
+/// A copy, a selection, two pages on a sheet, a booklet.
+const SPECIFICATIONS: [&str; 4] = [
+    "0",
+    "2:-0",
+    "2:0L@.7(21cm,0)+1L@.7(21cm,14.85cm)",
+    "4:-3L@.7(21cm,0)+0L@.7(21cm,14.85cm),1L@.7(21cm,0)+-2L@.7(21cm,14.85cm)",
+];
+
+/// Room for the sheets of the largest document.
+const ROOM: usize = 1_000_000;
+
+fn main(rt: HostRuntime) -> anyhow::Result<()> {
+    for name in DOCUMENTS {
+        let mut source = ReadSource::new(File::open(&rt, name)?);
+        let Ok(input) = read_input(rt.alloc(), &mut source) else {
+            println!(rt; "{name}: cannot be read")?;
+            continue;
+        };
+        for spec in SPECIFICATIONS {
+            let words = vec![in rt.alloc(); String::from_str(rt.alloc(), spec)?]?;
+            let Ok(request) = read_command(rt.alloc(), words.as_slice()) else {
+                println!(rt; "{spec}: not taken")?;
+                continue;
+            };
+            let mut sink = MemorySink::new(rt.alloc(), ROOM, ROOM, 1_000)?;
+            let (status, line) = run_request(rt.alloc(), &request, input.as_slice(), &mut sink);
+            let line = String::from_utf8_lossy(rt.alloc(), line.as_slice())?;
+            print!(rt; "{name} {spec}: status {status}, {line}")?;
+        }
+    }
+    Ok(())
+}
