@@ -76,7 +76,7 @@ moves_stand_in_one_history old new ms k d =
       own = owns old new ms d;
       moves = stand old new ms d;
       others = alone old new ms d;
-      same = same
+      same = same;
     }
 
 -- own moves

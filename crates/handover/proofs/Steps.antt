@@ -7,7 +7,7 @@ use Rattle.histories.specs.Seats.{AreSeats, nothing, nobody, whole_share, share_
 use Rattle.histories.proofs.Shares.{adds, splits, absorbs, opens, whole_front, whole_owns, rekeys}
 use Rattle.histories.proofs.Totals.{total_has}
 use Rattle.handover.specs.Queue.{Move, Put, Take, content, after, Fits, IsQueueHistory}
-use Rattle.handover.specs.Rule.{Sight, IsKept, Kept, Adds, Sees, Learned, Knows, spent}
+use Rattle.handover.specs.Rule.{Sight, Kept, Adds, Sees, Knows, spent}
 use Rattle.handover.proofs.Histories.{after_push, AllFit_push}
 
 -- a move that fits the content keeps the rule
@@ -37,7 +37,7 @@ learns port v alone items views h at = record {
   met = (h.2.seats.seats port v at).met;
   once = λ x. (let a = h.2.seats.apart x in let t = total_has (owned x) views port v at in omega arith);
   shares = let s = h.2.seats.shares in let t = total_has share_of views port v at in omega arith;
-  every = λ whole x lt. (let one = whole_owns h.0 h.1 views port v h.2.seats at whole x lt in omega arith)
+  every = λ whole x lt. (let one = whole_owns h.0 h.1 views port v h.2.seats at whole x lt in omega arith);
 }
 
 pub forks : (port : ℕ) (v : Sight) (give : ℕ) → 0 < give → give < v.mine.share → Forks Kept port v (keeps_back give v) (given give v)

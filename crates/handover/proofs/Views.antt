@@ -26,7 +26,7 @@ pub stands_after : (v w : Sight) (share : ℕ) (m : Move) → Adds v m w → Sta
 stands_after v w share m a s = record {
   one_part = ap (λ (u : Sight). u.other) a.grown ∙ s.one_part;
   share = s.share ∙ sym (ap (λ (u : Sight). u.mine.share) a.grown);
-  held = held_after v w m a s.held
+  held = held_after v w m a s.held;
 }
 
 pub made : (t t' : TableId) (v w : Sight) (m : Move) (old : PassView) → Adds v m w → Held v → t' ≡ t → pass_view t v ≡ old → Made old m (pass_view t' w)
@@ -39,14 +39,14 @@ pub stands_kept : (v w : Sight) (share rest give : ℕ) → w ≡ keeps_back giv
 stands_kept v w share rest give is some less is_rest s = record {
   one_part = ap (λ (u : Sight). u.other) is ∙ s.one_part;
   share = is_rest ∙ ap (λ (n : ℕ). n - give) s.share ∙ sym (ap (λ (u : Sight). u.mine.share) is);
-  held = subst Held (sym is) (held_keeps (IsQueueHistory v.key) v.mine.front v.mine.own v.mine.share give s.held some less)
+  held = subst Held (sym is) (held_keeps (IsQueueHistory v.key) v.mine.front v.mine.own v.mine.share give s.held some less);
 }
 
 pub stands_given : (v w : Sight) (share give : ℕ) → w ≡ given give v → 0 < give → give < v.mine.share → StandsAlone v share → StandsAlone w give
 stands_given v w share give is some less s = record {
   one_part = ap (λ (u : Sight). u.other) is;
   share = sym (ap (λ (u : Sight). u.mine.share) is);
-  held = subst Held (sym is) (held_given (IsQueueHistory v.key) v.mine.front v.mine.own v.mine.share give s.held some less)
+  held = subst Held (sym is) (held_given (IsQueueHistory v.key) v.mine.front v.mine.own v.mine.share give s.held some less);
 }
 
 -- a join
@@ -57,7 +57,7 @@ agree t u v w l =
       one = both.0;
       two = both.1;
       apart = λ x. (let s = total-append (λ y. if y == x then 1 else 0) v.mine.own w.mine.own in let o = l.once x in omega arith);
-      shares = l.shares
+      shares = l.shares;
     }
 
 held_absorbed : (v w : Sight) → Learned (absorbed v w) → w.key ≡ v.key → Held v → Held w → Held (absorbed v w)
@@ -75,7 +75,7 @@ pub stands_joined : (v w u : Sight) (share part sum : ℕ) → u ≡ absorbed v 
 stands_joined v w u share part sum is l key is_sum sv sw = record {
   one_part = ap (λ (z : Sight). z.other) is;
   share = is_sum ∙ (λ i. sv.share i + sw.share i) ∙ sym (ap (λ (z : Sight). z.mine.share) is);
-  held = subst Held (sym is) (held_absorbed v w (subst Learned is l) key sv.held sw.held)
+  held = subst Held (sym is) (held_absorbed v w (subst Learned is l) key sv.held sw.held);
 }
 
 joined_base : (t tw : TableId) (v w : Sight) → Learned (absorbed v w) → w.key ≡ v.key → Held v → Held w → Joined (pass_view t v) (pass_view tw w) (pass_view t (absorbed v w))
@@ -91,7 +91,7 @@ pub stands_open : (w : Sight) (capacity share : ℕ) → w ≡ opening_sight cap
 stands_open w capacity share is all = record {
   one_part = ap (λ (u : Sight). u.other) is;
   share = all ∙ sym (ap (λ (u : Sight). u.mine.share) is);
-  held = subst Held (sym is) (held_opens (IsQueueHistory capacity) tt)
+  held = subst Held (sym is) (held_opens (IsQueueHistory capacity) tt);
 }
 
 pub view_opens : (t t' : TableId) (v : Sight) (capacity cap : ℕ) → t ≡ t' → v ≡ opening_sight capacity → capacity ≡ cap → pass_view t v ≡ opening_pass (record { queue = t'; capacity = cap })

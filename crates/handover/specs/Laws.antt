@@ -3,7 +3,7 @@ use Rattle.std.specs.Prelude.{◌≡◌, ℕ, suc, ◌+◌, ◌≤◌, List, [],
 use mathlib.Core.List.{IsPrefix}
 use Rattle.histories.specs.Seats.{whole_share, total, times}
 use Rattle.handover.specs.Queue.{Move, content, IsQueueHistory, sheets_put, sheets_taken}
-use Rattle.handover.specs.Passes.{PassView, IsPass, Made, Makes, Joined, own_moves}
+use Rattle.handover.specs.Passes.{PassView, IsPass, Makes, Joined, own_moves}
 
 -- sheets are taken in the order in which they were put: those taken, and behind them those left, are those put
 abbrev pub FirstPutIsFirstTaken : Type 0

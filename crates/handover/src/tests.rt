@@ -110,10 +110,22 @@ fn take_until<R: Wait>(
 fn no_sheet_is_lost_or_doubled(rt: HostRuntime) -> Result<(), Fail> {
     let (queue, mut pass) = Ready::new(rt.alloc(), 4)?;
     let ready = &queue;
-    let low = Worker { ready, pass: ready.split(&mut pass, 1) };
-    let high = Worker { ready, pass: ready.split(&mut pass, 1) };
-    let one = Worker { ready, pass: ready.split(&mut pass, 1) };
-    let two = Worker { ready, pass: ready.split(&mut pass, 1) };
+    let low = Worker {
+        ready,
+        pass: ready.split(&mut pass, 1),
+    };
+    let high = Worker {
+        ready,
+        pass: ready.split(&mut pass, 1),
+    };
+    let one = Worker {
+        ready,
+        pass: ready.split(&mut pass, 1),
+    };
+    let two = Worker {
+        ready,
+        pass: ready.split(&mut pass, 1),
+    };
     let list = Mutex::new(Vec::new(rt.alloc()));
     let taken = &list;
     let shared = &rt;
