@@ -1,4 +1,7 @@
--- Which pages stand on which sheets.
+-- Which pages stand on which sheets. Pages, sheets, items and slots are counted from 0.
+-- Blocks, and pages counted from the end of the document by a minus, are of pstops(1), DESCRIPTION and EXAMPLES;
+-- signatures are of psbook(1), DESCRIPTION. That the last block is filled with blanks before pages are counted from the
+-- end is this project's own profile.
 use Rattle.std.specs.Prelude.{ℕ, ◌+◌, ◌-◌, ◌*◌, ◌/◌, nat_lt, if◌then◌else◌, List, [], ◌∷◌, map, flat_map, Option, Some, None, slice_index_or, length}
 use Rattle.std.specs.List.{range_with_len}
 use Rattle.profile.specs.Specification.{Item, Spec}
@@ -7,7 +10,8 @@ use Rattle.profile.specs.Specification.{Item, Spec}
 abbrev pub blocks : (m n : ℕ) → ℕ
 blocks m n = (n + (m - 1)) / m
 
--- the place that an item names in a block; from the end it is counted with the filled places
+-- the place that an item names in a block. With a minus the blocks are counted from the end of the filled row, and the
+-- places inside a block from its start all the same
 abbrev pub place : (m n block : ℕ) → Item → ℕ
 place m n block item = if item.from_end then m * blocks m n - (block + 1) * m + item.page else block * m + item.page
 
@@ -15,11 +19,12 @@ place m n block item = if item.from_end then m * blocks m n - (block + 1) * m + 
 abbrev pub page_at : (n place : ℕ) → Option ℕ
 page_at n place = if nat_lt place n then Some place else None
 
+-- one place on a sheet: a page or a blank, and the item that says how it stands there
 pub record Slot : Type 0 where
   pub page : Option ℕ
   pub item : Item
 
--- block by block and group by group, over n places with these pages
+-- a sheet for each group of each block, block by block, over n places with these pages
 abbrev pub sheets_over : Spec → ℕ → (ℕ → Option ℕ) → List (List Slot)
 sheets_over spec n page_of =
     flat_map (λ b. map (λ g. map (λ i. record { page = page_of (place spec.modulo n b i); item = i }) g) spec.groups)
@@ -42,8 +47,8 @@ pub record Layout : Type 0 where
 abbrev pub layout : Plan → Layout
 layout plan = record { pages = plan.pages; sheets = map (λ slots. map (λ slot. slot.page) slots) plan.sheets }
 
--- the order of a signature of s sides that begins at place f, four sides at a time: the outer page of a leaf's front, the
--- inner one, and then its back
+-- the order of a signature of s sides that begins at page f, four sides for each leaf, from the outermost one inward: on
+-- its front the last page not yet placed and the first one, on its back the next one and the one before that last
 abbrev pub signature : (f s : ℕ) → List ℕ
 signature f s = flat_map (λ j. (f + s - 1 - 2 * j) ∷ (f + 2 * j) ∷ (f + 2 * j + 1) ∷ (f + s - 2 - 2 * j) ∷ []) (range_with_len 0 (s / 4))
 
@@ -51,6 +56,6 @@ signature f s = flat_map (λ j. (f + s - 1 - 2 * j) ∷ (f + 2 * j) ∷ (f + 2 *
 abbrev pub signature_row : (s n : ℕ) → List (Option ℕ)
 signature_row s n = map (page_at n) (flat_map (λ b. signature (b * s) s) (range_with_len 0 (blocks s n)))
 
--- the sheets of a specification on such a row
+-- the sheets of a specification whose places are those of such a row
 abbrev pub sheets_in_signatures : Spec → (s n : ℕ) → List (List Slot)
 sheets_in_signatures spec s n = let row = signature_row s n in sheets_over spec (length row) (λ k. slice_index_or row k None)

@@ -1,0 +1,16 @@
+pub mod Cases
+pub mod LineLengths
+pub mod Cut
+pub mod Fronts
+pub mod Rows
+pub mod FieldRows
+pub mod Headings
+pub mod DataLengths
+pub mod Alone
+pub mod Scans
+pub mod PartMarks
+pub mod Reading
+pub mod Filtering
+pub mod Slices
+pub mod Trailers
+pub mod Preambles

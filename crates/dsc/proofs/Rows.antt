@@ -1,0 +1,81 @@
+-- The cut and the relation of units, and units that are cut anew.
+use Rattle.std.specs.Prelude.{Result, Ok, Err, map, flat_map, All, not, drop}
+use Rattle.std.specs.List.{prefix_len, take_while}
+use Rattle.std.proofs.Common.{append_assoc, Bool, true, false, cond, ◌&&◌, ◌==◌, ◌≡◌, ℕ, zero, suc, ◌+◌, ◌-◌, ◌<◌, ◌≤◌, List, [], ◌∷◌, ◌++◌, length, take, refl, ap, arith, length-drop, length-take, length-append, sym, ◌∙◌, subst, min}
+use Rattle.std.proofs.lemmas.List.{take-take, take-append-drop, drop-drop}
+use Rattle.std.proofs.Math.Seq.{take-append_seam, drop-append_seam}
+use Rattle.profile.specs.Units.{TextUnit, BlockFault, content_of, line_len, begins_block, fields, data_len, block, first_unit, ◌>>=◌}
+use Rattle.dsc.specs.Units.{BeginsWith, faulty_block}
+use Rattle.dsc.proofs.Cases.{by_test}
+use Rattle.dsc.proofs.LineLengths.{line_len-pos}
+use Rattle.dsc.proofs.Fronts.{first_unit-take}
+use Rattle.dsc.proofs.Cut.{cut_at, cut_step, cut_fault, unit_len-pos, unit_len-le}
+
+abbrev pub joined : List TextUnit → List ℕ
+joined ps = flat_map (λ p. p.bytes) ps
+
+abbrev bytes_or : Result TextUnit BlockFault → List ℕ
+bytes_or (Ok p) = p.bytes
+bytes_or (Err e) = []
+
+pub taken : (n : ℕ) (text : List ℕ) → take (length (take n text)) text ≡ take n text
+taken zero [] = refl
+taken zero (b ∷ bs) = refl
+taken (suc n) [] = refl
+taken (suc n) (b ∷ bs) = ap (λ t. b ∷ t) (taken n bs)
+
+block-front : (text : List ℕ) (n : ℕ) (r : Result ℕ BlockFault) (p : TextUnit) → block text n r ≡ Ok p → p.bytes ≡ take (length p.bytes) text
+block-front text n (Err e) p w = cc
+block-front text n (Ok k) p w =
+    let same : p.bytes ≡ take (n + k) text = sym (ap bytes_or w) in
+    rw same (sym (taken (n + k) text))
+
+
+chosen-front : (c : Bool) (text content : List ℕ) (n : ℕ) (r : Result ℕ BlockFault) (p : TextUnit)
+    → cond c (block text n r) (Ok (record { content = content; bytes = take n text; is_block = false })) ≡ Ok p → p.bytes ≡ take (length p.bytes) text
+chosen-front true text content n r p w = block-front text n r p w
+chosen-front false text content n r p w =
+    let same : p.bytes ≡ take n text = sym (ap bytes_or w) in rw same (sym (taken n text))
+
+-- a unit's bytes are the text's first
+pub unit-front : (text : List ℕ) (p : TextUnit) → first_unit text ≡ Ok p → p.bytes ≡ take (length p.bytes) text
+unit-front text p w = chosen-front (begins_block (content_of text)) text (content_of text) (line_len text) (data_len (content_of text) (drop (line_len text) text) (fields (content_of text))) p w
+
+-- units are the text, in order
+pub units-whole : (ps : List TextUnit) (text rest : List ℕ) → BeginsWith ps text rest → text ≡ joined ps ++ rest
+units-whole [] text rest h = h
+units-whole (p ∷ ps) text rest h =
+    sym (take-append-drop (length p.bytes) text) ∙ ap (λ t. t ++ drop (length p.bytes) text) (sym (unit-front text p h.1))
+    ∙ ap (λ t. p.bytes ++ t) (units-whole ps (drop (length p.bytes) text) rest h.2) ∙ sym (append_assoc p.bytes (joined ps) rest)
+
+-- THE LAW of units: a row of units, put together, is cut into the same units again
+pub units-alone : (ps : List TextUnit) (text rest : List ℕ) → BeginsWith ps text rest → BeginsWith ps (joined ps) []
+units-alone [] text rest h = refl
+units-alone (p ∷ ps) text rest h =
+    let later : BeginsWith ps (joined ps) [] = units-alone ps (drop (length p.bytes) text) rest h.2 in
+    let whole : text ≡ joined (p ∷ ps) ++ rest = units-whole (p ∷ ps) text rest h in
+    let front : take (length (joined (p ∷ ps))) text ≡ joined (p ∷ ps) = ap (take (length (joined (p ∷ ps)))) whole ∙ take-append_seam (joined (p ∷ ps)) rest in
+    let fits : length p.bytes ≤ length (joined (p ∷ ps)) = omega (arith, length-append p.bytes (joined ps)) in
+    let same : first_unit (joined (p ∷ ps)) ≡ Ok p = ap first_unit (sym front) ∙ first_unit-take text p (length (joined (p ∷ ps))) h.1 fits in
+    let some : 0 < length (joined (p ∷ ps)) = pos text p h.0 h.1 fits in
+    (some, same, subst (λ t. BeginsWith ps t []) (sym (drop-append_seam p.bytes (joined ps))) later)
+  where
+    pos : (text : List ℕ) (p : TextUnit) {n : ℕ} → 0 < length text → first_unit text ≡ Ok p → length p.bytes ≤ n → 0 < n
+    pos [] p s w f = absurd (omega (arith, s))
+    pos (b ∷ bs) p s w f = omega (arith, unit_len-pos b bs p w, f)
+
+-- The cut and the relation agree.
+
+pub units-cut : (ps : List TextUnit) (at : ℕ) (text : List ℕ) → BeginsWith ps text [] → cut_at at text ≡ Ok ps
+units-cut [] at text h = rw h refl
+units-cut (p ∷ ps) at [] h = absurd (omega (arith, h.0))
+units-cut (p ∷ ps) at (b ∷ bs) h = cut_step at b bs p h.1 ∙ ap (λ r. r >>= λ qs. Ok (p ∷ qs)) (units-cut ps (at + length p.bytes) (drop (length p.bytes) (b ∷ bs)) h.2)
+
+pub units-fault : (ps : List TextUnit) (at : ℕ) (text rest : List ℕ) (bad : BlockFault) → BeginsWith ps text rest → 0 < length rest → first_unit rest ≡ Err bad
+    → cut_at at text ≡ Err (faulty_block (at + length (joined ps)) bad)
+units-fault [] at [] rest bad h some w = absurd (let some = (rw (← h) at some) in omega (arith, some))
+units-fault [] at (b ∷ bs) rest bad h some w = cut_fault at b bs bad (ap first_unit h ∙ w) ∙ ap (λ k. Err (faulty_block k bad)) (omega arith)
+units-fault (p ∷ ps) at [] rest bad h some w = absurd (omega (arith, h.0))
+units-fault (p ∷ ps) at (b ∷ bs) rest bad h some w =
+    cut_step at b bs p h.1 ∙ ap (λ r. r >>= λ qs. Ok (p ∷ qs)) (units-fault ps (at + length p.bytes) (drop (length p.bytes) (b ∷ bs)) rest bad h.2 some w)
+    ∙ ap (λ k. Err (faulty_block k bad)) (rw length-append (omega arith))

@@ -1,0 +1,48 @@
+-- The faults of a document, as the code names them.
+use Rattle.std.specs.Prelude.{◌≡◌, ℕ, ◌≤◌, true, List, length, codes, nat_eq, Option, Some, None}
+use Rattle.std.specs.List.{starts_with}
+use Rattle.profile.specs.Units.{FaultyBlock}
+use Rattle.profile.specs.Units as block
+use Rattle.profile.specs.Run.{DocumentFault, InputTooLong, NotPostScript, BadBlock, InputTooManyPages, NoPages}
+use Rattle.dsc.specs.Units.{faulty_block}
+use Rattle.dsc.specs.declared.errors.CutError.{CutError}
+use Rattle.dsc.specs.declared.errors.CutError.TheVariants as cut_fault
+use Rattle.dsc.specs.declared.errors.DscError.{DscError}
+use Rattle.dsc.specs.declared.errors.DscError.TheVariants as fault
+
+abbrev pub block_fault_told : CutError → Option FaultyBlock
+block_fault_told (cut_fault.BadCount at) = Some (faulty_block at block.BadCount)
+block_fault_told (cut_fault.ShortData at) = Some (faulty_block at block.ShortData)
+block_fault_told cut_fault.NoMemory = None
+
+-- want of memory tells no fault
+abbrev pub fault_told : DscError → Option DocumentFault
+fault_told fault.TooLong = Some InputTooLong
+fault_told fault.NotPostScript = Some NotPostScript
+fault_told (fault.BadCount at) = Some (BadBlock (faulty_block at block.BadCount))
+fault_told (fault.ShortData at) = Some (BadBlock (faulty_block at block.ShortData))
+fault_told fault.TooManyPages = Some InputTooManyPages
+fault_told fault.NoPages = Some NoPages
+fault_told fault.NoMemory = None
+
+abbrev pub widened : CutError → DscError
+widened (cut_fault.BadCount at) = fault.BadCount at
+widened (cut_fault.ShortData at) = fault.ShortData at
+widened cut_fault.NoMemory = fault.NoMemory
+
+-- the first two checks are made before memory is asked for
+abbrev pub PassedFirstChecks : DscError → List ℕ → Type 0
+PassedFirstChecks fault.NoMemory text = (length text ≤ 1_073_741_824) × (starts_with nat_eq text (codes "%!") ≡ true)
+PassedFirstChecks other text = Unit {0}
+
+-- how a page is refused: with its first faulty block, or for want of memory
+abbrev pub page_fault_told : DscError → Option FaultyBlock
+page_fault_told (fault.BadCount at) = Some (faulty_block at block.BadCount)
+page_fault_told (fault.ShortData at) = Some (faulty_block at block.ShortData)
+page_fault_told other = None
+
+abbrev pub IsPageError : DscError → Type 0
+IsPageError (fault.BadCount at) = Unit {0}
+IsPageError (fault.ShortData at) = Unit {0}
+IsPageError fault.NoMemory = Unit {0}
+IsPageError other = ⊥

@@ -1,0 +1,26 @@
+-- The fields of a line, and the data that a count asks for.
+use Rattle.std.specs.Prelude.{ℕ, List, [], ◌∷◌, length, filter, Result, Ok, Err, nat_lt, Bool, true, false, not, ◌&&◌, codes, if◌then◌else◌}
+use Rattle.std.specs.List.{slice_split, list_all}
+use Rattle.std.specs.Str.{bytes_eq}
+use Rattle.std.specs.Char.{is_ascii_digit}
+use Rattle.profile.specs.Numbers.{number_of}
+use Rattle.profile.specs.Units.{is_blank, BlockFault, BadCount, or_short, lines_len, bytes_len}
+
+-- the pieces between blanks that aren't empty
+abbrev pub fields_in : List ℕ → List (List ℕ)
+fields_in text = filter (λ f. nat_lt 0 (length f)) (slice_split is_blank text)
+
+-- the second of these fields is this one (the first of the line's is read already)
+abbrev pub third_is : List ℕ → List (List ℕ) → Bool
+third_is name (b ∷ c ∷ more) = bytes_eq c name
+third_is name other = false
+
+-- how long n lines or n bytes are, where there are so many
+abbrev pub counted : Bool → ℕ → List ℕ → Result ℕ BlockFault
+counted in_lines n rest = or_short (if in_lines then lines_len n rest else bytes_len n rest)
+
+-- how long the data are of a block with these fields
+abbrev pub data_in : Bool → List ℕ → List (List ℕ) → Result ℕ BlockFault
+data_in may_count_lines rest [] = Err BadCount
+data_in may_count_lines rest (count ∷ more) =
+    if not (list_all is_ascii_digit count) then Err BadCount else counted (may_count_lines && third_is (codes "Lines") more) (number_of count) rest

@@ -1,0 +1,24 @@
+-- What the values of the code stand for.
+use Rattle.std.specs.Prelude.{◌≡◌, Option, Result, Ok, Err, IfSome}
+use Rattle.profile.specs.Units.{TextUnit, BlockFault}
+use Rattle.profile.specs.Units as block
+use Rattle.dsc.specs.declared.units.Unit.{Unit as CodeUnit}
+use Rattle.dsc.specs.declared.units.UnitError.{UnitError}
+use Rattle.dsc.specs.declared.units.UnitError.TheVariants as fault
+
+abbrev pub unit_of : CodeUnit → TextUnit
+unit_of u = record { content = u.content.now; bytes = u.bytes.now; is_block = u.is_block }
+
+abbrev pub fault_of : UnitError → BlockFault
+fault_of fault.BadCount = block.BadCount
+fault_of fault.ShortData = block.ShortData
+
+-- a reader that needs no memory answers what reading gives
+abbrev pub Reads : {X Y E F : Type 0} → (X → Y) → (E → F) → Result X E → Result Y F → Type 0
+Reads view told (Ok x) read = read ≡ Ok (view x)
+Reads view told (Err e) read = read ≡ Err (told e)
+
+-- the same, where memory may be wanting: an error that tells no fault says nothing of the text
+abbrev pub Gives : {X Y E F : Type 0} → (X → Y) → (E → Option F) → Result X E → Result Y F → Type 0
+Gives view told (Ok x) read = read ≡ Ok (view x)
+Gives view told (Err e) read = IfSome (told e) (λ f. read ≡ Err f)

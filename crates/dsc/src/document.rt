@@ -1,0 +1,140 @@
+//! A document with its parts.
+ghost use Rattle.std.specs.Prelude.{◌≡◌, ◌+◌, ◌-◌, ◌<◌, ◌≤◌, [], length, take, drop, slice_index_or, IfOk, IfErr, Ok};
+ghost use Rattle.profile.specs.Parts.{pages};
+ghost use Rattle.profile.specs.Filters.{preamble_text, trailer_text, prepared};
+ghost use Rattle.profile.specs.Output.{body_text};
+ghost use Rattle.profile.specs.Run.{document_of};
+ghost use Rattle.dsc.specs.Views.{Gives};
+ghost use Rattle.dsc.specs.Faults.{fault_told, PassedFirstChecks};
+
+use crate::errors::{DscError, widen};
+use crate::filters::{end_line, filter_header, with_count};
+use crate::lines::{content_end, line_end_after};
+use crate::scan::scan;
+use std::alloc::{AllocError, Global};
+use std::marker::Model;
+
+/// A text that is accepted as a document. Contracts see the units that it is cut into, each with its depth.
+#[derive(Drop)]
+pub struct Document<'d> {
+    text: &'d [u8],
+    starts: Vec<usize>,
+    stop: usize,
+}
+
+impl<'d> Model for Document<'d> {
+    ghost use Rattle.std.specs.Prelude.{List};
+    ghost use Rattle.profile.specs.Parts.{NestedUnit};
+    ghost use Rattle.dsc.specs.Units.{units_of};
+    ghost use Rattle.dsc.specs.Inside.{HasItsParts};
+
+    ghost Value = { List NestedUnit };
+
+    ghost view = { λ d. units_of d.text.now };
+
+    ghost invariant = { λ d. HasItsParts d.text.now d.starts.items d.stop };
+}
+
+impl<'d> Document<'d> {
+    /// Cuts a text into the units of a document (DSC 3.0: a page begins at each `%%Page:` line outside embedded
+    /// documents and data blocks; the trailer at the first `%%Trailer` or `%%EOF` line behind a page).
+    /// Refused with the first of: TooLong, NotPostScript, BadCount or ShortData (whichever data block of the text is the
+    /// first faulty one), TooManyPages, NoPages. NoMemory may come in place of any but the first two.
+    pub fn read(alloc: Global, text: &'d [u8]) -> Result<Document<'d>, DscError>
+        ensures answer { Gives (λ d. d) fault_told result (document_of text.now) }
+        ensures first_checks { IfErr result (λ e. PassedFirstChecks e text.now) }
+    {
+        if text.len() > 1_073_741_824 {
+            return Err(DscError::TooLong);
+        }
+        if !text.starts_with(b"%!") {
+            return Err(DscError::NotPostScript);
+        }
+        let seen = match scan(alloc, text) {
+            Ok(seen) => seen,
+            Err(error) => return Err(widen(error)),
+        };
+        if seen.starts.len() > 1_000_000 {
+            return Err(DscError::TooManyPages);
+        }
+        if seen.starts.is_empty() {
+            return Err(DscError::NoPages);
+        }
+        let stop = seen.stop_or(text.len());
+        Ok(Document {
+            text,
+            starts: seen.starts,
+            stop,
+        })
+    }
+
+    /// How many pages there are, from 1 to 1,000,000.
+    pub fn pages(&self) -> u32
+        ensures count { result ≡ length (pages self.now) }
+    {
+        self.starts.len() as u32
+    }
+
+    /// A page, counted from 0: from its `%%Page:` line to the next page or the trailer.
+    pub fn page(&self, p: u32) -> &'d [u8]
+        requires { p < length (pages self.now) }
+        ensures page { result.now ≡ slice_index_or (pages self.now) p [] }
+        ensures has_a_body { prepared result.now ≡ Ok (body_text (prepared result.now)) }
+    {
+        let p = p as usize;
+        let starts = self.starts.as_slice();
+        part(self.text, entry(starts, p), next_or(starts, p, self.stop))
+    }
+
+    /// What is kept of the preamble, with `%%Pages: ` and the number of sheets on a line of its own behind the first
+    /// line, and a line end at its end. Outermost lines with the keys `%%Pages`, `%%PageOrder`, `%%BoundingBox`,
+    /// `%%HiResBoundingBox`, `%%DocumentMedia` and `%%Orientation` are dropped, and the `%%+` lines behind them.
+    pub fn preamble_text(&self, alloc: Global, sheets: u32) -> Result<Vec<u8>, AllocError>
+        ensures text { IfOk result (λ v. v.items ≡ preamble_text sheets self.now) }
+    {
+        let line_len = line_end_after(self.text, content_end(self.text));
+        let (line, behind) = self.text.split_at(line_len);
+        let (rest, _) = behind.split_at(entry(self.starts.as_slice(), 0) - line_len);
+        let header = with_count(alloc, line, sheets)?;
+        let mut text = filter_header(header, rest)?;
+        end_line(&mut text)?;
+        Ok(text)
+    }
+
+    /// What is kept of the trailer: the lines that are dropped from a preamble are dropped from it too.
+    pub fn trailer_text(&self, alloc: Global) -> Result<Vec<u8>, AllocError>
+        ensures text { IfOk result (λ v. v.items ≡ trailer_text self.now) }
+    {
+        let (_, rest) = self.text.split_at(self.stop);
+        let room = Vec::with_capacity(alloc, rest.len())?;
+        filter_header(room, rest)
+    }
+}
+
+/// This entry.
+fn entry(starts: &[usize], p: usize) -> usize
+    requires { p < length starts.now }
+    ensures { result ≡ slice_index_or starts.now p 0 }
+{
+    starts[p]
+}
+
+/// A part of the text.
+fn part(text: &[u8], start: usize, end: usize) -> &[u8]
+    requires order { start ≤ end }
+    requires within { end ≤ length text.now }
+    ensures { result.now ≡ take (end - start) (drop start text.now) }
+{
+    &text[start..end]
+}
+
+/// The entry behind this one, or the end.
+fn next_or(starts: &[usize], p: usize, stop: usize) -> usize
+    requires { p < length starts.now }
+    ensures { result ≡ slice_index_or starts.now (p + 1) stop }
+{
+    match starts.get(p + 1) {
+        Some(next) => *next,
+        None => stop,
+    }
+}

@@ -1,0 +1,50 @@
+//! The fields of a line.
+ghost use Rattle.std.specs.Prelude.{◌≡◌, ℕ, ◌+◌, ◌-◌, ◌<◌, ◌≤◌, length, Option, MatchOption, min, [], ◌∷◌, true, false, drop};
+ghost use Rattle.std.specs.Prelude.{not};
+ghost use Rattle.std.specs.List.{list_all, prefix_len};
+ghost use Rattle.std.specs.Char.{is_ascii_digit};
+ghost use Rattle.profile.specs.Units.{is_blank};
+ghost use Rattle.profile.specs.Numbers.{number_of};
+ghost use Rattle.dsc.specs.Fields.{fields_in};
+
+/// How many blanks the bytes begin with.
+fn blanks_at(text: &[u8]) -> usize
+    ensures value { result ≡ prefix_len is_blank text.now }
+    ensures within { result ≤ length text.now }
+{
+    text.iter().take_while(|b| **b == b' ' || **b == b'\t').count()
+}
+
+/// How long the field is that the bytes begin with.
+fn field_at(text: &[u8]) -> usize
+    ensures value { result ≡ prefix_len (λ b. not (is_blank b)) text.now }
+    ensures within { result ≤ length text.now }
+{
+    text.iter().take_while(|b| !(**b == b' ' || **b == b'\t')).count()
+}
+
+/// The first field of the bytes, and what stands behind it.
+pub fn next_field(text: &[u8]) -> Option<(&[u8], &[u8])>
+    ensures { MatchOption result (fields_in text.now ≡ []) (λ p. fields_in text.now ≡ p.0.now ∷ fields_in p.1.now) }
+{
+    let (_, from) = text.split_at(blanks_at(text));
+    let len = field_at(from);
+    if len == 0 {
+        return None;
+    }
+    Some(from.split_at(len))
+}
+
+/// The number that the digits stand for, or the greatest one; None where a byte is no digit.
+pub fn count_in(field: &[u8]) -> Option<usize>
+    ensures { MatchOption result (list_all is_ascii_digit field.now ≡ false) (λ n. (list_all is_ascii_digit field.now ≡ true) × (n ≡ min (number_of field.now) usize.MAX)) }
+{
+    let mut n = 0usize;
+    for b in field {
+        if !b.is_ascii_digit() {
+            return None;
+        }
+        n = n.saturating_mul(10).saturating_add(usize::from(*b - b'0'));
+    }
+    Some(n)
+}

@@ -1,0 +1,80 @@
+//! The keys of lines, and what a line's key means for the parts of a document.
+ghost use Rattle.std.specs.Prelude.{◌≡◌, ◌<◌, [], length, false};
+ghost use Rattle.profile.specs.Units.{key};
+ghost use Rattle.profile.specs.Parts.{begins_page, begins_trailer, depth_after};
+ghost use Rattle.dsc.specs.Views.{unit_of};
+
+use crate::units::Unit;
+
+/// How long the key of a line is.
+fn key_len(content: &[u8]) -> usize
+    ensures { result ≡ length (key content.now) }
+{
+    content
+        .iter()
+        .take_while(|b| !((**b == b' ' || **b == b'\t') || **b == b':'))
+        .count()
+}
+
+/// The key of a line.
+pub fn key_of(content: &[u8]) -> &[u8]
+    ensures { result.now ≡ key content.now }
+{
+    let (key, _) = content.split_at(key_len(content));
+    key
+}
+
+/// What a unit means for the parts: whether it begins a page or the trailer, and the depth after it.
+#[derive(Clone, Copy)]
+pub struct Meaning {
+    pub is_page: bool,
+    pub is_trailer: bool,
+    pub depth: usize,
+}
+
+/// What a line means that begins with two percent signs.
+fn meaning_of_comment(content: &[u8], depth: usize) -> Meaning
+    requires { depth < usize.MAX }
+    ensures page { result.is_page ≡ begins_page (record { depth = depth; unit = record { content = content.now; bytes = []; is_block = false } }) }
+    ensures trailer { result.is_trailer ≡ begins_trailer (record { depth = depth; unit = record { content = content.now; bytes = []; is_block = false } }) }
+    ensures depth { result.depth ≡ depth_after depth (record { content = content.now; bytes = []; is_block = false }) }
+{
+    let key = key_of(content);
+    if key == b"%%BeginDocument".as_slice() {
+        Meaning {
+            is_page: false,
+            is_trailer: false,
+            depth: depth + 1,
+        }
+    } else if key == b"%%EndDocument".as_slice() {
+        Meaning {
+            is_page: false,
+            is_trailer: false,
+            depth: depth.saturating_sub(1),
+        }
+    } else {
+        Meaning {
+            is_page: depth == 0 && content.starts_with(b"%%Page:"),
+            is_trailer: depth == 0
+                && (key == b"%%Trailer".as_slice() || key == b"%%EOF".as_slice()),
+            depth,
+        }
+    }
+}
+
+/// What a unit means, where the depth before it is this.
+pub fn meaning_of(unit: &Unit<'_>, depth: usize) -> Meaning
+    requires { depth < usize.MAX }
+    ensures page { result.is_page ≡ begins_page (record { depth = depth; unit = unit_of unit.now }) }
+    ensures trailer { result.is_trailer ≡ begins_trailer (record { depth = depth; unit = unit_of unit.now }) }
+    ensures depth { result.depth ≡ depth_after depth (unit_of unit.now) }
+{
+    if unit.is_block || !unit.content.starts_with(b"%%") {
+        return Meaning {
+            is_page: false,
+            is_trailer: false,
+            depth,
+        };
+    }
+    meaning_of_comment(unit.content, depth)
+}

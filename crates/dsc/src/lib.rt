@@ -1,0 +1,20 @@
+//! The cut of a PostScript document that follows the Document Structuring Conventions (DSC 3.0) into preamble, pages
+//! and trailer, and what is kept of each of them when its pages are placed on sheets.
+#![tactic(auto)]
+
+mod document;
+mod errors;
+mod fields;
+mod filters;
+mod keys;
+pub mod laws;
+mod lines;
+mod scan;
+mod units;
+
+pub use document::Document;
+pub use errors::DscError;
+pub use filters::prepare;
+
+#[cfg(test)]
+mod tests;

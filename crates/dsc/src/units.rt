@@ -1,0 +1,113 @@
+//! The units of a text: lines, and blocks of data.
+ghost use Rattle.std.specs.Prelude.{◌≡◌, ℕ, ◌+◌, ◌<◌, ◌≤◌, length, IfOk};
+ghost use Rattle.std.specs.Prelude.{codes, MatchOption, true, false};
+ghost use Rattle.profile.specs.Units.{first_unit, begins_block, fields, is_comment};
+ghost use Rattle.dsc.specs.Fields.{fields_in, third_is, data_in};
+ghost use Rattle.dsc.specs.Views.{unit_of, fault_of, Reads};
+
+use crate::fields::{count_in, next_field};
+use crate::lines::{content_end, line_end_after, lines_end};
+
+/// A line with its end, or a data block.
+#[derive(Clone, Copy)]
+pub struct Unit<'d> {
+    pub content: &'d [u8],
+    pub bytes: &'d [u8],
+    pub is_block: bool,
+}
+
+#[derive(Debug, Clone, Copy)]
+pub enum UnitError {
+    BadCount,
+    ShortData,
+}
+
+/// What stands behind the colon of a line that begins data, and whether lines may be counted.
+fn data_heading(content: &[u8]) -> Option<(&[u8], bool)>
+    ensures { MatchOption result (begins_block content.now ≡ false) (λ h. (begins_block content.now ≡ true) × (fields content.now ≡ fields_in h.0.now) × (is_comment (codes "%%BeginData") content.now ≡ h.1)) }
+{
+    if !content.starts_with(b"%%Begin") {
+        return None;
+    }
+    if let Some(behind) = content.strip_prefix(b"%%BeginData:") {
+        return Some((behind, true));
+    }
+    match content.strip_prefix(b"%%BeginBinary:") {
+        Some(behind) => Some((behind, false)),
+        None => None,
+    }
+}
+
+/// Whether the third field is `Lines`, where the first is read already.
+fn third_is_lines(behind: &[u8]) -> bool
+    ensures { result ≡ third_is (codes "Lines") (fields_in behind.now) }
+{
+    match next_field(behind) {
+        None => false,
+        Some((_, rest)) => match next_field(rest) {
+            None => false,
+            Some((third, _)) => third == b"Lines".as_slice(),
+        },
+    }
+}
+
+/// How long the data are that such a line begins.
+fn data_len(behind: &[u8], may_count_lines: bool, rest: &[u8]) -> Result<usize, UnitError>
+    ensures length { Reads (λ n. n) fault_of result (data_in may_count_lines rest.now (fields_in behind.now)) }
+    ensures within { IfOk result (λ n. n ≤ length rest.now) }
+{
+    let (count, after) = match next_field(behind) {
+        None => return Err(UnitError::BadCount),
+        Some(found) => found,
+    };
+    let count = match count_in(count) {
+        None => return Err(UnitError::BadCount),
+        Some(count) => count,
+    };
+    // A line has a byte at least.
+    if rest.len() < count {
+        return Err(UnitError::ShortData);
+    }
+    if may_count_lines && third_is_lines(after) {
+        match lines_end(count, rest) {
+            None => Err(UnitError::ShortData),
+            Some(len) => Ok(len),
+        }
+    } else {
+        Ok(count)
+    }
+}
+
+/// The first unit of a text that isn't empty.
+pub fn first_unit(text: &[u8]) -> Result<Unit<'_>, UnitError>
+    requires { 0 < length text.now }
+    ensures unit { Reads unit_of fault_of result (first_unit text.now) }
+    ensures within { IfOk result (λ u. (0 < length u.bytes.now) × (length u.bytes.now ≤ length text.now)) }
+{
+    let content_len = content_end(text);
+    let line_len = line_end_after(text, content_len);
+    let (content, _) = text.split_at(content_len);
+    match data_heading(content) {
+        None => {
+            let (bytes, _) = text.split_at(line_len);
+            Ok(Unit {
+                content,
+                bytes,
+                is_block: false,
+            })
+        }
+        Some((behind, may_count_lines)) => {
+            let (_, rest) = text.split_at(line_len);
+            let len = match data_len(behind, may_count_lines, rest) {
+                Ok(len) => len,
+                Err(e) => return Err(e),
+            };
+            let (bytes, _) = text.split_at(line_len + len);
+            Ok(Unit {
+                content,
+                bytes,
+                is_block: true,
+            })
+        }
+    }
+}

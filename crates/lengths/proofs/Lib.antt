@@ -1,0 +1,7 @@
+pub mod Digits
+pub mod Numbers
+pub mod Powers
+pub mod Scans
+pub mod LastZeros
+pub mod Table
+pub mod ReadAgain

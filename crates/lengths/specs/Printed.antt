@@ -1,0 +1,8 @@
+-- Printed numbers are read again.
+use Rattle.std.specs.Prelude.{ℕ, ℤ, List, length, Ok}
+use Rattle.profile.specs.Numbers.{IsNumberRead}
+use Rattle.lengths.specs.Ranges.{FitsNumber}
+
+-- reading what is printed of a number gives that number, and the whole text
+abbrev pub IsReadAgain : (ℤ → List ℕ) → Type 0
+IsReadAgain text_of = (v : ℤ) → FitsNumber v → IsNumberRead (text_of v) (Ok (v, length (text_of v)))

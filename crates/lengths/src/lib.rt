@@ -1,0 +1,24 @@
+//! Numbers, lengths, papers, and how they are read and printed in decimals.
+#![tactic(auto)]
+
+mod convert;
+mod grains;
+pub mod laws;
+mod named;
+mod number;
+mod paper;
+mod print;
+mod read;
+mod unit;
+
+pub use convert::to_grains;
+pub use grains::Grains;
+pub use named::paper_by_name;
+pub use number::Number;
+pub use paper::Paper;
+pub use print::{print_number, print_points, print_scale};
+pub use read::{NumberError, read_digits, read_number};
+pub use unit::Unit;
+
+#[cfg(test)]
+mod tests;

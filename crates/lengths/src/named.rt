@@ -1,0 +1,30 @@
+//! Papers by their names.
+ghost use Rattle.std.specs.Prelude.{◌≡◌, ◌<◌, ◌≤◌, map, IsTrue, ◌↔◌};
+ghost use Rattle.std.specs.Str.{bytes_eq};
+ghost use Rattle.profile.specs.Papers.{paper_named, points, small};
+
+use super::paper::Paper;
+
+/// The names, with width and height in points.
+const PAPERS: [(&str, u32, u32); 8] = [
+    ("a3", 842, 1191),
+    ("a4", 595, 842),
+    ("a5", 420, 595),
+    ("letter", 612, 792),
+    ("legal", 612, 1008),
+    ("tabloid", 792, 1224),
+    ("statement", 396, 612),
+    ("10x14", 720, 1008),
+];
+
+/// The paper of this name, whose ASCII letters may be in either case.
+pub fn paper_by_name(name: &str) -> Option<Paper>
+    ensures { result ≡ paper_named name.now }
+{
+    for (known, width, height) in PAPERS {
+        if name.eq_ignore_ascii_case(known) {
+            return Some(Paper::of_points(width, height));
+        }
+    }
+    None
+}

@@ -1,0 +1,79 @@
+//! A number as specifications write it, kept exactly.
+ghost use Rattle.std.specs.Prelude.{◌≡◌, ◌↔◌, ◌+◌, ◌*◌, ◌^◌, ◌<◌, ℤ, neg_ℤ, IsSome, IfSome};
+ghost use Rattle.profile.specs.Numbers.{signed};
+ghost use Rattle.lengths.specs.Ranges.{FitsNumber};
+
+use std::marker::Model;
+use std::ops::Neg;
+
+/// A whole number of 10^-9, from -99,999,999,999,999 to 99,999,999,999,999: nine decimals behind an integer part of at most 99,999.
+/// Contracts see it as that whole number.
+#[derive(Clone, Copy, Debug, PartialEq, Eq, Hash, PartialOrd, Ord)]
+pub struct Number {
+    billionths: i64,
+}
+
+impl Model for Number {
+    ghost Value = { ℤ };
+
+    ghost view = { λ n. n.billionths };
+
+    ghost invariant = { λ n. FitsNumber n.billionths };
+
+    ghost inverse = { λ v. record { billionths = v } };
+}
+
+impl Number {
+    /// Nothing: `0`.
+    pub const ZERO: Number = Number { billionths: 0 };
+    /// One whole: `1`.
+    pub const ONE: Number = Number {
+        billionths: 1_000_000_000,
+    };
+
+    /// The number of so many 10^-9, where that is in range.
+    pub fn new(billionths: i64) -> Option<Number>
+        ensures fits { IsSome result ↔ FitsNumber billionths }
+        ensures value { IfSome result (λ n. n ≡ billionths) }
+    {
+        if billionths.unsigned_abs() <= 99_999_999_999_999 {
+            Some(Number { billionths })
+        } else {
+            None
+        }
+    }
+
+    /// How many 10^-9 it is.
+    pub fn billionths(self) -> i64
+        ensures value { result ≡ self }
+        ensures in_range { FitsNumber self }
+    {
+        self.billionths
+    }
+
+    /// The number of a sign, an integer part and nine decimals.
+    pub(crate) fn of_parts(negative: bool, whole: u32, decimals: u32) -> Number
+        requires whole { whole < 100_000 }
+        requires decimals { decimals < 1_000_000_000 }
+        ensures value { result ≡ signed negative (whole * 10 ^ 9 + decimals) }
+        ensures in_range { FitsNumber result }
+    {
+        let size = i64::from(whole) * 1_000_000_000 + i64::from(decimals);
+        Number {
+            billionths: if negative { -size } else { size },
+        }
+    }
+}
+
+impl Neg for Number {
+    type Output = Number;
+
+    ghost neg_gives = { λ n r. r ≡ neg_ℤ n };
+
+    fn neg(self) -> Number {
+        let Number { billionths } = self;
+        Number {
+            billionths: -billionths,
+        }
+    }
+}

@@ -1,0 +1,131 @@
+//! Numbers and lengths printed in decimals.
+ghost use Rattle.std.specs.Prelude.{◌≡◌, ◌+◌, ◌*◌, ◌/◌, ◌%◌, ◌^◌, ◌<◌, ◌≤◌, ◌++◌, ℕ, ℤ, FitsSigned, nat_abs, drop, decimal, length, [], ◌∷◌, if◌then◌else◌, OnOk, OnErr, vec_len, vec_capacity};
+ghost use Rattle.profile.specs.Bytes.{minus_sign};
+ghost use Rattle.profile.specs.Numbers.{without_last_zeros as kept, decimals_of, fraction_text, is_negative, sign_text, whole_text, printed, scale_text, number_text, points_text};
+
+use super::convert::rounded;
+use super::grains::Grains;
+use super::number::Number;
+use itoa::Buffer;
+use std::alloc::AllocError;
+
+/// Appends a length in points, rounded to five decimals, half away from zero. Where memory is refused, nothing is appended.
+pub fn print_points(grains: Grains, out: &mut Vec<u8>) -> Result<(), AllocError>
+    ensures appended { OnOk result (out.new.items ≡ out.old.items ++ points_text grains) }
+    ensures unchanged { OnErr result (out.new.items ≡ out.old.items) }
+    ensures full { OnErr result (vec_capacity out.old < vec_len out.old + length (points_text grains)) }
+{
+    append_decimal(rounded(grains.get(), 1_270_000) as i64, 5, out)
+}
+
+/// Appends a number in full. Where memory is refused, nothing is appended.
+pub fn print_scale(number: Number, out: &mut Vec<u8>) -> Result<(), AllocError>
+    ensures appended { OnOk result (out.new.items ≡ out.old.items ++ scale_text number) }
+    ensures unchanged { OnErr result (out.new.items ≡ out.old.items) }
+    ensures full { OnErr result (vec_capacity out.old < vec_len out.old + length (scale_text number)) }
+{
+    append_decimal(number.billionths(), 9, out)
+}
+
+/// Appends a number as a page specification writes it: in full, but with no `0` before a dot. Where memory is refused, nothing
+/// is appended.
+pub fn print_number(number: Number, out: &mut Vec<u8>) -> Result<(), AllocError>
+    ensures appended { OnOk result (out.new.items ≡ out.old.items ++ number_text number) }
+    ensures unchanged { OnErr result (out.new.items ≡ out.old.items) }
+    ensures full { OnErr result (vec_capacity out.old < vec_len out.old + length (number_text number)) }
+{
+    let size = number.billionths().unsigned_abs();
+    let whole = size / 1_000_000_000;
+    let mut whole_digits = Buffer::new();
+    let mut part_digits = Buffer::new();
+    let decimals = decimals(
+        part_digits
+            .format(1_000_000_000 + size % 1_000_000_000)
+            .as_bytes(),
+    );
+    append(
+        number < Number::ZERO,
+        unless_dot_follows(whole, whole_digits.format(whole).as_bytes(), decimals),
+        decimals,
+        out,
+    )
+}
+
+/// Appends a whole number of 10^-places.
+fn append_decimal(value: i64, places: u32, out: &mut Vec<u8>) -> Result<(), AllocError>
+    requires { places ≤ 9 }
+    ensures appended { OnOk result (out.new.items ≡ out.old.items ++ printed places value) }
+    ensures unchanged { OnErr result (out.new.items ≡ out.old.items) }
+    ensures full { OnErr result (vec_capacity out.old < vec_len out.old + length (printed places value)) }
+{
+    let one = 10u64.pow(places);
+    let size = value.unsigned_abs();
+    let mut whole_digits = Buffer::new();
+    let mut part_digits = Buffer::new();
+    append(
+        value < 0,
+        whole_digits.format(size / one).as_bytes(),
+        decimals(part_digits.format(one + size % one).as_bytes()),
+        out,
+    )
+}
+
+/// The digits of a whole part, which is left out where it is 0 and decimals stand behind it.
+fn unless_dot_follows<'a>(whole: u64, digits: &'a [u8], decimals: &[u8]) -> &'a [u8]
+    requires { digits.now ≡ decimal whole }
+    ensures value { result.now ≡ whole_text whole decimals.now }
+    ensures no_longer { length result.now ≤ length digits.now }
+{
+    if whole == 0 && !decimals.is_empty() {
+        &[]
+    } else {
+        digits
+    }
+}
+
+/// The decimals of a part that was added to a one, so that no zero at its start is lost. Zeros at its end are.
+fn decimals(one_and_part: &[u8]) -> &[u8]
+    ensures value { result.now ≡ kept (drop 1 one_and_part.now) }
+    ensures no_longer { length result.now ≤ length one_and_part.now }
+{
+    match one_and_part {
+        [_, part @ ..] => without_last_zeros(part),
+        [] => one_and_part,
+    }
+}
+
+/// The digits without the zeros at their end.
+fn without_last_zeros(digits: &[u8]) -> &[u8]
+    ensures value { result.now ≡ kept digits.now }
+    ensures no_longer { length result.now ≤ length digits.now }
+{
+    let mut rest = digits;
+    while let Some(front) = rest.strip_suffix(b"0") {
+        rest = front;
+    }
+    rest
+}
+
+/// Appends a minus where the number is negative, its whole part, and the decimals behind a dot where there are any.
+fn append(
+    negative: bool,
+    whole: &[u8],
+    decimals: &[u8],
+    out: &mut Vec<u8>,
+) -> Result<(), AllocError>
+    requires whole { length whole.now ≤ 40 }
+    requires decimals { length decimals.now ≤ 40 }
+    ensures appended { OnOk result (out.new.items ≡
+        out.old.items ++ ((if negative then minus_sign ∷ [] else []) ++ whole.now ++ fraction_text decimals.now)) }
+    ensures unchanged { OnErr result (out.new.items ≡ out.old.items) }
+    ensures full { OnErr result (vec_capacity out.old < vec_len out.old +
+        length ((if negative then minus_sign ∷ [] else []) ++ whole.now ++ fraction_text decimals.now)) }
+{
+    let sign: &[u8] = if negative { b"-" } else { b"" };
+    let point: &[u8] = if decimals.is_empty() { b"" } else { b"." };
+    out.reserve(sign.len() + whole.len() + point.len() + decimals.len())?;
+    out.extend_from_slice(sign)?;
+    out.extend_from_slice(whole)?;
+    out.extend_from_slice(point)?;
+    out.extend_from_slice(decimals)
+}

@@ -1,0 +1,155 @@
+//! Reading numbers off the front of a text.
+ghost use Rattle.std.specs.Prelude.{◌≡◌, ◌≢◌, ◌+◌, ◌*◌, ◌^◌, ◌<◌, ◌≤◌, min, [], ◌++◌, length, take, drop, replicate, slice_index, IfOk, IfErr, MatchOption};
+ghost use Rattle.std.specs.Char.{is_ascii_digit};
+ghost use Rattle.std.specs.List.{AllPass};
+ghost use Rattle.profile.specs.Bytes.{digit_zero};
+ghost use Rattle.profile.specs.Numbers.{IsNumberRead, number_of, decimals_value, signed};
+ghost use Rattle.lengths.specs.Ranges.{FitsNumber};
+ghost use Rattle.lengths.specs.Reading.{digits, past_digits, unsigned, is_minus, decimals_at, past_decimals, number_at};
+ghost use Rattle.lengths.specs.Refusals.{outcome_of, IsRefused};
+
+use super::number::Number;
+use thiserror::Error;
+
+/// Why no number was read.
+#[derive(Clone, Copy, Debug, PartialEq, Eq, Error)]
+pub enum NumberError {
+    /// No number stands at the start.
+    #[error("not a number")]
+    NotANumber,
+    /// The integer part is over 99,999; the length of the number in bytes.
+    #[error("number over 99,999")]
+    TooLarge(usize),
+}
+
+/// The longest number that the text begins with, and its length in bytes.
+///
+/// A number is digits with an optional sign before them and an optional dot among, before or behind them, as in the page
+/// specifications of pstops. Decimals past the ninth are read and have no effect; there is no exponent.
+pub fn read_number(bytes: &[u8]) -> Result<(Number, usize), NumberError>
+    ensures longest { IsNumberRead bytes.now (outcome_of result) }
+
+    // The same, as reading off the front gives it.
+    ensures found { IfOk result (λ x.
+        (x.1 ≤ length bytes.now) × (number_at bytes.now ≡ Some (x.0, drop x.1 bytes.now))) }
+    ensures none { IfErr result (IsRefused bytes.now) }
+{
+    scan(bytes)
+}
+
+/// The digits at the front, by their value or as 100,000 where that is more, and what stands behind them.
+pub fn read_digits(bytes: &[u8]) -> Option<(u32, &[u8])>
+    ensures { let front = digits bytes.now in MatchOption result (front ≡ []) (λ x.
+        (front ≢ []) × (x.0 ≡ min 100_000 (number_of front)) × (x.1.now ≡ past_digits bytes.now)) }
+{
+    let (front, rest) = split_digits(bytes);
+    if front.is_empty() {
+        return None;
+    }
+    Some((capped(front), rest))
+}
+
+/// The number at the start and its length, as reading off the front gives it.
+fn scan(bytes: &[u8]) -> Result<(Number, usize), NumberError>
+    ensures found { IfOk result (λ x. number_at bytes.now ≡ Some (x.0, drop x.1 bytes.now)) }
+    ensures within { IfOk result (λ x. x.1 ≤ length bytes.now) }
+    ensures in_range { IfOk result (λ x. FitsNumber x.0) }
+    ensures refused { IfErr result (IsRefused bytes.now) }
+{
+    let (negative, body) = split_sign(bytes);
+    let (whole, point) = split_digits(body);
+    let (decimals, rest) = split_decimals(point);
+    if whole.len() + decimals.len() == 0 {
+        return Err(NumberError::NotANumber);
+    }
+    let len = bytes.len() - rest.len();
+    let points = capped(whole);
+    if points == 100_000 {
+        return Err(NumberError::TooLarge(len));
+    }
+    Ok((Number::of_parts(negative, points, nine(decimals)), len))
+}
+
+/// What stands behind a sign, if there is one, and whether that is a minus.
+fn split_sign(bytes: &[u8]) -> (bool, &[u8])
+    ensures sign { result.0 ≡ is_minus bytes.now }
+    ensures rest { result.1.now ≡ unsigned bytes.now }
+{
+    match bytes {
+        [b'-', rest @ ..] => (true, rest),
+        [b'+', rest @ ..] => (false, rest),
+        _ => (false, bytes),
+    }
+}
+
+/// The digits behind a dot, if there is one, and what stands behind them.
+fn split_decimals(bytes: &[u8]) -> (&[u8], &[u8])
+    ensures front { result.0.now ≡ decimals_at bytes.now }
+    ensures rest { result.1.now ≡ past_decimals bytes.now }
+{
+    match bytes {
+        [b'.', rest @ ..] => split_digits(rest),
+        _ => (&[], bytes),
+    }
+}
+
+/// The digits at the front, and what stands behind them.
+fn split_digits(bytes: &[u8]) -> (&[u8], &[u8])
+    ensures front { result.0.now ≡ digits bytes.now }
+    ensures rest { result.1.now ≡ past_digits bytes.now }
+{
+    bytes.split_at(digits_len(bytes))
+}
+
+/// How many digits stand at the front.
+fn digits_len(bytes: &[u8]) -> usize
+    ensures within { result ≤ length bytes.now }
+    ensures front { take result bytes.now ≡ digits bytes.now }
+    ensures rest { drop result bytes.now ≡ past_digits bytes.now }
+{
+    for (i, b) in bytes.iter().enumerate() {
+        if !b.is_ascii_digit() {
+            return i;
+        }
+    }
+    bytes.len()
+}
+
+/// What the digits stand for, or 100,000 where that is more.
+fn capped(digits: &[u8]) -> u32
+    requires { AllPass is_ascii_digit digits.now }
+    ensures { result ≡ min 100_000 (number_of digits.now) }
+{
+    let mut n: u32 = 0;
+    for d in digits {
+        n = (n * 10 + u32::from(*d - b'0')).min(100_000);
+    }
+    n
+}
+
+/// The first nine decimals, as a whole number of 10^-9.
+fn nine(decimals: &[u8]) -> u32
+    requires { AllPass is_ascii_digit decimals.now }
+    ensures value { result ≡ decimals_value 9 decimals.now }
+    ensures below { result < 1_000_000_000 }
+{
+    let mut n: u32 = 0;
+    for i in 0..9usize {
+        n = n * 10 + decimal_at(decimals, i);
+    }
+    n
+}
+
+/// The decimal at this place, which is 0 behind the last.
+fn decimal_at(decimals: &[u8], i: usize) -> u32
+    requires digits { AllPass is_ascii_digit decimals.now }
+    requires place { i < 9 }
+    ensures value { result + digit_zero ≡ slice_index (decimals.now ++ replicate 9 digit_zero) i }
+    ensures below { result < 10 }
+{
+    if i < decimals.len() {
+        u32::from(decimals[i] - b'0')
+    } else {
+        0
+    }
+}

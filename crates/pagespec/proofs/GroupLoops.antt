@@ -1,0 +1,149 @@
+-- The loops over items and over groups.
+use Rattle.std.proofs.Common.{rules, arith, ◌≡◌, ◌≢◌, ℕ, zero, suc, ◌+◌, List, [], ◌∷◌, ◌++◌, Bool, true, false, Option, Some, None, refl, sym, ap, subst, ◌∙◌, append_assoc, append-nil, length, true≢false}
+use Rattle.std.specs.Prelude.{map, flat_map, if◌then◌else◌, ◌==◌}
+use Rattle.std.proofs.lemmas.List.{length-append, map-append, nil_from_length}
+use Rattle.profile.specs.Specification.{WrittenItem}
+use Rattle.pagespec.specs.Reading.{byte_at, item_at, group_at, groups_at, bare_at, whole, item_of, is_minus, past_minus, modifiers_at}
+use Rattle.lengths.specs.Reading.{is_empty}
+use Rattle.pagespec.specs.Kept.{ItemShows, ModifiersRead}
+use Rattle.pagespec.specs.Groups.{AreKept, ItemKept, GroupRead, GroupsRead, KeptGroups, BareRead, IsStop}
+use Rattle.pagespec.specs.declared.kept.KeptItem.{KeptItem}
+use Rattle.pagespec.specs.declared.kept.Modifiers.{Modifiers}
+use Rattle.pagespec.specs.declared.groups.Kept.{Kept}
+use Rattle.pagespec.specs.declared.groups.Stop.{Stop}
+use Rattle.pagespec.specs.declared.groups.Stop.TheVariants.{Stuck, NoMemory}
+use Rattle.lengths.proofs.Numbers.{same_byte}
+use Rattle.pagespec.proofs.Rows.{ReadsParts, parts_first, parts_more, parts_last, parts_stuck, parts_out, zip_append, zip_one}
+
+abbrev Shows : KeptItem → WrittenItem → Type 0
+Shows k i = ItemShows i k
+
+-- so far these items of the group were kept
+pub record KeepsOn (fuel : ℕ) (bytes rest : List ℕ) (old new : List KeptItem) (count : ℕ) : Type 0 where
+  pub front : List WrittenItem
+  pub kept : List KeptItem
+  pub reads : ReadsParts 43 item_at fuel bytes rest front
+  pub added : new ≡ old ++ kept
+  pub shows : AreKept kept front
+  pub counted : count ≡ length front
+
+pub keeps_first : (n : ℕ) (bytes : List ℕ) (old : List KeptItem) → n ≡ suc (length bytes) → KeepsOn n bytes bytes old old 0
+keeps_first n bytes old e =
+    record { front = []; kept = []; reads = parts_first 43 item_at n bytes e; added = sym (append-nil old); shows = tt; counted = refl }
+
+length-one : {X : Type 0} (xs : List X) (x : X) (n : ℕ) → n ≡ length xs → n + 1 ≡ length (xs ++ x ∷ [])
+length-one xs x n e = omega (arith, e, length-append xs (x ∷ []))
+
+pub keeps_more : (k n count : ℕ) (bytes rest behind next : List ℕ) (old new newer : List KeptItem) → n ≡ suc k → KeepsOn n bytes rest old new count → ItemKept rest new newer behind
+    → byte_at 43 behind ≡ Some next → KeepsOn k bytes next old newer (count + 1)
+keeps_more k n count bytes rest behind next old new newer is on item b = record {
+  front = on.front ++ item.item ∷ [];
+  kept = on.kept ++ item.kept ∷ [];
+  reads = parts_more 43 item_at k n bytes rest behind next on.front item.item is item.found b on.reads;
+  added = item.added ∙ (ap (λ xs. xs ++ item.kept ∷ []) on.added ∙ append_assoc old on.kept (item.kept ∷ []));
+  shows = zip_append Shows on.kept (item.kept ∷ []) on.front (item.item ∷ []) on.shows (zip_one Shows item.kept item.item item.shows);
+  counted = length-one on.front item.item count on.counted;
+}
+
+pub keeps_last : (k n count : ℕ) (bytes rest behind : List ℕ) (old new newer : List KeptItem) → n ≡ suc k → KeepsOn n bytes rest old new count → ItemKept rest new newer behind
+    → byte_at 43 behind ≡ None → GroupRead bytes old newer (count + 1) behind
+keeps_last k n count bytes rest behind old new newer is on item b = record {
+  group = on.front ++ item.item ∷ [];
+  kept = on.kept ++ item.kept ∷ [];
+  found = parts_last 43 item_at k n bytes rest behind on.front item.item is item.found b on.reads;
+  added = item.added ∙ (ap (λ xs. xs ++ item.kept ∷ []) on.added ∙ append_assoc old on.kept (item.kept ∷ []));
+  shows = zip_append Shows on.kept (item.kept ∷ []) on.front (item.item ∷ []) on.shows (zip_one Shows item.kept item.item item.shows);
+  counted = length-one on.front item.item count on.counted;
+}
+
+pub keeps_stuck : (n count : ℕ) (bytes rest : List ℕ) (old new : List KeptItem) → KeepsOn n bytes rest old new count → item_at rest ≡ None → group_at bytes ≡ None
+keeps_stuck n count bytes rest old new on e = parts_stuck 43 item_at n bytes rest on.front e on.reads
+
+pub keeps_out : (n count : ℕ) (bytes rest : List ℕ) (old new : List KeptItem) → n ≡ 0 → KeepsOn n bytes rest old new count → group_at bytes ≡ None
+keeps_out n count bytes rest old new is on = parts_out 43 item_at n bytes rest on.front is on.reads
+
+-- so far these groups were kept
+pub record GroupsOn (fuel : ℕ) (bytes rest : List ℕ) (items : List KeptItem) (lengths : List ℕ) : Type 0 where
+  pub front : List (List WrittenItem)
+  pub reads : ReadsParts 44 group_at fuel bytes rest front
+  pub shows : AreKept items (flat_map (λ g. g) front)
+  pub counted : lengths ≡ map length front
+
+pub groups_first : (n : ℕ) (bytes : List ℕ) → n ≡ suc (length bytes) → GroupsOn n bytes bytes [] []
+groups_first n bytes e = record { front = []; reads = parts_first 44 group_at n bytes e; shows = tt; counted = refl }
+
+items-one : (gs : List (List WrittenItem)) (g : List WrittenItem) → flat_map (λ x. x) (gs ++ g ∷ []) ≡ flat_map (λ x. x) gs ++ g
+items-one [] g = append-nil g
+items-one (h ∷ gs) g = ap (λ xs. h ++ xs) (items-one gs g) ∙ sym (append_assoc h (flat_map (λ x. x) gs) g)
+
+items_kept : (items newer kept : List KeptItem) (front : List (List WrittenItem)) (group : List WrittenItem) → AreKept items (flat_map (λ g. g) front) → newer ≡ items ++ kept → AreKept kept group
+    → AreKept newer (flat_map (λ g. g) (front ++ group ∷ []))
+items_kept items newer kept front group shows added more =
+    subst (λ is. AreKept newer is) (sym (items-one front group))
+    (subst (λ ks. AreKept ks (flat_map (λ g. g) front ++ group)) (sym added) (zip_append Shows items kept (flat_map (λ g. g) front) group shows more))
+
+lengths_kept : (lengths : List ℕ) (count : ℕ) (front : List (List WrittenItem)) (group : List WrittenItem) → lengths ≡ map length front → count ≡ length group → lengths ++ count ∷ [] ≡ map length (front ++ group ∷ [])
+lengths_kept lengths count front group e n = ap (λ ns. ns ++ count ∷ []) e ∙ (ap (λ x. map length front ++ x ∷ []) n ∙ sym (map-append length front (group ∷ [])))
+
+pub groups_more : (k n count : ℕ) (bytes rest behind next : List ℕ) (items newer : List KeptItem) (lengths more : List ℕ) → n ≡ suc k → GroupsOn n bytes rest items lengths
+    → GroupRead rest items newer count behind → more ≡ lengths ++ count ∷ [] → byte_at 44 behind ≡ Some next → GroupsOn k bytes next newer more
+groups_more k n count bytes rest behind next items newer lengths more is on group e b = record {
+  front = on.front ++ group.group ∷ [];
+  reads = parts_more 44 group_at k n bytes rest behind next on.front group.group is group.found b on.reads;
+  shows = items_kept items newer group.kept on.front group.group on.shows group.added group.shows;
+  counted = e ∙ lengths_kept lengths count on.front group.group on.counted group.counted;
+}
+
+pub groups_last : (k n count : ℕ) (bytes rest behind : List ℕ) (items : List KeptItem) (lengths : List ℕ) (kept : Kept) → n ≡ suc k → GroupsOn n bytes rest items lengths
+    → GroupRead rest items kept.items.items count behind → kept.lengths.items ≡ lengths ++ count ∷ [] → byte_at 44 behind ≡ None → GroupsRead bytes kept behind
+groups_last k n count bytes rest behind items lengths kept is on group e b = (
+  on.front ++ group.group ∷ [],
+  parts_last 44 group_at k n bytes rest behind on.front group.group is group.found b on.reads,
+  record {
+    items = items_kept items kept.items.items group.kept on.front group.group on.shows group.added group.shows;
+    lengths = e ∙ lengths_kept lengths count on.front group.group on.counted group.counted;
+  },
+)
+
+pub groups_stuck : (n : ℕ) (bytes rest : List ℕ) (items : List KeptItem) (lengths : List ℕ) → GroupsOn n bytes rest items lengths → group_at rest ≡ None → groups_at bytes ≡ None
+groups_stuck n bytes rest items lengths on e = parts_stuck 44 group_at n bytes rest on.front e on.reads
+
+pub groups_out : (n : ℕ) (bytes rest : List ℕ) (items : List KeptItem) (lengths : List ℕ) → n ≡ 0 → GroupsOn n bytes rest items lengths → groups_at bytes ≡ None
+groups_out n bytes rest items lengths is on = parts_out 44 group_at n bytes rest on.front is on.reads
+
+-- the item that leaves its page number out
+is_some_text : {A : Type 0} (t : List ℕ) (o : Option A) → t ≢ [] → (if is_empty t then None else o) ≡ o
+is_some_text [] o n = absurd (n refl)
+is_some_text (b ∷ t) o n = refl
+
+bare_is : (t body rest : List ℕ) (kept : Modifiers) → body ≡ past_minus t → t ≢ [] → (read : ModifiersRead body kept rest) → bare_at t ≡ whole (item_of (is_minus t) 0 (read.0, rest))
+unfolding bare_at
+bare_is t body rest kept b some (ms, found, shows) =
+    is_some_text t _ some ∙ (ap (λ x. whole (item_of (is_minus t) 0 (modifiers_at (length x) x))) (sym b) ∙ ap (λ x. whole (item_of (is_minus t) 0 x)) found)
+
+pub bare_empty : (t : List ℕ) → t ≡ [] → bare_at t ≡ None
+unfolding bare_at
+bare_empty t e = ap bare_at e
+
+pub bare_stuck : (t body rest : List ℕ) (kept : Modifiers) → body ≡ past_minus t → t ≢ [] → ModifiersRead body kept rest → rest ≢ [] → bare_at t ≡ None
+bare_stuck t body [] kept b some read more = absurd (more refl)
+bare_stuck t body (x ∷ rest) kept b some read more = bare_is t body (x ∷ rest) kept b some read
+
+pub bare_there : (t body rest : List ℕ) (from_end : Bool) (kept : Modifiers) → from_end ≡ is_minus t → body ≡ past_minus t → t ≢ [] → ModifiersRead body kept rest → rest ≡ []
+    → BareRead t (record { from_end = from_end; page = 0; modifiers = kept })
+bare_there t body rest from_end kept m b some (ms, found, shows) e = (
+  record { from_end = is_minus t; page = 0; modifiers = ms },
+  bare_is t body rest kept b some (ms, found, shows) ∙ ap (λ r. whole (item_of (is_minus t) 0 (ms, r))) e,
+  record { end = m; page = refl; modifiers = shows },
+)
+
+-- where one reader is stuck only if the other is
+pub stop_same : {X Y : Type 0} (o : Option X) (p : Option Y) (s : Stop) → (o ≡ None → p ≡ None) → IsStop o s → IsStop p s
+stop_same o p (Stuck left) f e = f e
+stop_same o p NoMemory f e = tt
+
+pub nil_told : (t : List ℕ) (b : Bool) → b ≡ (length t == 0) → b ≡ true → t ≡ []
+nil_told t b e h = nil_from_length t (same_byte (length t) 0 (sym e ∙ h))
+
+pub some_told : (t : List ℕ) (b : Bool) → b ≡ (length t == 0) → b ≡ false → t ≢ []
+some_told t b e h n = true≢false (sym (sym h ∙ (e ∙ ap (λ x. length x == 0) n)))

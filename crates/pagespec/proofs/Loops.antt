@@ -1,0 +1,46 @@
+-- A loop over modifiers.
+use Rattle.std.proofs.Common.{rules, arith, ◌≡◌, ℕ, zero, suc, ◌+◌, ◌-◌, ◌<◌, ◌≤◌, List, [], ◌∷◌, ◌++◌, Option, Some, None, refl, sym, ap, subst, ◌∙◌, append_assoc, length}
+use Rattle.std.proofs.lemmas.List.{append-nil}
+use Rattle.profile.specs.Specification.{Modifier}
+use Rattle.pagespec.specs.Reading.{modifier_at, modifiers_at, modifiers_or, with_modifier}
+use Rattle.pagespec.specs.Views.{Stands, ModifierRead}
+use Rattle.pagespec.specs.Kept.{Shows, ModifiersRead}
+use Rattle.pagespec.specs.declared.kept.Modifiers.{Modifiers}
+use Rattle.pagespec.specs.declared.scan.Modifier.{Modifier as Part}
+
+-- modifiers read before, and those behind them
+abbrev pub with_front : List Modifier → List Modifier × List ℕ → List Modifier × List ℕ
+with_front front more = (front ++ more.0, more.1)
+
+-- so far these modifiers were read, and what is left reads on
+abbrev pub ReadsOn : (fuel : ℕ) (bytes rest : List ℕ) → Modifiers → Type 0
+ReadsOn k bytes rest s = (front : List Modifier) × (with_front front (modifiers_at k rest) ≡ modifiers_at (length bytes) bytes) × Shows front s
+
+pub step_some : (k : ℕ) (t : List ℕ) (m : Modifier) (rest : List ℕ) → modifier_at t ≡ Some (m, rest) → modifiers_at (suc k) t ≡ with_modifier m (modifiers_at k rest)
+unfolding modifiers_at
+step_some k t m rest e = rw e refl
+
+pub step_none : (k : ℕ) (t : List ℕ) → modifier_at t ≡ None → modifiers_at k t ≡ ([], t)
+unfolding modifiers_at
+step_none zero t e = refl
+step_none (suc k) t e = rw e refl
+
+pub reads_more : (k n : ℕ) (bytes rest behind : List ℕ) (s s' : Modifiers) (part : Part) → n ≡ suc k → ReadsOn n bytes rest s → ModifierRead rest part behind
+    → ((ms : List Modifier) (m : Modifier) → Shows ms s → Stands part m → Shows (ms ++ m ∷ []) s') → ReadsOn k bytes behind s'
+reads_more k n bytes rest behind s s' part is (front, e, shows) (m, found, stands) more = (
+  front ++ m ∷ [],
+  ap (λ xs. (xs, (modifiers_at k behind).1)) (append_assoc front (m ∷ []) (modifiers_at k behind).0)
+      ∙ (sym (ap (with_front front) (ap (λ j. modifiers_at j rest) is ∙ step_some k rest m behind found)) ∙ e),
+  more front m shows stands,
+)
+
+pub reads_all : (k : ℕ) (bytes rest : List ℕ) (s : Modifiers) → ReadsOn k bytes rest s → modifiers_at k rest ≡ ([], rest) → ModifiersRead bytes s rest
+reads_all k bytes rest s (front, e, shows) none =
+    (front, sym e ∙ (ap (with_front front) none ∙ ap (λ xs. (xs, rest)) (append-nil front)), shows)
+
+pub no_fuel : (t : List ℕ) → modifiers_at 0 t ≡ ([], t)
+unfolding modifiers_at
+no_fuel t = refl
+
+pub reads_first : (bytes : List ℕ) (s : Modifiers) → Shows [] s → ReadsOn (length bytes) bytes bytes s
+reads_first bytes s shows = ([], refl, shows)

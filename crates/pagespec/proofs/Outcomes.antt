@@ -1,0 +1,173 @@
+-- What reading a whole text came to.
+use Rattle.std.proofs.Common.{rules, arith, ◌≡◌, ◌≤◌, ◌<◌, ◌+◌, ◌^◌, ℕ, suc, List, [], ◌∷◌, ◌++◌, Bool, true, false, Option, Some, None, refl, sym, ap, subst, ◌∙◌, inl, inr, length, map, min}
+use Rattle.std.specs.Prelude.{flat_map, option_map, ◌==◌, nat_lt, nat_le, position}
+use Rattle.std.specs.List.{AllZip, list_any}
+use Rattle.std.proofs.lemmas.List.{length-append, length-map, append-nil}
+use Rattle.profile.specs.Specification.{WrittenItem, WrittenSpec, Item, Spec, IsSpec, IsItem, IsJoined, AreGroups, settled, settled_item, canonical}
+use Rattle.profile.specs.Admissible.{Fault, TooLong, Syntax, TooLarge, ModuloZero, PageOutOfBlock, ScaleZero, Repeated, TooManySlots, TooManyGroups, items, fault_of, else_first, only_if, at_lowest, any_too_large, is_flat, repeats, Refuses, Takes, IsAdmissible}
+use Rattle.pagespec.specs.Admitted.{IsAdmitted}
+use Rattle.pagespec.specs.Reading.{spec_at}
+use Rattle.pagespec.specs.Groups.{AreKept, KeptGroups}
+use Rattle.pagespec.specs.Faults.{fault_named, first_fault_of}
+use Rattle.pagespec.specs.Settled.{settled_kept, split_by, AreLengths}
+use Rattle.pagespec.specs.Written.{WrittenRead}
+use Rattle.pagespec.specs.Refusals.{NamesFault, IsRefusal}
+use Rattle.pagespec.specs.Kept.{ItemShows}
+use Rattle.pagespec.specs.declared.kept.KeptItem.{KeptItem}
+use Rattle.pagespec.specs.declared.groups.Kept.{Kept}
+use Rattle.pagespec.specs.declared.error.SpecError.{SpecError}
+use Rattle.lengths.proofs.Numbers.{some_same}
+use Rattle.pagespec.proofs.Joined.{few_parts}
+use Rattle.pagespec.proofs.Texts.{IsGroup, spec_found, no_tree}
+use Rattle.pagespec.proofs.Faults.{told_fault, no_fault, neither, Small, small_items, capped_small}
+use Rattle.pagespec.proofs.Settling.{groups_settle, kept_fit, lengths_zip}
+use Rattle.pagespec.proofs.Short.{short_enough}
+
+pub syntax_refused : (t bytes : List ℕ) → length t ≤ 65_536 → bytes ≡ t → spec_at bytes ≡ None → Refuses 64 t Syntax
+syntax_refused t bytes h b e = (h, λ spec is. no_tree t (ap spec_at (sym b) ∙ e) spec is)
+
+-- a text that was read, and what was kept of it
+pub record Read (t : List ℕ) (modulo : ℕ) (kept : List KeptItem) (lengths : List ℕ) : Type 0 where
+  pub spec : WrittenSpec
+  pub stands : IsSpec t spec
+  pub modulo_is : modulo ≡ min 100_000 spec.modulo
+  pub shows : AreKept kept (items spec)
+  pub counted : lengths ≡ map length spec.groups
+
+pub all_read : (t bytes : List ℕ) (modulo : ℕ) (kept : Kept) (ks : List KeptItem) (ns : List ℕ) → bytes ≡ t → WrittenRead bytes modulo kept → ks ≡ kept.items.items → ns ≡ kept.lengths.items → Read t modulo ks ns
+all_read t bytes modulo kept ks ns b read e f = record {
+  spec = read.spec;
+  stands = spec_found t read.spec (ap spec_at (sym b) ∙ read.found);
+  modulo_is = read.modulo_is;
+  shows = subst (λ xs. AreKept xs (items read.spec)) (sym e) read.groups.items;
+  counted = f ∙ read.groups.lengths;
+}
+
+-- each item but one has a byte behind it or before it that is no other's
+few_in_groups : (gs : List (List WrittenItem)) (text : List ℕ) → IsJoined 44 IsGroup text gs → length (flat_map (λ g. g) gs) ≤ suc (length text)
+few_in_groups [] text joined = absurd joined
+few_in_groups (g ∷ []) text joined = subst (λ xs. length xs ≤ suc (length text)) (sym (append-nil g)) (few_parts 43 IsItem g text joined)
+few_in_groups (g ∷ h ∷ gs) text (front, rest, e, is, joined) =
+    omega (arith, length-append g (flat_map (λ x. x) (h ∷ gs)), few_parts 43 IsItem g front is, few_in_groups (h ∷ gs) rest joined, ap length e, length-append front (44 ∷ rest))
+
+few_items : (text : List ℕ) (gs : List (List WrittenItem)) → AreGroups text gs → length (flat_map (λ g. g) gs) ≤ suc (length text)
+few_items text gs (inl joined) = few_in_groups gs text joined
+few_items text gs (inr (i, e, bare)) = subst (λ x. length (flat_map (λ g. g) x) ≤ suc (length text)) (sym e) (omega arith)
+
+few_groups : (text : List ℕ) (gs : List (List WrittenItem)) → AreGroups text gs → length gs ≤ suc (length text)
+few_groups text gs (inl joined) = few_parts 44 IsGroup gs text joined
+few_groups text gs (inr (i, e, bare)) = subst (λ x. length x ≤ suc (length text)) (sym e) (omega arith)
+
+few_items_in : (t : List ℕ) (spec : WrittenSpec) → IsSpec t spec → length (items spec) ≤ suc (length t)
+few_items_in t spec (inl (m, are)) = few_items t spec.groups are
+few_items_in t spec (inr (ds, rest, e, is, are)) = omega (arith, few_items rest spec.groups are, ap length e, length-append ds (58 ∷ rest))
+
+few_groups_in : (t : List ℕ) (spec : WrittenSpec) → IsSpec t spec → length spec.groups ≤ suc (length t)
+few_groups_in t spec (inl (m, are)) = few_groups t spec.groups are
+few_groups_in t spec (inr (ds, rest, e, is, are)) = omega (arith, few_groups rest spec.groups are, ap length e, length-append ds (58 ∷ rest))
+
+pub few_kept : (t : List ℕ) (modulo : ℕ) (ks : List KeptItem) (ns : List ℕ) → Read t modulo ks ns → length t ≤ 65_536 → length ks < 2 ^ 32
+few_kept t modulo ks ns read h = omega (arith, h, lengths_zip (λ k i. ItemShows i k) ks (items read.spec) read.shows, few_items_in t read.spec read.stands)
+
+pub few_lengths : (t : List ℕ) (modulo : ℕ) (ks : List KeptItem) (ns : List ℕ) → Read t modulo ks ns → length t ≤ 65_536 → length ns < 2 ^ 32
+few_lengths t modulo ks ns read h = omega (arith, h, ap length read.counted, length-map read.spec.groups length, few_groups_in t read.spec read.stands)
+
+-- a fault of what a text stands for is none of the text itself
+abbrev OfSpec : Option Fault → Type 0
+OfSpec None = Unit {0}
+OfSpec (Some TooLong) = ⊥
+OfSpec (Some Syntax) = ⊥
+OfSpec (Some TooLarge) = Unit {0}
+OfSpec (Some ModuloZero) = Unit {0}
+OfSpec (Some (PageOutOfBlock i)) = Unit {0}
+OfSpec (Some (ScaleZero i)) = Unit {0}
+OfSpec (Some (Repeated i)) = Unit {0}
+OfSpec (Some (TooManySlots g)) = Unit {0}
+OfSpec (Some TooManyGroups) = Unit {0}
+
+of_else : (a b : Option Fault) → OfSpec a → OfSpec b → OfSpec (else_first a b)
+of_else None b h g = g
+of_else (Some f) b h g = h
+
+of_if : (b : Bool) (f : Fault) → OfSpec (Some f) → OfSpec (only_if b f)
+of_if true f h = h
+of_if false f h = tt
+
+of_place : (o : Option ℕ) (f : ℕ → Fault) → ((i : ℕ) → OfSpec (Some (f i))) → OfSpec (at_lowest o f)
+of_place None f h = tt
+of_place (Some i) f h = h i
+
+of_spec : (spec : WrittenSpec) → OfSpec (fault_of 64 spec)
+of_spec spec =
+    of_else (only_if (any_too_large spec) TooLarge) _ (of_if (any_too_large spec) TooLarge tt)
+    (of_else (only_if (spec.modulo == 0) ModuloZero) _ (of_if (spec.modulo == 0) ModuloZero tt)
+    (of_else (at_lowest (position (λ i. nat_le spec.modulo i.page) (items spec)) PageOutOfBlock) _ (of_place (position (λ i. nat_le spec.modulo i.page) (items spec)) PageOutOfBlock (λ i. tt))
+    (of_else (at_lowest (position (λ i. list_any is_flat i.modifiers) (items spec)) ScaleZero) _ (of_place (position (λ i. list_any is_flat i.modifiers) (items spec)) ScaleZero (λ i. tt))
+    (of_else (at_lowest (position repeats (items spec)) Repeated) _ (of_place (position repeats (items spec)) Repeated (λ i. tt))
+    (of_else (at_lowest (position (λ g. nat_lt 64 (length g)) spec.groups) TooManySlots) _ (of_place (position (λ g. nat_lt 64 (length g)) spec.groups) TooManySlots (λ i. tt))
+    (of_if (nat_lt 10_000 (length spec.groups)) TooManyGroups tt))))))
+
+refused_by : (t : List ℕ) (spec : WrittenSpec) (f : Fault) → length t ≤ 65_536 → IsSpec t spec → fault_of 64 spec ≡ Some f → OfSpec (Some f) → Refuses 64 t f
+refused_by t spec TooLong h is e o = absurd o
+refused_by t spec Syntax h is e o = absurd o
+refused_by t spec TooLarge h is e o = (h, spec, is, e)
+refused_by t spec ModuloZero h is e o = (h, spec, is, e)
+refused_by t spec (PageOutOfBlock i) h is e o = (h, spec, is, e)
+refused_by t spec (ScaleZero i) h is e o = (h, spec, is, e)
+refused_by t spec (Repeated i) h is e o = (h, spec, is, e)
+refused_by t spec (TooManySlots g) h is e o = (h, spec, is, e)
+refused_by t spec TooManyGroups h is e o = (h, spec, is, e)
+
+named_refused : (t : List ℕ) (spec : WrittenSpec) (named : Option Fault) (f : Option Fault) → length t ≤ 65_536 → IsSpec t spec → fault_of 64 spec ≡ f → Some named ≡ option_map (λ x. Some x) f → NamesFault t named
+named_refused t spec named None h is e told = absurd (cc (told))
+named_refused t spec named (Some f) h is e told =
+    subst (NamesFault t) (sym (some_same named (Some f) told)) (refused_by t spec f h is e (subst OfSpec e (of_spec spec)))
+
+pub fault_refused : (t : List ℕ) (modulo : ℕ) (ks : List KeptItem) (ns : List ℕ) (e : SpecError) → Read t modulo ks ns → length t ≤ 65_536 → Some e ≡ first_fault_of modulo ks ns → IsRefusal t e
+fault_refused t modulo ks ns e read h told =
+    named_refused t read.spec (fault_named e) (fault_of 64 read.spec) h read.stands refl
+    (ap (option_map fault_named) told ∙ told_fault read.spec modulo ks ns read.shows read.counted read.modulo_is)
+
+none_told : (f : Option Fault) (o : Option SpecError) → None ≡ o → option_map fault_named o ≡ option_map (λ x. Some x) f → f ≡ None
+none_told None o e told = refl
+none_told (Some f) None e told = absurd (cc (told))
+none_told (Some f) (Some x) e told = absurd (cc (e))
+
+pub faultless : (t : List ℕ) (modulo : ℕ) (ks : List KeptItem) (ns : List ℕ) (read : Read t modulo ks ns) → None ≡ first_fault_of modulo ks ns → fault_of 64 read.spec ≡ None
+faultless t modulo ks ns read e = none_told _ _ e (told_fault read.spec modulo ks ns read.shows read.counted read.modulo_is)
+
+pub lengths_right : (t : List ℕ) (modulo : ℕ) (ks : List KeptItem) (ns : List ℕ) → Read t modulo ks ns → AreLengths ns ks
+lengths_right t modulo ks ns read = kept_fit (λ k i. ItemShows i k) ks read.spec.groups ns read.shows read.counted
+
+abbrev spec_of : ℕ → List (List Item) → Spec
+spec_of modulo groups = record { modulo = modulo; groups = groups }
+
+same_spec : (m n : ℕ) (gs hs : List (List Item)) → m ≡ n → gs ≡ hs → spec_of m gs ≡ spec_of n hs
+same_spec m n gs hs e f = rw e (rw f refl)
+
+comes_to : (t : List ℕ) (modulo : ℕ) (ks : List KeptItem) (ns : List ℕ) (groups : List (List Item)) (read : Read t modulo ks ns) → None ≡ first_fault_of modulo ks ns
+    → groups ≡ split_by ns (map settled_kept ks) → spec_of modulo groups ≡ settled read.spec
+comes_to t modulo ks ns groups read none e =
+    let small = neither _ _ (no_fault read.spec (faultless t modulo ks ns read none)) in
+    same_spec _ _ _ _ (capped_small modulo read.spec.modulo read.modulo_is small.0)
+    (e ∙ groups_settle ks read.spec.groups ns (small_items ks (items read.spec) read.shows small.1) read.counted)
+
+pub admitted : (t : List ℕ) (modulo : ℕ) (ks : List KeptItem) (ns : List ℕ) (groups : List (List Item)) → Read t modulo ks ns → length t ≤ 65_536 → None ≡ first_fault_of modulo ks ns
+    → groups ≡ split_by ns (map settled_kept ks) → IsAdmitted (spec_of modulo groups)
+admitted t modulo ks ns groups read h none e =
+    let same = comes_to t modulo ks ns groups read none e in
+    let right = faultless t modulo ks ns read none in
+    record {
+      text = t;
+      taken = (h, read.spec, read.stands, right, same);
+      admissible = record { written = read.spec; settles = same; faultless = right; short = subst (λ s. length (canonical s) ≤ 65_536) (sym same) (short_enough t read.spec read.stands right h) };
+    }
+
+pub taken : (t : List ℕ) (modulo : ℕ) (ks : List KeptItem) (ns : List ℕ) (groups : List (List Item)) (result : Spec) → Read t modulo ks ns → length t ≤ 65_536 → None ≡ first_fault_of modulo ks ns
+    → groups ≡ split_by ns (map settled_kept ks) → result ≡ spec_of modulo groups → Takes 64 t result
+taken t modulo ks ns groups result read h none e is =
+    (h, read.spec, read.stands, faultless t modulo ks ns read none, is ∙ comes_to t modulo ks ns groups read none e)
+
+-- the same groups, by equal rows
+pub split_same : (a b x : List KeptItem) (n m y : List ℕ) → a ≡ x → b ≡ x → n ≡ y → m ≡ y → split_by n (map settled_kept a) ≡ split_by m (map settled_kept b)
+split_same a b x n m y e f g h = ap (λ z. split_by n (map settled_kept z)) (e ∙ sym f) ∙ ap (λ k. split_by k (map settled_kept b)) (g ∙ sym h)

@@ -1,0 +1,116 @@
+-- What the kept items come to, against what the written ones do.
+use Rattle.std.proofs.Common.{rules, arith, ◌≡◌, ◌≤◌, ◌+◌, ◌%◌, ℕ, suc, List, [], ◌∷◌, ◌++◌, Bool, true, false, Option, Some, None, refl, sym, ap, subst, ◌∙◌, append_assoc, length, take, drop, min}
+use Rattle.std.specs.Prelude.{map, flat_map, unwrap_or, option_map, pos, ℤ, sum}
+use Rattle.std.specs.List.{AllZip}
+use Rattle.std.proofs.lemmas.List.{length-append, length-map, length-drop, map-append}
+use Rattle.profile.specs.Specification.{Measure, Modifier, Quarters, Scaled, Moved, Turn, WrittenItem, Item, settled_item, quarters, turn_of, scale, offset_x, offset_y, zero_points}
+use Rattle.pagespec.specs.Items.{measure_of}
+use Rattle.pagespec.specs.Kept.{ItemShows, Shows, Known, first_scale, first_offset}
+use Rattle.pagespec.specs.Settled.{settled_kept, offset_kept, split_by, AreLengths}
+use Rattle.pagespec.specs.declared.item.Measure.{Measure as KeptMeasure}
+use Rattle.pagespec.specs.declared.kept.KeptItem.{KeptItem}
+use Rattle.pagespec.proofs.Faults.{Small}
+
+first_scale_is : (ms : List Modifier) → unwrap_or (first_scale ms) (pos 1_000_000_000) ≡ scale ms
+first_scale_is [] = refl
+first_scale_is (Quarters n ∷ ms) = first_scale_is ms
+first_scale_is (Scaled v ∷ ms) = refl
+first_scale_is (Moved x y ∷ ms) = first_scale_is ms
+
+abbrev or_nothing : Option (Measure × Measure) → Measure × Measure
+or_nothing None = (zero_points, zero_points)
+or_nothing (Some m) = m
+
+first_offset_is : (ms : List Modifier) → or_nothing (first_offset ms) ≡ (offset_x ms, offset_y ms)
+first_offset_is [] = refl
+first_offset_is (Quarters n ∷ ms) = first_offset_is ms
+first_offset_is (Scaled v ∷ ms) = first_offset_is ms
+first_offset_is (Moved x y ∷ ms) = refl
+
+offset_kept_is : (o : Option (KeptMeasure × KeptMeasure)) → offset_kept o ≡ or_nothing (option_map (λ m. (measure_of m.0, measure_of m.1)) o)
+offset_kept_is None = refl
+offset_kept_is (Some m) = refl
+
+same_turn : (q n : ℕ) → q ≡ n % 4 → q % 4 ≡ n % 4
+same_turn q n e = omega arith
+
+turn_is : (q n : ℕ) → q ≡ n % 4 → turn_of q ≡ turn_of n
+turn_is q n e = rw (same_turn q n e) refl
+
+abbrev item : ℕ → Bool → Turn → ℤ → Measure → Measure → Item
+item page from_end turn scale x y = record { page = page; from_end = from_end; turn = turn; scale = scale; x = x; y = y }
+
+pub same_item : (p p' : ℕ) (b b' : Bool) (t t' : Turn) (s s' : ℤ) (x x' y y' : Measure) → p ≡ p' → b ≡ b' → t ≡ t' → s ≡ s' → x ≡ x' → y ≡ y' → item p b t s x y ≡ item p' b' t' s' x' y'
+same_item p p' b b' t t' s s' x x' y y' ep eb et es ex ey = rw ep (rw eb (rw et (rw es (rw ex (rw ey refl)))))
+
+-- what is kept of an item with small numbers comes to the item's own
+pub small_settles : (k : KeptItem) (i : WrittenItem) → Small k i → settled_kept k ≡ settled_item i
+small_settles k i s =
+    let known : Known i.modifiers k.modifiers = s.shows.modifiers.known s.large in
+    let both : offset_kept k.modifiers.offset ≡ (offset_x i.modifiers, offset_y i.modifiers) =
+    offset_kept_is k.modifiers.offset ∙ (ap or_nothing known.offset ∙ first_offset_is i.modifiers) in
+    let scale_is : unwrap_or k.modifiers.scale (pos 1_000_000_000) ≡ scale i.modifiers =
+    ap (λ o. unwrap_or o (pos 1_000_000_000)) known.scale ∙ first_scale_is i.modifiers in
+    same_item _ _ _ _ _ _ _ _ _ _ _ _ s.page s.shows.end (turn_is k.modifiers.quarters (quarters i.modifiers) s.shows.modifiers.turn) scale_is (ap (λ p. p.0) both) (ap (λ p. p.1) both)
+
+pub settles : (ks : List KeptItem) (is : List WrittenItem) → AllZip Small ks is → map settled_kept ks ≡ map settled_item is
+settles [] [] h = refl
+settles [] (i ∷ is) h = absurd h
+settles (k ∷ ks) [] h = absurd h
+settles (k ∷ ks) (i ∷ is) h = ap (λ x. x ∷ map settled_kept ks) (small_settles k i h.0) ∙ ap (λ xs. settled_item i ∷ xs) (settles ks is h.1)
+
+take_front : {X : Type 0} (xs ys : List X) → take (length xs) (xs ++ ys) ≡ xs
+take_front [] ys = refl
+take_front (x ∷ xs) ys = ap (λ zs. x ∷ zs) (take_front xs ys)
+
+drop_front : {X : Type 0} (xs ys : List X) → drop (length xs) (xs ++ ys) ≡ ys
+drop_front [] ys = refl
+drop_front (x ∷ xs) ys = drop_front xs ys
+
+-- groups put in one row are had back by their lengths
+pub split_groups : {X : Type 0} (gs : List (List X)) → split_by (map length gs) (flat_map (λ g. g) gs) ≡ gs
+split_groups [] = refl
+split_groups (g ∷ gs) =
+    ap (λ x. x ∷ split_by (map length gs) (drop (length g) (g ++ flat_map (λ h. h) gs))) (take_front g (flat_map (λ h. h) gs))
+    ∙ ap (λ xs. g ∷ xs) (ap (split_by (map length gs)) (drop_front g (flat_map (λ h. h) gs)) ∙ split_groups gs)
+
+pub lengths_fit : {X : Type 0} (gs : List (List X)) → AreLengths (map length gs) (flat_map (λ g. g) gs)
+lengths_fit [] = tt
+lengths_fit (g ∷ gs) =
+    (omega (arith, length-append g (flat_map (λ h. h) gs)), subst (AreLengths (map length gs)) (sym (drop_front g (flat_map (λ h. h) gs))) (lengths_fit gs))
+
+pub map_row : {X Y : Type 0} (f : X → Y) (gs : List (List X)) → map f (flat_map (λ g. g) gs) ≡ flat_map (λ g. g) (map (λ g. map f g) gs)
+map_row f [] = refl
+map_row f (g ∷ gs) = map-append f g (flat_map (λ h. h) gs) ∙ ap (λ xs. map f g ++ xs) (map_row f gs)
+
+map_lengths : {X Y : Type 0} (f : X → Y) (gs : List (List X)) → map length gs ≡ map length (map (λ g. map f g) gs)
+map_lengths f [] = refl
+map_lengths f (g ∷ gs) = ap (λ n. n ∷ map length gs) (sym (length-map g f)) ∙ ap (λ ns. length (map f g) ∷ ns) (map_lengths f gs)
+
+-- groups of kept items, had back by their lengths, come to the groups' own
+pub groups_settle : (ks : List KeptItem) (gs : List (List WrittenItem)) (lengths : List ℕ) → AllZip Small ks (flat_map (λ g. g) gs) → lengths ≡ map length gs
+    → split_by lengths (map settled_kept ks) ≡ map (λ g. map settled_item g) gs
+groups_settle ks gs lengths zip e =
+    ap (λ ns. split_by ns (map settled_kept ks)) (e ∙ map_lengths settled_item gs)
+    ∙ (ap (split_by (map length (map (λ g. map settled_item g) gs))) (settles ks (flat_map (λ g. g) gs) zip ∙ map_row settled_item gs)
+    ∙ split_groups (map (λ g. map settled_item g) gs))
+
+pub lengths_zip : {X Y : Type 0} (R : X → Y → Type 0) (xs : List X) (ys : List Y) → AllZip R xs ys → length xs ≡ length ys
+lengths_zip R [] [] h = refl
+lengths_zip R [] (y ∷ ys) h = absurd h
+lengths_zip R (x ∷ xs) [] h = absurd h
+lengths_zip R (x ∷ xs) (y ∷ ys) h = ap suc (lengths_zip R xs ys h.1)
+
+lengths_same : {X Y : Type 0} (ns : List ℕ) (xs : List X) (ys : List Y) → length xs ≡ length ys → AreLengths ns ys → AreLengths ns xs
+lengths_same [] xs ys e h = tt
+lengths_same (n ∷ ns) xs ys e h = (omega (arith, e, h.0), lengths_same ns (drop n xs) (drop n ys) (omega (arith, e, length-drop n xs, length-drop n ys)) h.1)
+
+-- the lengths of the groups fit the kept items
+pub kept_fit : {X Y : Type 0} (R : X → Y → Type 0) (xs : List X) (gs : List (List Y)) (lengths : List ℕ) → AllZip R xs (flat_map (λ g. g) gs) → lengths ≡ map length gs → AreLengths lengths xs
+kept_fit R xs gs lengths zip e =
+    subst (λ ns. AreLengths ns xs) (sym e) (lengths_same (map length gs) xs (flat_map (λ g. g) gs) (lengths_zip R xs (flat_map (λ g. g) gs) zip) (lengths_fit gs))
+
+-- the loop over groups: these came of it, and what is left is split further
+pub record SettlesOn (all left : List ℕ) (kept rest : List KeptItem) (groups : List (List Item)) : Type 0 where
+  pub done : groups ++ split_by left (map settled_kept rest) ≡ split_by all (map settled_kept kept)
+  pub fits : AreLengths left rest

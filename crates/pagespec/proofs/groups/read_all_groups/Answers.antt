@@ -1,0 +1,14 @@
+use Rattle.pagespec.proofs.Wholes.{all_there, all_stuck, bare_outcome, stuck_none}
+use Rattle.pagespec.specs.Reading.{whole_groups_at}
+use Rattle.pagespec.proofs.groups.read_all_groups.Goals as goal
+
+pub returns-in-Ok : goal.returns-in-Ok
+returns-in-Ok c = bare_outcome c.args.bytes.now c.in-Ok.item c.one_item.result c.in-Ok.ensures c.one_item.ensures.alone c.one_item.ensures.stop
+
+pub returns-in-Ok-read_groups_to_end : goal.returns-in-Ok-read_groups_to_end
+returns-in-Ok-read_groups_to_end c = all_there c.args.bytes.now _ c.in-Ok-read_groups_to_end.ensures
+
+pub returns-in-Err-Stuck : goal.returns-in-Err-Stuck
+returns-in-Err-Stuck c =
+    all_stuck c.args.bytes.now c.in-Err.ensures
+    (stuck_none (whole_groups_at c.args.bytes.now) c.in-Err-Stuck.field-0 c.in-Err-Stuck.left c.in-Err-Stuck.field-0-is c.in-Err-Stuck.ensures)

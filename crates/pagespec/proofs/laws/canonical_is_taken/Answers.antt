@@ -1,0 +1,5 @@
+use Rattle.pagespec.proofs.Normal.{canonical_taken}
+use Rattle.pagespec.proofs.laws.canonical_is_taken.Goals as goal
+
+pub returns : goal.returns
+returns c = canonical_taken

@@ -1,0 +1,36 @@
+use Rattle.std.proofs.Common.{arith, sym, ap, ◌∙◌, ◌≡◌, ◌≤◌, length, map, ◌<◌}
+use Rattle.pagespec.specs.Reading.{spec_at}
+use Rattle.pagespec.proofs.Wholes.{stuck_none}
+use Rattle.pagespec.proofs.Outcomes.{Read, all_read, syntax_refused, few_kept, few_lengths, fault_refused, lengths_right, admitted, taken, split_same}
+use Rattle.pagespec.proofs.read.read_spec.Goals as goal
+
+pub returns-in-Err-Stuck-clause-refused : goal.returns-in-Err-Stuck-clause-refused
+returns-in-Err-Stuck-clause-refused c =
+    syntax_refused c.args.text.now _ c.if-text-gt-MOST_BYTES.false c.as_bytes-bytes.ensures.value
+    (stuck_none (spec_at c.as_bytes-bytes.result.now) c.in-Err-Stuck.field-0 c.in-Err-Stuck.left c.in-Err-Stuck.field-0-is c.in-Err-Stuck.ensures)
+
+pub first_fault-requires-clause-items : goal.first_fault-requires-clause-items
+first_fault-requires-clause-items c =
+    few_kept _ _ _ _ (all_read _ _ _ _ _ _ c.as_bytes-bytes.ensures.value c.in-Ok.ensures c.deref.ensures.value c.deref-2.ensures.value) c.if-text-gt-MOST_BYTES.false
+
+pub first_fault-requires-clause-groups : goal.first_fault-requires-clause-groups
+first_fault-requires-clause-groups c =
+    few_lengths _ _ _ _ (all_read _ _ _ _ _ _ c.as_bytes-bytes.ensures.value c.in-Ok.ensures c.deref.ensures.value c.deref-2.ensures.value) c.if-text-gt-MOST_BYTES.false
+
+pub returns-in-Some-clause-refused : goal.returns-in-Some-clause-refused
+returns-in-Some-clause-refused c =
+    fault_refused _ _ _ _ c.in-Some.fault (all_read _ _ _ _ _ _ c.as_bytes-bytes.ensures.value c.in-Ok.ensures c.deref.ensures.value c.deref-2.ensures.value) c.if-text-gt-MOST_BYTES.false
+    c.in-Some.ensures
+
+pub settled_groups-requires : goal.settled_groups-requires
+settled_groups-requires c = lengths_right _ _ _ _ (all_read _ _ _ _ _ _ c.as_bytes-bytes.ensures.value c.in-Ok.ensures c.deref-3.ensures.value c.deref-4.ensures.value)
+
+pub new-requires : goal.new-requires
+new-requires c =
+    admitted _ _ _ _ _ (all_read _ _ _ _ _ _ c.as_bytes-bytes.ensures.value c.in-Ok.ensures c.deref.ensures.value c.deref-2.ensures.value) c.if-text-gt-MOST_BYTES.false c.in-None.ensures
+    (c.in-Ok-settled_groups.ensures ∙ split_same _ _ _ _ _ _ c.deref-3.ensures.value c.deref.ensures.value c.deref-4.ensures.value c.deref-2.ensures.value)
+
+pub returns-in-Ok-settled_groups-clause-taken : goal.returns-in-Ok-settled_groups-clause-taken
+returns-in-Ok-settled_groups-clause-taken c =
+    taken _ _ _ _ _ c.new.result (all_read _ _ _ _ _ _ c.as_bytes-bytes.ensures.value c.in-Ok.ensures c.deref.ensures.value c.deref-2.ensures.value) c.if-text-gt-MOST_BYTES.false c.in-None.ensures
+    (c.in-Ok-settled_groups.ensures ∙ split_same _ _ _ _ _ _ c.deref-3.ensures.value c.deref.ensures.value c.deref-4.ensures.value c.deref-2.ensures.value) c.new.ensures

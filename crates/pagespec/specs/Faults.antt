@@ -1,0 +1,37 @@
+-- The first fault, on what is kept of the items.
+use Rattle.std.specs.Prelude.{◌≡◌, ℕ, Bool, ◌==◌, ◌||◌, nat_lt, nat_le, if◌then◌else◌, List, length, position, Option, Some, None, option_map}
+use Rattle.std.specs.List.{list_any}
+use Rattle.std.specs.Option.{option_or}
+use Rattle.profile.specs.Admissible as profile
+use Rattle.pagespec.specs.declared.error.SpecError.{SpecError}
+use Rattle.pagespec.specs.declared.error.SpecError.TheVariants.{TooLong, Syntax, TooLarge, ModuloZero, PageOutOfBlock, ScaleZero, Repeated, TooManySlots, TooManyGroups, NoMemory}
+use Rattle.pagespec.specs.declared.kept.KeptItem.{KeptItem}
+
+-- the fault that a refusal names, but for want of memory
+abbrev pub fault_named : SpecError → Option profile.Fault
+fault_named TooLong = Some profile.TooLong
+fault_named (Syntax at) = Some profile.Syntax
+fault_named TooLarge = Some profile.TooLarge
+fault_named ModuloZero = Some profile.ModuloZero
+fault_named (PageOutOfBlock item) = Some (profile.PageOutOfBlock item)
+fault_named (ScaleZero item) = Some (profile.ScaleZero item)
+fault_named (Repeated item) = Some (profile.Repeated item)
+fault_named (TooManySlots group) = Some (profile.TooManySlots group)
+fault_named TooManyGroups = Some profile.TooManyGroups
+fault_named NoMemory = None
+
+abbrev pub has_too_large : ℕ → List KeptItem → Bool
+has_too_large modulo items = nat_lt 99_999 modulo || list_any (λ i. nat_lt 99_999 i.page || i.modifiers.too_large) items
+
+abbrev pub where_fails : Bool → SpecError → Option SpecError
+where_fails fails fault = if fails then Some fault else None
+
+abbrev pub first_fault_of : (modulo : ℕ) → List KeptItem → (lengths : List ℕ) → Option SpecError
+first_fault_of modulo items lengths =
+    option_or (where_fails (has_too_large modulo items) TooLarge)
+    (option_or (where_fails (modulo == 0) ModuloZero)
+    (option_or (option_map PageOutOfBlock (position (λ i. nat_le modulo i.page) items))
+    (option_or (option_map ScaleZero (position (λ i. i.modifiers.scale_zero) items))
+    (option_or (option_map Repeated (position (λ i. i.modifiers.repeated) items))
+    (option_or (option_map TooManySlots (position (λ n. nat_lt 64 n) lengths))
+    (where_fails (nat_lt 10_000 (length lengths)) TooManyGroups))))))

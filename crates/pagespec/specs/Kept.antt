@@ -1,0 +1,51 @@
+-- What is kept of an item, against the item as it is written.
+use Rattle.std.specs.Prelude.{◌≡◌, ℕ, ◌%◌, ℤ, Bool, false, ◌||◌, nat_lt, min, List, [], ◌∷◌, length, count_by, Option, Some, None, option_map}
+use Rattle.std.specs.List.{list_any}
+use Rattle.profile.specs.Specification.{Measure, Modifier, Quarters, Scaled, Moved, WrittenItem, quarters}
+use Rattle.profile.specs.Admissible.{has_large, is_scale, is_offset, is_flat}
+use Rattle.pagespec.specs.Reading.{modifiers_at, item_at}
+use Rattle.pagespec.specs.Items.{measure_of}
+use Rattle.pagespec.specs.declared.kept.Modifiers.{Modifiers}
+use Rattle.pagespec.specs.declared.kept.KeptItem.{KeptItem}
+
+-- the first scale and the first offset
+abbrev pub first_scale : List Modifier → Option ℤ
+first_scale [] = None
+first_scale (Quarters n ∷ ms) = first_scale ms
+first_scale (Scaled v ∷ ms) = Some v
+first_scale (Moved x y ∷ ms) = first_scale ms
+
+abbrev pub first_offset : List Modifier → Option (Measure × Measure)
+first_offset [] = None
+first_offset (Quarters n ∷ ms) = first_offset ms
+first_offset (Scaled v ∷ ms) = first_offset ms
+first_offset (Moved x y ∷ ms) = Some (x, y)
+
+-- a second scale or a second offset stands there
+abbrev pub is_repeated : List Modifier → Bool
+is_repeated ms = nat_lt 1 (count_by is_scale ms) || nat_lt 1 (count_by is_offset ms)
+
+-- what is known where no number is too large
+pub record Known (ms : List Modifier) (s : Modifiers) : Type 0 where
+  pub scale : s.scale ≡ first_scale ms
+  pub offset : option_map (λ m. (measure_of m.0, measure_of m.1)) s.offset ≡ first_offset ms
+  pub scale_zero : s.scale_zero ≡ list_any is_flat ms
+  pub repeated : s.repeated ≡ is_repeated ms
+
+pub record Shows (ms : List Modifier) (s : Modifiers) : Type 0 where
+  pub turn : s.quarters ≡ quarters ms % 4
+  pub large : s.too_large ≡ list_any has_large ms
+  pub known : s.too_large ≡ false → Known ms s
+
+-- these are the modifiers at the front, and this is what they come to
+abbrev pub ModifiersRead : List ℕ → Modifiers → List ℕ → Type 0
+ModifiersRead bytes s rest = (ms : List Modifier) × (modifiers_at (length bytes) bytes ≡ (ms, rest)) × Shows ms s
+
+pub record ItemShows (i : WrittenItem) (k : KeptItem) : Type 0 where
+  pub end : k.from_end ≡ i.from_end
+  pub page : k.page ≡ min 100_000 i.page
+  pub modifiers : Shows i.modifiers k.modifiers
+
+-- this item is at the front
+abbrev pub ItemRead : List ℕ → KeptItem → List ℕ → Type 0
+ItemRead bytes k rest = (i : WrittenItem) × (item_at bytes ≡ Some (i, rest)) × ItemShows i k

@@ -1,0 +1,30 @@
+-- What the kept items come to.
+use Rattle.std.specs.Prelude.{◌≤◌, ℕ, pos, ℤ, List, [], ◌∷◌, length, take, drop, Option, Some, None, unwrap_or}
+use Rattle.profile.specs.Specification.{Measure, Item, turn_of, zero_points}
+use Rattle.pagespec.specs.Items.{measure_of}
+use Rattle.pagespec.specs.declared.item.Measure.{Measure as KeptMeasure}
+use Rattle.pagespec.specs.declared.kept.KeptItem.{KeptItem}
+
+abbrev pub offset_kept : Option (KeptMeasure × KeptMeasure) → Measure × Measure
+offset_kept None = (zero_points, zero_points)
+offset_kept (Some m) = (measure_of m.0, measure_of m.1)
+
+abbrev pub settled_kept : KeptItem → Item
+settled_kept k = record {
+  page = k.page;
+  from_end = k.from_end;
+  turn = turn_of k.modifiers.quarters;
+  scale = unwrap_or k.modifiers.scale (pos 1_000_000_000);
+  x = (offset_kept k.modifiers.offset).0;
+  y = (offset_kept k.modifiers.offset).1;
+}
+
+-- parts of these lengths, one behind the other
+abbrev pub split_by : {X : Type 0} → List ℕ → List X → List (List X)
+split_by [] xs = []
+split_by (n ∷ ns) xs = take n xs ∷ split_by ns (drop n xs)
+
+-- there are so many
+abbrev pub AreLengths : {X : Type 0} → List ℕ → List X → Type 0
+AreLengths [] xs = Unit {0}
+AreLengths (n ∷ ns) xs = (n ≤ length xs) × AreLengths ns (drop n xs)

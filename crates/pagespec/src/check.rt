@@ -1,0 +1,99 @@
+//! The checks on what a text stands for, each over all items or all groups, in their order.
+ghost use Rattle.std.specs.Prelude.{◌≡◌, ◌<◌, ◌^◌, ◌||◌, length, position, nat_lt, nat_le, option_map, if◌then◌else◌, Some};
+ghost use Rattle.std.specs.Option.{ForSome};
+ghost use Rattle.std.specs.List.{list_any};
+ghost use Rattle.pagespec.specs.Faults.{first_fault_of, has_too_large};
+
+use crate::error::SpecError;
+use crate::kept::KeptItem;
+
+/// The most items that a group may have, and the most groups.
+pub const MOST_SLOTS: usize = 64;
+
+pub const MOST_GROUPS: usize = 10_000;
+
+/// The greatest modulo, page number and integer part.
+pub const MOST: u32 = 99_999;
+
+/// The first check that fails, at the lowest item or group. The groups are given by their lengths.
+pub fn first_fault(modulo: u32, items: &[KeptItem], lengths: &[usize]) -> Option<SpecError>
+    requires items { length items.now < 2 ^ 32 }
+    requires groups { length lengths.now < 2 ^ 32 }
+    ensures { result ≡ first_fault_of modulo items.now lengths.now }
+{
+    let groups = where_fails(MOST_GROUPS < lengths.len(), SpecError::TooManyGroups);
+    let slots = counted(too_many_slots(lengths))
+        .map(SpecError::TooManySlots)
+        .or(groups);
+    let again = counted(repeated(items)).map(SpecError::Repeated).or(slots);
+    let scales = counted(scale_zero(items))
+        .map(SpecError::ScaleZero)
+        .or(again);
+    let pages = counted(page_out_of_block(modulo, items))
+        .map(SpecError::PageOutOfBlock)
+        .or(scales);
+    let zero = where_fails(modulo == 0, SpecError::ModuloZero).or(pages);
+    where_fails(too_large(modulo, items), SpecError::TooLarge).or(zero)
+}
+
+/// This fault, where the check fails.
+fn where_fails(fails: bool, fault: SpecError) -> Option<SpecError>
+    ensures { result ≡ (if fails then Some fault else None) }
+{
+    if fails { Some(fault) } else { None }
+}
+
+fn too_large(modulo: u32, items: &[KeptItem]) -> bool
+    ensures { result ≡ has_too_large modulo items.now }
+{
+    MOST < modulo || any_too_large(items)
+}
+
+fn any_too_large(items: &[KeptItem]) -> bool
+    ensures { result ≡ list_any (λ i. nat_lt 99_999 i.page || i.modifiers.too_large) items.now }
+{
+    items.iter().any(|i| MOST < i.page || i.modifiers.too_large)
+}
+
+/// The lowest item whose page number isn't below the modulo.
+fn page_out_of_block(modulo: u32, items: &[KeptItem]) -> Option<usize>
+    ensures place { result ≡ position (λ i. nat_le modulo i.page) items.now }
+    ensures below { ForSome result (λ i. i < length items.now) }
+{
+    items.iter().position(|i| modulo <= i.page)
+}
+
+/// The lowest item with a scale that isn't above zero.
+fn scale_zero(items: &[KeptItem]) -> Option<usize>
+    ensures place { result ≡ position (λ i. i.modifiers.scale_zero) items.now }
+    ensures below { ForSome result (λ i. i < length items.now) }
+{
+    items.iter().position(|i| i.modifiers.scale_zero)
+}
+
+/// The lowest item with a second scale or a second offset.
+fn repeated(items: &[KeptItem]) -> Option<usize>
+    ensures place { result ≡ position (λ i. i.modifiers.repeated) items.now }
+    ensures below { ForSome result (λ i. i < length items.now) }
+{
+    items.iter().position(|i| i.modifiers.repeated)
+}
+
+/// The lowest group with too many items.
+fn too_many_slots(lengths: &[usize]) -> Option<usize>
+    ensures place { result ≡ position (λ n. nat_lt 64 n) lengths.now }
+    ensures below { ForSome result (λ i. i < length lengths.now) }
+{
+    lengths.iter().position(|n| MOST_SLOTS < *n)
+}
+
+/// The place of an item or a group, as it is told.
+fn counted(place: Option<usize>) -> Option<u32>
+    requires { ForSome place (λ i. i < 2 ^ 32) }
+    ensures { result ≡ place }
+{
+    match place {
+        Some(i) => Some(i as u32),
+        None => None,
+    }
+}

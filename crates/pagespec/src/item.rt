@@ -1,0 +1,41 @@
+//! One item of a specification: which page of a block it takes, and how the page is placed.
+use lengths::{Number, Unit};
+
+/// A length as it is written: a number with its unit. A width or a height of the paper is a unit too.
+#[derive(Clone, Copy, Debug, PartialEq, Eq)]
+pub struct Measure {
+    pub number: Number,
+    pub unit: Unit,
+}
+
+impl Measure {
+    /// Nothing, in points.
+    pub const ZERO: Measure = Measure {
+        number: Number::ZERO,
+        unit: Unit::Pt,
+    };
+}
+
+/// How far a page is turned to the left, in quarters of a full turn: none, one, two or three.
+#[derive(Clone, Copy, Debug, PartialEq, Eq)]
+pub enum Turn {
+    None,
+    Left,
+    Half,
+    Right,
+}
+
+/// What an item of a specification comes to (pstops manual, page specifications). The page is scaled first, then turned, then
+/// moved by the offset, to the right and up.
+#[derive(Clone, Copy, Debug, PartialEq, Eq)]
+pub struct Item {
+    /// The page's number in its block, counted from 0.
+    pub page: u32,
+    /// Blocks are counted from the end.
+    pub from_end: bool,
+    pub turn: Turn,
+    /// Above zero; 1 where no scale is written.
+    pub scale: Number,
+    /// 0 pt and 0 pt where no offset is written.
+    pub offset: (Measure, Measure),
+}

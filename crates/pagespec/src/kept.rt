@@ -1,0 +1,132 @@
+//! What is kept of an item while a text is read: enough to tell every fault of it, and the item itself where it has none.
+ghost use Rattle.std.specs.Prelude.{◌≡◌, ◌∷◌, ◌++◌, [], List, None, MatchResult, not, int_le, pos};
+ghost use Rattle.profile.specs.Specification.{Modifier as WrittenModifier};
+ghost use Rattle.pagespec.specs.Reading.{is_minus, past_minus, item_at};
+ghost use Rattle.pagespec.specs.Views.{Stands};
+ghost use Rattle.pagespec.specs.Kept.{Shows, ModifiersRead, ItemRead};
+
+use crate::item::Measure;
+use crate::scan::{Modifier, read_modifier};
+use lengths::{Number, read_digits};
+
+/// What an item's modifiers come to, as far as they were read.
+#[derive(Clone, Copy)]
+pub struct Modifiers {
+    /// Quarters to the left, modulo a full turn.
+    pub quarters: u8,
+    /// The first scale and the first offset.
+    pub scale: Option<Number>,
+    pub offset: Option<(Measure, Measure)>,
+    /// A number was too large; then only this and the turn are known.
+    pub too_large: bool,
+    /// Some scale isn't above zero.
+    pub scale_zero: bool,
+    /// A second scale or a second offset stands there.
+    pub repeated: bool,
+}
+
+impl Modifiers {
+    /// Of no modifier.
+    const NONE: Modifiers = Modifiers {
+        quarters: 0,
+        scale: None,
+        offset: None,
+        too_large: false,
+        scale_zero: false,
+        repeated: false,
+    };
+
+    /// With one modifier more behind them.
+    fn and(self, modifier: Modifier) -> Modifiers
+        ensures { (ms : List WrittenModifier) (m : WrittenModifier)
+            → Shows ms self → Stands modifier m → Shows (ms ++ m ∷ []) result }
+    {
+        match modifier {
+            Modifier::Turn(n) => Modifiers {
+                quarters: (self.quarters % 4 + n % 4) % 4,
+                ..self
+            },
+            Modifier::Scale(v) => Modifiers {
+                scale: self.scale.or(Some(v)),
+                scale_zero: self.scale_zero | !is_above_zero(v),
+                repeated: self.repeated | self.scale.is_some(),
+                ..self
+            },
+            Modifier::Offset(x, y) => Modifiers {
+                offset: self.offset.or(Some((x, y))),
+                repeated: self.repeated | self.offset.is_some(),
+                ..self
+            },
+            Modifier::TooLarge => Modifiers {
+                too_large: true,
+                ..self
+            },
+        }
+    }
+}
+
+fn is_above_zero(v: Number) -> bool
+    ensures { result ≡ not (int_le v (pos 0)) }
+{
+    v.billionths() > 0
+}
+
+/// An item as it stands in a text.
+#[derive(Clone, Copy)]
+pub struct KeptItem {
+    pub from_end: bool,
+    /// The page number, or 100,000 where it is more.
+    pub page: u32,
+    pub modifiers: Modifiers,
+}
+
+/// The item at the front, what stands behind it, and how many bytes are left where no modifier went on.
+pub fn read_item(bytes: &[u8]) -> Result<(KeptItem, &[u8], usize), usize>
+    ensures { MatchResult result (λ x. ItemRead bytes.now x.0 x.1.now) (λ left. item_at bytes.now ≡ None) }
+{
+    let (from_end, body) = split_minus(bytes);
+    match read_digits(body) {
+        Some((page, rest)) => {
+            let (modifiers, behind, left) = read_modifiers(rest);
+            Ok((
+                KeptItem {
+                    from_end,
+                    page,
+                    modifiers,
+                },
+                behind,
+                left,
+            ))
+        }
+        None => Err(body.len()),
+    }
+}
+
+/// What stands behind a minus, if there is one.
+pub fn split_minus(bytes: &[u8]) -> (bool, &[u8])
+    ensures minus { result.0 ≡ is_minus bytes.now }
+    ensures rest { result.1.now ≡ past_minus bytes.now }
+{
+    match bytes {
+        [b'-', rest @ ..] => (true, rest),
+        _ => (false, bytes),
+    }
+}
+
+/// What the modifiers at the front come to, what stands behind them, and how many bytes are left where none went on.
+pub fn read_modifiers(bytes: &[u8]) -> (Modifiers, &[u8], usize)
+    ensures { ModifiersRead bytes.now result.0 result.1.now }
+{
+    let mut modifiers = Modifiers::NONE;
+    let mut rest = bytes;
+    for _ in 0..bytes.len() {
+        match read_modifier(rest) {
+            Ok((modifier, behind)) => {
+                modifiers = modifiers.and(modifier);
+                rest = behind;
+            }
+            Err(left) => return (modifiers, rest, left),
+        }
+    }
+    (modifiers, rest, rest.len())
+}

@@ -1,0 +1,23 @@
+//! Page specifications, as pstops takes them: which pages stand on a sheet, in which order, turned, scaled and moved how.
+//! A text is read once, refused by name where it isn't admissible, and written again in its canonical form.
+#![tactic(auto)]
+
+mod check;
+mod error;
+mod groups;
+mod item;
+mod kept;
+pub mod laws;
+mod read;
+mod scan;
+mod settle;
+mod spec;
+#[cfg(test)]
+mod tests;
+mod write;
+
+pub use error::SpecError;
+pub use item::{Item, Measure, Turn};
+pub use read::read_spec;
+pub use spec::Spec;
+pub use write::write_spec;

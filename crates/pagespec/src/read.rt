@@ -1,0 +1,72 @@
+//! Reading a specification.
+ghost use Rattle.std.specs.Prelude.{◌≡◌, ◌≤◌, length, IfOk, IfErr, MatchResult};
+ghost use Rattle.profile.specs.Admissible.{Takes};
+ghost use Rattle.pagespec.specs.Reading.{spec_at, past_modulo};
+ghost use Rattle.pagespec.specs.Groups.{IsStop};
+ghost use Rattle.pagespec.specs.Written.{WrittenRead, ModuloRead};
+ghost use Rattle.pagespec.specs.Refusals.{IsRefusal};
+
+use crate::check::first_fault;
+use crate::error::SpecError;
+use crate::groups::{Kept, Stop, read_all_groups};
+use crate::scan::read_byte;
+use crate::settle::settled_groups;
+use crate::spec::Spec;
+use lengths::read_digits;
+use std::alloc::Global;
+
+/// The most bytes that a text may have.
+const MOST_BYTES: usize = 65_536;
+
+/// The specification that a text stands for (pstops manual, page specifications). A modulo that isn't written is 1; where the
+/// whole text has one item, its page number may be left out and is 0. Numbers are read by their value, however long they are.
+///
+/// The checks are made one after the other, each over the whole text, and the first one that fails is named, with the lowest
+/// item or group at fault. The text is gone over once.
+pub fn read_spec(alloc: Global, text: &str) -> Result<Spec, SpecError>
+    ensures taken { IfOk result (λ spec. Takes 64 text.now spec) }
+    ensures refused { IfErr result (IsRefusal text.now) }
+{
+    if MOST_BYTES < text.len() {
+        return Err(SpecError::TooLong);
+    }
+    let bytes = text.as_bytes();
+    let (modulo, kept) = match read_written(alloc, bytes) {
+        Ok(found) => found,
+        Err(Stop::Stuck(left)) => return Err(SpecError::Syntax(bytes.len().saturating_sub(left))),
+        Err(Stop::NoMemory) => return Err(SpecError::NoMemory),
+    };
+    match first_fault(modulo, &kept.items, &kept.lengths) {
+        Some(fault) => return Err(fault),
+        None => (),
+    }
+    match settled_groups(alloc, &kept.items, &kept.lengths) {
+        Ok(groups) => Ok(Spec::new(modulo, groups)),
+        Err(_) => Err(SpecError::NoMemory),
+    }
+}
+
+/// The modulo of a text, or 100,000 where it is more, and its groups.
+fn read_written(alloc: Global, bytes: &[u8]) -> Result<(u32, Kept), Stop>
+    ensures { MatchResult result (λ x. WrittenRead bytes.now x.0 x.1) (IsStop (spec_at bytes.now)) }
+{
+    let (modulo, rest) = split_modulo(bytes);
+    match read_all_groups(alloc, rest) {
+        Ok(kept) => Ok((modulo, kept)),
+        Err(stop) => Err(stop),
+    }
+}
+
+/// What the digits before a colon come to, or 100,000 where that is more, and what stands behind the colon.
+fn split_modulo(bytes: &[u8]) -> (u32, &[u8])
+    ensures { ModuloRead bytes.now (past_modulo bytes.now) result.0 result.1.now }
+{
+    let (modulo, behind) = match read_digits(bytes) {
+        Some(found) => found,
+        None => return (1, bytes),
+    };
+    match read_byte(b':', behind) {
+        Some(rest) => (modulo, rest),
+        None => (1, bytes),
+    }
+}

@@ -1,0 +1,157 @@
+//! Reading units, measures and modifiers off the front of a text. A reader that can't go on tells how many bytes are left at
+//! the place where it is stuck: no text of the grammar has the next byte there.
+ghost use Rattle.std.specs.Prelude.{◌≡◌, ◌<◌, ℕ, Some, None, MatchResult, MatchOption};
+ghost use Rattle.profile.specs.Specification.{Measure as WrittenMeasure, Modifier as WrittenModifier, Moved};
+ghost use Rattle.lengths.specs.Units.{length_unit};
+ghost use Rattle.pagespec.specs.Reading.{byte_at, unit_at, measure_at, offset_at, scale_at, modifier_at, quarters_of};
+ghost use Rattle.pagespec.specs.Views.{MeasureRead, ModifierRead, IsMeasureOf, Stands};
+
+use crate::item::Measure;
+use lengths::{Number, NumberError, Unit, read_number};
+
+/// A modifier as it stands. A number over 99,999 isn't kept, only that it stood there.
+#[derive(Clone, Copy)]
+pub enum Modifier {
+    /// So many quarters to the left.
+    Turn(u8),
+    Scale(Number),
+    Offset(Measure, Measure),
+    TooLarge,
+}
+
+/// The modifier at the front, and what stands behind it.
+pub fn read_modifier(bytes: &[u8]) -> Result<(Modifier, &[u8]), usize>
+    ensures { MatchResult result (λ x. ModifierRead bytes.now x.0 x.1.now)
+        (λ left. modifier_at bytes.now ≡ None) }
+{
+    match bytes.split_first() {
+        None => Err(0),
+        Some((first, rest)) => {
+            if *first == b'@' {
+                read_scale(rest)
+            } else if *first == b'(' {
+                read_offset(rest)
+            } else {
+                let quarters = quarters_of(*first);
+                if quarters == 0 {
+                    Err(bytes.len())
+                } else {
+                    Ok((Modifier::Turn(quarters), rest))
+                }
+            }
+        }
+    }
+}
+
+/// The quarter turns that a letter stands for; 0 where it is no turn.
+fn quarters_of(letter: u8) -> u8
+    ensures value { result ≡ quarters_of letter }
+    ensures few { result < 4 }
+{
+    match letter {
+        b'L' | b'l' => 1,
+        b'U' | b'u' => 2,
+        b'R' | b'r' => 3,
+        _ => 0,
+    }
+}
+
+/// A scale behind its sign.
+fn read_scale(bytes: &[u8]) -> Result<(Modifier, &[u8]), usize>
+    ensures { MatchResult result
+        (λ x. (m : WrittenModifier) × (scale_at bytes.now ≡ Some (m, x.1.now)) × Stands x.0 m)
+        (λ left. scale_at bytes.now ≡ None) }
+{
+    match read_number(bytes) {
+        Ok((number, len)) => Ok((Modifier::Scale(number), bytes.split_at(len).1)),
+        Err(NumberError::TooLarge(len)) => Ok((Modifier::TooLarge, bytes.split_at(len).1)),
+        Err(NumberError::NotANumber) => Err(left_in_number(bytes)),
+    }
+}
+
+/// An offset behind its opening parenthesis.
+fn read_offset(bytes: &[u8]) -> Result<(Modifier, &[u8]), usize>
+    ensures { MatchResult result
+        (λ x. (m : WrittenModifier) × (offset_at bytes.now ≡ Some (m, x.1.now)) × Stands x.0 m)
+        (λ left. offset_at bytes.now ≡ None) }
+{
+    let (x, behind_x, stuck_x) = match read_measure(bytes) {
+        Ok(found) => found,
+        Err(left) => return Err(left),
+    };
+    let second = match read_byte(b',', behind_x) {
+        Some(second) => second,
+        None => return Err(stuck_x),
+    };
+    let (y, behind_y, stuck_y) = match read_measure(second) {
+        Ok(found) => found,
+        Err(left) => return Err(left),
+    };
+    match read_byte(b')', behind_y) {
+        Some(rest) => Ok((offset_of(x, y), rest)),
+        None => Err(stuck_y),
+    }
+}
+
+/// An offset of these two measures.
+fn offset_of(x: Option<Measure>, y: Option<Measure>) -> Modifier
+    ensures { (a b : WrittenMeasure) → IsMeasureOf x a → IsMeasureOf y b → Stands result (Moved a b) }
+{
+    match (x, y) {
+        (Some(x), Some(y)) => Modifier::Offset(x, y),
+        _ => Modifier::TooLarge,
+    }
+}
+
+/// A number and a unit; None where the number is too large.
+fn read_measure(bytes: &[u8]) -> Result<(Option<Measure>, &[u8], usize), usize>
+    ensures { MatchResult result (λ x. MeasureRead bytes.now x.0 x.1.now)
+        (λ left. measure_at bytes.now ≡ None) }
+{
+    match read_number(bytes) {
+        Ok((number, len)) => {
+            let (unit, rest, stuck) = read_unit(bytes.split_at(len).1);
+            Ok((Some(Measure { number, unit }), rest, stuck))
+        }
+        Err(NumberError::TooLarge(len)) => {
+            let (_, rest, stuck) = read_unit(bytes.split_at(len).1);
+            Ok((None, rest, stuck))
+        }
+        Err(NumberError::NotANumber) => Err(left_in_number(bytes)),
+    }
+}
+
+/// The unit at the front, which is points where none stands. The first letter of a unit of two may stand there alone.
+fn read_unit(bytes: &[u8]) -> (Unit, &[u8], usize)
+    ensures unit { (unit_at bytes.now).0 ≡ length_unit result.0 }
+    ensures rest { (unit_at bytes.now).1 ≡ result.1.now }
+{
+    match bytes {
+        [b'w', rest @ ..] => (Unit::W, rest, rest.len()),
+        [b'h', rest @ ..] => (Unit::H, rest, rest.len()),
+        [b'p', b't', rest @ ..] => (Unit::Pt, rest, rest.len()),
+        [b'c', b'm', rest @ ..] => (Unit::Cm, rest, rest.len()),
+        [b'm', b'm', rest @ ..] => (Unit::Mm, rest, rest.len()),
+        [b'i', b'n', rest @ ..] => (Unit::In, rest, rest.len()),
+        [b'p' | b'c' | b'm' | b'i', rest @ ..] => (Unit::Pt, bytes, rest.len()),
+        _ => (Unit::Pt, bytes, bytes.len()),
+    }
+}
+
+/// What stands behind this byte, which comes first.
+pub fn read_byte(byte: u8, bytes: &[u8]) -> Option<&[u8]>
+    ensures { MatchOption result (byte_at byte bytes.now ≡ None) (λ rest. byte_at byte bytes.now ≡ Some rest.now) }
+{
+    match bytes.split_first() {
+        Some((first, rest)) if *first == byte => Some(rest),
+        _ => None,
+    }
+}
+
+/// How many bytes are left behind a sign and a dot, where no number stands at the start.
+fn left_in_number(bytes: &[u8]) -> usize {
+    match bytes {
+        [b'+' | b'-', b'.', rest @ ..] | [b'+' | b'-' | b'.', rest @ ..] => rest.len(),
+        _ => bytes.len(),
+    }
+}

@@ -1,0 +1,72 @@
+//! What the items of a text come to, where they have no fault.
+ghost use Rattle.std.specs.Prelude.{◌≡◌, map, IfOk, unwrap_or};
+ghost use Rattle.profile.specs.Specification as profile;
+ghost use Rattle.pagespec.specs.Items.{item_of, turn_of, groups_of, measure_of};
+ghost use Rattle.pagespec.specs.Settled.{settled_kept, split_by, AreLengths, offset_kept};
+
+use crate::item::{Item, Measure, Turn};
+use crate::kept::KeptItem;
+use lengths::Number;
+use std::alloc::{AllocError, Global};
+
+/// The groups of these lengths that the items make.
+pub fn settled_groups(
+    alloc: Global,
+    kept: &[KeptItem],
+    lengths: &[usize],
+) -> Result<Vec<Vec<Item>>, AllocError>
+    requires { AreLengths lengths.now kept.now }
+    ensures { IfOk result (λ groups. groups_of groups.items ≡ split_by lengths.now (map settled_kept kept.now)) }
+{
+    let mut groups = Vec::new(alloc);
+    let mut rest = kept;
+    for length in lengths {
+        let (front, behind) = rest.split_at(*length);
+        groups.push(settled_group(alloc, front)?)?;
+        rest = behind;
+    }
+    Ok(groups)
+}
+
+/// One group of these items.
+fn settled_group(alloc: Global, kept: &[KeptItem]) -> Result<Vec<Item>, AllocError>
+    ensures { IfOk result (λ group. map item_of group.items ≡ map settled_kept kept.now) }
+{
+    let mut group = Vec::new(alloc);
+    for item in kept {
+        group.push(settled_item(*item))?;
+    }
+    Ok(group)
+}
+
+/// What an item comes to: the scale is 1 and the offset 0 pt and 0 pt where none is written.
+fn settled_item(kept: KeptItem) -> Item
+    ensures { item_of result ≡ settled_kept kept }
+{
+    Item {
+        page: kept.page,
+        from_end: kept.from_end,
+        turn: turn_by(kept.modifiers.quarters),
+        scale: kept.modifiers.scale.unwrap_or(Number::ONE),
+        offset: offset_or_none(kept.modifiers.offset),
+    }
+}
+
+/// The turn by so many quarters to the left.
+fn turn_by(quarters: u8) -> Turn
+    ensures { turn_of result ≡ profile.turn_of quarters }
+{
+    match quarters % 4 {
+        0 => Turn::None,
+        1 => Turn::Left,
+        2 => Turn::Half,
+        _ => Turn::Right,
+    }
+}
+
+/// This offset, or 0 pt and 0 pt.
+fn offset_or_none(offset: Option<(Measure, Measure)>) -> (Measure, Measure)
+    ensures { offset_kept offset ≡ (measure_of result.0, measure_of result.1) }
+{
+    offset.unwrap_or((Measure::ZERO, Measure::ZERO))
+}

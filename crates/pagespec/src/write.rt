@@ -1,0 +1,200 @@
+//! Writing a specification in its canonical form.
+ghost use Rattle.std.specs.Prelude.{◌≡◌, ◌&&◌, ◌∷◌, ◌++◌, [], ◌≤◌, decimal, map, flat_map, IfOk, OnOk, string_bytes};
+ghost use Rattle.std.specs.Str.{IsAscii};
+ghost use Rattle.profile.specs.Bytes.{comma, plus_sign};
+ghost use Rattle.profile.specs.Admissible.{Takes};
+ghost use Rattle.profile.specs.Specification as profile;
+ghost use Rattle.pagespec.specs.Items.{measure_of, turn_of, item_of, groups_of, group_text, groups_text};
+ghost use Rattle.lengths.specs.Units.{length_unit};
+
+use crate::item::{Item, Measure, Turn};
+use crate::spec::Spec;
+use itoa::Buffer;
+use lengths::{Number, Unit, print_number};
+use std::alloc::{AllocError, Global};
+
+/// The canonical text of a specification, which is one that `read_spec` takes and reads as the same specification: the modulo
+/// where it isn't 1, page numbers without leading zeros, one letter for a turn, and no scale, offset or unit that changes nothing.
+pub fn write_spec(alloc: Global, spec: &Spec) -> Result<String, AllocError>
+    ensures canonical { IfOk result (λ text. string_bytes text ≡ profile.canonical spec.now) }
+    ensures taken { IfOk result (λ text. Takes 64 (string_bytes text) spec.now) }
+{
+    let mut out = Vec::new(alloc);
+    append_modulo(spec.modulo(), &mut out)?;
+    append_groups(spec.groups(), &mut out)?;
+    Ok(ascii_text(out))
+}
+
+/// The modulo and its colon, where it isn't 1.
+fn append_modulo(modulo: u32, out: &mut Vec<u8>) -> Result<(), AllocError>
+    ensures { OnOk result (out.new.items ≡ out.old.items ++ profile.modulo_text modulo) }
+{
+    if modulo == 1 {
+        return Ok(());
+    }
+    append_count(modulo, out)?;
+    append(out, b":")
+}
+
+/// The groups with commas between them.
+fn append_groups(groups: &[Vec<Item>], out: &mut Vec<u8>) -> Result<(), AllocError>
+    ensures { OnOk result (out.new.items ≡ out.old.items ++ groups_text (groups_of groups.now)) }
+{
+    match groups.split_first() {
+        None => Ok(()),
+        Some((first, rest)) => {
+            append_group(first, out)?;
+            append_more_groups(rest, out)
+        }
+    }
+}
+
+/// Groups with a comma before each.
+fn append_more_groups(groups: &[Vec<Item>], out: &mut Vec<u8>) -> Result<(), AllocError>
+    ensures { OnOk result (out.new.items ≡
+        out.old.items ++ flat_map (λ g. comma ∷ group_text g) (groups_of groups.now)) }
+{
+    for group in groups {
+        append(out, b",")?;
+        append_group(group, out)?;
+    }
+    Ok(())
+}
+
+/// The items of a group with plus signs between them.
+fn append_group(group: &[Item], out: &mut Vec<u8>) -> Result<(), AllocError>
+    ensures { OnOk result (out.new.items ≡ out.old.items ++ group_text (map item_of group.now)) }
+{
+    match group.split_first() {
+        None => Ok(()),
+        Some((first, rest)) => {
+            append_item(first, out)?;
+            append_more_items(rest, out)
+        }
+    }
+}
+
+/// Items with a plus sign before each.
+fn append_more_items(items: &[Item], out: &mut Vec<u8>) -> Result<(), AllocError>
+    ensures { OnOk result (out.new.items ≡
+        out.old.items ++ flat_map (λ i. plus_sign ∷ profile.item_text i) (map item_of items.now)) }
+{
+    for item in items {
+        append(out, b"+")?;
+        append_item(item, out)?;
+    }
+    Ok(())
+}
+
+fn append_item(item: &Item, out: &mut Vec<u8>) -> Result<(), AllocError>
+    ensures { OnOk result (out.new.items ≡ out.old.items ++ profile.item_text (item_of item.now)) }
+{
+    append(out, if item.from_end { b"-" } else { b"" })?;
+    append_count(item.page, out)?;
+    append(out, turn_letter(item.turn))?;
+    append_scale(item.scale, out)?;
+    append_offset(&item.offset.0, &item.offset.1, out)
+}
+
+fn turn_letter(turn: Turn) -> &'static [u8]
+    ensures { result.now ≡ profile.turn_text (turn_of turn) }
+{
+    match turn {
+        Turn::None => b"",
+        Turn::Left => b"L",
+        Turn::Half => b"U",
+        Turn::Right => b"R",
+    }
+}
+
+/// The scale behind its sign, where it isn't 1.
+fn append_scale(scale: Number, out: &mut Vec<u8>) -> Result<(), AllocError>
+    ensures { OnOk result (out.new.items ≡ out.old.items ++ profile.scale_part scale) }
+{
+    if scale.billionths() == 1_000_000_000 {
+        return Ok(());
+    }
+    append(out, b"@")?;
+    print_number(scale, out)
+}
+
+/// The offset in parentheses, where it isn't 0 pt and 0 pt.
+fn append_offset(x: &Measure, y: &Measure, out: &mut Vec<u8>) -> Result<(), AllocError>
+    ensures { OnOk result (out.new.items ≡ out.old.items ++ profile.offset_part (measure_of x.now) (measure_of y.now)) }
+{
+    if is_no_offset(x, y) {
+        return Ok(());
+    }
+    append(out, b"(")?;
+    append_measure(x, out)?;
+    append(out, b",")?;
+    append_measure(y, out)?;
+    append(out, b")")
+}
+
+fn is_no_offset(x: &Measure, y: &Measure) -> bool
+    ensures { result ≡ (profile.is_zero_points (measure_of x.now) && profile.is_zero_points (measure_of y.now)) }
+{
+    is_zero_points(x) && is_zero_points(y)
+}
+
+fn is_zero_points(measure: &Measure) -> bool
+    ensures { result ≡ profile.is_zero_points (measure_of measure.now) }
+{
+    measure.number.billionths() == 0 && is_points(measure.unit)
+}
+
+fn is_points(unit: Unit) -> bool
+    ensures { result ≡ profile.is_points (length_unit unit) }
+{
+    match unit {
+        Unit::Pt => true,
+        Unit::Cm | Unit::Mm | Unit::In | Unit::W | Unit::H => false,
+    }
+}
+
+/// A number and its unit; points are left out.
+fn append_measure(measure: &Measure, out: &mut Vec<u8>) -> Result<(), AllocError>
+    ensures { OnOk result (out.new.items ≡ out.old.items ++ profile.measure_text (measure_of measure.now)) }
+{
+    print_number(measure.number, out)?;
+    append(out, unit_name(measure.unit))
+}
+
+fn unit_name(unit: Unit) -> &'static [u8]
+    ensures { result.now ≡ profile.unit_text (length_unit unit) }
+{
+    match unit {
+        Unit::Pt => b"",
+        Unit::Cm => b"cm",
+        Unit::Mm => b"mm",
+        Unit::In => b"in",
+        Unit::W => b"w",
+        Unit::H => b"h",
+    }
+}
+
+/// A number that isn't below zero, in decimal.
+fn append_count(count: u32, out: &mut Vec<u8>) -> Result<(), AllocError>
+    ensures { OnOk result (out.new.items ≡ out.old.items ++ decimal count) }
+{
+    let mut buffer = Buffer::new();
+    append(out, buffer.format(count).as_bytes())
+}
+
+fn append(out: &mut Vec<u8>, text: &[u8]) -> Result<(), AllocError>
+    ensures { OnOk result (out.new.items ≡ out.old.items ++ text.now) }
+{
+    out.extend_from_slice(text)
+}
+
+/// These bytes as a text.
+fn ascii_text(bytes: Vec<u8>) -> String
+    requires { IsAscii bytes.items }
+    ensures { string_bytes result ≡ bytes.items }
+{
+    match String::from_utf8(bytes) {
+        Ok(text) => text,
+        Err(_) => unreachable!(),
+    }
+}

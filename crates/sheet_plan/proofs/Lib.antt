@@ -1,0 +1,9 @@
+pub mod Admitted
+pub mod Rows
+pub mod Bounds
+pub mod Access
+pub mod Limits
+pub mod Counting
+pub mod Filling
+pub mod Listing
+pub mod Blanks

@@ -1,0 +1,6 @@
+-- Read in this order: what is read off a plan, which plans are taken, where the pages stand, how the code lists them.
+pub mod Plans
+pub mod Refusals
+pub mod Places
+pub mod Placed
+pub mod Index

@@ -1,0 +1,15 @@
+//! Plans: which pages stand on which sheets, and where on them, for a page specification and a number of pages.
+#![tactic(auto)]
+
+mod born;
+mod error;
+mod expansion;
+mod index;
+mod placed;
+mod plan;
+
+pub use error::PlanError;
+pub use plan::Plan;
+
+#[cfg(test)]
+mod tests;

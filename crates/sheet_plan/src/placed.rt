@@ -1,0 +1,44 @@
+//! The pages that stand on the sheets, listed sheet by sheet and slot by slot.
+ghost use Rattle.std.specs.Prelude.{◌≡◌, ◌<◌, ◌++◌, length, OnOk, IfOk};
+ghost use Rattle.profile.specs.Sheets.{layout};
+ghost use Rattle.sheet_plan.specs.Plans.{pages_on};
+ghost use Rattle.sheet_plan.specs.Placed.{placed_in, placed_from};
+
+use crate::expansion::Expansion;
+use std::alloc::{AllocError, Global};
+
+/// A page in a slot of a sheet.
+#[derive(Clone, Copy)]
+pub struct PlacedPage {
+    pub page: u32,
+    pub sheet: u32,
+    pub slot: u16,
+}
+
+/// All placed pages.
+pub fn placed_pages(alloc: Global, expansion: &Expansion) -> Result<Vec<PlacedPage>, AllocError>
+    ensures { IfOk result (λ v. v.items ≡ placed_from 0 (layout expansion.now).sheets) }
+{
+    let mut placed = Vec::new(alloc);
+    for sheet in 0..expansion.sheets() {
+        list_sheet(expansion, sheet, &mut placed)?;
+    }
+    Ok(placed)
+}
+
+/// Adds the placed pages of a sheet.
+fn list_sheet(
+    expansion: &Expansion,
+    sheet: u32,
+    placed: &mut Vec<PlacedPage>,
+) -> Result<(), AllocError>
+    requires { sheet < length expansion.now.sheets }
+    ensures { OnOk result (placed.new.items ≡ placed.old.items ++ placed_in sheet 0 (pages_on expansion.now sheet)) }
+{
+    for slot in 0..expansion.slots(sheet) {
+        if let Some(page) = expansion.page_of(sheet, slot) {
+            placed.push(PlacedPage { page, sheet, slot })?;
+        }
+    }
+    Ok(())
+}

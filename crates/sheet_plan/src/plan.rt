@@ -1,0 +1,148 @@
+//! The plan of a specification on a number of pages.
+ghost use Rattle.std.specs.Prelude.{◌≡◌, ℕ, ◌<◌, ◌≤◌, if◌then◌else◌, length, map, Ok, OnOk, IfOk, IfErr, Some, slice_get};
+ghost use Rattle.std.specs.Int.{bit_at};
+ghost use Rattle.std.specs.List.{range_with_len};
+ghost use Rattle.profile.specs.Run.{plan_of};
+ghost use Rattle.profile.specs.Sheets.{layout, sheets};
+ghost use Rattle.pagespec.specs.Items.{item_of};
+ghost use Rattle.sheet_plan.specs.Plans.{planned, pages_on, items_on, needs_page, IsSound, IsOfSpec};
+ghost use Rattle.sheet_plan.specs.Places.{places_of, born_complete};
+ghost use Rattle.sheet_plan.specs.Refusals.{Refuses};
+
+use crate::born::born_complete;
+use crate::error::PlanError;
+use crate::expansion::Expansion;
+use crate::index::PageIndex;
+use crate::placed::placed_pages;
+use pagespec::{Item, Spec};
+use std::alloc::{AllocError, Global};
+use std::marker::Model;
+
+/// Which page stands in which slot of which sheet, and by which item; and the other way round, where each page stands. Pages, sheets
+/// and slots are counted from 0. With n pages, modulo m and G groups there are `M = m * ceil(n / m)` places and `G * M / m` sheets.
+/// Sheet `b * G + g` is group g in block b. An item with number p names place `b * m + p`, and with a minus place
+/// `M - (b + 1) * m + p`. A place at or above n is blank.
+#[derive(Drop)]
+pub struct Plan<'s> {
+    expansion: Expansion<'s>,
+    index: PageIndex,
+    born: Vec<u32>,
+}
+
+impl<'s> Model for Plan<'s> {
+    ghost use Rattle.profile.specs.Sheets.{Plan};
+
+    ghost Value = { Plan };
+
+    ghost use Rattle.std.specs.Prelude.{◌≡◌, map};
+    ghost use Rattle.std.specs.List.{range_with_len};
+    ghost use Rattle.profile.specs.Sheets.{layout};
+    ghost use Rattle.sheet_plan.specs.Places.{places_of, born_complete};
+
+    ghost view = { λ p. p.expansion };
+
+    ghost invariant = { λ p. (p.index ≡ map (places_of (layout p.expansion)) (range_with_len 0 p.expansion.pages))
+        × (p.born.items ≡ born_complete (layout p.expansion)) };
+}
+
+impl<'s> Plan<'s> {
+    /// Plans the sheets of a specification. The limits are tested in the order of `PlanError`, before any memory is asked for.
+    pub fn new(alloc: Global, spec: &'s Spec, pages: u32) -> Result<Plan<'s>, PlanError>
+        ensures planned { IfOk result (λ plan. plan ≡ planned spec.now pages) }
+        ensures accepted { OnOk result (plan_of spec.now pages ≡ Ok (sheets spec.now pages)) }
+        ensures refused { IfErr result (Refuses spec.now pages) }
+    {
+        let expansion = Expansion::new(spec, pages)?;
+        let (index, born) = listed(alloc, &expansion).map_err(|_| PlanError::NoMemory)?;
+        Ok(Plan {
+            expansion,
+            index,
+            born,
+        })
+    }
+
+    /// How many pages there are.
+    pub fn pages(&self) -> u32
+        ensures value { result ≡ self.now.pages }
+        ensures sound { IsSound self.now }
+        ensures of_spec { IsOfSpec self.now }
+    {
+        self.expansion.pages()
+    }
+
+    /// How many sheets there are.
+    pub fn sheets(&self) -> u32
+        ensures value { result ≡ length self.now.sheets }
+        ensures sound { IsSound self.now }
+    {
+        self.expansion.sheets()
+    }
+
+    /// How many slots a sheet has, blank ones counted: 1 to 64.
+    pub fn slots(&self, sheet: u32) -> u16
+        requires { sheet < length self.now.sheets }
+        ensures value { result ≡ length (pages_on self.now sheet) }
+        ensures some { 0 < result }
+        ensures few { result ≤ 64 }
+    {
+        self.expansion.slots(sheet)
+    }
+
+    /// The page in a slot; None is a blank.
+    pub fn page_of(&self, sheet: u32, slot: u16) -> Option<u32>
+        requires sheet { sheet < length self.now.sheets }
+        requires slot { slot < length (pages_on self.now sheet) }
+        ensures value { slice_get (pages_on self.now sheet) slot ≡ Some result }
+    {
+        self.expansion.page_of(sheet, slot)
+    }
+
+    /// The item that a slot was made by.
+    pub fn item_of(&self, sheet: u32, slot: u16) -> &'s Item
+        requires sheet { sheet < length self.now.sheets }
+        requires slot { slot < length (pages_on self.now sheet) }
+        ensures value { slice_get (items_on self.now sheet) slot ≡ Some (item_of result.now) }
+    {
+        self.expansion.item_of(sheet, slot)
+    }
+
+    /// The slots of a sheet that aren't blank: bit k is set for slot k.
+    pub fn missing_at_start(&self, sheet: u32) -> u64
+        requires { sheet < length self.now.sheets }
+        ensures bits { (k : ℕ) → bit_at result k ≡ (if needs_page self.now sheet k then 1 else 0) }
+    {
+        let mut missing = 0u64;
+        for slot in 0..self.slots(sheet) {
+            if self.page_of(sheet, slot).is_some() {
+                missing |= 1 << slot;
+            }
+        }
+        missing
+    }
+
+    /// All places of a page, sheet and slot, ascending by sheet, then slot.
+    pub fn slots_of_page(&self, page: u32) -> &[(u32, u16)]
+        requires { page < self.now.pages }
+        ensures value { result.now ≡ places_of (layout self.now) page }
+    {
+        self.index.of_page(page)
+    }
+
+    /// The sheets whose slots are all blank, ascending.
+    pub fn born_complete(&self) -> &[u32]
+        ensures value { result.now ≡ born_complete (layout self.now) }
+    {
+        self.born.as_slice()
+    }
+}
+
+/// The places of each page, and the sheets that have none.
+fn listed(alloc: Global, expansion: &Expansion) -> Result<(PageIndex, Vec<u32>), AllocError>
+    ensures index { IfOk result (λ x. x.0 ≡ map (places_of (layout expansion.now)) (range_with_len 0 expansion.now.pages)) }
+    ensures born { IfOk result (λ x. x.1.items ≡ born_complete (layout expansion.now)) }
+{
+    let placed = placed_pages(alloc, expansion)?;
+    let index = PageIndex::new(alloc, expansion.pages(), &placed)?;
+    let born = born_complete(alloc, expansion)?;
+    Ok((index, born))
+}

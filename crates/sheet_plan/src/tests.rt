@@ -1,0 +1,148 @@
+//! Worked examples of plans, and the limits.
+use crate::{Plan, PlanError};
+use pagespec::read_spec;
+use std::alloc::{AllocError, Global};
+use std::test::Fail;
+
+/// The pages of each sheet, as `4, 2, -`.
+fn sheets_text(alloc: Global, plan: &Plan) -> Result<String, AllocError> {
+    let mut text = String::new(alloc);
+    for sheet in 0..plan.sheets() {
+        if sheet > 0 {
+            text.push_str("; ")?;
+        }
+        for slot in 0..plan.slots(sheet) {
+            if slot > 0 {
+                text.push_str(" ")?;
+            }
+            match plan.page_of(sheet, slot) {
+                Some(page) => text.push_str(&format!(in alloc; "{page}")?)?,
+                None => text.push_str("-")?,
+            }
+        }
+    }
+    Ok(text)
+}
+
+/// The places of each page, as `0.1 2.0`.
+fn places_text(alloc: Global, plan: &Plan) -> Result<String, AllocError> {
+    let mut text = String::new(alloc);
+    for page in 0..plan.pages() {
+        if page > 0 {
+            text.push_str("; ")?;
+        }
+        for (at, place) in plan.slots_of_page(page).iter().enumerate() {
+            if at > 0 {
+                text.push_str(" ")?;
+            }
+            text.push_str(&format!(in alloc; "{}.{}", place.0, place.1)?)?;
+        }
+    }
+    Ok(text)
+}
+
+const BOOKLET: &str = "4:-3L@.7(21cm,0)+0L@.7(21cm,14.85cm),1L@.7(21cm,0)+-2L@.7(21cm,14.85cm)";
+
+#[test]
+fn pages_on_sheets(rt: HostRuntime) -> Result<(), Fail> {
+    let alloc = rt.alloc();
+    let cases = [
+        ("2:-0", 5, "4; 2; 0", "2.0; ; 1.0; ; 0.0"),
+        (BOOKLET, 5, "- 0; 1 -; 3 4; - 2", "0.1; 1.0; 3.1; 2.0; 2.1"),
+        (
+            "4:0,1,2,3",
+            5,
+            "0; 1; 2; 3; 4; -; -; -",
+            "0.0; 1.0; 2.0; 3.0; 4.0",
+        ),
+        ("0+0", 1, "0 0", "0.0 0.1"),
+        ("0", 0, "", ""),
+    ];
+    for (text, pages, sheets, places) in cases {
+        let spec = read_spec(alloc, text)?;
+        let plan = Plan::new(alloc, &spec, pages)?;
+        assert_eq!(rt; plan.pages(), pages, "{text}");
+        assert_eq!(rt; sheets_text(alloc, &plan)?.as_str(), sheets, "{text}");
+        assert_eq!(rt; places_text(alloc, &plan)?.as_str(), places, "{text}");
+    }
+    Ok(())
+}
+
+#[test]
+fn blank_slots(rt: HostRuntime) -> Result<(), Fail> {
+    let alloc = rt.alloc();
+    let booklet = read_spec(alloc, BOOKLET)?;
+    let plan = Plan::new(alloc, &booklet, 5)?;
+    assert_eq!(rt; plan.sheets(), 4);
+    for (sheet, missing) in [(0, 2), (1, 1), (2, 3), (3, 2)] {
+        assert_eq!(rt; plan.missing_at_start(sheet), missing, "sheet {sheet}");
+    }
+    assert_eq!(rt; plan.born_complete().len(), 0);
+
+    let four = read_spec(alloc, "4:0,1,2,3")?;
+    let plan = Plan::new(alloc, &four, 5)?;
+    assert_eq!(rt; plan.born_complete(), [5, 6, 7].as_slice());
+    Ok(())
+}
+
+#[test]
+fn item_of_a_slot(rt: HostRuntime) -> Result<(), Fail> {
+    let alloc = rt.alloc();
+    let booklet = read_spec(alloc, BOOKLET)?;
+    let plan = Plan::new(alloc, &booklet, 5)?;
+    assert_eq!(rt; plan.sheets(), 4);
+    assert_eq!(rt; plan.slots(3), 2);
+    let item = plan.item_of(3, 1);
+    assert_eq!(rt; (item.page, item.from_end), (2, true));
+    Ok(())
+}
+
+#[test]
+fn limits(rt: HostRuntime) -> Result<(), Fail> {
+    let alloc = rt.alloc();
+    let cases = [
+        (
+            "0",
+            1_000_001,
+            PlanError::TooManyPages,
+            "plan: too many pages",
+        ),
+        (
+            "0,0",
+            1_000_000,
+            PlanError::TooManySheets,
+            "plan: too many sheets",
+        ),
+        (
+            "0+0+0+0+0",
+            1_000_000,
+            PlanError::TooManyPlaces,
+            "plan: too many places",
+        ),
+    ];
+    for (text, pages, refusal, line) in cases {
+        let spec = read_spec(alloc, text)?;
+        match Plan::new(alloc, &spec, pages) {
+            Ok(_) => assert!(rt; false, "{text} is planned"),
+            Err(error) => {
+                assert_eq!(rt; error, refusal, "{text}");
+                assert_eq!(rt; format!(in alloc; "{error}")?.as_str(), line);
+            }
+        }
+    }
+    Ok(())
+}
+
+#[test]
+fn four_million_places(rt: HostRuntime) -> Result<(), Fail> {
+    let alloc = rt.alloc();
+    let spec = read_spec(alloc, "0+0+0+0")?;
+    let plan = Plan::new(alloc, &spec, 1_000_000)?;
+    assert_eq!(rt; plan.sheets(), 1_000_000);
+    assert_eq!(rt; plan.pages(), 1_000_000);
+    assert_eq!(rt;
+        plan.slots_of_page(999_999),
+        [(999_999, 0), (999_999, 1), (999_999, 2), (999_999, 3)].as_slice()
+    );
+    Ok(())
+}
