@@ -18,3 +18,6 @@ pub use crate::plain::PlainTable;
 pub use crate::seat::Seat;
 pub use crate::table::GatherTable;
 
+
+#[cfg(test)]
+mod tests;
