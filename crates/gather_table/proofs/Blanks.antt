@@ -1,5 +1,5 @@
 -- The word of the blank slots of a sheet.
-use Rattle.std.proofs.Common.{◌≡◌, ℕ, zero, suc, ◌+◌, ◌-◌, ◌<◌, ◌≤◌, ◌^◌, ◌==◌, Bool, true, false, not, List, [], ◌∷◌, length, refl, sym, ap, ◌∙◌, subst, arith}
+use Rattle.std.proofs.Common.{◌≡◌, ℕ, zero, suc, ◌-◌, ◌<◌, ◌≤◌, ◌^◌, ◌==◌, Bool, true, false, not, List, [], ◌∷◌, length, refl, sym, ap, ◌∙◌, arith}
 use Rattle.std.specs.Prelude.{Some, None, Option, slice_get, if◌then◌else◌}
 use Rattle.std.specs.Int.{bit_at}
 use mathlib.Core.Logic.{dite}
@@ -7,7 +7,7 @@ use native.Mathlib.Decide.{ℕ_discrete}
 use Rattle.std.proofs.Math.ListN.{length-map}
 use Rattle.profile.specs.Sheets.{Plan, layout}
 use Rattle.sheet_plan.specs.Plans as plans
-use Rattle.gather_table.specs.Table.{is_blank, bits, slots, slot_count, IsSound}
+use Rattle.gather_table.specs.Table.{is_blank, bits, slots, IsSound}
 use Rattle.gather_table.specs.Words.{has_bit}
 use Rattle.gather_table.proofs.Bits.{bits_same, bits_not}
 use Rattle.gather_table.proofs.Stored.{made_of_bits}
@@ -23,7 +23,7 @@ sound_of plan ok =
       few_pages = ok.few_pages;
       few_sheets = let f = ok.few_sheets in omega arith;
       narrow = λ s lt. ok.narrow s (omega arith);
-      paged = λ s k p lt at. ok.paged s k p (omega arith) at
+      paged = λ s k p lt at. ok.paged s k p (omega arith) at;
     }
 
 -- a slot is blank where it is there and has no page

@@ -18,6 +18,5 @@ pub use crate::plain::PlainTable;
 pub use crate::seat::Seat;
 pub use crate::table::GatherTable;
 
-
 #[cfg(test)]
 mod tests;

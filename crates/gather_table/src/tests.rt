@@ -333,14 +333,33 @@ fn a_table_without_pages_has_a_seat(rt: HostRuntime) -> Result<(), Fail> {
 
 #[test]
 fn lanes_follow_one_another(rt: HostRuntime) -> Result<(), Fail> {
-    let one_group = "0+0+0+0+0+0+0+0+0+0+0+0+0+0+0+0+0+0+0+0+0+0+0+0+0+0+0+0+0+0+0+0+0+0+0+0+0+0+0+0+0+0+0+0+0+0+0+0+0+0+0+0+0+0+0+0+0+0+0+0+0+0+0+0";
-    lanes_are(&rt, rt.alloc(), "2:0+1", 100, &[(0, (0, 0)), (31, (0, 62)), (32, (1, 0))])?;
-    lanes_are(&rt, rt.alloc(), "3:0+1,2", 100, &[(40, (0, 60)), (41, (0, 62)), (42, (1, 0)), (43, (1, 2))])?;
+    let one_group =
+        "0+0+0+0+0+0+0+0+0+0+0+0+0+0+0+0+0+0+0+0+0+0+0+0+0+0+0+0+0+0+0+0+0+0+0+0+0+0+0+0+0+0+0+0+0+0+0+0+0+0+0+0+0+0+0+0+0+0+0+0+0+0+0+0";
+    lanes_are(
+        &rt,
+        rt.alloc(),
+        "2:0+1",
+        100,
+        &[(0, (0, 0)), (31, (0, 62)), (32, (1, 0))],
+    )?;
+    lanes_are(
+        &rt,
+        rt.alloc(),
+        "3:0+1,2",
+        100,
+        &[(40, (0, 60)), (41, (0, 62)), (42, (1, 0)), (43, (1, 2))],
+    )?;
     lanes_are(&rt, rt.alloc(), one_group, 2, &[(0, (0, 0)), (1, (1, 0))])
 }
 
 // Which lanes some sheets of a plan have.
-fn lanes_are<R: Abort>(rt: &R, alloc: Global, text: &str, pages: u32, lanes: &[(u32, (u32, u8))]) -> Result<(), Fail> {
+fn lanes_are<R: Abort>(
+    rt: &R,
+    alloc: Global,
+    text: &str,
+    pages: u32,
+    lanes: &[(u32, (u32, u8))],
+) -> Result<(), Fail> {
     let spec = spec_of(rt, alloc, text);
     let plan = plan_of(rt, alloc, &spec, pages);
     let (table, _seat) = GatherTable::new(alloc, &plan)?;

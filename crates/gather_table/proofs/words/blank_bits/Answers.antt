@@ -1,4 +1,4 @@
-use Rattle.std.proofs.Common.{arith, ◌≡◌}
+use Rattle.std.proofs.Common.{arith}
 use Rattle.profile.specs.Sheets.{layout}
 use Rattle.gather_table.specs.Table.{slots}
 use Rattle.gather_table.proofs.Blanks.{blanks_left}
