@@ -1,12 +1,11 @@
 -- A page, cut anew, has the document's units.
-use Rattle.std.specs.Prelude.{Result, Ok, Err, map, flat_map, All, not, ◌↔◌}
-use Rattle.std.specs.List.{prefix_len, take_while}
-use Rattle.std.proofs.Common.{append_assoc, Bool, true, false, cond, ◌&&◌, ◌==◌, ◌≡◌, ℕ, zero, suc, ◌+◌, ◌-◌, ◌<◌, ◌≤◌, List, [], ◌∷◌, ◌++◌, length, take, drop, refl, ap, arith, length-drop, length-take, length-append, sym, ◌∙◌, subst, min}
-use Rattle.std.proofs.lemmas.List.{drop-drop}
+use Rattle.std.specs.Prelude.{Result, Ok, Err, map, All, not}
+use Rattle.std.specs.List.{prefix_len}
+use Rattle.std.proofs.Common.{Bool, true, false, ◌&&◌, ◌==◌, ◌≡◌, ℕ, zero, suc, ◌+◌, ◌<◌, ◌≤◌, List, [], ◌∷◌, ◌++◌, length, take, drop, refl, ap, arith, length-drop, length-append, sym, ◌∙◌, subst}
 use Rattle.std.proofs.lemmas.Bool.{eqb-true}
 use Rattle.std.proofs.lemmas.List.Elements.{All-nil, All-cons}
 use Rattle.std.proofs.Math.Seq.{drop-append_seam}
-use Rattle.profile.specs.Units.{TextUnit, block, first_unit, FaultyBlock, cut, AreUnits, ◌>>=◌}
+use Rattle.profile.specs.Units.{TextUnit, first_unit, FaultyBlock, cut, AreUnits, ◌>>=◌}
 use Rattle.profile.specs.Parts.{NestedUnit, depth_after, nested_from, nested, begins_page, begins_trailer, up_to, starting_at, page_run, split_pages, bytes_of, pages}
 use Rattle.profile.specs.Filters.{kept, drops_in_page, ended, prepared}
 use Rattle.profile.specs.Output.{body_text}
@@ -71,11 +70,11 @@ pages-stand d (p ∷ ps) text rest h =
     let later : All StandAlone (split_pages (nested_from (depth_after d p) ps)) = pages-stand (depth_after d p) ps (drop (length p.bytes) text) rest h.2 in
     by_test (begins_page (record { depth = d; unit = p }))
     (λ is.
-        let n : ℕ = prefix_len (λ u. not (begins_page u)) (nested_from (depth_after d p) ps) in
-        let w = begins-take n ps (drop (length p.bytes) text) rest h.2 in
-        let page : record { depth = d; unit = p } ∷ up_to begins_page (nested_from (depth_after d p) ps) ≡ nested_from d (p ∷ take n ps) = ap (λ us. record { depth = d; unit = p } ∷ us) (nested-take n (depth_after d p) ps) in
-        let alone : StandAlone (nested_from d (p ∷ take n ps)) = subst (λ k. StandAlone (nested_from k (p ∷ take n ps))) (sym (page-depth d p is)) (stands (p ∷ take n ps) text w.0 (h.0, h.1, w.1)) in
-        rw is (All-cons StandAlone _ _ (subst StandAlone (sym page) alone) later))
+    let n : ℕ = prefix_len (λ u. not (begins_page u)) (nested_from (depth_after d p) ps) in
+    let w = begins-take n ps (drop (length p.bytes) text) rest h.2 in
+    let page : record { depth = d; unit = p } ∷ up_to begins_page (nested_from (depth_after d p) ps) ≡ nested_from d (p ∷ take n ps) = ap (λ us. record { depth = d; unit = p } ∷ us) (nested-take n (depth_after d p) ps) in
+    let alone : StandAlone (nested_from d (p ∷ take n ps)) = subst (λ k. StandAlone (nested_from k (p ∷ take n ps))) (sym (page-depth d p is)) (stands (p ∷ take n ps) text w.0 (h.0, h.1, w.1)) in
+    rw is (All-cons StandAlone _ _ (subst StandAlone (sym page) alone) later))
     (λ isnt. rw isnt later)
 
 pub body-stands : (ps : List TextUnit) (text rest : List ℕ) → BeginsWith ps text rest → All StandAlone (split_pages (page_run (nested_from 0 ps)))
@@ -103,13 +102,14 @@ cut-found : (fuel at : ℕ) (text : List ℕ) → length text ≤ fuel → Found
 cut-found fuel at [] h = refl
 cut-found zero at (b ∷ bs) h = absurd (omega (arith, h))
 cut-found (suc fuel) at (b ∷ bs) h =
-    elim (first_unit (b ∷ bs)) as (λ r. first_unit (b ∷ bs) ≡ r → Found at (b ∷ bs) (cut_at at (b ∷ bs)))
-    [ Ok p ↦ λ w.
-        let moves : 0 < length p.bytes = unit_len-pos b bs p w in
-        let shorter : length (drop (length p.bytes) (b ∷ bs)) ≤ fuel = omega (arith, moves, h, length-drop (length p.bytes) (b ∷ bs)) in
-        subst (Found at (b ∷ bs)) (sym (cut_step at b bs p w))
-        (found-more at (b ∷ bs) p (cut_at (at + length p.bytes) (drop (length p.bytes) (b ∷ bs))) (omega arith) w (cut-found fuel (at + length p.bytes) (drop (length p.bytes) (b ∷ bs)) shorter))
-    | Err bad ↦ λ w. subst (Found at (b ∷ bs)) (sym (cut_fault at b bs bad w)) ([], b ∷ bs, refl, omega arith, w, omega arith) ] refl
+    elim (first_unit (b ∷ bs)) as (λ r. first_unit (b ∷ bs) ≡ r → Found at (b ∷ bs) (cut_at at (b ∷ bs))) [
+      | Ok p ↦ λ w.
+          let moves : 0 < length p.bytes = unit_len-pos b bs p w in
+          let shorter : length (drop (length p.bytes) (b ∷ bs)) ≤ fuel = omega (arith, moves, h, length-drop (length p.bytes) (b ∷ bs)) in
+          subst (Found at (b ∷ bs)) (sym (cut_step at b bs p w))
+          (found-more at (b ∷ bs) p (cut_at (at + length p.bytes) (drop (length p.bytes) (b ∷ bs))) (omega arith) w (cut-found fuel (at + length p.bytes) (drop (length p.bytes) (b ∷ bs)) shorter))
+      | Err bad ↦ λ w. subst (Found at (b ∷ bs)) (sym (cut_fault at b bs bad w)) ([], b ∷ bs, refl, omega arith, w, omega arith)
+    ] refl
 
 faulty : (text : List ℕ) (e : FaultyBlock) → Found 0 text (Err e) → IsFirstFault text e
 faulty text e f =
@@ -145,7 +145,8 @@ fault-cut text e h =
 pub cut-finds : CutFindsFaults
 cut-finds text = (
   λ ps. (λ e. all-units ps text (cut-begins text ps e), λ h. units-cut ps 0 text (units-all ps text h)),
-  λ block. (λ e. faulty text block (subst (Found 0 text) e (cut-found (length text) 0 text (omega arith))), fault-cut text block))
+  λ block. (λ e. faulty text block (subst (Found 0 text) e (cut-found (length text) 0 text (omega arith))), fault-cut text block),
+)
 
 pub pages-alone : PagesStandAlone
 pages-alone text ps e = body-stands ps text [] (cut-begins text ps e)

@@ -1,7 +1,6 @@
 -- Laws of the cut of a text into units.
 use Rattle.std.specs.Prelude.{Result, Ok, Err}
-use Rattle.std.proofs.Common.{append_assoc, Bool, true, false, cond, ◌≡◌, ℕ, zero, suc, ◌+◌, ◌-◌, ◌<◌, ◌≤◌, List, [], ◌∷◌, ◌++◌, length, take, drop, refl, ap, arith, length-drop, length-take, sym, ◌∙◌, subst, min}
-use Rattle.std.proofs.lemmas.Grind.{common_steps}
+use Rattle.std.proofs.Common.{Bool, true, false, cond, ◌≡◌, ℕ, zero, suc, ◌+◌, ◌<◌, ◌≤◌, List, [], ◌∷◌, length, take, drop, refl, ap, arith, length-drop, length-take, sym, ◌∙◌}
 use Rattle.profile.specs.Units.{TextUnit, BlockFault, content_of, line_len, begins_block, fields, data_len, block, first_unit, FaultyBlock, at_byte, cut_from, ◌>>=◌}
 use Rattle.dsc.specs.Units.{faulty_block}
 use Rattle.dsc.specs.Filters.{of_units}
@@ -45,13 +44,14 @@ enough_cut zero m at (b ∷ bs) h g = absurd (omega arith)
 enough_cut (suc k) zero at (b ∷ bs) h g = absurd (omega arith)
 enough_cut (suc k) (suc m) at (b ∷ bs) h g =
     elim (first_unit (b ∷ bs)) as (λ r. first_unit (b ∷ bs) ≡ r →
-        (at_byte at r >>= λ p. cut_from k (at + length p.bytes) (drop (length p.bytes) (b ∷ bs)) >>= λ ps. Ok (p ∷ ps))
-        ≡ (at_byte at r >>= λ p. cut_from m (at + length p.bytes) (drop (length p.bytes) (b ∷ bs)) >>= λ ps. Ok (p ∷ ps)))
-    [ Ok p ↦ λ w.
-        let moves : 0 < length p.bytes = unit_len-pos b bs p w in
-        let shorter : length (drop (length p.bytes) (b ∷ bs)) ≤ length bs = omega (arith, moves, length-drop (length p.bytes) (b ∷ bs)) in
-        ap (λ r. r >>= λ ps. Ok (p ∷ ps)) (enough_cut k m (at + length p.bytes) (drop (length p.bytes) (b ∷ bs)) (omega (arith, shorter)) (omega (arith, shorter)))
-    | Err e ↦ λ w. refl ] refl
+    (at_byte at r >>= λ p. cut_from k (at + length p.bytes) (drop (length p.bytes) (b ∷ bs)) >>= λ ps. Ok (p ∷ ps))
+    ≡ (at_byte at r >>= λ p. cut_from m (at + length p.bytes) (drop (length p.bytes) (b ∷ bs)) >>= λ ps. Ok (p ∷ ps))) [
+      | Ok p ↦ λ w.
+          let moves : 0 < length p.bytes = unit_len-pos b bs p w in
+          let shorter : length (drop (length p.bytes) (b ∷ bs)) ≤ length bs = omega (arith, moves, length-drop (length p.bytes) (b ∷ bs)) in
+          ap (λ r. r >>= λ ps. Ok (p ∷ ps)) (enough_cut k m (at + length p.bytes) (drop (length p.bytes) (b ∷ bs)) (omega (arith, shorter)) (omega (arith, shorter)))
+      | Err e ↦ λ w. refl
+    ] refl
 
 -- a text that isn't empty: its first unit, and the cut of the rest
 abbrev pub cut_at : ℕ → List ℕ → Result (List TextUnit) FaultyBlock

@@ -1,8 +1,8 @@
 -- Laws of the length of data, as the code finds it.
-use Rattle.std.specs.Prelude.{Result, Ok, Err, codes}
+use Rattle.std.specs.Prelude.{Err, codes}
 use Rattle.std.specs.List.{list_all}
 use Rattle.std.specs.Char.{is_ascii_digit}
-use Rattle.std.proofs.Common.{Bool, true, false, ◌&&◌, ◌≡◌, ℕ, ◌+◌, ◌-◌, ◌^◌, ◌<◌, ◌≤◌, List, [], ◌∷◌, length, refl, ap, arith, sym, ◌∙◌, min}
+use Rattle.std.proofs.Common.{Bool, true, false, ◌&&◌, ◌≡◌, ℕ, ◌<◌, List, [], ◌∷◌, length, refl, arith, min}
 use Rattle.profile.specs.Numbers.{number_of}
 use Rattle.profile.specs.Units.{ShortData, is_comment, fields, counts_lines, data_len}
 use Rattle.dsc.specs.Fields.{third_is, data_in}

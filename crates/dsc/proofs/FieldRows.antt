@@ -1,7 +1,7 @@
 -- Laws of the fields of a line.
 use Rattle.std.specs.Prelude.{filter, not, nat_lt}
 use Rattle.std.specs.List.{prefix_len, slice_split, onto_first, list_all}
-use Rattle.std.proofs.Common.{Bool, true, false, ltb, ◌≡◌, ℕ, zero, suc, ◌+◌, ◌-◌, ◌<◌, ◌≤◌, List, [], ◌∷◌, length, take, drop, refl, ap, arith, length-drop, length-take, sym, ◌∙◌, subst, min, get_or, ◌*◌}
+use Rattle.std.proofs.Common.{true, false, ◌≡◌, ℕ, suc, ◌+◌, ◌-◌, ◌<◌, ◌≤◌, List, [], ◌∷◌, length, take, drop, refl, ap, arith, length-take, sym, ◌∙◌, subst, min, get_or, ◌*◌}
 use Rattle.std.proofs.lemmas.Bool.{lt-ltb}
 use Rattle.std.proofs.lemmas.List.Sums.{prefix_len-le-length, fold_more}
 use Rattle.std.proofs.lemmas.List.Folds.{list_all_more}
@@ -55,10 +55,12 @@ split_front [] = ([], refl, refl)
 split_front (b ∷ bs) = by_test (is_blank b)
     (λ is. subst (Front (b ∷ bs)) (sym (field_none b bs is)) (slice_split is_blank bs, slice_split-cons_yes is_blank b bs is, sym (skip_blank b bs is)))
     (λ no.
-        let w = split_front bs in
-        subst (Front (b ∷ bs)) (sym (field_one b bs no))
-        (w.0, slice_split-cons_no is_blank b bs no ∙ ap (onto_first b) w.1 ∙ ap (λ t. t ∷ w.0) (sym (take_one (field_len bs) b bs)),
-            w.2 ∙ ap fields_in (sym (drop_one (field_len bs) b bs))))
+    let w = split_front bs in
+    subst (Front (b ∷ bs)) (sym (field_one b bs no)) (
+      w.0,
+      slice_split-cons_no is_blank b bs no ∙ ap (onto_first b) w.1 ∙ ap (λ t. t ∷ w.0) (sym (take_one (field_len bs) b bs)),
+      w.2 ∙ ap fields_in (sym (drop_one (field_len bs) b bs)),
+    ))
 
 kept_first : (f : List ℕ) (fs : List (List ℕ)) → 0 < length f → kept_in (f ∷ fs) ≡ f ∷ kept_in fs
 kept_first f fs h = rw (lt-ltb 0 (length f) h) refl
@@ -75,11 +77,11 @@ none_left : (text : List ℕ) → field_len (drop (prefix_len is_blank text) tex
 none_left [] h = refl
 none_left (b ∷ bs) h = by_test (is_blank b)
     (λ is.
-        let same : drop (prefix_len is_blank (b ∷ bs)) (b ∷ bs) ≡ drop (prefix_len is_blank bs) bs = ap (λ k. drop k (b ∷ bs)) (blanks_one b bs is) ∙ drop_one (prefix_len is_blank bs) b bs in
-        same ∙ none_left bs (ap field_len (sym same) ∙ h))
+    let same : drop (prefix_len is_blank (b ∷ bs)) (b ∷ bs) ≡ drop (prefix_len is_blank bs) bs = ap (λ k. drop k (b ∷ bs)) (blanks_one b bs is) ∙ drop_one (prefix_len is_blank bs) b bs in
+    same ∙ none_left bs (ap field_len (sym same) ∙ h))
     (λ no.
-        let some : field_len (drop (prefix_len is_blank (b ∷ bs)) (b ∷ bs)) ≡ 1 + field_len bs = ap (λ k. field_len (drop k (b ∷ bs))) (blanks_none b bs no) ∙ field_one b bs no in
-        absurd (omega (arith, h, some)))
+    let some : field_len (drop (prefix_len is_blank (b ∷ bs)) (b ∷ bs)) ≡ 1 + field_len bs = ap (λ k. field_len (drop k (b ∷ bs))) (blanks_none b bs no) ∙ field_one b bs no in
+    absurd (omega (arith, h, some)))
 
 pub no_field : (text from : List ℕ) → from ≡ drop (prefix_len is_blank text) text → field_len from ≡ 0 → fields_in text ≡ []
 no_field text from e h = skip_blanks text ∙ ap fields_in (none_left text (ap field_len (sym e) ∙ h))

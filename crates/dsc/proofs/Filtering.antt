@@ -1,15 +1,14 @@
 -- What is kept, run by run.
-use Rattle.std.specs.Prelude.{Result, Ok, Err, not, codes}
-use Rattle.std.specs.List.{starts_with, list_any}
-use Rattle.std.specs.Str.{bytes_eq}
-use Rattle.std.proofs.Common.{append_assoc, append-nil, Bool, true, false, nat_eq, ◌||◌, ◌&&◌, ◌==◌, if◌then◌else◌, ◌≡◌, ℕ, zero, suc, ◌+◌, ◌-◌, ◌<◌, ◌≤◌, List, [], ◌∷◌, ◌++◌, length, take, drop, get_or, refl, ap, arith, length-append, sym, ◌∙◌, subst}
+use Rattle.std.specs.Prelude.{Result, Ok, Err, not}
+use Rattle.std.proofs.Common.{append_assoc, append-nil, Bool, true, false, if◌then◌else◌, ◌≡◌, ℕ, suc, ◌+◌, ◌-◌, ◌<◌, List, [], ◌∷◌, ◌++◌, length, take, drop, get_or, refl, ap, arith, sym, ◌∙◌}
 use Rattle.std.proofs.Math.Seq.{take-add}
 use Rattle.profile.specs.Units.{TextUnit, is_end, first_unit, FaultyBlock, cut}
 use Rattle.profile.specs.Parts.{NestedUnit, depth_after, nested_from, nested, bytes_of}
 use Rattle.profile.specs.Filters.{kept_after, kept, drops_in_header, ended, prepared}
 use Rattle.dsc.specs.Units.{or_none, units_of}
 use Rattle.dsc.specs.Filters.{drops_of, is_dropped, of_units, filter_on}
-use Rattle.dsc.proofs.Cases.{by_test}
+use Rattle.dsc.specs.declared.filters.Drops.{Drops}
+use Rattle.dsc.specs.declared.filters.Drops.TheVariants.{PageSetup, DocumentSetup}
 use Rattle.dsc.proofs.Cut.{cut_at, cut_step, of_units-more}
 
 pub run_grows : (kept run : List ℕ) (n m : ℕ) → kept ++ take (n + m) run ≡ (kept ++ take n run) ++ take m (drop n run)
@@ -20,35 +19,34 @@ keeps_step : (t : Bool) (front bytes rest rest2 : List ℕ) → (t ≡ true → 
 keeps_step true front bytes rest rest2 a b = ap (λ t. front ++ t) (a refl) ∙ ap (λ t. t ++ rest2) (sym (append-nil front))
 keeps_step false front bytes rest rest2 a b = ap (λ t. front ++ t) (b refl) ∙ sym (append_assoc front bytes rest2)
 
-kept_bytes : (in_page was : Bool) (u : NestedUnit) (us front : List NestedUnit) (t : Bool) → is_dropped in_page was u ≡ t
-    → bytes_of (kept_after was (drops_of in_page) (u ∷ us)) ≡ (if t then bytes_of (kept_after true (drops_of in_page) us) else u.unit.bytes ++ bytes_of (kept_after false (drops_of in_page) us))
-kept_bytes in_page was u us front true e = ap (λ q. bytes_of (if q then kept_after true (drops_of in_page) us else u ∷ kept_after false (drops_of in_page) us)) e
-kept_bytes in_page was u us front false e = ap (λ q. bytes_of (if q then kept_after true (drops_of in_page) us else u ∷ kept_after false (drops_of in_page) us)) e
+kept_bytes : (drops : Drops) (was : Bool) (u : NestedUnit) (us front : List NestedUnit) (t : Bool) → is_dropped drops was u ≡ t
+    → bytes_of (kept_after was (drops_of drops) (u ∷ us)) ≡ (if t then bytes_of (kept_after true (drops_of drops) us) else u.unit.bytes ++ bytes_of (kept_after false (drops_of drops) us))
+kept_bytes drops was u us front true e = ap (λ q. bytes_of (if q then kept_after true (drops_of drops) us else u ∷ kept_after false (drops_of drops) us)) e
+kept_bytes drops was u us front false e = ap (λ q. bytes_of (if q then kept_after true (drops_of drops) us else u ∷ kept_after false (drops_of drops) us)) e
 
-pub kept_step : (in_page was : Bool) (u : NestedUnit) (us : List NestedUnit) (front : List ℕ) (t : Bool) → is_dropped in_page was u ≡ t
-    → (front ++ (if t then [] else u.unit.bytes)) ++ bytes_of (kept_after t (drops_of in_page) us) ≡ front ++ bytes_of (kept_after was (drops_of in_page) (u ∷ us))
-kept_step in_page was u us front true e =
-    ap (λ t. t ++ bytes_of (kept_after true (drops_of in_page) us)) (append-nil front) ∙ ap (λ t. front ++ t) (sym (kept_bytes in_page was u us [] true e))
-kept_step in_page was u us front false e =
-    append_assoc front u.unit.bytes (bytes_of (kept_after false (drops_of in_page) us)) ∙ ap (λ t. front ++ t) (sym (kept_bytes in_page was u us [] false e))
-
+pub kept_step : (drops : Drops) (was : Bool) (u : NestedUnit) (us : List NestedUnit) (front : List ℕ) (t : Bool) → is_dropped drops was u ≡ t
+    → (front ++ (if t then [] else u.unit.bytes)) ++ bytes_of (kept_after t (drops_of drops) us) ≡ front ++ bytes_of (kept_after was (drops_of drops) (u ∷ us))
+kept_step drops was u us front true e =
+    ap (λ t. t ++ bytes_of (kept_after true (drops_of drops) us)) (append-nil front) ∙ ap (λ t. front ++ t) (sym (kept_bytes drops was u us [] true e))
+kept_step drops was u us front false e =
+    append_assoc front u.unit.bytes (bytes_of (kept_after false (drops_of drops) us)) ∙ ap (λ t. front ++ t) (sym (kept_bytes drops was u us [] false e))
 
 -- as a loop has it: one more unit is kept or dropped
-pub filter_more : (in_page was dropped : Bool) (front new : List ℕ) (depth deep at next : ℕ) (rest after : List ℕ) (p : TextUnit) (whole : Result (List ℕ) FaultyBlock)
+pub filter_more : (drops : Drops) (was dropped : Bool) (front new : List ℕ) (depth deep at next : ℕ) (rest after : List ℕ) (p : TextUnit) (whole : Result (List ℕ) FaultyBlock)
     → 0 < length rest → first_unit rest ≡ Ok p → after ≡ drop (length p.bytes) rest → next ≡ at + length p.bytes → deep ≡ depth_after depth p
-    → dropped ≡ is_dropped in_page was (record { depth = depth; unit = p })
+    → dropped ≡ is_dropped drops was (record { depth = depth; unit = p })
     → new ≡ front ++ (if dropped then [] else p.bytes)
-    → filter_on in_page front was depth at rest ≡ whole → filter_on in_page new dropped deep next after ≡ whole
-filter_more in_page was dropped front new depth deep at next [] after p whole some w a n d dr nw i = absurd (omega (arith, some))
-filter_more in_page was dropped front new depth deep at next (b ∷ bs) after p whole some w a n d dr nw i =
-    ap (λ t. filter_on in_page new dropped deep next t) a ∙ ap (λ k. filter_on in_page new dropped deep k (drop (length p.bytes) (b ∷ bs))) n
-    ∙ ap (λ k. filter_on in_page new dropped k (at + length p.bytes) (drop (length p.bytes) (b ∷ bs))) d
-    ∙ ap (λ t. filter_on in_page t dropped (depth_after depth p) (at + length p.bytes) (drop (length p.bytes) (b ∷ bs))) nw
-    ∙ of_units-more (λ ps. front ++ bytes_of (kept_after was (drops_of in_page) (nested_from depth ps)))
-        (λ ps. (front ++ (if dropped then [] else p.bytes)) ++ bytes_of (kept_after dropped (drops_of in_page) (nested_from (depth_after depth p) ps)))
-        p (cut_at (at + length p.bytes) (drop (length p.bytes) (b ∷ bs)))
-        (λ ps. kept_step in_page was (record { depth = depth; unit = p }) (nested_from (depth_after depth p) ps) front dropped (sym dr))
-    ∙ ap (of_units (λ ps. front ++ bytes_of (kept_after was (drops_of in_page) (nested_from depth ps)))) (sym (cut_step at b bs p w)) ∙ i
+    → filter_on drops front was depth at rest ≡ whole → filter_on drops new dropped deep next after ≡ whole
+filter_more drops was dropped front new depth deep at next [] after p whole some w a n d dr nw i = absurd (omega (arith, some))
+filter_more drops was dropped front new depth deep at next (b ∷ bs) after p whole some w a n d dr nw i =
+    ap (λ t. filter_on drops new dropped deep next t) a ∙ ap (λ k. filter_on drops new dropped deep k (drop (length p.bytes) (b ∷ bs))) n
+    ∙ ap (λ k. filter_on drops new dropped k (at + length p.bytes) (drop (length p.bytes) (b ∷ bs))) d
+    ∙ ap (λ t. filter_on drops t dropped (depth_after depth p) (at + length p.bytes) (drop (length p.bytes) (b ∷ bs))) nw
+    ∙ of_units-more (λ ps. front ++ bytes_of (kept_after was (drops_of drops) (nested_from depth ps)))
+    (λ ps. (front ++ (if dropped then [] else p.bytes)) ++ bytes_of (kept_after dropped (drops_of drops) (nested_from (depth_after depth p) ps)))
+    p (cut_at (at + length p.bytes) (drop (length p.bytes) (b ∷ bs)))
+    (λ ps. kept_step drops was (record { depth = depth; unit = p }) (nested_from (depth_after depth p) ps) front dropped (sym dr))
+    ∙ ap (of_units (λ ps. front ++ bytes_of (kept_after was (drops_of drops) (nested_from depth ps)))) (sym (cut_step at b bs p w)) ∙ i
 
 -- the last byte
 step_back : (b c : ℕ) (bs : List ℕ) (d : ℕ) → get_or (b ∷ c ∷ bs) (length (b ∷ c ∷ bs) - 1) d ≡ get_or (c ∷ bs) (length (c ∷ bs) - 1) d
@@ -76,15 +74,15 @@ fault_units : (f : List TextUnit → List ℕ) (r : Result (List TextUnit) Fault
 fault_units f (Err d) e h = let same : d ≡ e = cc in ap Err same
 fault_units f (Ok ps) e h = cc
 
-pub body_found : (page v front : List ℕ) → front ≡ [] → filter_on true front false 0 0 page ≡ Ok v → prepared page ≡ Ok (ended v)
-body_found page v front e h = ended_units (λ ps. bytes_of (kept_after false (drops_of true) (nested_from 0 ps))) (cut page) v (ap (λ t. filter_on true t false 0 0 page) (sym e) ∙ h)
+pub body_found : (page v front : List ℕ) → front ≡ [] → filter_on PageSetup front false 0 0 page ≡ Ok v → prepared page ≡ Ok (ended v)
+body_found page v front e h = ended_units (λ ps. bytes_of (kept_after false (drops_of PageSetup) (nested_from 0 ps))) (cut page) v (ap (λ t. filter_on PageSetup t false 0 0 page) (sym e) ∙ h)
 
-pub body_fault : (page front : List ℕ) (e : FaultyBlock) → front ≡ [] → filter_on true front false 0 0 page ≡ Err e → prepared page ≡ Err e
-body_fault page front d e h = fault_units (λ ps. bytes_of (kept_after false (drops_of true) (nested_from 0 ps))) (cut page) d (ap (λ t. filter_on true t false 0 0 page) (sym e) ∙ h)
+pub body_fault : (page front : List ℕ) (e : FaultyBlock) → front ≡ [] → filter_on PageSetup front false 0 0 page ≡ Err e → prepared page ≡ Err e
+body_fault page front d e h = fault_units (λ ps. bytes_of (kept_after false (drops_of PageSetup) (nested_from 0 ps))) (cut page) d (ap (λ t. filter_on PageSetup t false 0 0 page) (sym e) ∙ h)
 
 -- a header's part that is cut without a fault
-pub header_found : (front text : List ℕ) → cut text ≡ Ok (or_none (cut text)) → filter_on false front false 0 0 text ≡ Ok (front ++ bytes_of (kept drops_in_header (units_of text)))
-header_found front text c = ap (of_units (λ us. front ++ bytes_of (kept_after false (drops_of false) (nested us)))) c
+pub header_found : (front text : List ℕ) → cut text ≡ Ok (or_none (cut text)) → filter_on DocumentSetup front false 0 0 text ≡ Ok (front ++ bytes_of (kept drops_in_header (units_of text)))
+header_found front text c = ap (of_units (λ us. front ++ bytes_of (kept_after false (drops_of DocumentSetup) (nested us)))) c
 
 abbrev kept_or : Result (List ℕ) FaultyBlock → List ℕ
 kept_or (Ok x) = x

@@ -1,8 +1,8 @@
 -- What a unit is doesn't hang on what stands behind it.
-use Rattle.std.specs.Prelude.{Result, Ok, Err, Option, Some, None, codes}
+use Rattle.std.specs.Prelude.{Result, Ok, Err, Option, Some, None}
 use Rattle.std.specs.List.{list_all}
 use Rattle.std.specs.Char.{is_ascii_digit}
-use Rattle.std.proofs.Common.{Bool, true, false, cond, ltb, nat_eq, if◌then◌else◌, ◌≡◌, ℕ, zero, suc, ◌+◌, ◌-◌, ◌<◌, ◌≤◌, List, [], ◌∷◌, ◌++◌, length, take, drop, refl, ap, arith, length-drop, length-take, sym, ◌∙◌, subst, min}
+use Rattle.std.proofs.Common.{Bool, true, false, ltb, if◌then◌else◌, ◌≡◌, ℕ, ◌+◌, ◌-◌, ◌<◌, ◌≤◌, List, [], ◌∷◌, length, take, drop, refl, ap, arith, length-drop, length-take, sym, ◌∙◌}
 use Rattle.std.proofs.lemmas.List.{take-take}
 use Rattle.std.proofs.lemmas.Bool.{ltb-false, le-ltb, lt-ltb}
 use Rattle.profile.specs.Numbers.{number_of}
@@ -66,26 +66,26 @@ block-ok text content n (Ok m) p w = (m, refl, cc)
 pub unit_at-take : (text content : List ℕ) (n : ℕ) (p : TextUnit) (k : ℕ) → n ≤ length text → unit_at text content n ≡ Ok p → length p.bytes ≤ k → (n ≤ k) × (unit_at (take k text) content n ≡ Ok p)
 unit_at-take text content n p k fits e h = by_test (begins_block content)
     (λ is.
-        let w = block-ok text content n (data_len content (drop n text) (fields content)) p (rw is at e) in
-        let m : ℕ = w.0 in
-        let whole : p.bytes ≡ take (n + m) text = ap (λ q. q.bytes) w.2 in
-        let small : m ≤ length (drop n text) = data_len-within content (drop n text) (fields content) m w.1 in
-        let sum : n + m ≤ k = (let h = (rw whole at h) in let h = (rw length-take at h) in omega (arith, h, small, fits, length-drop n text)) in
-        let found : data_len content (drop n (take k text)) (fields content) ≡ Ok m =
-            ap (λ t. data_len content t (fields content)) (behind n k text (omega (arith, sum))) ∙ data_len-take content (drop n text) (fields content) m (k - n) w.1 (omega (arith, sum)) in
-        (omega (arith, sum), rw is (ap (block_with (take k text) content n) found ∙ ap (λ bs. Ok (record { content = content; bytes = bs; is_block = true })) (take-take (n + m) k text sum) ∙ ap Ok (sym w.2))))
+    let w = block-ok text content n (data_len content (drop n text) (fields content)) p (rw is at e) in
+    let m : ℕ = w.0 in
+    let whole : p.bytes ≡ take (n + m) text = ap (λ q. q.bytes) w.2 in
+    let small : m ≤ length (drop n text) = data_len-within content (drop n text) (fields content) m w.1 in
+    let sum : n + m ≤ k = (let h = (rw whole at h) in let h = (rw length-take at h) in omega (arith, h, small, fits, length-drop n text)) in
+    let found : data_len content (drop n (take k text)) (fields content) ≡ Ok m =
+    ap (λ t. data_len content t (fields content)) (behind n k text (omega (arith, sum))) ∙ data_len-take content (drop n text) (fields content) m (k - n) w.1 (omega (arith, sum)) in
+    (omega (arith, sum), rw is (ap (block_with (take k text) content n) found ∙ ap (λ bs. Ok (record { content = content; bytes = bs; is_block = true })) (take-take (n + m) k text sum) ∙ ap Ok (sym w.2))))
     (λ not.
-        let e = (rw not at e) in
-        let whole : p.bytes ≡ take n text = sym (ap bytes_or e) in
-        let less : n ≤ k = (let h = (rw whole at h) in let h = (rw length-take at h) in omega (arith, h, fits)) in
-        (less, rw not (ap (λ bs. Ok (record { content = content; bytes = bs; is_block = false })) (take-take n k text less) ∙ e)))
+    let e = (rw not at e) in
+    let whole : p.bytes ≡ take n text = sym (ap bytes_or e) in
+    let less : n ≤ k = (let h = (rw whole at h) in let h = (rw length-take at h) in omega (arith, h, fits)) in
+    (less, rw not (ap (λ bs. Ok (record { content = content; bytes = bs; is_block = false })) (take-take n k text less) ∙ e)))
 
 unit-at : (text : List ℕ) → first_unit text ≡ unit_at text (content_of text) (line_len text)
 unit-at text =
     let content : List ℕ = content_of text in
     let n : ℕ = line_len text in
     ap (λ b. if begins_block content then b else Ok (record { content = content; bytes = take n text; is_block = false }))
-      (block-same text n (data_len content (drop n text) (fields content)))
+    (block-same text n (data_len content (drop n text) (fields content)))
 
 -- a unit is the same where the text ends behind it
 pub first_unit-take : (text : List ℕ) (p : TextUnit) (k : ℕ) → first_unit text ≡ Ok p → length p.bytes ≤ k → first_unit (take k text) ≡ Ok p

@@ -1,8 +1,8 @@
 -- Laws of lines that begin data.
-use Rattle.std.specs.Prelude.{filter, not, nat_lt, codes, Result, Ok, Err}
-use Rattle.std.specs.List.{prefix_len, slice_split, starts_with, take_while, list_all}
+use Rattle.std.specs.Prelude.{not, codes}
+use Rattle.std.specs.List.{starts_with, list_all}
 use Rattle.std.specs.Str.{bytes_eq}
-use Rattle.std.proofs.Common.{Bool, true, false, ltb, nat_eq, ◌||◌, ◌&&◌, ◌==◌, ◌≡◌, ℕ, zero, suc, ◌+◌, ◌-◌, ◌<◌, ◌≤◌, List, [], ◌∷◌, ◌++◌, length, take, drop, refl, ap, arith, length-drop, length-take, length-append, sym, ◌∙◌, subst, append_assoc}
+use Rattle.std.proofs.Common.{Bool, true, false, nat_eq, ◌||◌, ◌&&◌, ◌==◌, ◌≡◌, ℕ, ◌+◌, List, [], ◌∷◌, ◌++◌, length, take, drop, refl, ap, arith, length-append, sym, ◌∙◌, subst, append_assoc}
 use Rattle.std.proofs.lemmas.Bool.{false≢true}
 use Rattle.std.proofs.lemmas.Slice.Eq.{bytes_eq-Decides}
 use Rattle.std.proofs.lemmas.List.{take-append-drop, take-take}
@@ -66,12 +66,12 @@ stripped content name t free h = comment_is content name t free (flipped (take (
 unbegun : (content start more : List ℕ) → starts_with nat_eq content start ≡ false → starts_with nat_eq content (start ++ more) ≡ false
 unbegun content start more h = by_test (starts_with nat_eq content (start ++ more))
     (λ is.
-        let n : ℕ = length start in
-        let m : ℕ = length (start ++ more) in
-        let front : start ++ more ≡ take m content = (bytes_eq-Decides (start ++ more) (take m content)).0 is in
-        let size = length-append start more in
-        let first : start ≡ take n content = sym (take-append_seam start more) ∙ ap (take n) front ∙ take-take n m content (omega (arith, size)) in
-        absurd (false≢true (sym h ∙ (bytes_eq-Decides start (take n content)).1 first)))
+    let n : ℕ = length start in
+    let m : ℕ = length (start ++ more) in
+    let front : start ++ more ≡ take m content = (bytes_eq-Decides (start ++ more) (take m content)).0 is in
+    let size = length-append start more in
+    let first : start ≡ take n content = sym (take-append_seam start more) ∙ ap (take n) front ∙ take-take n m content (omega (arith, size)) in
+    absurd (false≢true (sym h ∙ (bytes_eq-Decides start (take n content)).1 first)))
     (λ isnt. isnt)
 
 pub unheaded : (content : List ℕ) → starts_with nat_eq content (codes "%%Begin") ≡ false → begins_block content ≡ false

@@ -1,7 +1,7 @@
 -- Laws of lines.
-use Rattle.std.specs.Prelude.{Option, Some, None, not, MatchOption, slice_index, codes, option_map}
-use Rattle.std.specs.List.{starts_with, prefix_len, take_while}
-use Rattle.std.proofs.Common.{append_assoc, ◌++◌, Bool, true, false, ◌==◌, ◌&&◌, ◌||◌, nat_eq, if◌then◌else◌, cond, lit<, ◌≡◌, ℕ, zero, suc, ◌+◌, ◌-◌, ◌<◌, ◌≤◌, List, [], ◌∷◌, length, take, drop, refl, ap, arith, length-drop, sym, ◌∙◌, rules}
+use Rattle.std.specs.Prelude.{Option, Some, None, not, slice_index, option_map}
+use Rattle.std.specs.List.{starts_with, prefix_len}
+use Rattle.std.proofs.Common.{Bool, true, false, ◌==◌, ◌&&◌, nat_eq, if◌then◌else◌, lit<, ◌≡◌, ℕ, zero, suc, ◌+◌, ◌-◌, ◌<◌, ◌≤◌, List, [], ◌∷◌, length, take, drop, refl, ap, arith, length-drop, sym, ◌∙◌}
 use Rattle.std.proofs.lemmas.List.{take-take, drop-take}
 use Rattle.std.proofs.lemmas.List.Folds.{length-prefix_len}
 use Rattle.std.proofs.lemmas.List.Sums.{prefix_len-le-length}

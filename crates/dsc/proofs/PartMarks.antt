@@ -1,8 +1,8 @@
 -- What one pass notes are the parts.
-use Rattle.std.specs.Prelude.{Result, Ok, Err, Option, Some, None, nat_lt, not, map, codes}
-use Rattle.std.specs.List.{prefix_len, take_while, list_any}
+use Rattle.std.specs.Prelude.{Result, Ok, Err, None, not, codes}
+use Rattle.std.specs.List.{prefix_len, list_any}
 use Rattle.std.specs.Str.{bytes_eq}
-use Rattle.std.proofs.Common.{append_assoc, Bool, true, false, cond, ltb, nat_eq, ◌||◌, ◌&&◌, ◌==◌, if◌then◌else◌, ◌≡◌, ℕ, zero, suc, ◌+◌, ◌-◌, ◌<◌, ◌≤◌, List, [], ◌∷◌, ◌++◌, length, take, drop, refl, ap, arith, length-append, sym, ◌∙◌, subst}
+use Rattle.std.proofs.Common.{Bool, true, false, cond, ◌||◌, ◌&&◌, if◌then◌else◌, ◌≡◌, ℕ, suc, ◌+◌, List, [], ◌∷◌, length, take, drop, refl, ap, arith, length-append, sym, ◌∙◌}
 use Rattle.std.proofs.lemmas.List.Sums.{take_while-cons}
 use Rattle.std.proofs.lemmas.List.{length-map}
 use Rattle.std.proofs.lemmas.Slice.Eq.{bytes_eq-Decides}
@@ -50,7 +50,7 @@ exclusive u h =
     let named : bytes_eq (key u.unit.content) (codes "%%Page") ≡ true = or-none _ (and-first (has_key (codes "%%Page" ∷ []) u.unit.content) _ comment) in
     let same : key u.unit.content ≡ codes "%%Page" = (bytes_eq-Decides (key u.unit.content) (codes "%%Page")).0 named in
     and-false (is_outermost_line u) (has_key (codes "%%Trailer" ∷ codes "%%EOF" ∷ []) u.unit.content)
-      (ap (λ k. list_any (bytes_eq k) (codes "%%Trailer" ∷ codes "%%EOF" ∷ [])) same)
+    (ap (λ k. list_any (bytes_eq k) (codes "%%Trailer" ∷ codes "%%EOF" ∷ [])) same)
 
 starts-step : (pg : Bool) (at : ℕ) (a b : List ℕ) (c d : List ℕ) → a ≡ c → b ≡ d → (if pg then at ∷ a else b) ≡ (if pg then at ∷ c else d)
 starts-step true at a b c d e f = ap (λ t. at ∷ t) e
@@ -100,35 +100,35 @@ pub outside-starts : (at : ℕ) (us : List NestedUnit) → starts_from false at 
 outside-starts at [] = refl
 outside-starts at (u ∷ us) = by_test (begins_page u)
     (λ is.
-        let next : ℕ = at + length u.unit.bytes in
-        ap (λ t. if t then at ∷ starts_from true next us else starts_from false next us) is
-        ∙ ap (λ t. at ∷ t) (inside-starts next us)
-        ∙ ap (λ t. if t then at ∷ page_starts next (up_to begins_trailer us) else page_starts next (up_to begins_trailer us)) (sym is)
-        ∙ ap (λ k. page_starts k (u ∷ up_to begins_trailer us)) (let none = head-none u us is in let e : at ≡ at + head_len (u ∷ us) = omega (arith, none) in e)
-        ∙ ap (page_starts (at + head_len (u ∷ us))) (sym (body-all u us is)))
+    let next : ℕ = at + length u.unit.bytes in
+    ap (λ t. if t then at ∷ starts_from true next us else starts_from false next us) is
+    ∙ ap (λ t. at ∷ t) (inside-starts next us)
+    ∙ ap (λ t. if t then at ∷ page_starts next (up_to begins_trailer us) else page_starts next (up_to begins_trailer us)) (sym is)
+    ∙ ap (λ k. page_starts k (u ∷ up_to begins_trailer us)) (let none = head-none u us is in let e : at ≡ at + head_len (u ∷ us) = omega (arith, none) in e)
+    ∙ ap (page_starts (at + head_len (u ∷ us))) (sym (body-all u us is)))
     (λ isnt.
-        let next : ℕ = at + length u.unit.bytes in
-        ap (λ t. if t then at ∷ starts_from true next us else starts_from false next us) isnt
-        ∙ outside-starts next us
-        ∙ ap (λ k. page_starts k (body_from us)) (let more = head-more u us isnt in let e : next + head_len us ≡ at + head_len (u ∷ us) = omega (arith, more) in e)
-        ∙ ap (page_starts (at + head_len (u ∷ us))) (sym (body-more u us isnt)))
+    let next : ℕ = at + length u.unit.bytes in
+    ap (λ t. if t then at ∷ starts_from true next us else starts_from false next us) isnt
+    ∙ outside-starts next us
+    ∙ ap (λ k. page_starts k (body_from us)) (let more = head-more u us isnt in let e : next + head_len us ≡ at + head_len (u ∷ us) = omega (arith, more) in e)
+    ∙ ap (page_starts (at + head_len (u ∷ us))) (sym (body-more u us isnt)))
 
 pub outside-end : (at : ℕ) (us : List NestedUnit) → end_from false at us ≡ at + head_len us + length (bytes_of (body_from us))
 outside-end at [] = omega arith
 outside-end at (u ∷ us) = by_test (begins_page u)
     (λ is.
-        let next : ℕ = at + length u.unit.bytes in
-        let l = length-append u.unit.bytes (bytes_of (up_to begins_trailer us)) in
-        let none = head-none u us is in
-        let all : length (bytes_of (body_from (u ∷ us))) ≡ length u.unit.bytes + length (bytes_of (up_to begins_trailer us)) = ap (λ vs. length (bytes_of vs)) (body-all u us is) ∙ l in
-        let i = inside-end next us in
-        ap (λ t. end_from t next us) is ∙ (omega (arith, i, none, all)))
+    let next : ℕ = at + length u.unit.bytes in
+    let l = length-append u.unit.bytes (bytes_of (up_to begins_trailer us)) in
+    let none = head-none u us is in
+    let all : length (bytes_of (body_from (u ∷ us))) ≡ length u.unit.bytes + length (bytes_of (up_to begins_trailer us)) = ap (λ vs. length (bytes_of vs)) (body-all u us is) ∙ l in
+    let i = inside-end next us in
+    ap (λ t. end_from t next us) is ∙ (omega (arith, i, none, all)))
     (λ isnt.
-        let next : ℕ = at + length u.unit.bytes in
-        let i = outside-end next us in
-        let more = head-more u us isnt in
-        let same : length (bytes_of (body_from (u ∷ us))) ≡ length (bytes_of (body_from us)) = ap (λ vs. length (bytes_of vs)) (body-more u us isnt) in
-        ap (λ t. end_from t next us) isnt ∙ (omega (arith, i, more, same)))
+    let next : ℕ = at + length u.unit.bytes in
+    let i = outside-end next us in
+    let more = head-more u us isnt in
+    let same : length (bytes_of (body_from (u ∷ us))) ≡ length (bytes_of (body_from us)) = ap (λ vs. length (bytes_of vs)) (body-more u us isnt) in
+    ap (λ t. end_from t next us) isnt ∙ (omega (arith, i, more, same)))
 
 -- What a whole pass found.
 
@@ -142,10 +142,11 @@ scanned-as most text m (Err e) h = cc
 scanned-as most text m (Ok ps) h =
     let same : marks_on most [] None 0 (nested_from 0 ps) ≡ m = cc in
     let s = outside-starts 0 (nested_from 0 ps) in
-    let e = outside-end 0 (nested_from 0 ps) in
-    (refl,
+    let e = outside-end 0 (nested_from 0 ps) in (
+      refl,
       sym (ap (λ k. k.starts) same) ∙ ap (take most) (s ∙ ap (λ k. page_starts k (body_from (nested_from 0 ps))) (let z : 0 + head_len (nested_from 0 ps) ≡ head_len (nested_from 0 ps) = omega arith in z)),
-      sym (ap (λ k. k.stop) same) ∙ (omega (arith, e)))
+      sym (ap (λ k. k.stop) same) ∙ (omega (arith, e)),
+    )
 
 pub scanned : (most : ℕ) (text : List ℕ) (m : Marks) → scan_on most [] None 0 0 text ≡ Ok m
     → (cut text ≡ Ok (or_none (cut text))) × (m.starts ≡ take most (starts_of (units_of text))) × (m.stop ≡ end_of (units_of text))

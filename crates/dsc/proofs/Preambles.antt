@@ -2,7 +2,7 @@
 use Rattle.std.specs.Prelude.{Result, Ok, Err, not, codes, decimal}
 use Rattle.std.specs.List.{prefix_len, starts_with, take_while, list_any}
 use Rattle.std.specs.Str.{bytes_eq}
-use Rattle.std.proofs.Common.{Bool, true, false, cond, nat_eq, if◌then◌else◌, ◌&&◌, ◌||◌, ◌==◌, ◌≡◌, ℕ, zero, suc, ◌+◌, ◌-◌, ◌<◌, ◌≤◌, List, [], ◌∷◌, ◌++◌, length, take, drop, get_or, refl, ap, arith, length-append, length-take, sym, ◌∙◌, subst}
+use Rattle.std.proofs.Common.{Bool, true, false, cond, nat_eq, if◌then◌else◌, ◌&&◌, ◌||◌, ◌==◌, ◌≡◌, ℕ, suc, ◌+◌, ◌-◌, ◌<◌, ◌≤◌, List, [], ◌∷◌, ◌++◌, length, take, drop, get_or, refl, ap, arith, length-append, length-take, sym, ◌∙◌, subst}
 use Rattle.std.proofs.lemmas.List.{take-append-drop}
 use Rattle.std.proofs.lemmas.List.Sums.{take_while-cons}
 use Rattle.std.proofs.lemmas.Slice.Eq.{bytes_eq-Decides}
@@ -13,7 +13,6 @@ use Rattle.profile.specs.Parts.{NestedUnit, depth_after, nested_from, nested, be
 use Rattle.profile.specs.Filters.{kept_after, kept, drops_in_header, ended, with_count, preamble_text, continues}
 use Rattle.dsc.specs.Units.{or_none, units_of, BeginsWith}
 use Rattle.dsc.specs.Marks.{starts_of, end_of}
-use Rattle.dsc.proofs.Cases.{by_test}
 use Rattle.dsc.proofs.LineLengths.{line_len-within}
 use Rattle.dsc.proofs.Rows.{joined, units-whole, units-alone, units-cut}
 use Rattle.dsc.proofs.Alone.{cut-begins, nested-take, nested-bytes, begins-take}
@@ -43,7 +42,7 @@ opening_line content bytes = record { content = content; bytes = bytes; is_block
 no_block : (content : List ℕ) → Opening content → begins_block content ≡ false
 no_block content w =
     ap (λ k. (list_any (bytes_eq k) (codes "%%BeginData" ∷ []) && starts_with nat_eq content (codes "%%BeginData" ++ 58 ∷ []))
-        || (list_any (bytes_eq k) (codes "%%BeginBinary" ∷ []) && starts_with nat_eq content (codes "%%BeginBinary" ++ 58 ∷ []))) w.1
+    || (list_any (bytes_eq k) (codes "%%BeginBinary" ∷ []) && starts_with nat_eq content (codes "%%BeginBinary" ++ 58 ∷ []))) w.1
 
 same_depth : (content bytes : List ℕ) → Opening content → depth_after 0 (opening_line content bytes) ≡ 0
 same_depth content bytes w =
@@ -55,7 +54,7 @@ no_page content bytes w = ap (λ k. list_any (bytes_eq k) (codes "%%Page" ∷ []
 not_dropped : (content : List ℕ) → Opening content → drops_in_header content ≡ false
 not_dropped content w =
     ap (λ k. list_any (bytes_eq k)
-        (codes "%%Pages" ∷ codes "%%PageOrder" ∷ codes "%%BoundingBox" ∷ codes "%%HiResBoundingBox" ∷ codes "%%DocumentMedia" ∷ codes "%%Orientation" ∷ [])) w.1
+    (codes "%%Pages" ∷ codes "%%PageOrder" ∷ codes "%%BoundingBox" ∷ codes "%%HiResBoundingBox" ∷ codes "%%DocumentMedia" ∷ codes "%%Orientation" ∷ [])) w.1
 
 first_kept : (content bytes : List ℕ) (us : List NestedUnit) → Opening content
     → kept drops_in_header (record { depth = 0; unit = opening_line content bytes } ∷ us) ≡ record { depth = 0; unit = opening_line content bytes } ∷ kept drops_in_header us
@@ -83,11 +82,12 @@ opened_by text (q ∷ qs) s h =
     let same : q ≡ p = ap (unit_or p) (sym h.1 ∙ found) in
     let fits : n ≤ length text = line_len-within text in
     let size : length (take n text) ≡ n = (let l = length-take n text in omega (arith, l, fits)) in
-    let long : length q.bytes ≡ n = ap (λ u. length u.bytes) same ∙ size in
-    (qs,
+    let long : length q.bytes ≡ n = ap (λ u. length u.bytes) same ∙ size in (
+      qs,
       ap (λ u. record { depth = 0; unit = u } ∷ nested_from (depth_after 0 u) qs) same
-      ∙ ap (λ d. record { depth = 0; unit = p } ∷ nested_from d qs) (same_depth (content_of text) (take n text) w),
-      subst (λ k. BeginsWith qs (drop k text) []) long h.2)
+          ∙ ap (λ d. record { depth = 0; unit = p } ∷ nested_from d qs) (same_depth (content_of text) (take n text) w),
+      subst (λ k. BeginsWith qs (drop k text) []) long h.2,
+    )
 
 -- what the code finds of a preamble whose first page begins at this byte
 abbrev pub PreambleFound : List ℕ → ℕ → ℕ → Type 0
@@ -112,25 +112,28 @@ preamble_found text start sheets s c e =
     let hs : List TextUnit = take k qs in
     let b = begins-take k qs (drop n text) [] o.2 in
     let head : preamble us ≡ u ∷ nested hs =
-        ap preamble o.1 ∙ before-cons begins_page u (nested qs) ∙ ap (λ t. cond t [] (u ∷ up_to begins_page (nested qs))) (no_page content (take n text) w)
-        ∙ ap (λ vs. u ∷ vs) (nested-take k 0 qs) in
+    ap preamble o.1 ∙ before-cons begins_page u (nested qs) ∙ ap (λ t. cond t [] (u ∷ up_to begins_page (nested qs))) (no_page content (take n text) w)
+    ∙ ap (λ vs. u ∷ vs) (nested-take k 0 qs) in
     let fits : n ≤ length text = line_len-within text in
     let first : length (take n text) ≡ n = (let l = length-take n text in omega (arith, l, fits)) in
     let size : start ≡ n + length (joined hs) =
-        (let l = length-append (take n text) (bytes_of (nested hs)) in
-         let bytes : length (bytes_of (preamble us)) ≡ length (take n text ++ bytes_of (nested hs)) = ap (λ vs. length (bytes_of vs)) head in
-         let same : length (bytes_of (nested hs)) ≡ length (joined hs) = ap length (nested-bytes 0 hs) in
-         omega (arith, e, bytes, l, same, first)) in
+    (let l = length-append (take n text) (bytes_of (nested hs)) in
+    let bytes : length (bytes_of (preamble us)) ≡ length (take n text ++ bytes_of (nested hs)) = ap (λ vs. length (bytes_of vs)) head in
+    let same : length (bytes_of (nested hs)) ≡ length (joined hs) = ap length (nested-bytes 0 hs) in
+    omega (arith, e, bytes, l, same, first)) in
     let whole : drop n text ≡ joined hs ++ b.0 = units-whole hs (drop n text) b.0 b.1 in
     let more = ap length whole ∙ length-append (joined hs) b.0 in
     let left : start - n ≡ length (joined hs) = omega (arith, size) in
     let rest : take (start - n) (drop n text) ≡ joined hs = ap (λ j. take j (drop n text)) left ∙ ap (take (length (joined hs))) whole ∙ take-append_seam (joined hs) b.0 in
     let found : cut (take (start - n) (drop n text)) ≡ Ok hs = ap cut rest ∙ units-cut hs 0 (joined hs) (units-alone hs (drop n text) b.0 b.1) in
-    let units : units_of (take (start - n) (drop n text)) ≡ nested hs = ap (λ r. nested (or_none r)) found in
-    (omega (arith, size), omega (arith, left, more), found ∙ ap (λ r. Ok (or_none r)) (sym found),
+    let units : units_of (take (start - n) (drop n text)) ≡ nested hs = ap (λ r. nested (or_none r)) found in (
+      omega (arith, size),
+      omega (arith, left, more),
+      found ∙ ap (λ r. Ok (or_none r)) (sym found),
       ap (λ vs. ended ((take n text ++ line (codes "%%Pages: " ++ decimal sheets)) ++ bytes_of (kept drops_in_header vs))) units
-      ∙ ap (λ vs. ended (with_count sheets vs)) (sym (first_kept content (take n text) (nested hs) w))
-      ∙ ap (λ vs. ended (with_count sheets (kept drops_in_header vs))) (sym head))
+          ∙ ap (λ vs. ended (with_count sheets vs)) (sym (first_kept content (take n text) (nested hs) w))
+          ∙ ap (λ vs. ended (with_count sheets (kept drops_in_header vs))) (sym head),
+    )
 
 pub preamble_taken : (text starts : List ℕ) (sheets : ℕ) → starts_with nat_eq text (codes "%!") ≡ true → cut text ≡ Ok (or_none (cut text)) → starts ≡ starts_of (units_of text)
     → 0 < length starts → PreambleFound text (get_or starts 0 0) sheets

@@ -1,7 +1,7 @@
 -- What is read of a document.
 use Rattle.std.specs.Prelude.{All, IfSome, Result, Ok, Err, Option, Some, None, nat_lt, not, codes}
 use Rattle.std.specs.List.{starts_with}
-use Rattle.std.proofs.Common.{append-nil, Bool, true, false, ltb, nat_eq, ◌==◌, ◌≡◌, ℕ, zero, suc, ◌+◌, ◌-◌, ◌<◌, ◌≤◌, List, [], ◌∷◌, ◌++◌, length, take, refl, ap, arith, length-take, sym, ◌∙◌, min, subst}
+use Rattle.std.proofs.Common.{append-nil, Bool, true, false, nat_eq, ◌==◌, ◌≡◌, ℕ, zero, suc, ◌<◌, ◌≤◌, List, [], length, take, refl, ap, arith, length-take, sym, ◌∙◌, min, subst}
 use Rattle.std.proofs.lemmas.Bool.{le-ltb, lt-ltb, eqb-true}
 use Rattle.std.proofs.lemmas.List.{take_all}
 use Rattle.profile.specs.Units as block

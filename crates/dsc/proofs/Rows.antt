@@ -1,15 +1,12 @@
 -- The cut and the relation of units, and units that are cut anew.
-use Rattle.std.specs.Prelude.{Result, Ok, Err, map, flat_map, All, not, drop}
-use Rattle.std.specs.List.{prefix_len, take_while}
-use Rattle.std.proofs.Common.{append_assoc, Bool, true, false, cond, ◌&&◌, ◌==◌, ◌≡◌, ℕ, zero, suc, ◌+◌, ◌-◌, ◌<◌, ◌≤◌, List, [], ◌∷◌, ◌++◌, length, take, refl, ap, arith, length-drop, length-take, length-append, sym, ◌∙◌, subst, min}
-use Rattle.std.proofs.lemmas.List.{take-take, take-append-drop, drop-drop}
+use Rattle.std.specs.Prelude.{Result, Ok, Err, flat_map, drop}
+use Rattle.std.proofs.Common.{append_assoc, Bool, true, false, cond, ◌≡◌, ℕ, zero, suc, ◌+◌, ◌<◌, ◌≤◌, List, [], ◌∷◌, ◌++◌, length, take, refl, ap, arith, length-append, sym, ◌∙◌, subst}
+use Rattle.std.proofs.lemmas.List.{take-append-drop}
 use Rattle.std.proofs.Math.Seq.{take-append_seam, drop-append_seam}
 use Rattle.profile.specs.Units.{TextUnit, BlockFault, content_of, line_len, begins_block, fields, data_len, block, first_unit, ◌>>=◌}
 use Rattle.dsc.specs.Units.{BeginsWith, faulty_block}
-use Rattle.dsc.proofs.Cases.{by_test}
-use Rattle.dsc.proofs.LineLengths.{line_len-pos}
 use Rattle.dsc.proofs.Fronts.{first_unit-take}
-use Rattle.dsc.proofs.Cut.{cut_at, cut_step, cut_fault, unit_len-pos, unit_len-le}
+use Rattle.dsc.proofs.Cut.{cut_at, cut_step, cut_fault, unit_len-pos}
 
 abbrev pub joined : List TextUnit → List ℕ
 joined ps = flat_map (λ p. p.bytes) ps
@@ -29,7 +26,6 @@ block-front text n (Err e) p w = cc
 block-front text n (Ok k) p w =
     let same : p.bytes ≡ take (n + k) text = sym (ap bytes_or w) in
     rw same (sym (taken (n + k) text))
-
 
 chosen-front : (c : Bool) (text content : List ℕ) (n : ℕ) (r : Result ℕ BlockFault) (p : TextUnit)
     → cond c (block text n r) (Ok (record { content = content; bytes = take n text; is_block = false })) ≡ Ok p → p.bytes ≡ take (length p.bytes) text

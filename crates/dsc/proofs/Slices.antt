@@ -1,5 +1,5 @@
 -- A page is a slice of the text.
-use Rattle.std.specs.Prelude.{not, map, slice_index_or, slice_range}
+use Rattle.std.specs.Prelude.{not, map}
 use Rattle.std.specs.List.{prefix_len}
 use Rattle.std.proofs.Common.{append_assoc, Bool, true, false, cond, ◌≡◌, ℕ, zero, suc, ◌+◌, ◌-◌, ◌<◌, ◌≤◌, List, [], ◌∷◌, ◌++◌, length, take, drop, get_or, refl, ap, arith, length-append, if◌then◌else◌, sym, ◌∙◌, subst}
 use Rattle.std.proofs.lemmas.List.{drop-drop, take-append-drop}
@@ -10,7 +10,7 @@ use Rattle.profile.specs.Parts.{NestedUnit, begins_page, begins_trailer, up_to, 
 use Rattle.dsc.specs.Units.{or_none, units_of}
 use Rattle.dsc.specs.Marks.{page_starts, starts_of, end_of}
 use Rattle.dsc.proofs.Cases.{by_test}
-use Rattle.std.specs.Prelude.{Result, Ok, Err}
+use Rattle.std.specs.Prelude.{Ok}
 use Rattle.std.proofs.Common.{append-nil}
 use Rattle.dsc.proofs.Rows.{joined, units-whole}
 use Rattle.dsc.proofs.Alone.{cut-begins, nested-bytes}
@@ -21,19 +21,19 @@ first_start : (at : ℕ) (us : List NestedUnit) → get_or (page_starts at us) 0
 first_start at [] = refl
 first_start at (u ∷ us) = by_test (begins_page u)
     (λ is.
-        let none : bytes_of (up_to begins_page (u ∷ us)) ≡ [] = ap bytes_of (before-cons begins_page u us ∙ ap (λ t. cond t [] (u ∷ up_to begins_page us)) is) in
-        ap (λ t. get_or (if t then at ∷ page_starts (at + length u.unit.bytes) us else page_starts (at + length u.unit.bytes) us) 0 (at + length (bytes_of (u ∷ us)))) is
-        ∙ (let e : at ≡ at + length (bytes_of (up_to begins_page (u ∷ us))) = (let z : length (bytes_of (up_to begins_page (u ∷ us))) ≡ 0 = ap length none in omega (arith, z)) in e))
+    let none : bytes_of (up_to begins_page (u ∷ us)) ≡ [] = ap bytes_of (before-cons begins_page u us ∙ ap (λ t. cond t [] (u ∷ up_to begins_page us)) is) in
+    ap (λ t. get_or (if t then at ∷ page_starts (at + length u.unit.bytes) us else page_starts (at + length u.unit.bytes) us) 0 (at + length (bytes_of (u ∷ us)))) is
+    ∙ (let e : at ≡ at + length (bytes_of (up_to begins_page (u ∷ us))) = (let z : length (bytes_of (up_to begins_page (u ∷ us))) ≡ 0 = ap length none in omega (arith, z)) in e))
     (λ isnt.
-        let next : ℕ = at + length u.unit.bytes in
-        let some : bytes_of (up_to begins_page (u ∷ us)) ≡ u.unit.bytes ++ bytes_of (up_to begins_page us) = ap bytes_of (before-cons begins_page u us ∙ ap (λ t. cond t [] (u ∷ up_to begins_page us)) isnt) in
-        let l = length-append u.unit.bytes (bytes_of us) in
-        let m = length-append u.unit.bytes (bytes_of (up_to begins_page us)) in
-        let i = first_start next us in
-        ap (λ t. get_or (if t then at ∷ page_starts next us else page_starts next us) 0 (at + length (bytes_of (u ∷ us)))) isnt
-        ∙ ap (get_or (page_starts next us) 0) (let e : at + length (bytes_of (u ∷ us)) ≡ next + length (bytes_of us) = omega (arith, l) in e)
-        ∙ i ∙ (let z : length (bytes_of (up_to begins_page (u ∷ us))) ≡ length (u.unit.bytes ++ bytes_of (up_to begins_page us)) = ap length some in
-            let e : next + length (bytes_of (up_to begins_page us)) ≡ at + length (bytes_of (up_to begins_page (u ∷ us))) = omega (arith, z, m) in e))
+    let next : ℕ = at + length u.unit.bytes in
+    let some : bytes_of (up_to begins_page (u ∷ us)) ≡ u.unit.bytes ++ bytes_of (up_to begins_page us) = ap bytes_of (before-cons begins_page u us ∙ ap (λ t. cond t [] (u ∷ up_to begins_page us)) isnt) in
+    let l = length-append u.unit.bytes (bytes_of us) in
+    let m = length-append u.unit.bytes (bytes_of (up_to begins_page us)) in
+    let i = first_start next us in
+    ap (λ t. get_or (if t then at ∷ page_starts next us else page_starts next us) 0 (at + length (bytes_of (u ∷ us)))) isnt
+    ∙ ap (get_or (page_starts next us) 0) (let e : at + length (bytes_of (u ∷ us)) ≡ next + length (bytes_of us) = omega (arith, l) in e)
+    ∙ i ∙ (let z : length (bytes_of (up_to begins_page (u ∷ us))) ≡ length (u.unit.bytes ++ bytes_of (up_to begins_page us)) = ap length some in
+    let e : next + length (bytes_of (up_to begins_page us)) ≡ at + length (bytes_of (up_to begins_page (u ∷ us))) = omega (arith, z, m) in e))
 
 -- the p-th slice, starting_at where it begins to where the next one does, or all end
 abbrev pub slice_at : List ℕ → List ℕ → ℕ → ℕ → List ℕ
@@ -50,8 +50,8 @@ first_page text at stop u us post e s =
     let next : ℕ = at + length u.unit.bytes in
     let halves : bytes_of us ≡ bytes_of (up_to begins_page us) ++ bytes_of (starting_at begins_page us) = ap bytes_of (sym (take-append-drop n us)) ∙ flat_map-append (λ v. v.unit.bytes) (take n us) (drop n us) in
     let whole : drop at text ≡ bytes_of (u ∷ up_to begins_page us) ++ (bytes_of (starting_at begins_page us) ++ post) =
-        e ∙ ap (λ t. (u.unit.bytes ++ t) ++ post) halves ∙ ap (λ t. t ++ post) (sym (append_assoc u.unit.bytes (bytes_of (up_to begins_page us)) (bytes_of (starting_at begins_page us))))
-        ∙ append_assoc (u.unit.bytes ++ bytes_of (up_to begins_page us)) (bytes_of (starting_at begins_page us)) post in
+    e ∙ ap (λ t. (u.unit.bytes ++ t) ++ post) halves ∙ ap (λ t. t ++ post) (sym (append_assoc u.unit.bytes (bytes_of (up_to begins_page us)) (bytes_of (starting_at begins_page us))))
+    ∙ append_assoc (u.unit.bytes ++ bytes_of (up_to begins_page us)) (bytes_of (starting_at begins_page us)) post in
     let l = length-append u.unit.bytes (bytes_of (up_to begins_page us)) in
     let ends : get_or (page_starts next us) 0 stop ≡ next + length (bytes_of (up_to begins_page us)) = ap (get_or (page_starts next us) 0) s ∙ first_start next us in
     let size : get_or (page_starts next us) 0 stop - at ≡ length (bytes_of (u ∷ up_to begins_page us)) = omega (arith, ends, l) in
@@ -65,33 +65,33 @@ page_slice text at stop (u ∷ us) post zero e s h =
     let l = length-append u.unit.bytes (bytes_of us) in
     by_test (begins_page u)
     (λ is.
-        ap (λ t. slice_at text (if t then at ∷ page_starts (at + length u.unit.bytes) us else page_starts (at + length u.unit.bytes) us) stop zero) is
-        ∙ first_page text at stop u us post e (omega (arith, s, l))
-        ∙ ap (λ t. bytes_of (get_or (if t then (u ∷ up_to begins_page us) ∷ split_pages us else split_pages us) zero [])) (sym is))
+    ap (λ t. slice_at text (if t then at ∷ page_starts (at + length u.unit.bytes) us else page_starts (at + length u.unit.bytes) us) stop zero) is
+    ∙ first_page text at stop u us post e (omega (arith, s, l))
+    ∙ ap (λ t. bytes_of (get_or (if t then (u ∷ up_to begins_page us) ∷ split_pages us else split_pages us) zero [])) (sym is))
     (λ isnt.
-        let same : length (page_starts at (u ∷ us)) ≡ length (page_starts (at + length u.unit.bytes) us) = ap (λ t. length (if t then at ∷ page_starts (at + length u.unit.bytes) us else page_starts (at + length u.unit.bytes) us)) isnt in
-        ap (λ t. slice_at text (if t then at ∷ page_starts (at + length u.unit.bytes) us else page_starts (at + length u.unit.bytes) us) stop zero) isnt
-        ∙ page_slice text (at + length u.unit.bytes) stop us post zero (behind_unit text at u us post e) (omega (arith, s, l)) (omega (arith, h, same))
-        ∙ ap (λ t. bytes_of (get_or (if t then (u ∷ up_to begins_page us) ∷ split_pages us else split_pages us) zero [])) (sym isnt))
+    let same : length (page_starts at (u ∷ us)) ≡ length (page_starts (at + length u.unit.bytes) us) = ap (λ t. length (if t then at ∷ page_starts (at + length u.unit.bytes) us else page_starts (at + length u.unit.bytes) us)) isnt in
+    ap (λ t. slice_at text (if t then at ∷ page_starts (at + length u.unit.bytes) us else page_starts (at + length u.unit.bytes) us) stop zero) isnt
+    ∙ page_slice text (at + length u.unit.bytes) stop us post zero (behind_unit text at u us post e) (omega (arith, s, l)) (omega (arith, h, same))
+    ∙ ap (λ t. bytes_of (get_or (if t then (u ∷ up_to begins_page us) ∷ split_pages us else split_pages us) zero [])) (sym isnt))
 page_slice text at stop (u ∷ us) post (suc q) e s h =
     let l = length-append u.unit.bytes (bytes_of us) in
     by_test (begins_page u)
     (λ is.
-        let same : length (page_starts at (u ∷ us)) ≡ suc (length (page_starts (at + length u.unit.bytes) us)) = ap (λ t. length (if t then at ∷ page_starts (at + length u.unit.bytes) us else page_starts (at + length u.unit.bytes) us)) is in
-        ap (λ t. slice_at text (if t then at ∷ page_starts (at + length u.unit.bytes) us else page_starts (at + length u.unit.bytes) us) stop (suc q)) is
-        ∙ page_slice text (at + length u.unit.bytes) stop us post q (behind_unit text at u us post e) (omega (arith, s, l)) (omega (arith, h, same))
-        ∙ ap (λ t. bytes_of (get_or (if t then (u ∷ up_to begins_page us) ∷ split_pages us else split_pages us) (suc q) [])) (sym is))
+    let same : length (page_starts at (u ∷ us)) ≡ suc (length (page_starts (at + length u.unit.bytes) us)) = ap (λ t. length (if t then at ∷ page_starts (at + length u.unit.bytes) us else page_starts (at + length u.unit.bytes) us)) is in
+    ap (λ t. slice_at text (if t then at ∷ page_starts (at + length u.unit.bytes) us else page_starts (at + length u.unit.bytes) us) stop (suc q)) is
+    ∙ page_slice text (at + length u.unit.bytes) stop us post q (behind_unit text at u us post e) (omega (arith, s, l)) (omega (arith, h, same))
+    ∙ ap (λ t. bytes_of (get_or (if t then (u ∷ up_to begins_page us) ∷ split_pages us else split_pages us) (suc q) [])) (sym is))
     (λ isnt.
-        let same : length (page_starts at (u ∷ us)) ≡ length (page_starts (at + length u.unit.bytes) us) = ap (λ t. length (if t then at ∷ page_starts (at + length u.unit.bytes) us else page_starts (at + length u.unit.bytes) us)) isnt in
-        ap (λ t. slice_at text (if t then at ∷ page_starts (at + length u.unit.bytes) us else page_starts (at + length u.unit.bytes) us) stop (suc q)) isnt
-        ∙ page_slice text (at + length u.unit.bytes) stop us post (suc q) (behind_unit text at u us post e) (omega (arith, s, l)) (omega (arith, h, same))
-        ∙ ap (λ t. bytes_of (get_or (if t then (u ∷ up_to begins_page us) ∷ split_pages us else split_pages us) (suc q) [])) (sym isnt))
+    let same : length (page_starts at (u ∷ us)) ≡ length (page_starts (at + length u.unit.bytes) us) = ap (λ t. length (if t then at ∷ page_starts (at + length u.unit.bytes) us else page_starts (at + length u.unit.bytes) us)) isnt in
+    ap (λ t. slice_at text (if t then at ∷ page_starts (at + length u.unit.bytes) us else page_starts (at + length u.unit.bytes) us) stop (suc q)) isnt
+    ∙ page_slice text (at + length u.unit.bytes) stop us post (suc q) (behind_unit text at u us post e) (omega (arith, s, l)) (omega (arith, h, same))
+    ∙ ap (λ t. bytes_of (get_or (if t then (u ∷ up_to begins_page us) ∷ split_pages us else split_pages us) (suc q) [])) (sym isnt))
 
 head-within : (us : List NestedUnit) → length (bytes_of (up_to begins_page us)) ≤ length (bytes_of us)
 head-within us =
     let n : ℕ = prefix_len (λ v. not (begins_page v)) us in
     let halves : length (bytes_of us) ≡ length (bytes_of (take n us) ++ bytes_of (drop n us)) =
-        ap (λ vs. length (bytes_of vs)) (sym (take-append-drop n us)) ∙ ap length (flat_map-append (λ v. v.unit.bytes) (take n us) (drop n us)) in
+    ap (λ vs. length (bytes_of vs)) (sym (take-append-drop n us)) ∙ ap length (flat_map-append (λ v. v.unit.bytes) (take n us) (drop n us)) in
     let l = length-append (bytes_of (take n us)) (bytes_of (drop n us)) in
     omega (arith, halves, l)
 
@@ -113,25 +113,25 @@ page_bounds at stop (u ∷ us) zero s h =
     by_test (begins_page u)
     (λ is. subst (λ xs. Within xs at stop zero) (sym (ap (λ t. if t then at ∷ page_starts next us else page_starts next us) is)) (first_bounds at stop next us t (omega arith)))
     (λ isnt.
-        let open_up : page_starts at (u ∷ us) ≡ page_starts next us = ap (λ t. if t then at ∷ page_starts next us else page_starts next us) isnt in
-        let size : length (page_starts at (u ∷ us)) ≡ length (page_starts next us) = ap length open_up in
-        let w = page_bounds next stop us zero t (omega (arith, h, size)) in
-        subst (λ xs. Within xs at stop zero) (sym open_up) (omega (arith, w.0), w.1, w.2))
+    let open_up : page_starts at (u ∷ us) ≡ page_starts next us = ap (λ t. if t then at ∷ page_starts next us else page_starts next us) isnt in
+    let size : length (page_starts at (u ∷ us)) ≡ length (page_starts next us) = ap length open_up in
+    let w = page_bounds next stop us zero t (omega (arith, h, size)) in
+    subst (λ xs. Within xs at stop zero) (sym open_up) (omega (arith, w.0), w.1, w.2))
 page_bounds at stop (u ∷ us) (suc q) s h =
     let next : ℕ = at + length u.unit.bytes in
     let l = length-append u.unit.bytes (bytes_of us) in
     let t : stop ≡ next + length (bytes_of us) = omega (arith, s, l) in
     by_test (begins_page u)
     (λ is.
-        let open_up : page_starts at (u ∷ us) ≡ at ∷ page_starts next us = ap (λ t. if t then at ∷ page_starts next us else page_starts next us) is in
-        let size : length (page_starts at (u ∷ us)) ≡ suc (length (page_starts next us)) = ap length open_up in
-        let w = page_bounds next stop us q t (omega (arith, h, size)) in
-        subst (λ xs. Within xs at stop (suc q)) (sym open_up) (omega (arith, w.0), w.1, w.2))
+    let open_up : page_starts at (u ∷ us) ≡ at ∷ page_starts next us = ap (λ t. if t then at ∷ page_starts next us else page_starts next us) is in
+    let size : length (page_starts at (u ∷ us)) ≡ suc (length (page_starts next us)) = ap length open_up in
+    let w = page_bounds next stop us q t (omega (arith, h, size)) in
+    subst (λ xs. Within xs at stop (suc q)) (sym open_up) (omega (arith, w.0), w.1, w.2))
     (λ isnt.
-        let open_up : page_starts at (u ∷ us) ≡ page_starts next us = ap (λ t. if t then at ∷ page_starts next us else page_starts next us) isnt in
-        let size : length (page_starts at (u ∷ us)) ≡ length (page_starts next us) = ap length open_up in
-        let w = page_bounds next stop us (suc q) t (omega (arith, h, size)) in
-        subst (λ xs. Within xs at stop (suc q)) (sym open_up) (omega (arith, w.0), w.1, w.2))
+    let open_up : page_starts at (u ∷ us) ≡ page_starts next us = ap (λ t. if t then at ∷ page_starts next us else page_starts next us) isnt in
+    let size : length (page_starts at (u ∷ us)) ≡ length (page_starts next us) = ap length open_up in
+    let w = page_bounds next stop us (suc q) t (omega (arith, h, size)) in
+    subst (λ xs. Within xs at stop (suc q)) (sym open_up) (omega (arith, w.0), w.1, w.2))
 
 -- the parts of a text that is cut
 pub parts_whole : (us : List NestedUnit) → bytes_of us ≡ bytes_of (preamble us) ++ (bytes_of (page_run us) ++ bytes_of (trailer us))
@@ -150,8 +150,8 @@ from_page : (p q : NestedUnit → Bool) (us : List NestedUnit) → up_to p (up_t
 from_page p q [] = refl
 from_page p q (u ∷ us) = by_test (p u)
     (λ is.
-        ap (λ vs. up_to p (up_to q vs)) (from-cons p u us ∙ ap (λ t. cond t (u ∷ us) (starting_at p us)) is)
-        ∙ ap (up_to p) (before-cons q u us) ∙ front (q u) is)
+    ap (λ vs. up_to p (up_to q vs)) (from-cons p u us ∙ ap (λ t. cond t (u ∷ us) (starting_at p us)) is)
+    ∙ ap (up_to p) (before-cons q u us) ∙ front (q u) is)
     (λ isnt. ap (λ vs. up_to p (up_to q vs)) (from-cons p u us ∙ ap (λ t. cond t (u ∷ us) (starting_at p us)) isnt) ∙ from_page p q us)
   where
     front : (t : Bool) → p u ≡ true → up_to p (cond t [] (u ∷ up_to q us)) ≡ []
@@ -184,9 +184,12 @@ page_found text starts stop p c s t h =
     let one : suc p ≡ p + 1 = omega arith in
     let same : get_or (starts_of us) (suc p) (end_of us) ≡ get_or starts (p + 1) stop = ap (λ xs. get_or xs (suc p) (end_of us)) (sym s) ∙ ap (λ k. get_or starts (suc p) k) (sym t) ∙ ap (λ k. get_or starts k stop) one in
     let first : get_or (starts_of us) p 0 ≡ get_or starts p 0 = ap (λ xs. get_or xs p 0) (sym s) in
-    let mapped : get_or (pages us) p [] ≡ bytes_of (get_or (split_pages (page_run us)) p []) = get_or-map bytes_of (split_pages (page_run us)) p in
-    (omega (arith, h, count, size), omega (arith, w.1, same, first), omega (arith, w.2, same, l, m, long),
-      ap (λ k. take (k - get_or starts p 0) (drop (get_or starts p 0) text)) (sym same) ∙ ap (λ k. take (get_or (starts_of us) (suc p) (end_of us) - k) (drop k text)) (sym first) ∙ v ∙ sym mapped)
+    let mapped : get_or (pages us) p [] ≡ bytes_of (get_or (split_pages (page_run us)) p []) = get_or-map bytes_of (split_pages (page_run us)) p in (
+      omega (arith, h, count, size),
+      omega (arith, w.1, same, first),
+      omega (arith, w.2, same, l, m, long),
+      ap (λ k. take (k - get_or starts p 0) (drop (get_or starts p 0) text)) (sym same) ∙ ap (λ k. take (get_or (starts_of us) (suc p) (end_of us) - k) (drop k text)) (sym first) ∙ v ∙ sym mapped,
+    )
   where
     get_or-map : (f : List NestedUnit → List ℕ) (xs : List (List NestedUnit)) (p : ℕ) → get_or (map f xs) p (f []) ≡ f (get_or xs p [])
     get_or-map f [] p = refl

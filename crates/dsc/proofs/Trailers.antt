@@ -1,7 +1,7 @@
 -- The trailer, cut anew, has the document's units.
-use Rattle.std.specs.Prelude.{Result, Ok, Err, not, map}
+use Rattle.std.specs.Prelude.{Ok, not}
 use Rattle.std.specs.List.{prefix_len}
-use Rattle.std.proofs.Common.{append-nil, Bool, true, false, cond, ◌&&◌, ◌==◌, ◌≡◌, ℕ, zero, suc, ◌+◌, ◌<◌, ◌≤◌, List, [], ◌∷◌, ◌++◌, length, take, drop, refl, ap, arith, length-append, sym, ◌∙◌, subst}
+use Rattle.std.proofs.Common.{Bool, true, false, cond, ◌&&◌, ◌==◌, ◌≡◌, ℕ, ◌≤◌, List, [], ◌∷◌, ◌++◌, length, take, drop, refl, ap, arith, length-append, sym, ◌∙◌, subst}
 use Rattle.std.proofs.lemmas.List.{drop-drop}
 use Rattle.std.proofs.lemmas.Bool.{eqb-true}
 use Rattle.std.proofs.Math.Seq.{drop-append_seam}
@@ -11,7 +11,6 @@ use Rattle.dsc.specs.Units.{or_none, units_of, BeginsWith}
 use Rattle.dsc.specs.Marks.{end_of}
 use Rattle.dsc.specs.Laws.{StandAlone}
 use Rattle.dsc.proofs.Cases.{by_test}
-use Rattle.dsc.proofs.Rows.{joined}
 use Rattle.dsc.proofs.PartMarks.{from-cons}
 use Rattle.dsc.proofs.Slices.{text_whole, parts_whole}
 use Rattle.dsc.proofs.Alone.{depth_behind, nested-drop, begins-drop, stands, cut-begins}
@@ -25,11 +24,11 @@ from-stands : (d : ℕ) (ps : List TextUnit) (text rest : List ℕ) (q : NestedU
 from-stands d [] text rest q z h = stands [] [] [] refl
 from-stands d (p ∷ ps) text rest q z h = by_test (q (record { depth = d; unit = p }))
     (λ is.
-        subst StandAlone (sym (from-cons q (record { depth = d; unit = p }) (nested_from (depth_after d p) ps) ∙ ap (λ t. cond t (nested_from d (p ∷ ps)) (starting_at q (nested_from (depth_after d p) ps))) is))
-        (subst (λ k. StandAlone (nested_from k (p ∷ ps))) (sym (z (record { depth = d; unit = p }) is)) (stands (p ∷ ps) text rest h)))
+    subst StandAlone (sym (from-cons q (record { depth = d; unit = p }) (nested_from (depth_after d p) ps) ∙ ap (λ t. cond t (nested_from d (p ∷ ps)) (starting_at q (nested_from (depth_after d p) ps))) is))
+    (subst (λ k. StandAlone (nested_from k (p ∷ ps))) (sym (z (record { depth = d; unit = p }) is)) (stands (p ∷ ps) text rest h)))
     (λ isnt.
-        subst StandAlone (sym (from-cons q (record { depth = d; unit = p }) (nested_from (depth_after d p) ps) ∙ ap (λ t. cond t (nested_from d (p ∷ ps)) (starting_at q (nested_from (depth_after d p) ps))) isnt))
-        (from-stands (depth_after d p) ps (drop (length p.bytes) text) rest q z h.2))
+    subst StandAlone (sym (from-cons q (record { depth = d; unit = p }) (nested_from (depth_after d p) ps) ∙ ap (λ t. cond t (nested_from d (p ∷ ps)) (starting_at q (nested_from (depth_after d p) ps))) isnt))
+    (from-stands (depth_after d p) ps (drop (length p.bytes) text) rest q z h.2))
 
 trailer-depth : (u : NestedUnit) → begins_trailer u ≡ true → u.depth ≡ 0
 trailer-depth u h = eqb-true u.depth 0 (and-first (u.depth == 0) (not u.unit.is_block) _ h)
@@ -51,11 +50,11 @@ trailer_found text rest stop c s r =
     let us : List NestedUnit = units_of text in
     let whole : text ≡ bytes_of (preamble us) ++ (bytes_of (page_run us) ++ bytes_of (trailer us)) = text_whole text c ∙ parts_whole us in
     let behind : drop stop text ≡ bytes_of (trailer us) =
-        ap (λ k. drop k text) s ∙ sym (drop-drop (length (bytes_of (page_run us))) (length (bytes_of (preamble us))) text)
-        ∙ ap (drop (length (bytes_of (page_run us)))) (ap (drop (length (bytes_of (preamble us)))) whole ∙ drop-append_seam (bytes_of (preamble us)) (bytes_of (page_run us) ++ bytes_of (trailer us)))
-        ∙ drop-append_seam (bytes_of (page_run us)) (bytes_of (trailer us)) in
+    ap (λ k. drop k text) s ∙ sym (drop-drop (length (bytes_of (page_run us))) (length (bytes_of (preamble us))) text)
+    ∙ ap (drop (length (bytes_of (page_run us)))) (ap (drop (length (bytes_of (preamble us)))) whole ∙ drop-append_seam (bytes_of (preamble us)) (bytes_of (page_run us) ++ bytes_of (trailer us)))
+    ∙ drop-append_seam (bytes_of (page_run us)) (bytes_of (trailer us)) in
     subst (λ t. (cut t ≡ Ok (or_none (cut t))) × (units_of t ≡ trailer us)) (sym (r ∙ behind))
-      (alone_units (trailer us) (trailer-stands (or_none (cut text)) text [] (cut-begins text (or_none (cut text)) c)))
+    (alone_units (trailer us) (trailer-stands (or_none (cut text)) text [] (cut-begins text (or_none (cut text)) c)))
 
 pub stop_within : (text : List ℕ) (stop : ℕ) → cut text ≡ Ok (or_none (cut text)) → stop ≡ end_of (units_of text) → stop ≤ length text
 stop_within text stop c s =
@@ -64,4 +63,3 @@ stop_within text stop c s =
     let l = length-append (bytes_of (preamble us)) (bytes_of (page_run us) ++ bytes_of (trailer us)) in
     let m = length-append (bytes_of (page_run us)) (bytes_of (trailer us)) in
     omega (arith, s, whole, l, m)
-

@@ -1,5 +1,5 @@
 -- The fields of a line, and the data that a count asks for.
-use Rattle.std.specs.Prelude.{ℕ, List, [], ◌∷◌, length, filter, Result, Ok, Err, nat_lt, Bool, true, false, not, ◌&&◌, codes, if◌then◌else◌}
+use Rattle.std.specs.Prelude.{ℕ, List, [], ◌∷◌, length, filter, Result, Err, nat_lt, Bool, false, not, ◌&&◌, codes, if◌then◌else◌}
 use Rattle.std.specs.List.{slice_split, list_all}
 use Rattle.std.specs.Str.{bytes_eq}
 use Rattle.std.specs.Char.{is_ascii_digit}

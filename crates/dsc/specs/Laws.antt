@@ -1,6 +1,6 @@
 -- What the laws of the cut say.
-use Rattle.std.specs.Prelude.{◌≡◌, ◌↔◌, ℕ, ◌<◌, List, [], length, map, All, Result, Ok, Err, drop}
-use Rattle.profile.specs.Units.{TextUnit, BlockFault, FaultyBlock, first_unit, cut, AreUnits}
+use Rattle.std.specs.Prelude.{◌≡◌, ◌↔◌, ℕ, ◌<◌, List, length, map, All, Ok, Err, drop}
+use Rattle.profile.specs.Units.{TextUnit, FaultyBlock, first_unit, cut, AreUnits}
 use Rattle.profile.specs.Parts.{NestedUnit, nested, split_pages, page_run, bytes_of, pages}
 use Rattle.profile.specs.Filters.{prepared}
 use Rattle.profile.specs.Output.{body_text}

@@ -1,6 +1,5 @@
 -- Where the pages of a document begin, and where its trailer does.
-use Rattle.std.specs.Prelude.{ℕ, ◌+◌, Bool, true, false, ◌&&◌, ◌||◌, nat_lt, nat_le, if◌then◌else◌, List, [], ◌∷◌, ◌++◌, length, take, Option, Some, None}
-use Rattle.std.specs.Prelude.{Result}
+use Rattle.std.specs.Prelude.{ℕ, ◌+◌, Bool, true, ◌&&◌, ◌||◌, nat_lt, if◌then◌else◌, List, [], ◌∷◌, ◌++◌, length, take, Option, Some, None, Result}
 use Rattle.profile.specs.Units.{FaultyBlock, cut_from}
 use Rattle.dsc.specs.Filters.{of_units}
 use Rattle.profile.specs.Parts.{NestedUnit, nested_from, begins_page, begins_trailer, bytes_of, preamble, page_run}

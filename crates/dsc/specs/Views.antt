@@ -1,13 +1,21 @@
 -- What the values of the code stand for.
-use Rattle.std.specs.Prelude.{◌≡◌, Option, Result, Ok, Err, IfSome}
+use Rattle.std.specs.Prelude.{◌≡◌, ℕ, List, [], false, Option, Result, Ok, Err, IfSome}
 use Rattle.profile.specs.Units.{TextUnit, BlockFault}
 use Rattle.profile.specs.Units as block
+use Rattle.profile.specs.Parts.{NestedUnit}
 use Rattle.dsc.specs.declared.units.Unit.{Unit as CodeUnit}
 use Rattle.dsc.specs.declared.units.UnitError.{UnitError}
 use Rattle.dsc.specs.declared.units.UnitError.TheVariants as fault
 
 abbrev pub unit_of : CodeUnit → TextUnit
 unit_of u = record { content = u.content.now; bytes = u.bytes.now; is_block = u.is_block }
+
+abbrev pub at_depth : ℕ → TextUnit → NestedUnit
+at_depth depth unit = record { depth = depth; unit = unit }
+
+-- a line of which only the content matters
+abbrev pub comment_line : List ℕ → TextUnit
+comment_line content = record { content = content; bytes = []; is_block = false }
 
 abbrev pub fault_of : UnitError → BlockFault
 fault_of fault.BadCount = block.BadCount

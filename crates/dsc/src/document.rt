@@ -1,11 +1,11 @@
 //! A document with its parts.
 ghost use Rattle.std.specs.Prelude.{◌≡◌, ◌+◌, ◌-◌, ◌<◌, ◌≤◌, [], length, take, drop, slice_index_or, IfOk, IfErr, Ok};
 ghost use Rattle.profile.specs.Parts.{pages};
-ghost use Rattle.profile.specs.Filters.{preamble_text, trailer_text, prepared};
-ghost use Rattle.profile.specs.Output.{body_text};
+ghost use Rattle.profile.specs.Filters.{preamble_text, trailer_text};
 ghost use Rattle.profile.specs.Run.{document_of};
 ghost use Rattle.dsc.specs.Views.{Gives};
 ghost use Rattle.dsc.specs.Faults.{fault_told, PassedFirstChecks};
+ghost use Rattle.dsc.specs.Laws.{HasBody};
 
 use crate::errors::{DscError, widen};
 use crate::filters::{end_line, filter_header, with_count};
@@ -79,7 +79,7 @@ impl<'d> Document<'d> {
     pub fn page(&self, p: u32) -> &'d [u8]
         requires { p < length (pages self.now) }
         ensures page { result.now ≡ slice_index_or (pages self.now) p [] }
-        ensures has_a_body { prepared result.now ≡ Ok (body_text (prepared result.now)) }
+        ensures has_a_body { HasBody result.now }
     {
         let p = p as usize;
         let starts = self.starts.as_slice();

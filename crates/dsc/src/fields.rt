@@ -1,6 +1,5 @@
 //! The fields of a line.
-ghost use Rattle.std.specs.Prelude.{◌≡◌, ℕ, ◌+◌, ◌-◌, ◌<◌, ◌≤◌, length, Option, MatchOption, min, [], ◌∷◌, true, false, drop};
-ghost use Rattle.std.specs.Prelude.{not};
+ghost use Rattle.std.specs.Prelude.{◌≡◌, ◌≤◌, length, MatchOption, min, [], ◌∷◌, true, false, not};
 ghost use Rattle.std.specs.List.{list_all, prefix_len};
 ghost use Rattle.std.specs.Char.{is_ascii_digit};
 ghost use Rattle.profile.specs.Units.{is_blank};
@@ -12,7 +11,9 @@ fn blanks_at(text: &[u8]) -> usize
     ensures value { result ≡ prefix_len is_blank text.now }
     ensures within { result ≤ length text.now }
 {
-    text.iter().take_while(|b| **b == b' ' || **b == b'\t').count()
+    text.iter()
+        .take_while(|b| **b == b' ' || **b == b'\t')
+        .count()
 }
 
 /// How long the field is that the bytes begin with.
@@ -20,7 +21,9 @@ fn field_at(text: &[u8]) -> usize
     ensures value { result ≡ prefix_len (λ b. not (is_blank b)) text.now }
     ensures within { result ≤ length text.now }
 {
-    text.iter().take_while(|b| !(**b == b' ' || **b == b'\t')).count()
+    text.iter()
+        .take_while(|b| !(**b == b' ' || **b == b'\t'))
+        .count()
 }
 
 /// The first field of the bytes, and what stands behind it.

@@ -5,8 +5,10 @@ ghost use Rattle.profile.specs.Units.{is_end, cut};
 ghost use Rattle.profile.specs.Parts.{bytes_of};
 ghost use Rattle.profile.specs.Filters.{kept, drops_in_header, ended, prepared};
 ghost use Rattle.dsc.specs.Units.{or_none, units_of};
-ghost use Rattle.dsc.specs.Views.{unit_of, Gives};
+ghost use Rattle.dsc.specs.Views.{unit_of, at_depth, Gives};
 ghost use Rattle.dsc.specs.Faults.{block_fault_told, page_fault_told, IsPageError};
+ghost use Rattle.dsc.specs.Laws.{HasBody};
+ghost use Rattle.dsc.specs.declared.errors.DscError.TheVariants.{NoMemory};
 ghost use Rattle.dsc.specs.Filters.{drops_of, is_dropped, filter_on};
 
 use crate::errors::{CutError, DscError, widen};
@@ -15,35 +17,45 @@ use crate::units::{Unit, UnitError, first_unit};
 use itoa::Buffer;
 use std::alloc::{AllocError, Global};
 
+/// The lines that a filter drops: those that set up a page, or those that describe the whole document.
+#[derive(Clone, Copy)]
+enum Drops {
+    PageSetup,
+    DocumentSetup,
+}
+
 /// Whether a line with this content is dropped where it is outermost.
-fn drops_line(in_page: bool, content: &[u8]) -> bool
-    ensures { result ≡ drops_of in_page content.now }
+fn drops_line(drops: Drops, content: &[u8]) -> bool
+    ensures { result ≡ drops_of drops content.now }
 {
     if !content.starts_with(b"%%") {
         return false;
     }
     let key = key_of(content);
-    if in_page {
-        key.starts_with(b"%%Page")
-            || (key == b"%%BeginPageSetup".as_slice() || key == b"%%EndPageSetup".as_slice())
-    } else {
-        key == b"%%Pages".as_slice()
-            || (key == b"%%PageOrder".as_slice()
-                || (key == b"%%BoundingBox".as_slice()
-                    || (key == b"%%HiResBoundingBox".as_slice()
-                        || (key == b"%%DocumentMedia".as_slice()
-                            || key == b"%%Orientation".as_slice()))))
+    match drops {
+        Drops::PageSetup => {
+            key.starts_with(b"%%Page")
+                || (key == b"%%BeginPageSetup".as_slice() || key == b"%%EndPageSetup".as_slice())
+        }
+        Drops::DocumentSetup => {
+            key == b"%%Pages".as_slice()
+                || (key == b"%%PageOrder".as_slice()
+                    || (key == b"%%BoundingBox".as_slice()
+                        || (key == b"%%HiResBoundingBox".as_slice()
+                            || (key == b"%%DocumentMedia".as_slice()
+                                || key == b"%%Orientation".as_slice()))))
+        }
     }
 }
 
 /// Whether a unit is dropped, where this is said of the one before it.
-fn drops_unit(in_page: bool, was: bool, unit: &Unit<'_>, depth: usize) -> bool
-    ensures { result ≡ is_dropped in_page was (record { depth = depth; unit = unit_of unit.now }) }
+fn drops_unit(drops: Drops, was: bool, unit: &Unit<'_>, depth: usize) -> bool
+    ensures { result ≡ is_dropped drops was (at_depth depth (unit_of unit.now)) }
 {
     if unit.is_block {
         return false;
     }
-    (depth == 0 && drops_line(in_page, unit.content)) || (was && unit.content.starts_with(b"%%+"))
+    (depth == 0 && drops_line(drops, unit.content)) || (was && unit.content.starts_with(b"%%+"))
 }
 
 /// Goes on by a unit of this length: a run of kept bytes grows, or it is copied and the next begins behind the unit.
@@ -70,12 +82,8 @@ fn go_on<'d>(
 }
 
 /// Adds to `kept` what is kept of the text.
-fn filter(
-    kept: Vec<u8>,
-    in_page: bool,
-    text: &[u8],
-) -> Result<Vec<u8>, CutError>
-    ensures { Gives (λ v. v.items) block_fault_told result (filter_on in_page kept.items false 0 0 text.now) }
+fn filter(kept: Vec<u8>, drops: Drops, text: &[u8]) -> Result<Vec<u8>, CutError>
+    ensures { Gives (λ v. v.items) block_fault_told result (filter_on drops kept.items false 0 0 text.now) }
 {
     let mut kept = kept;
     let mut run = text;
@@ -90,7 +98,7 @@ fn filter(
             Err(UnitError::BadCount) => return Err(CutError::BadCount(at)),
             Err(UnitError::ShortData) => return Err(CutError::ShortData(at)),
         };
-        let dropped = drops_unit(in_page, was, &unit, depth);
+        let dropped = drops_unit(drops, was, &unit, depth);
         let (next, next_len) = match go_on(&mut kept, run, run_len, unit.bytes.len(), dropped) {
             Ok(next) => next,
             Err(_) => return Err(CutError::NoMemory),
@@ -112,7 +120,7 @@ pub fn filter_header(front: Vec<u8>, text: &[u8]) -> Result<Vec<u8>, AllocError>
     requires { cut text.now ≡ Ok (or_none (cut text.now)) }
     ensures { IfOk result (λ v. v.items ≡ front.items ++ bytes_of (kept drops_in_header (units_of text.now))) }
 {
-    match filter(front, false, text) {
+    match filter(front, Drops::DocumentSetup, text) {
         Ok(kept) => Ok(kept),
         Err(CutError::NoMemory) => Err(AllocError),
         Err(CutError::BadCount(_)) => unreachable!(),
@@ -161,10 +169,12 @@ pub fn end_line(kept: &mut Vec<u8>) -> Result<(), AllocError>
 /// The prepared body of a page: its bytes without the lines that set up the page (each outermost line whose key begins
 /// with `%%Page`, `%%BeginPageSetup`, `%%EndPageSetup`, and what `%%+` lines add to them), with a line end at its end.
 /// The page is cut as a text of its own, and needn't begin with a page line.
-/// Refused with BadCount or ShortData, for its first faulty data block, or with NoMemory.
+/// Refused with BadCount or ShortData, for its first faulty data block, or with NoMemory. A page of a document has no
+/// faulty block.
 pub fn prepare(alloc: Global, page: &[u8]) -> Result<Vec<u8>, DscError>
     ensures answer { Gives (λ v. v.items) page_fault_told result (prepared page.now) }
     ensures refusals { IfErr result IsPageError }
+    ensures memory_alone { HasBody page.now → IfErr result (λ e. e ≡ NoMemory) }
 {
     match prepare_page(alloc, page) {
         Ok(body) => Ok(body),
@@ -180,7 +190,7 @@ fn prepare_page(alloc: Global, page: &[u8]) -> Result<Vec<u8>, CutError>
         Ok(room) => room,
         Err(_) => return Err(CutError::NoMemory),
     };
-    let mut kept = match filter(room, true, page) {
+    let mut kept = match filter(room, Drops::PageSetup, page) {
         Ok(kept) => kept,
         Err(e) => return Err(e),
     };

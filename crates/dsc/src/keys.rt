@@ -1,8 +1,8 @@
 //! The keys of lines, and what a line's key means for the parts of a document.
-ghost use Rattle.std.specs.Prelude.{◌≡◌, ◌<◌, [], length, false};
+ghost use Rattle.std.specs.Prelude.{◌≡◌, ◌<◌, length};
 ghost use Rattle.profile.specs.Units.{key};
 ghost use Rattle.profile.specs.Parts.{begins_page, begins_trailer, depth_after};
-ghost use Rattle.dsc.specs.Views.{unit_of};
+ghost use Rattle.dsc.specs.Views.{unit_of, at_depth, comment_line};
 
 use crate::units::Unit;
 
@@ -35,9 +35,9 @@ pub struct Meaning {
 /// What a line means that begins with two percent signs.
 fn meaning_of_comment(content: &[u8], depth: usize) -> Meaning
     requires { depth < usize.MAX }
-    ensures page { result.is_page ≡ begins_page (record { depth = depth; unit = record { content = content.now; bytes = []; is_block = false } }) }
-    ensures trailer { result.is_trailer ≡ begins_trailer (record { depth = depth; unit = record { content = content.now; bytes = []; is_block = false } }) }
-    ensures depth { result.depth ≡ depth_after depth (record { content = content.now; bytes = []; is_block = false }) }
+    ensures page { result.is_page ≡ begins_page (at_depth depth (comment_line content.now)) }
+    ensures trailer { result.is_trailer ≡ begins_trailer (at_depth depth (comment_line content.now)) }
+    ensures depth { result.depth ≡ depth_after depth (comment_line content.now) }
 {
     let key = key_of(content);
     if key == b"%%BeginDocument".as_slice() {
@@ -65,8 +65,8 @@ fn meaning_of_comment(content: &[u8], depth: usize) -> Meaning
 /// What a unit means, where the depth before it is this.
 pub fn meaning_of(unit: &Unit<'_>, depth: usize) -> Meaning
     requires { depth < usize.MAX }
-    ensures page { result.is_page ≡ begins_page (record { depth = depth; unit = unit_of unit.now }) }
-    ensures trailer { result.is_trailer ≡ begins_trailer (record { depth = depth; unit = unit_of unit.now }) }
+    ensures page { result.is_page ≡ begins_page (at_depth depth (unit_of unit.now)) }
+    ensures trailer { result.is_trailer ≡ begins_trailer (at_depth depth (unit_of unit.now)) }
     ensures depth { result.depth ≡ depth_after depth (unit_of unit.now) }
 {
     if unit.is_block || !unit.content.starts_with(b"%%") {

@@ -1,5 +1,5 @@
 //! The lines of a text. A line ends with CR LF, CR or LF; the last one may have no end.
-ghost use Rattle.std.specs.Prelude.{◌≡◌, ℕ, ◌+◌, ◌<◌, ◌≤◌, length, Option, IfSome};
+ghost use Rattle.std.specs.Prelude.{◌≡◌, ◌<◌, ◌≤◌, length, IfSome};
 ghost use Rattle.profile.specs.Units.{line_len, lines_len, end_len, content_of};
 
 use memchr::memchr2;

@@ -1,1 +1,147 @@
-//! Examples.
+//! Examples, and each public call once.
+use crate::{Document, DscError, laws, prepare};
+use std::alloc::Global;
+use std::test::Fail;
+
+/// How many pages a text has, or why it is refused.
+fn page_count(alloc: Global, text: &[u8]) -> Result<u32, DscError> {
+    let document = Document::read(alloc, text)?;
+    Ok(document.pages())
+}
+
+#[test]
+fn an_embedded_document_begins_no_page(rt: HostRuntime) -> Result<(), Fail> {
+    let text =
+        b"%!PS\r%%Page: 1 1\r%%BeginDocument: a.eps\r%%Page: 1 1\r%%EndDocument\rshowpage\r".as_slice();
+    let document = Document::read(rt.alloc(), text)?;
+    assert!(rt; document.pages() == 1);
+    let preamble = document.preamble_text(rt.alloc(), 3)?;
+    assert_eq!(rt; preamble.as_slice(), b"%!PS\r%%Pages: 3\n".as_slice());
+    let body = prepare(rt.alloc(), document.page(0))?;
+    assert_eq!(rt;
+        body.as_slice(),
+        b"%%BeginDocument: a.eps\r%%Page: 1 1\r%%EndDocument\rshowpage\r".as_slice()
+    );
+    Ok(())
+}
+
+#[test]
+fn a_data_block_begins_no_page(rt: HostRuntime) -> Result<(), Fail> {
+    let text =
+        b"%!PS\r%%Page: 1 1\r%%BeginData: 12 Binary Bytes\r%%Page: 1 1\r%%EndData\rshowpage\r".as_slice();
+    let document = Document::read(rt.alloc(), text)?;
+    assert!(rt; document.pages() == 1);
+    let body = prepare(rt.alloc(), document.page(0))?;
+    assert_eq!(rt;
+        body.as_slice(),
+        b"%%BeginData: 12 Binary Bytes\r%%Page: 1 1\r%%EndData\rshowpage\r".as_slice()
+    );
+    Ok(())
+}
+
+#[test]
+fn data_blocks_are_counted_in_bytes_or_lines(rt: HostRuntime) -> Result<(), Fail> {
+    let alloc = rt.alloc();
+    assert!(rt;
+        matches!(
+            page_count(alloc, b"%!PS\n%%Page: 1 1\n%%BeginData: 10\nabcd"),
+            Err(DscError::ShortData(17))
+        )
+    );
+    assert!(rt;
+        matches!(
+            page_count(alloc, b"%!PS\n%%Page: 1 1\n%%BeginData: x\n"),
+            Err(DscError::BadCount(17))
+        )
+    );
+    assert!(rt;
+        matches!(
+            page_count(
+                alloc,
+                b"%!PS\n%%Page: 1 1\n%%BeginData: 2 Hex Lines\n%%Page: 2 2\r\nab"
+            ),
+            Ok(1)
+        )
+    );
+    assert!(rt;
+        matches!(
+            page_count(
+                alloc,
+                b"%!PS\n%%Page: 1 1\n%%BeginData: 3 Hex Lines\n%%Page: 2 2\r\nab"
+            ),
+            Err(DscError::ShortData(17))
+        )
+    );
+    assert!(rt; matches!(page_count(alloc, b"%!PS\n"), Err(DscError::NoPages)));
+    assert!(rt; matches!(page_count(alloc, b""), Err(DscError::NotPostScript)));
+    Ok(())
+}
+
+#[test]
+fn page_setup_is_dropped(rt: HostRuntime) -> Result<(), Fail> {
+    let page =
+        b"%%Page: 1 1\n%%+ x\n%%PageBoundingBox: 0 0 1 1\n%%BeginPageSetup\nsave\n%%EndPageSetup\nx".as_slice();
+    let body = prepare(rt.alloc(), page)?;
+    assert_eq!(rt; body.as_slice(), b"save\nx\n".as_slice());
+    Ok(())
+}
+
+#[test]
+fn header_comments_of_the_whole_document_are_dropped(rt: HostRuntime) -> Result<(), Fail> {
+    let text =
+        b"%!PS\n%%DocumentMedia: a 1 2 3 () ()\n%%+ b 1 2 3 () ()\n%%BoundingBox: 0 0 9 9\n/x 1 def\n%%Page: 1 1\nshowpage\n%%Trailer\n%%Pages: 1\n%%EOF\n".as_slice();
+    let document = Document::read(rt.alloc(), text)?;
+    assert_eq!(rt; document.page(0), b"%%Page: 1 1\nshowpage\n".as_slice());
+    let preamble = document.preamble_text(rt.alloc(), 2)?;
+    assert_eq!(rt;
+        preamble.as_slice(),
+        b"%!PS\n%%Pages: 2\n/x 1 def\n".as_slice()
+    );
+    let trailer = document.trailer_text(rt.alloc())?;
+    assert_eq!(rt; trailer.as_slice(), b"%%Trailer\n%%EOF\n".as_slice());
+    Ok(())
+}
+
+#[test]
+fn a_count_of_any_number_of_digits_is_read_by_its_value(rt: HostRuntime) -> Result<(), Fail> {
+    let mut text = Vec::from_slice(rt.alloc(), b"%!PS\n%%Page: 1 1\n%%BeginData: ")?;
+    for _ in 0..10_000 {
+        text.push(b'9')?;
+    }
+    text.extend_from_slice(b"\nabcd")?;
+    assert!(rt;
+        matches!(
+            page_count(rt.alloc(), text.as_slice()),
+            Err(DscError::ShortData(17))
+        )
+    );
+    let zeros = b"%!PS\n%%Page: 1 1\n%%BeginData: 00\n%%Page: 2 2\n".as_slice();
+    assert!(rt; matches!(page_count(rt.alloc(), zeros), Ok(2)));
+    Ok(())
+}
+
+#[test]
+fn each_refusal_has_its_message(rt: HostRuntime) -> Result<(), Fail> {
+    let messages = [
+        (DscError::TooLong, "input too long"),
+        (DscError::NotPostScript, "input is not PostScript"),
+        (DscError::BadCount(17), "input: bad count at byte 17"),
+        (DscError::ShortData(0), "input: data cut short at byte 0"),
+        (DscError::TooManyPages, "input: too many pages"),
+        (DscError::NoPages, "input: no pages"),
+        (DscError::NoMemory, "out of memory"),
+    ];
+    for (error, message) in &messages {
+        let text = format!(in rt.alloc(); "{error}")?;
+        assert_eq!(rt; text.as_str(), *message);
+    }
+    Ok(())
+}
+
+#[test]
+fn the_laws_can_be_called(_rt: HostRuntime) -> Result<(), Fail> {
+    laws::pages_stand_alone();
+    laws::pages_have_bodies();
+    laws::cut_finds_faults();
+    Ok(())
+}

@@ -1,6 +1,5 @@
 //! The units of a text: lines, and blocks of data.
-ghost use Rattle.std.specs.Prelude.{◌≡◌, ℕ, ◌+◌, ◌<◌, ◌≤◌, length, IfOk};
-ghost use Rattle.std.specs.Prelude.{codes, MatchOption, true, false};
+ghost use Rattle.std.specs.Prelude.{◌≡◌, ◌<◌, ◌≤◌, length, codes, IfOk, MatchOption, true, false};
 ghost use Rattle.profile.specs.Units.{first_unit, begins_block, fields, is_comment};
 ghost use Rattle.dsc.specs.Fields.{fields_in, third_is, data_in};
 ghost use Rattle.dsc.specs.Views.{unit_of, fault_of, Reads};
@@ -8,7 +7,7 @@ ghost use Rattle.dsc.specs.Views.{unit_of, fault_of, Reads};
 use crate::fields::{count_in, next_field};
 use crate::lines::{content_end, line_end_after, lines_end};
 
-/// A line with its end, or a data block.
+/// A line with its end, or a data block: a line and the data behind it. The content is the line's, without its end.
 #[derive(Clone, Copy)]
 pub struct Unit<'d> {
     pub content: &'d [u8],
@@ -16,6 +15,7 @@ pub struct Unit<'d> {
     pub is_block: bool,
 }
 
+/// What is wrong with a data block: its count is no number, or passes the end of the text.
 #[derive(Debug, Clone, Copy)]
 pub enum UnitError {
     BadCount,
@@ -64,7 +64,7 @@ fn data_len(behind: &[u8], may_count_lines: bool, rest: &[u8]) -> Result<usize, 
         None => return Err(UnitError::BadCount),
         Some(count) => count,
     };
-    // A line has a byte at least.
+    // A line has at least one byte, so a count above the rest is too large for lines too.
     if rest.len() < count {
         return Err(UnitError::ShortData);
     }

@@ -2,7 +2,7 @@
 -- Blocks, and pages counted from the end of the document by a minus, are of pstops(1), DESCRIPTION and EXAMPLES;
 -- signatures are of psbook(1), DESCRIPTION. That the last block is filled with blanks before pages are counted from the
 -- end is this project's own profile.
-use Rattle.std.specs.Prelude.{ℕ, ◌+◌, ◌-◌, ◌*◌, ◌/◌, nat_lt, if◌then◌else◌, List, [], ◌∷◌, map, flat_map, Option, Some, None, slice_index_or, length}
+use Rattle.std.specs.Prelude.{◌≡◌, ℕ, ◌+◌, ◌-◌, ◌*◌, ◌/◌, nat_lt, if◌then◌else◌, List, [], ◌∷◌, map, flat_map, Option, Some, None, slice_index_or, length}
 use Rattle.std.specs.List.{range_with_len}
 use Rattle.profile.specs.Specification.{Item, Spec}
 
@@ -33,6 +33,10 @@ sheets_over spec n page_of =
 -- the sheets of a specification on n pages
 abbrev pub sheets : Spec → ℕ → List (List Slot)
 sheets spec n = sheets_over spec n (page_at n)
+
+-- there is a sheet for each group in each block: a law
+abbrev pub SheetCount : Type 0
+SheetCount = (spec : Spec) (n : ℕ) → length (sheets spec n) ≡ blocks spec.modulo n * length spec.groups
 
 -- a number of pages, and the sheets that they are placed on
 pub record Plan : Type 0 where

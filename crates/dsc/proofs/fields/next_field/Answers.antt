@@ -1,4 +1,4 @@
-use Rattle.std.proofs.Common.{arith, ap, sym, ◌∙◌, drop, ◌<◌}
+use Rattle.std.proofs.Common.{arith, ap, sym, ◌∙◌, drop}
 use Rattle.dsc.proofs.FieldRows.{no_field, a_field}
 use Rattle.dsc.proofs.fields.next_field.Goals as goal
 

@@ -1,4 +1,4 @@
-use Rattle.std.proofs.Common.{rules, arith, refl, ◌<◌, ◌≤◌, ◌≡◌, ◌-◌, ◌++◌, ◌∙◌, [], take, drop, length, ap, sym, if◌then◌else◌, List, ℕ, length-drop}
+use Rattle.std.proofs.Common.{arith, refl, ◌<◌, ◌≡◌, ◌-◌, ◌++◌, ◌∙◌, [], take, drop, length, ap, sym, if◌then◌else◌, List, ℕ, length-drop}
 use Rattle.dsc.proofs.Filtering.{filter_more}
 use Rattle.dsc.proofs.Scans.{depth_after-within}
 use Rattle.dsc.proofs.Rows.{unit-front}
@@ -25,8 +25,8 @@ loop-run_len-preserved c =
       placed = omega (arith, c.loop-run_len.invariant.placed, size, moves, back);
       shallow = omega (arith, c.loop-run_len.invariant.shallow, c.meaning_of-depth.ensures.depth, moves, deep);
       so_far =
-        filter_more c.args.in_page c.loop-run_len.was c.drops_unit-dropped.result (c.loop-run_len.kept.items ++ take n run) _ c.loop-run_len.depth _ c.loop-run_len.at _ rest _ p _ some unit same refl
+          filter_more c.args.drops c.loop-run_len.was c.drops_unit-dropped.result (c.loop-run_len.kept.items ++ take n run) _ c.loop-run_len.depth _ c.loop-run_len.at _ rest _ p _ some unit same refl
           c.meaning_of-depth.ensures.depth c.drops_unit-dropped.ensures
           (c.in-Ok-go_on.ensures.kept ∙ ap (λ t. (c.loop-run_len.kept.items ++ take n run) ++ (if c.drops_unit-dropped.result then [] else t)) (sym (unit-front rest p unit)))
-          c.loop-run_len.invariant.so_far
+          c.loop-run_len.invariant.so_far;
     }

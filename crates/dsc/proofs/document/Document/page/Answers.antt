@@ -1,5 +1,5 @@
 use Rattle.std.specs.Prelude.{◌<◌}
-use Rattle.std.proofs.Common.{arith, ap, sym, subst, ◌∙◌, ◌≡◌, ◌+◌, ◌-◌, ◌≤◌, [], length, take, drop, get_or, List, ℕ}
+use Rattle.std.proofs.Common.{arith, ap, sym, subst, ◌∙◌, ◌≡◌, ◌+◌, ◌-◌, [], length, take, drop, get_or}
 use Rattle.profile.specs.Parts.{pages}
 use Rattle.dsc.specs.Units.{units_of}
 use Rattle.dsc.specs.Laws.{HasBody}
@@ -56,6 +56,6 @@ returns-clause-has_a_body c =
     let start : c.entry.result ≡ get_or d.starts.items c.args.p 0 = c.entry.ensures ∙ ap (λ xs. get_or xs c.args.p 0) c.as_slice-starts.ensures.value in
     let end : c.next_or.result ≡ get_or d.starts.items (c.args.p + 1) d.stop = c.next_or.ensures ∙ ap (λ xs. get_or xs (c.args.p + 1) d.stop) c.as_slice-starts.ensures.value in
     let same : c.part.result.now ≡ get_or (pages (units_of d.text.now)) c.args.p [] =
-        c.part.ensures ∙ ap (λ k. take (k - c.entry.result) (drop c.entry.result d.text.now)) end
-        ∙ ap (λ k. take (get_or d.starts.items (c.args.p + 1) d.stop - k) (drop k d.text.now)) start ∙ w.3 in
+    c.part.ensures ∙ ap (λ k. take (k - c.entry.result) (drop c.entry.result d.text.now)) end
+    ∙ ap (λ k. take (get_or d.starts.items (c.args.p + 1) d.stop - k) (drop k d.text.now)) start ∙ w.3 in
     subst HasBody (sym same) (pages_bodied d.text.now (units_of d.text.now) i.accepted c.args.p [] below)

@@ -1,8 +1,4 @@
-use Rattle.std.specs.Prelude.{Ok, Err}
-use Rattle.std.proofs.Common.{arith, sym, subst, ◌∙◌, ◌<◌, ◌≤◌, ◌≡◌, length, ℕ}
-use Rattle.dsc.specs.Views.{Gives}
-use Rattle.dsc.specs.Faults.{fault_told, PassedFirstChecks}
-use Rattle.profile.specs.Run.{document_of}
+use Rattle.std.proofs.Common.{arith, sym, ◌∙◌, ◌≤◌, length}
 use Rattle.dsc.proofs.Reading.{Opens, fault_read, checks_passed, many_read, none_read, good_read, some_of, none_of}
 use Rattle.dsc.proofs.document.Document.read.Goals as goal
 

@@ -1,0 +1,12 @@
+pub mod Appending
+pub mod Checks
+pub mod Joined
+pub mod Made
+pub mod Opening
+pub mod PageFaults
+pub mod Refusals
+pub mod Sheets
+pub mod SingleSheets
+pub mod Slots
+pub mod Steps
+pub mod Texts

@@ -1,0 +1,9 @@
+pub mod Single
+pub mod Views
+pub mod Rows
+pub mod Frame
+pub mod Memory
+pub mod Workers
+pub mod Faults
+pub mod Outcomes
+pub mod Runs

@@ -1,0 +1,9 @@
+-- Which numbers of workers a run takes.
+use Rattle.std.specs.Prelude.{◌≤◌}
+use Rattle.imposer.specs.declared.options.Workers.{Workers}
+
+pub record AreWorkers (w : Workers) : Type 0 where
+  pub a_preparer : 1 ≤ w.preparers
+  pub few_preparers : w.preparers ≤ 16
+  pub an_imposer : 1 ≤ w.imposers
+  pub few_imposers : w.imposers ≤ 16

@@ -1,0 +1,82 @@
+//! A run from bytes to bytes.
+ghost use Rattle.std.specs.Prelude.{◌≡◌, ℕ, ◌+◌, ◌<◌, IfOk, IfErr, OnOk};
+ghost use Rattle.std.specs.Io.KnownBytes.{Appends};
+ghost use Rattle.profile.specs.Output.{output};
+ghost use Rattle.imposer.specs.Frame.{frame};
+ghost use Rattle.imposer.specs.Runs.{request, Accepted, IsRefusal, HasWritten, Reports, failures_of, IsUnwritten};
+
+use crate::expansion::count_sheets;
+use crate::gate::Gate;
+use crate::options::Options;
+use crate::outcome::{Report, RunError};
+use crate::output::output_text;
+use crate::single::read_single;
+use crate::sink::{Sink, write_all};
+use dsc::Document;
+use std::alloc::Global;
+
+/// Reads the specification and the document, and hands the sink the sheets.
+///
+/// A refusal names the first check that fails: of the options, the specification, the document, the plan; nothing is
+/// written then. After `NoMemory` and `Write` the sink has taken the first `written` bytes of the output.
+/// The sink isn't flushed.
+pub fn run<G: Gate, S: Sink>(
+    alloc: Global,
+    input: &[u8],
+    spec: &str,
+    options: &Options,
+    gate: &G,
+    sink: &mut S,
+) -> Result<Report, RunError>
+    requires countable { S.failures sink.old < u64.MAX }
+    // Exactly the output was appended, and the report has its numbers.
+    ensures finished { IfOk result (λ report. Accepted (request options.now spec.now input.now) (λ spec us.
+        Appends (S.told sink.old) (S.told sink.new) (output frame spec us) × Reports spec us report)) }
+    // An error names the first check that fails.
+    ensures refused { IfErr result (λ e. IsRefusal (request options.now spec.now input.now) e) }
+    // After an error the sink has taken as much of the output as the error says, and nothing after a refusal.
+    ensures written { IfErr result (λ e. HasWritten (request options.now spec.now input.now) (S.told sink.old) (S.told sink.new) e) }
+    // The sink failed in the call exactly where the answer is Write, and once.
+    ensures steady { OnOk result (S.failures sink.new ≡ S.failures sink.old) }
+    ensures failed { IfErr result (λ e. S.failures sink.new ≡ S.failures sink.old + failures_of e) }
+{
+    let _ = gate;
+    let made = make(alloc, input, spec, options)?;
+    match write_all(sink, made.text.as_slice()) {
+        Ok(()) => Ok(made.report),
+        Err(stopped) => Err(RunError::Write {
+            written: stopped.written as u64,
+        }),
+    }
+}
+
+/// The whole output, and what the run reports of it.
+#[derive(Drop)]
+struct Made {
+    text: Vec<u8>,
+    report: Report,
+}
+
+/// Makes the output, or refuses.
+fn make(alloc: Global, input: &[u8], spec: &str, options: &Options) -> Result<Made, RunError>
+    ensures made { IfOk result (λ made. Accepted (request options.now spec.now input.now) (λ spec us.
+        (made.text.items ≡ output frame spec us) × Reports spec us made.report)) }
+    ensures refused { IfErr result (λ e. IsRefusal (request options.now spec.now input.now) e) }
+    ensures unwritten { IfErr result IsUnwritten }
+{
+    if !options.workers.are_valid() {
+        return Err(RunError::Options);
+    }
+    let single = read_single(alloc, spec)?;
+    let document = Document::read(alloc, input)?;
+    let counts = count_sheets(&single, document.pages())?;
+    let text = output_text(alloc, &single, &document, counts.sheets)?;
+    let report = Report {
+        pages: document.pages(),
+        sheets: counts.sheets,
+        born: counts.born,
+        swept: 0,
+        bytes: text.len() as u64,
+    };
+    Ok(Made { text, report })
+}

@@ -1,0 +1,5 @@
+pub mod Chain
+pub mod Pstops
+pub mod Reading
+pub mod Statuses
+pub mod Examples

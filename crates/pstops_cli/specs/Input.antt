@@ -1,0 +1,26 @@
+-- What a source of bytes does, and what is read of it.
+use Rattle.std.specs.Prelude.{◌≡◌, ◌+◌, ◌≤◌, length, ℕ, List, Option, Result, MatchResult, take, IfSome}
+use Rattle.std.specs.Io.KnownBytes.{Consumes, IsAtEnd, Keeps}
+use Rattle.pstops_cli.specs.declared.input.ReadFault.{ReadFault}
+use Rattle.pstops_cli.specs.declared.input.ReadFault.TheVariants.{Device, NoMemory}
+
+-- at Ok the first bytes that remained were moved to the buffer's front, 0 of them only where none remained; at Err none
+abbrev pub Fills : {E : Type 0} → (old new : Option (List ℕ)) → Result ℕ E → (buffer : List ℕ) → Type 0
+Fills old new r buffer = MatchResult r (λ k. Consumes old new (take k buffer) × (k ≡ 0 → IsAtEnd new)) (λ _. Keeps old new)
+
+-- the failures after a call: one more at Err
+abbrev pub Counts : {T E : Type 0} → (old new : ℕ) → Result T E → Type 0
+Counts old new r = MatchResult r (λ _. new ≡ old) (λ _. new ≡ old + 1)
+
+-- the first n of the bytes that remained, all where there were fewer
+abbrev pub IsFirst : (n : ℕ) → Option (List ℕ) → List ℕ → Type 0
+IsFirst n remaining bytes = IfSome remaining (λ all. bytes ≡ take n all)
+
+-- n bytes at most were taken from the front of those that remained
+abbrev pub ConsumesAtMost : (n : ℕ) → (old new : Option (List ℕ)) → Type 0
+ConsumesAtMost n old new = (bytes : List ℕ) × (length bytes ≤ n) × Consumes old new bytes
+
+-- the source failed, or it didn't and memory ran out
+abbrev pub IsFaultOf : (old new : ℕ) → ReadFault → Type 0
+IsFaultOf old new Device = new ≡ old + 1
+IsFaultOf old new NoMemory = new ≡ old

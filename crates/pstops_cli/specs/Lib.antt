@@ -1,0 +1,4 @@
+pub mod Input
+pub mod Command
+pub mod Lines
+pub mod Requests

@@ -1,0 +1,47 @@
+-- The run of a request, and what is said of how it ended.
+use Rattle.std.specs.Prelude.{◌≡◌, ◌+◌, ◌⊎◌, ℕ, Bool, false, if◌then◌else◌, List, [], Option, Result, Ok, Err, IfOk, IfErr, OnOk, string_bytes}
+use Rattle.std.specs.Io.KnownBytes.{Appends}
+use Rattle.profile.specs.Output.{output}
+use Rattle.imposer.specs.Frame.{frame}
+use Rattle.imposer.specs.Runs.{Accepted, HasWritten, IsRefusal, Reports, failures_of, request}
+use Rattle.imposer.specs.Runs as runs
+use Rattle.imposer.specs.declared.outcome.Report.{Report}
+use Rattle.imposer.specs.declared.outcome.RunError.{RunError}
+use Rattle.pstops_cli.specs.declared.command.Request.{Request}
+use Rattle.pstops_cli.specs.Lines.{report_text, run_status, run_text, said}
+
+-- what a request asks of a run
+abbrev pub asked_by : Request → (input : List ℕ) → runs.Request
+asked_by r input = request r.options (string_bytes r.spec) input
+
+-- a run of what was asked for ended so, between these bytes and failures of its sink: what a run promises of an Ok and of
+-- each error
+pub record Ends (a : runs.Request) (told told' : Option (List ℕ)) (failures failures' : ℕ) (ended : Result Report RunError) : Type 0 where
+  -- at Ok exactly the output was appended, and the report has its numbers
+  pub finished : IfOk ended (λ r. Accepted a (λ spec us. Appends told told' (output frame spec us) × Reports spec us r))
+  -- a refusal names the first check that fails
+  pub refused : IfErr ended (λ e. IsRefusal a e)
+  -- after an error the sink has the first bytes of the output, as many as the error says, and none after a refusal
+  pub written : IfErr ended (λ e. HasWritten a told told' e)
+  -- the sink failed exactly where the answer is a failed write
+  pub steady : OnOk ended (failures' ≡ failures)
+  pub failed : IfErr ended (λ e. failures' ≡ failures + failures_of e)
+
+abbrev pub outcome_status : Result Report RunError → ℕ
+outcome_status (Ok report) = 0
+outcome_status (Err e) = run_status e
+
+-- a finished run says nothing where the request is quiet
+abbrev pub is_silent : (quiet : Bool) → Result Report RunError → Bool
+is_silent quiet (Ok report) = quiet
+is_silent quiet (Err e) = false
+
+abbrev pub outcome_line : (quiet : Bool) → Result Report RunError → List ℕ
+outcome_line quiet (Ok report) = if quiet then [] else said (report_text report)
+outcome_line quiet (Err e) = said (run_text e)
+
+-- its status and line; or 3 and no line, where there is one to say and it found no memory
+abbrev pub IsTold : (quiet : Bool) → Result Report RunError → (status : ℕ) → (told : List ℕ) → Type 0
+IsTold quiet ended status told =
+    ((status ≡ outcome_status ended) × (told ≡ outcome_line quiet ended))
+    ⊎ ((is_silent quiet ended ≡ false) × (status ≡ 3) × (told ≡ []))

@@ -1,0 +1,180 @@
+//! Reading a whole input.
+ghost use Rattle.std.specs.Prelude.{◌≡◌, ◌+◌, ◌^◌, ◌<◌, ◌≤◌, ℕ, List, None, Option, IfOk, IfErr, OnOk, OnErr, vec_len, length, take, drop};
+ghost use Rattle.std.specs.Io.KnownBytes.{Consumes, IsAtEnd, Keeps};
+ghost use Rattle.pstops_cli.specs.Input.{ConsumesAtMost, Counts, Fills, IsFaultOf, IsFirst};
+ghost use Rattle.pstops_cli.specs.declared.input.ReadFault.TheVariants.{Device, NoMemory};
+
+use std::alloc::{AllocError, Global};
+use std::io::Read;
+
+/// The most bytes that are read: one more than an input may have, so that a longer input is seen to be too long.
+pub const MOST_BYTES: usize = 1_073_741_825;
+
+// How much room the source is offered at least.
+const PIECE: usize = 65_536;
+
+/// A source failed and gave nothing.
+#[derive(Clone, Copy, Debug, PartialEq, Eq)]
+pub struct SourceFault {}
+
+/// What bytes are read from.
+pub trait Source {
+    // The bytes still to come, where the source tells them.
+    ghost remaining: { Self → Option (List ℕ) } = { λ _. None };
+
+    // How often it has failed.
+    ghost failures: { Self → ℕ };
+
+    /// Moves some of the bytes still to come to the front of `buffer` and answers how many, 0 only at the end.
+    fn fill(&mut self, buffer: &mut [u8]) -> Result<usize, SourceFault>
+        requires room { 0 < length buffer.old }
+        requires countable { failures self.old < u64.MAX }
+        ensures within { IfOk result (λ k. k ≤ length buffer.new) }
+        ensures moved { Fills (remaining self.old) (remaining self.new) result buffer.new }
+        ensures counted { Counts (failures self.old) (failures self.new) result };
+}
+
+/// A reader as a source. An error of the reader, an interrupted read too, is a failure.
+#[derive(Drop)]
+pub struct ReadSource<T> {
+    reader: T,
+    failures: u64,
+}
+
+impl<T: Read> ReadSource<T> {
+    /// A source of what the reader still gives, without failures so far.
+    pub fn new(reader: T) -> ReadSource<T>
+        ensures remaining { ⟦<ReadSource<T> as Source>⟧.remaining result ≡ T.remaining reader }
+        ensures fresh { ⟦<ReadSource<T> as Source>⟧.failures result ≡ 0 }
+    {
+        ReadSource {
+            reader,
+            failures: 0,
+        }
+    }
+}
+
+impl<T: Read> Source for ReadSource<T> {
+    ghost remaining = { λ s. T.remaining s.reader };
+
+    ghost failures = { λ s. s.failures };
+
+    fn fill(&mut self, buffer: &mut [u8]) -> Result<usize, SourceFault> {
+        match self.reader.read(buffer) {
+            Ok(count) => Ok(count),
+            Err(_) => {
+                self.failures += 1;
+                Err(SourceFault {})
+            }
+        }
+    }
+}
+
+/// Why an input couldn't be read.
+#[derive(Clone, Copy, Debug, PartialEq, Eq)]
+pub enum ReadFault {
+    /// The source failed.
+    Device,
+    /// There was no memory for the bytes.
+    NoMemory,
+}
+
+impl From<AllocError> for ReadFault {
+    ghost from_gives = { λ _ fault. fault ≡ NoMemory };
+
+    fn from(_error: AllocError) -> ReadFault {
+        ReadFault::NoMemory
+    }
+}
+
+impl From<SourceFault> for ReadFault {
+    ghost from_gives = { λ _ fault. fault ≡ Device };
+
+    fn from(_fault: SourceFault) -> ReadFault {
+        ReadFault::Device
+    }
+}
+
+/// The bytes of the source to its end, or the first [`MOST_BYTES`] of them where it has more.
+///
+/// They are read straight into the vector, whose length doubles as it fills. After a fault the bytes that were read are
+/// lost.
+pub fn read_input<S: Source>(alloc: Global, source: &mut S) -> Result<Vec<u8>, ReadFault>
+    requires countable { S.failures source.old < u64.MAX }
+    ensures within { IfOk result (λ bytes. vec_len bytes ≤ MOST_BYTES) }
+    ensures read { IfOk result (λ bytes. IsFirst MOST_BYTES (S.remaining source.old) bytes.items) }
+    ensures rest { IfOk result (λ bytes. Consumes (S.remaining source.old) (S.remaining source.new) bytes.items) }
+    // It ends after so many bytes, whatever comes of it.
+    ensures most { ConsumesAtMost MOST_BYTES (S.remaining source.old) (S.remaining source.new) }
+    // It is Device where the source failed in the call, and only there.
+    ensures steady { OnOk result (S.failures source.new ≡ S.failures source.old) }
+    ensures refused { IfErr result (IsFaultOf (S.failures source.old) (S.failures source.new)) }
+{
+    let mut bytes: Vec<u8> = Vec::new(alloc);
+    let mut filled = 0usize;
+    while filled < MOST_BYTES {
+        let count = fill_more(source, &mut bytes, filled)?;
+        if count == 0 {
+            break;
+        }
+        filled += count;
+    }
+    bytes.truncate(filled);
+    Ok(bytes)
+}
+
+// One fill behind the first `filled` bytes.
+fn fill_more<S: Source>(
+    source: &mut S,
+    bytes: &mut Vec<u8>,
+    filled: usize,
+) -> Result<usize, ReadFault>
+    requires countable { S.failures source.old < u64.MAX }
+    requires filled { filled ≤ vec_len bytes.old }
+    requires more { filled < MOST_BYTES }
+    requires most { vec_len bytes.old ≤ MOST_BYTES }
+    ensures front { take filled bytes.new.items ≡ take filled bytes.old.items }
+    ensures most { vec_len bytes.new ≤ MOST_BYTES }
+    ensures within { IfOk result (λ k. filled + k ≤ vec_len bytes.new) }
+    ensures moved { IfOk result (λ k.
+        Consumes (S.remaining source.old) (S.remaining source.new) (take k (drop filled bytes.new.items))
+        × (k ≡ 0 → IsAtEnd (S.remaining source.new))) }
+    ensures kept { OnErr result (Keeps (S.remaining source.old) (S.remaining source.new)) }
+    ensures steady { OnOk result (S.failures source.new ≡ S.failures source.old) }
+    ensures refused { IfErr result (IsFaultOf (S.failures source.old) (S.failures source.new)) }
+{
+    make_room(bytes, filled)?;
+    Ok(fill_behind(source, bytes.as_mut_slice(), filled)?)
+}
+
+// Sees to a piece of room behind the first `filled` bytes, or to as much as may still be read.
+fn make_room(bytes: &mut Vec<u8>, filled: usize) -> Result<(), AllocError>
+    requires filled { filled ≤ vec_len bytes.old }
+    requires more { filled < MOST_BYTES }
+    requires most { vec_len bytes.old ≤ MOST_BYTES }
+    ensures front { take filled bytes.new.items ≡ take filled bytes.old.items }
+    ensures most { vec_len bytes.new ≤ MOST_BYTES }
+    ensures room { OnOk result (filled < vec_len bytes.new) }
+{
+    let len = bytes.len();
+    if len - filled < PIECE && len < MOST_BYTES {
+        bytes.resize(len.saturating_mul(2).max(PIECE).min(MOST_BYTES), 0)?;
+    }
+    Ok(())
+}
+
+// Fills what stands behind the first `filled` bytes.
+fn fill_behind<S: Source>(
+    source: &mut S,
+    buffer: &mut [u8],
+    filled: usize,
+) -> Result<usize, SourceFault>
+    requires room { filled < length buffer.old }
+    requires countable { S.failures source.old < u64.MAX }
+    ensures front { take filled buffer.new ≡ take filled buffer.old }
+    ensures within { IfOk result (λ k. filled + k ≤ length buffer.new) }
+    ensures moved { Fills (S.remaining source.old) (S.remaining source.new) result (drop filled buffer.new) }
+    ensures counted { Counts (S.failures source.old) (S.failures source.new) result }
+{
+    source.fill(&mut buffer[filled..])
+}

@@ -1,0 +1,15 @@
+//! The command of pstops: what its words ask for, how an input is read, and which line and exit status each outcome has.
+#![tactic(auto)]
+
+mod command;
+mod input;
+mod lines;
+mod requests;
+
+pub use command::{CommandFault, Request, read_command};
+pub use input::{MOST_BYTES, ReadFault, ReadSource, Source, SourceFault, read_input};
+pub use lines::{Fault, fault_line};
+pub use requests::run_request;
+
+#[cfg(test)]
+mod tests;

@@ -1,0 +1,66 @@
+//! The run of a request, and what is said of how it ended.
+ghost use Rattle.std.specs.Prelude.{◌≡◌, ◌<◌, ◌^◌, [], false, Option, Result, IfOk, OnErr, string_bytes};
+ghost use Rattle.std.specs.Io.KnownBytes.{Appends};
+ghost use Rattle.profile.specs.Output.{output};
+ghost use Rattle.imposer.specs.Frame.{frame};
+ghost use Rattle.imposer.specs.Runs.{Accepted};
+ghost use Rattle.imposer.specs.declared.outcome.Report.{Report as ReportValue};
+ghost use Rattle.imposer.specs.declared.outcome.RunError.{RunError as RunErrorValue};
+ghost use Rattle.pstops_cli.specs.Requests.{Ends, IsTold, asked_by, is_silent, outcome_line, outcome_status};
+
+use crate::command::Request;
+use crate::lines::{Fault, fault_line, report_line};
+use imposer::{Open, Report, RunError, Sink, run};
+use std::alloc::{AllocError, Global};
+
+/// Runs a request on an input, and gives the exit status and the line for standard error, which is empty where there is
+/// none.
+///
+/// The status is 0 where the run finished, and its line is then the report unless the request is quiet. Where the line
+/// finds no memory it is empty and the status is 3.
+pub fn run_request<S: Sink>(
+    alloc: Global,
+    request: &Request,
+    input: &[u8],
+    sink: &mut S,
+) -> (u8, Vec<u8>)
+    requires countable { S.failures sink.old < u64.MAX }
+    // The run ended in some way, with all that a run promises of it, and that way has this status and this line.
+    ensures told { (ended : Result ReportValue RunErrorValue)
+        × Ends (asked_by request.now input.now) (S.told sink.old) (S.told sink.new) (S.failures sink.old) (S.failures sink.new) ended
+        × IsTold request.now.quiet ended result.0 result.1.items }
+    // Status 0 comes only where exactly the output was written.
+    ensures finished { result.0 ≡ 0 → Accepted (asked_by request.now input.now) (λ spec us.
+        Appends (S.told sink.old) (S.told sink.new) (output frame spec us)) }
+{
+    let ended = run(
+        alloc,
+        input,
+        request.spec.as_str(),
+        &request.options,
+        &Open {},
+        sink,
+    );
+    match status_and_line(alloc, request.quiet, ended) {
+        Ok(told) => told,
+        Err(_) => (3, Vec::new(alloc)),
+    }
+}
+
+// The exit status and the line of a run that ended so.
+fn status_and_line(
+    alloc: Global,
+    quiet: bool,
+    ended: Result<Report, RunError>,
+) -> Result<(u8, Vec<u8>), AllocError>
+    ensures status { IfOk result (λ told. told.0 ≡ outcome_status ended) }
+    ensures line { IfOk result (λ told. told.1.items ≡ outcome_line quiet ended) }
+    // No memory is asked for where nothing is said.
+    ensures spoken { OnErr result (is_silent quiet ended ≡ false) }
+{
+    match ended {
+        Ok(_) if quiet => Ok((0, Vec::new(alloc))),
+        Ok(report) => Ok((0, report_line(alloc, &report)?)),
+        Err(error) => fault_line(alloc, &Fault::Run(error)),
+    }
+}
