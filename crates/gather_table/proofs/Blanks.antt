@@ -1,45 +1,64 @@
--- The word of the blank slots of a sheet, slot by slot.
-use Rattle.std.proofs.Common.{◌≡◌, ℕ, zero, suc, ◌+◌, ◌*◌, ◌%◌, ◌<◌, ◌≤◌, ◌^◌, Bool, true, false, true≢false, not, List, [], ◌∷◌, refl, sym, ap, ◌∙◌, subst, arith}
-use Rattle.std.specs.Prelude.{Some, None, Option, is_none, is_some, slice_get, if◌then◌else◌}
+-- The word of the blank slots of a sheet.
+use Rattle.std.proofs.Common.{◌≡◌, ℕ, zero, suc, ◌-◌, ◌<◌, ◌≤◌, ◌^◌, ◌==◌, Bool, true, false, not, List, [], ◌∷◌, length, refl, sym, ap, ◌∙◌, arith}
+use Rattle.std.specs.Prelude.{Some, None, Option, slice_get, if◌then◌else◌}
+use Rattle.std.specs.Int.{bit_at}
 use mathlib.Core.Logic.{dite}
 use native.Mathlib.Decide.{ℕ_discrete}
-use Rattle.std.proofs.lemmas.Nat.{one_shl, pow_below}
-use Rattle.std.proofs.Math.Nat.{two-pow-succ}
-use Rattle.gather_table.specs.Table.{is_blank, bits}
-use Rattle.gather_table.proofs.Bits.{bits_lt}
+use Rattle.std.proofs.Math.ListN.{length-map}
+use Rattle.profile.specs.Sheets.{Plan, layout}
+use Rattle.sheet_plan.specs.Plans as plans
+use Rattle.gather_table.specs.Table.{is_blank, bits, slots, IsSound}
+use Rattle.gather_table.specs.Words.{has_bit}
+use Rattle.gather_table.proofs.Bits.{bits_same, bits_not}
+use Rattle.gather_table.proofs.Stored.{made_of_bits}
 
-pub bits_more : (xs : List (Option ℕ)) (k word : ℕ) (b : Bool) → word ≡ bits (is_blank xs) k → is_blank xs k ≡ b → word + (if b then 2 ^ k else 0) ≡ bits (is_blank xs) (k + 1)
-bits_more xs k word b e is =
-    let s : k + 1 ≡ suc k = omega arith in
-    subst (λ (j : ℕ). word + (if b then 2 ^ k else 0) ≡ bits (is_blank xs) j) (sym s)
-    (subst (λ c. word + (if c then 2 ^ k else 0) ≡ bits (is_blank xs) (suc k)) is (ap (λ (w : ℕ). w + (if is_blank xs k then 2 ^ k else 0)) e))
+pub sheets_of : (plan : Plan) → length (layout plan).sheets ≡ length plan.sheets
+sheets_of plan = length-map plan.sheets _
 
-pub bit_fits : (f : ℕ → Bool) (k word : ℕ) → k < 64 → word ≡ bits f k → word + (1 * 2 ^ k) % 2 ^ 64 < 18446744073709551616
-bit_fits f k word lt e =
-    let b = bits_lt f k in
-    let s = one_shl k 64 lt in
-    let t = two-pow-succ k in
-    let le : 2 ^ suc k ≤ 18446744073709551616 = up (suc k) (omega arith) in
-    omega arith
-  where
-    up : (j : ℕ) → j ≤ 64 → 2 ^ j ≤ 18446744073709551616
-    up j le = dite (ℕ_discrete j 64) (λ e. let z : 2 ^ j ≡ 18446744073709551616 = ap (λ (k : ℕ). 2 ^ k) e in omega arith) (λ ne. let p = pow_below j 64 (omega arith) in omega arith)
+-- every plan's layout is sound
+pub sound_of : (plan : Plan) → plans.IsSound plan → IsSound (layout plan)
+sound_of plan ok =
+    let l = sheets_of plan in
+    record {
+      few_pages = ok.few_pages;
+      few_sheets = let f = ok.few_sheets in omega arith;
+      narrow = λ s lt. ok.narrow s (omega arith);
+      paged = λ s k p lt at. ok.paged s k p (omega arith) at;
+    }
 
--- what a read of a slot shows
-pub blank_read : (xs : List (Option ℕ)) (k : ℕ) (o : Option ℕ) → slice_get xs k ≡ Some o → is_blank xs k ≡ is_none o
-blank_read [] k o e = absurd (cc)
-blank_read (None ∷ xs) zero None e = refl
-blank_read (None ∷ xs) zero (Some q) e = absurd (cc)
-blank_read (Some p ∷ xs) zero None e = absurd (cc)
-blank_read (Some p ∷ xs) zero (Some q) e = refl
-blank_read (None ∷ xs) (suc k) o e = blank_read xs k o e
-blank_read (Some p ∷ xs) (suc k) o e = blank_read xs k o e
+-- a slot is blank where it is there and has no page
+needed_or_blank : (xs : List (Option ℕ)) (k : ℕ) → k < length xs → not (plans.is_page (slice_get xs k)) ≡ is_blank xs k
+needed_or_blank [] k lt = absurd (omega arith)
+needed_or_blank (None ∷ xs) zero lt = refl
+needed_or_blank (Some p ∷ xs) zero lt = refl
+needed_or_blank (None ∷ xs) (suc k) lt = needed_or_blank xs k (omega arith)
+needed_or_blank (Some p ∷ xs) (suc k) lt = needed_or_blank xs k (omega arith)
 
-pub blank_told : (xs : List (Option ℕ)) (k : ℕ) (o : Option ℕ) (b : Bool) → slice_get xs k ≡ Some o → is_some o ≡ not b → is_blank xs k ≡ b
-blank_told xs k o b e is = blank_read xs k o e ∙ told o b is
-  where
-    told : (o : Option ℕ) (b : Bool) → is_some o ≡ not b → is_none o ≡ b
-    told None true is = refl
-    told None false is = absurd (true≢false (sym is))
-    told (Some p) true is = absurd (true≢false is)
-    told (Some p) false is = refl
+none_beyond : (xs : List (Option ℕ)) (k : ℕ) → length xs ≤ k → plans.is_page (slice_get xs k) ≡ false
+none_beyond [] k le = refl
+none_beyond (x ∷ xs) zero le = absurd (omega arith)
+none_beyond (x ∷ xs) (suc k) le = none_beyond xs k (omega arith)
+
+bits_beyond : (f : ℕ → Bool) (n m : ℕ) → n ≤ m → ((k : ℕ) → n ≤ k → f k ≡ false) → bits f m ≡ bits f n
+bits_beyond f n zero le none = let z : n ≡ zero = omega arith in ap (bits f) (sym z)
+bits_beyond f n (suc m) le none = dite (ℕ_discrete n (suc m))
+    (λ same. ap (bits f) (sym same))
+    (λ other. let h = bits_beyond f n m (omega arith) none in let z : (if f m then 2 ^ m else 0) ≡ 0 = ap (λ (b : Bool). if b then 2 ^ m else 0) (none m (omega arith)) in omega arith)
+
+bit_told : (b : Bool) → ((if b then 1 else 0) == 1) ≡ b
+bit_told true = refl
+bit_told false = refl
+
+-- all slots without the needed ones are the blank ones
+pub blanks_left : (xs : List (Option ℕ)) (missing full slots : ℕ) → missing < 2 ^ 64 → length xs ≤ 64 → slots ≡ length xs → full ≡ 2 ^ slots - 1 → ((k : ℕ) → bit_at missing k ≡ (if plans.is_page (slice_get xs k) then 1 else 0))
+    → (missing ≤ full) × (full - missing ≡ bits (is_blank xs) (length xs))
+blanks_left xs missing full slots small few is_slots is_full told =
+    let f : ℕ → Bool = λ k. plans.is_page (slice_get xs k) in
+    let n = length xs in
+    let made = made_of_bits missing 64 small in
+    let same : bits (has_bit missing) 64 ≡ bits f 64 = bits_same (has_bit missing) f 64 (λ k lt. ap (λ (x : ℕ). x == 1) (told k) ∙ bit_told (f k)) in
+    let cut : bits f 64 ≡ bits f n = bits_beyond f n 64 few (λ k le. none_beyond xs k le) in
+    let others = bits_not f n in
+    let blanks : bits (λ k. not (f k)) n ≡ bits (is_blank xs) n = bits_same (λ k. not (f k)) (is_blank xs) n (λ k lt. needed_or_blank xs k lt) in
+    let all : full ≡ 2 ^ n - 1 = is_full ∙ ap (λ (k : ℕ). 2 ^ k - 1) is_slots in
+    (omega arith, omega arith)

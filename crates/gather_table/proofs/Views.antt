@@ -36,21 +36,25 @@ made t t' v w e e' old a h same call is =
     (record { between = a.between; grown = ap (seat_view t) a.grown; alone = a.alone; before = h; after = held_after v w e a h })
 
 -- a split
-pub stands_kept : (me new : Me Unit Sight) (share rest give : ℕ) → new.1 ≡ me.1 → new.0 ≡ keeps_back give me.0 → 0 < give → give < me.0.mine.share → rest ≡ share - give → StandsAlone me share → StandsAlone new rest
-stands_kept me new share rest give slots is some less is_rest s = record {
-  no_slots = slots ∙ s.no_slots;
-  one_part = ap (λ (u : Sight). u.other) is ∙ s.one_part;
-  share = is_rest ∙ ap (λ (n : ℕ). n - give) s.share ∙ sym (ap (λ (u : Sight). u.mine.share) is);
-  held = subst Held (sym is) (held_keeps (IsLegal me.0.key) me.0.mine.front me.0.mine.own me.0.mine.share give s.held some less);
-}
+pub stands_kept : (me new : Me Unit Sight) (share rest give g : ℕ) → new ≡ (keeps_back g me.0, me.1) → give ≡ g → 0 < give → give < me.0.mine.share → rest ≡ share - give → StandsAlone me share → StandsAlone new rest
+stands_kept me new share rest give g is same some less is_rest s =
+    let kept : new.0 ≡ keeps_back give me.0 = ap (λ (p : Me Unit Sight). p.0) is ∙ ap (λ (n : ℕ). keeps_back n me.0) (sym same) in
+    record {
+      no_slots = ap (λ (p : Me Unit Sight). p.1) is ∙ s.no_slots;
+      one_part = ap (λ (u : Sight). u.other) kept ∙ s.one_part;
+      share = is_rest ∙ ap (λ (n : ℕ). n - give) s.share ∙ sym (ap (λ (u : Sight). u.mine.share) kept);
+      held = subst Held (sym kept) (held_keeps (IsLegal me.0.key) me.0.mine.front me.0.mine.own me.0.mine.share give s.held some less)
+    }
 
-pub stands_given : (me new : Me Unit Sight) (share give : ℕ) → new.1 ≡ [] → new.0 ≡ given give me.0 → 0 < give → give < me.0.mine.share → StandsAlone me share → StandsAlone new give
-stands_given me new share give slots is some less s = record {
-  no_slots = slots;
-  one_part = ap (λ (u : Sight). u.other) is;
-  share = sym (ap (λ (u : Sight). u.mine.share) is);
-  held = subst Held (sym is) (held_given (IsLegal me.0.key) me.0.mine.front me.0.mine.own me.0.mine.share give s.held some less);
-}
+pub stands_given : (me new : Me Unit Sight) (share give g : ℕ) → new ≡ (given g me.0, []) → give ≡ g → 0 < give → give < me.0.mine.share → StandsAlone me share → StandsAlone new give
+stands_given me new share give g is same some less s =
+    let got : new.0 ≡ given give me.0 = ap (λ (p : Me Unit Sight). p.0) is ∙ ap (λ (n : ℕ). given n me.0) (sym same) in
+    record {
+      no_slots = ap (λ (p : Me Unit Sight). p.1) is;
+      one_part = ap (λ (u : Sight). u.other) got;
+      share = sym (ap (λ (u : Sight). u.mine.share) got);
+      held = subst Held (sym got) (held_given (IsLegal me.0.key) me.0.mine.front me.0.mine.own me.0.mine.share give s.held some less)
+    }
 
 -- a join
 moved : (v w : Sight) → w.key ≡ v.key → Held w → IsHeld (IsLegal v.key) w.mine.front w.mine.own w.mine.share

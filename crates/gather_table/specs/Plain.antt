@@ -1,19 +1,8 @@
 -- The one-thread table as a value of the program.
-use Rattle.std.specs.Prelude.{◌≡◌, ℕ, ◌<◌, ◌≤◌, ◌^◌, List, length, map, Option, Some, None, slice_get, slice_index, slice_index_or}
-use Rattle.std.specs.Global.{Vec}
+use Rattle.std.specs.Prelude.{◌≡◌, ℕ, ◌<◌, ◌^◌, List, length, Option, None, slice_index, slice_index_or}
 use Rattle.profile.specs.Sheets.{Layout}
 use Rattle.gather_table.specs.Table.{TableState, slot_count, IsSound}
 use Rattle.gather_table.specs.Words.{has_bit}
-
--- the layout of so many pages and these sheets
-abbrev pub layout_of : ℕ → List (Vec (Option ℕ)) → Layout
-layout_of pages sheets = record { pages = pages; sheets = map (λ slots. slots.items) sheets }
-
--- 1 to 64 slots, each blank or with one of these pages
-pub record IsSheet (pages : ℕ) (slots : List (Option ℕ)) : Type 0 where
-  pub some_slots : 0 < length slots
-  pub few_slots : length slots ≤ 64
-  pub paged : (k p : ℕ) → slice_get slots k ≡ Some (Some p) → p < pages
 
 -- its layout, the index of each page, and for each sheet its marked slots as the bits of a number
 pub record PlainView : Type 0 where

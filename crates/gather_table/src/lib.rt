@@ -10,14 +10,12 @@ mod plain;
 mod plays;
 mod rule;
 mod seat;
-mod shape;
 mod table;
 mod words;
 
 pub use crate::answers::{Published, Reply};
 pub use crate::plain::PlainTable;
 pub use crate::seat::Seat;
-pub use crate::shape::Shape;
 pub use crate::table::GatherTable;
 
 #[cfg(test)]

@@ -1,14 +1,15 @@
 //! How the shared table is made.
 ghost use Rattle.std.specs.Prelude.{◌≡◌, ◌+◌, ◌<◌, ◌≤◌, [], ◌∷◌, ◌++◌, nat_lt, if◌then◌else◌, IfOk};
+ghost use Rattle.profile.specs.Sheets.{layout};
 ghost use Rattle.gather_table.specs.Lanes.{fitted};
 ghost use Rattle.gather_table.specs.Shared.{opening_seat};
 
 use crate::lane::Lane;
 use crate::seat::Seat;
-use crate::shape::Shape;
 use crate::table::GatherTable;
 use crate::words::{blank_bits, full_bits};
 use atomic_table::Table;
+use sheet_plan::Plan;
 use std::alloc::{AllocError, Global};
 
 // The lane of so many bits that comes next, with its word.
@@ -32,8 +33,8 @@ impl<'s> GatherTable<'s> {
     ///
     /// One word a page holds its index; the bits of a sheet stand in a lane of neighbouring bits of one word. A sheet takes
     /// the next free bits of the current word where they suffice, else the first bits of the next word.
-    pub fn new(alloc: Global, plan: &Shape<'s>) -> Result<(GatherTable<'s>, Seat), AllocError>
-        ensures layout { IfOk result (λ made. made.0.layout ≡ plan.now) }
+    pub fn new(alloc: Global, plan: &Plan<'s>) -> Result<(GatherTable<'s>, Seat), AllocError>
+        ensures layout { IfOk result (λ made. made.0.layout ≡ layout plan.now) }
         ensures seat { IfOk result (λ made. made.1 ≡ opening_seat made.0) }
     {
         let pages = plan.pages() as usize;

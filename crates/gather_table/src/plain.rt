@@ -1,11 +1,12 @@
 //! The gathering table for one thread.
 ghost use Rattle.std.specs.Prelude.{◌≡◌, ◌<◌, length, IfOk};
+ghost use Rattle.profile.specs.Sheets.{layout};
 ghost use Rattle.gather_table.specs.Plain.{state_of};
 ghost use Rattle.gather_table.specs.Table.{IsMarkable, start, with_index, publish_reply, with_marked, mark_reply, slot_count, missing};
 
 use crate::answers::{Published, Reply};
-use crate::shape::Shape;
 use crate::words::{blank_bits, full_bits, reply_by};
+use sheet_plan::Plan;
 use std::alloc::{AllocError, Global};
 use std::marker::Model;
 
@@ -15,25 +16,26 @@ use std::marker::Model;
 /// The four calls take no memory and always answer.
 #[derive(Drop)]
 pub struct PlainTable<'p> {
-    plan: &'p Shape<'p>,
+    plan: &'p Plan<'p>,
     indexes: Vec<Option<u32>>,
     marked: Vec<u64>,
 }
 
 impl<'p> Model for PlainTable<'p> {
+    ghost use Rattle.profile.specs.Sheets.{layout};
     ghost use Rattle.gather_table.specs.Plain.{PlainView, IsPlain};
 
     ghost Value = { PlainView };
 
-    ghost view = { λ t. record { layout = t.plan.now; index = t.indexes.items; marked = t.marked.items } };
+    ghost view = { λ t. record { layout = layout t.plan.now; index = t.indexes.items; marked = t.marked.items } };
 
-    ghost invariant = { λ t. IsPlain record { layout = t.plan.now; index = t.indexes.items; marked = t.marked.items } };
+    ghost invariant = { λ t. IsPlain record { layout = layout t.plan.now; index = t.indexes.items; marked = t.marked.items } };
 }
 
 impl<'p> PlainTable<'p> {
     /// A table for a plan: no page has an index, and the blank slots alone are marked.
-    pub fn new(alloc: Global, plan: &'p Shape<'p>) -> Result<PlainTable<'p>, AllocError>
-        ensures layout { IfOk result (λ table. table.layout ≡ plan.now) }
+    pub fn new(alloc: Global, plan: &'p Plan<'p>) -> Result<PlainTable<'p>, AllocError>
+        ensures layout { IfOk result (λ table. table.layout ≡ layout plan.now) }
         ensures state { IfOk result (λ table. state_of table ≡ start table.layout) }
     {
         let indexes = Vec::from_elem(alloc, None, plan.pages() as usize)?;

@@ -1,6 +1,6 @@
 //! What a seat knows, and the rule of the table.
-use crate::shape::Shape;
 use atomic_table::TableRule;
+use sheet_plan::Plan;
 use std::marker::Model;
 
 /// What a seat knows: a history that its caller has seen, and the caller's own calls in it. No value of it is made.
@@ -20,11 +20,12 @@ impl Model for View {
 /// Between any two steps there is one legal history, whose state the words hold and which every seat has seen a beginning of.
 pub struct OneHistory;
 
-impl<'s> TableRule<(), View, Shape<'s>> for OneHistory {
+impl<'s> TableRule<(), View, Plan<'s>> for OneHistory {
+    ghost use Rattle.profile.specs.Sheets.{layout};
     ghost use Rattle.histories.specs.Seats.{opening_sight};
     ghost use Rattle.gather_table.specs.Rule.{Kept};
 
-    ghost holds = { Kept };
+    ghost holds = { λ plan. Kept (layout plan) };
 
-    ghost first = { opening_sight };
+    ghost first = { λ plan. opening_sight (layout plan) };
 }

@@ -12,9 +12,9 @@ use crate::lane::Lane;
 use crate::plays::{Calls, Finds, Publishes, Tells};
 use crate::rule::{OneHistory, View};
 use crate::seat::Seat;
-use crate::shape::Shape;
 use crate::words::{index_by, published_by, reply_by};
 use atomic_table::Table;
+use sheet_plan::Plan;
 use std::alloc::Global;
 use std::marker::{Brand, Model};
 
@@ -25,21 +25,22 @@ use std::marker::{Brand, Model};
 /// one thread, each once and in its order.
 #[derive(Drop)]
 pub struct GatherTable<'s> {
-    pub(crate) table: Table<(), View, Shape<'s>, OneHistory, Global>,
+    pub(crate) table: Table<(), View, Plan<'s>, OneHistory, Global>,
     pub(crate) pages: usize,
     pub(crate) full: Vec<u64>,
     pub(crate) lanes: Vec<Lane>,
 }
 
 impl<'s> Model for GatherTable<'s> {
+    ghost use Rattle.profile.specs.Sheets.{layout};
     ghost use Rattle.gather_table.specs.Shared.{TableView};
     ghost use Rattle.gather_table.specs.Counts.{KeepsCounts};
 
     ghost Value = { TableView };
 
-    ghost view = { λ t. record { table = t.table.shared.table_id; layout = t.table.shared.key } };
+    ghost view = { λ t. record { table = t.table.shared.table_id; layout = layout t.table.shared.key } };
 
-    ghost invariant = { λ t. KeepsCounts t.table.shared.key t.table.shared.table_id.words t.pages t.full.items t.lanes.items };
+    ghost invariant = { λ t. KeepsCounts (layout t.table.shared.key) t.table.shared.table_id.words t.pages t.full.items t.lanes.items };
 }
 
 impl<'s> GatherTable<'s> {

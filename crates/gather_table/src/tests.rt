@@ -1,13 +1,15 @@
 //! Worked examples, on the table for one thread and on the shared one.
 ghost use Rattle.std.specs.Prelude.{◌≡◌, ◌<◌};
+ghost use Rattle.profile.specs.Sheets.{layout};
 ghost use Rattle.gather_table.specs.Shared.{IsSeatOf};
 
 use crate::answers::{Published, Reply};
 use crate::plain::PlainTable;
 use crate::seat::Seat;
-use crate::shape::Shape;
 use crate::table::GatherTable;
-use std::alloc::{AllocError, Global};
+use pagespec::{Spec, read_spec};
+use sheet_plan::Plan;
+use std::alloc::Global;
 use std::marker::{Brand, PhantomData};
 use std::process::Abort;
 use std::test::Fail;
@@ -29,8 +31,8 @@ trait Calls {
 #[derive(Drop)]
 struct OneThread<'p> {
     table: PlainTable<'p>,
-    plan: &'p Shape<'p>,
-    ghost same: { table.layout ≡ plan.now },
+    plan: &'p Plan<'p>,
+    ghost same: { table.layout ≡ layout plan.now },
 }
 
 impl<'p> Calls for OneThread<'p> {
@@ -70,12 +72,12 @@ impl<'p> Calls for OneThread<'p> {
 // Marks a slot through a seat, where it isn't blank and the page has an index.
 fn mark_checked(
     table: &GatherTable,
-    plan: &Shape,
+    plan: &Plan,
     seat: &mut Seat,
     sheet: u32,
     slot: u16,
 ) -> Option<Reply>
-    requires plan { table.now.layout ≡ plan.now }
+    requires plan { table.now.layout ≡ layout plan.now }
     requires seat { IsSeatOf table.now seat.old }
     ensures { IsSeatOf table.now seat.new }
 {
@@ -93,13 +95,13 @@ fn mark_checked(
 // Publishes the page of a slot, where it has one, and marks the slot.
 fn bring_one(
     table: &GatherTable,
-    plan: &Shape,
+    plan: &Plan,
     seat: &mut Seat,
     sheet: u32,
     slot: u16,
     index: u32,
 ) -> Option<Reply>
-    requires plan { table.now.layout ≡ plan.now }
+    requires plan { table.now.layout ≡ layout plan.now }
     requires seat { IsSeatOf table.now seat.old }
     ensures { IsSeatOf table.now seat.new }
 {
@@ -141,12 +143,12 @@ struct Sent<T: OfTable> {
 // Brings two slots, one after the other.
 fn bring_two<T: OfTable>(
     table: &GatherTable,
-    plan: &Shape,
+    plan: &Plan,
     sent: Sent<T>,
     slots: [(u32, u16); 2],
     index: u32,
 ) -> (Sent<T>, Answers)
-    requires plan { table.now.layout ≡ plan.now }
+    requires plan { table.now.layout ≡ layout plan.now }
     requires table { table.now ≡ T.table }
 {
     let Sent { mut seat, of } = sent;
@@ -160,12 +162,12 @@ fn bring_two<T: OfTable>(
 fn bring_in_two_threads<R: Threads + Sync>(
     rt: &R,
     table: &GatherTable,
-    plan: &Shape,
+    plan: &Plan,
     seat: Seat,
     here: [(u32, u16); 2],
     there: [(u32, u16); 2],
 ) -> (u64, Answers, Answers)
-    requires plan { table.now.layout ≡ plan.now }
+    requires plan { table.now.layout ≡ layout plan.now }
     requires seat { IsSeatOf table.now seat }
     requires share { 1 < seat.share }
 {
@@ -175,12 +177,12 @@ fn bring_in_two_threads<R: Threads + Sync>(
 fn bring_apart<T: OfTable + Send, R: Threads + Sync>(
     rt: &R,
     table: &GatherTable,
-    plan: &Shape,
+    plan: &Plan,
     seat: Seat,
     here: [(u32, u16); 2],
     there: [(u32, u16); 2],
 ) -> (u64, Answers, Answers)
-    requires plan { table.now.layout ≡ plan.now }
+    requires plan { table.now.layout ≡ layout plan.now }
     requires seat { IsSeatOf table.now seat }
     requires share { 1 < seat.share }
     requires table { table.now ≡ T.table }
@@ -208,9 +210,9 @@ fn bring_apart<T: OfTable + Send, R: Threads + Sync>(
 #[derive(Drop)]
 struct Caller<'t, 's> {
     table: &'t GatherTable<'s>,
-    plan: &'t Shape<'s>,
+    plan: &'t Plan<'s>,
     seat: Seat,
-    ghost same: { table.now.layout ≡ plan.now },
+    ghost same: { table.now.layout ≡ layout plan.now },
     ghost seated: { IsSeatOf table.now seat },
 }
 
@@ -241,19 +243,20 @@ impl<'t, 's> Calls for Caller<'t, 's> {
     }
 }
 
-// Sheets with these slots, one after the other, until there are so many.
-fn sheets_of(
-    alloc: Global,
-    rows: &[&[Option<u32>]],
-    count: usize,
-) -> Result<Vec<Vec<Option<u32>>>, AllocError> {
-    let mut sheets = Vec::new(alloc);
-    for number in 0..count {
-        if let Some(row) = rows.get(number % rows.len().max(1)) {
-            sheets.push(Vec::from_slice(alloc, row)?)?;
-        }
-    }
-    Ok(sheets)
+fn spec_of<R: Abort>(rt: &R, alloc: Global, text: &str) -> Spec {
+    let Ok(spec) = read_spec(alloc, text) else {
+        panic!(rt; "a specification is refused")
+    };
+    spec
+}
+
+fn plan_of<'s, R: Abort>(rt: &R, alloc: Global, spec: &'s Spec, pages: u32) -> Plan<'s>
+    ensures { result.pages ≡ pages }
+{
+    let Ok(plan) = Plan::new(alloc, spec, pages) else {
+        panic!(rt; "a plan is refused")
+    };
+    plan
 }
 
 // One sheet with two pages: the calls of one caller, and what each answers.
@@ -283,10 +286,8 @@ fn brings_a_page_beside_a_blank<R: Abort, C: Calls>(rt: &R, table: &mut C) {
 
 #[test]
 fn one_caller_brings_two_pages(rt: HostRuntime) -> Result<(), Fail> {
-    let sheets = sheets_of(rt.alloc(), &[&[Some(0), Some(1)]], 1)?;
-    let Some(plan) = Shape::new(2, sheets.as_slice()) else {
-        panic!(rt; "two slots with pages 0 and 1")
-    };
+    let spec = spec_of(&rt, rt.alloc(), "2:0+1");
+    let plan = plan_of(&rt, rt.alloc(), &spec, 2);
     let table = PlainTable::new(rt.alloc(), &plan)?;
     brings_two_pages(&rt, &mut OneThread { table, plan: &plan });
     let (table, seat) = GatherTable::new(rt.alloc(), &plan)?;
@@ -303,10 +304,8 @@ fn one_caller_brings_two_pages(rt: HostRuntime) -> Result<(), Fail> {
 
 #[test]
 fn a_blank_slot_counts_as_marked(rt: HostRuntime) -> Result<(), Fail> {
-    let sheets = sheets_of(rt.alloc(), &[&[None, Some(0)]], 1)?;
-    let Some(plan) = Shape::new(1, sheets.as_slice()) else {
-        panic!(rt; "a blank slot and one with page 0")
-    };
+    let spec = spec_of(&rt, rt.alloc(), "2:1+0");
+    let plan = plan_of(&rt, rt.alloc(), &spec, 1);
     let table = PlainTable::new(rt.alloc(), &plan)?;
     brings_a_page_beside_a_blank(&rt, &mut OneThread { table, plan: &plan });
     let (table, seat) = GatherTable::new(rt.alloc(), &plan)?;
@@ -323,10 +322,8 @@ fn a_blank_slot_counts_as_marked(rt: HostRuntime) -> Result<(), Fail> {
 
 #[test]
 fn a_table_without_pages_has_a_seat(rt: HostRuntime) -> Result<(), Fail> {
-    let sheets = sheets_of(rt.alloc(), &[], 0)?;
-    let Some(plan) = Shape::new(0, sheets.as_slice()) else {
-        panic!(rt; "no pages and no sheets")
-    };
+    let spec = spec_of(&rt, rt.alloc(), "0");
+    let plan = plan_of(&rt, rt.alloc(), &spec, 0);
     let (table, mut one) = GatherTable::new(rt.alloc(), &plan)?;
     let two = table.split(&mut one, 1);
     assert_eq!(rt; one.share(), 4_294_967_295);
@@ -336,39 +333,35 @@ fn a_table_without_pages_has_a_seat(rt: HostRuntime) -> Result<(), Fail> {
 
 #[test]
 fn lanes_follow_one_another(rt: HostRuntime) -> Result<(), Fail> {
-    let sheets = sheets_of(rt.alloc(), &[&[Some(0), Some(1)]], 50)?;
+    let one_group =
+        "0+0+0+0+0+0+0+0+0+0+0+0+0+0+0+0+0+0+0+0+0+0+0+0+0+0+0+0+0+0+0+0+0+0+0+0+0+0+0+0+0+0+0+0+0+0+0+0+0+0+0+0+0+0+0+0+0+0+0+0+0+0+0+0";
     lanes_are(
         &rt,
         rt.alloc(),
-        sheets.as_slice(),
+        "2:0+1",
+        100,
         &[(0, (0, 0)), (31, (0, 62)), (32, (1, 0))],
     )?;
-    let sheets = sheets_of(rt.alloc(), &[&[Some(0), Some(1)], &[Some(2)]], 68)?;
     lanes_are(
         &rt,
         rt.alloc(),
-        sheets.as_slice(),
+        "3:0+1,2",
+        100,
         &[(40, (0, 60)), (41, (0, 62)), (42, (1, 0)), (43, (1, 2))],
     )?;
-    let sheets = sheets_of(rt.alloc(), &[&[Some(0); 64]], 2)?;
-    lanes_are(
-        &rt,
-        rt.alloc(),
-        sheets.as_slice(),
-        &[(0, (0, 0)), (1, (1, 0))],
-    )
+    lanes_are(&rt, rt.alloc(), one_group, 2, &[(0, (0, 0)), (1, (1, 0))])
 }
 
-// Of a table of these sheets on 100 pages, which lanes some sheets have.
+// Which lanes some sheets of a plan have.
 fn lanes_are<R: Abort>(
     rt: &R,
     alloc: Global,
-    sheets: &[Vec<Option<u32>>],
+    text: &str,
+    pages: u32,
     lanes: &[(u32, (u32, u8))],
 ) -> Result<(), Fail> {
-    let Some(plan) = Shape::new(100, sheets) else {
-        panic!(rt; "pages below 100")
-    };
+    let spec = spec_of(rt, alloc, text);
+    let plan = plan_of(rt, alloc, &spec, pages);
     let (table, _seat) = GatherTable::new(alloc, &plan)?;
     for (sheet, lane) in lanes {
         assert!(rt; *sheet < plan.sheets());
@@ -379,10 +372,8 @@ fn lanes_are<R: Abort>(
 
 #[test]
 fn a_seat_finds_what_another_published_when_they_meet(rt: HostRuntime) -> Result<(), Fail> {
-    let sheets = sheets_of(rt.alloc(), &[&[Some(0), Some(1)]], 1)?;
-    let Some(plan) = Shape::new(2, sheets.as_slice()) else {
-        panic!(rt; "two slots with pages 0 and 1")
-    };
+    let spec = spec_of(&rt, rt.alloc(), "2:0+1");
+    let plan = plan_of(&rt, rt.alloc(), &spec, 2);
     let (table, mut one) = GatherTable::new(rt.alloc(), &plan)?;
     let two = table.split(&mut one, 1);
     assert_eq!(rt; table.publish(&mut one, 0, 5), Published::Stored);
@@ -393,10 +384,8 @@ fn a_seat_finds_what_another_published_when_they_meet(rt: HostRuntime) -> Result
 
 #[test]
 fn two_threads_complete_a_sheet_once(rt: HostRuntime) -> Result<(), Fail> {
-    let sheets = sheets_of(rt.alloc(), &[&[Some(0), Some(1)]], 1)?;
-    let Some(plan) = Shape::new(2, sheets.as_slice()) else {
-        panic!(rt; "two slots with pages 0 and 1")
-    };
+    let spec = spec_of(&rt, rt.alloc(), "2:0+1");
+    let plan = plan_of(&rt, rt.alloc(), &spec, 2);
     let (table, seat) = GatherTable::new(rt.alloc(), &plan)?;
     let (share, one, two) = bring_in_two_threads(
         &rt,
@@ -415,10 +404,8 @@ fn two_threads_complete_a_sheet_once(rt: HostRuntime) -> Result<(), Fail> {
 
 #[test]
 fn two_threads_bring_the_same_page(rt: HostRuntime) -> Result<(), Fail> {
-    let sheets = sheets_of(rt.alloc(), &[&[Some(0)]], 1)?;
-    let Some(plan) = Shape::new(1, sheets.as_slice()) else {
-        panic!(rt; "one slot with page 0")
-    };
+    let spec = spec_of(&rt, rt.alloc(), "0");
+    let plan = plan_of(&rt, rt.alloc(), &spec, 1);
     let (table, seat) = GatherTable::new(rt.alloc(), &plan)?;
     let (_share, one, two) = bring_in_two_threads(
         &rt,
@@ -436,10 +423,8 @@ fn two_threads_bring_the_same_page(rt: HostRuntime) -> Result<(), Fail> {
 
 #[test]
 fn two_threads_on_one_word_do_not_disturb_each_other(rt: HostRuntime) -> Result<(), Fail> {
-    let sheets = sheets_of(rt.alloc(), &[&[Some(0), Some(1)], &[Some(2), Some(3)]], 2)?;
-    let Some(plan) = Shape::new(4, sheets.as_slice()) else {
-        panic!(rt; "two sheets with two of four pages each")
-    };
+    let spec = spec_of(&rt, rt.alloc(), "2:0+1");
+    let plan = plan_of(&rt, rt.alloc(), &spec, 4);
     let (table, seat) = GatherTable::new(rt.alloc(), &plan)?;
     let (_share, one, two) = bring_in_two_threads(
         &rt,

@@ -1,24 +1,18 @@
 //! What words stand for: the slots of a sheet, bit k for slot k, and the index of a page.
 ghost use Rattle.std.specs.Prelude.{◌≡◌, ◌-◌, ◌<◌, ◌≤◌, ◌^◌, length};
+ghost use Rattle.profile.specs.Sheets.{layout};
 ghost use Rattle.gather_table.specs.Table.{is_blank, bits, slots, slot_count, publish_reply};
 ghost use Rattle.gather_table.specs.Words.{index_in, reply_in};
 
 use crate::answers::{Published, Reply};
-use crate::shape::Shape;
+use sheet_plan::Plan;
 
 // The blank slots of a sheet.
-pub(crate) fn blank_bits(plan: &Shape, sheet: u32) -> u64
-    requires sheet { sheet < length plan.now.sheets }
-    requires narrow { slot_count plan.now sheet ≤ 64 }
-    ensures { result ≡ bits (is_blank (slots plan.now sheet)) (slot_count plan.now sheet) }
+pub(crate) fn blank_bits(plan: &Plan, sheet: u32) -> u64
+    requires { sheet < length plan.now.sheets }
+    ensures { result ≡ bits (is_blank (slots (layout plan.now) sheet)) (slot_count (layout plan.now) sheet) }
 {
-    let mut word = 0u64;
-    for slot in 0..plan.slots(sheet) {
-        if plan.page_of(sheet, slot).is_none() {
-            word += 1u64 << slot;
-        }
-    }
-    word
+    full_bits(plan.slots(sheet)) - plan.missing_at_start(sheet)
 }
 
 // All slots of a sheet.

@@ -1,7 +1,6 @@
 use Rattle.std.proofs.Common.{refl, arith, sym, ap, ◌∙◌}
 use Rattle.gather_table.proofs.Laying.{some_word}
 use Rattle.gather_table.proofs.Seats.{splits}
-use Rattle.histories.specs.Seats.{keeps_back, given}
 use Rattle.gather_table.proofs.Views.{stands_kept, stands_given}
 use Rattle.gather_table.proofs.table.GatherTable.cut.Goals as goal
 
@@ -16,14 +15,12 @@ split_seat-new-requires g c =
 
 pub invariant_of-seat : goal.invariant_of-seat
 invariant_of-seat g c =
-    let s = c.split_seat-new.ensures in
     let share = ap (λ t. t.share) c.seat.view_is in
     let all = c.requires.share in
-    stands_kept c.seat.inside.seat.me _ _ _ c.args.give (ap (λ p. p.1) s.2) (ap (λ p. p.0) s.2 ∙ ap (λ n. keeps_back n c.seat.inside.seat.me.0) (sym c.requires.give)) all.0 (omega arith) refl c.seat.invariant
+    stands_kept c.seat.inside.seat.me _ _ _ c.args.give _ c.split_seat-new.ensures.2 c.requires.give all.0 (omega arith) refl c.seat.invariant
 
 pub invariant_of-result : goal.invariant_of-result
 invariant_of-result g c =
-    let s = c.split_seat-new.ensures in
     let share = ap (λ t. t.share) c.seat.view_is in
     let all = c.requires.share in
-    stands_given c.seat.inside.seat.me _ _ c.args.give (ap (λ p. p.1) s.4) (ap (λ p. p.0) s.4 ∙ ap (λ n. given n c.seat.inside.seat.me.0) (sym c.requires.give)) all.0 (omega arith) c.seat.invariant
+    stands_given c.seat.inside.seat.me _ _ c.args.give _ c.split_seat-new.ensures.4 c.requires.give all.0 (omega arith) c.seat.invariant

@@ -1,5 +1,5 @@
 use Rattle.std.proofs.Common.{arith, sym, ap, ◌∙◌, subst, ◌≡◌, ◌<◌, length}
-use Rattle.profile.specs.Sheets.{Layout}
+use Rattle.profile.specs.Sheets.{Layout, layout as layout_of}
 use Rattle.gather_table.specs.declared.lane.Lane.{Lane}
 use Rattle.gather_table.specs.Lanes.{lane}
 use Rattle.gather_table.specs.Plays.{look_of}
@@ -12,7 +12,7 @@ pub load-found-requires : goal.load-found-requires
 load-found-requires g c =
     let ours = ap (λ t. t.table) c.seat.view_is ∙ c.requires.seat.0 ∙ sym (ap (λ t. t.table) c.self.view_is) in
     let same = ap (λ t. t.layout) c.self.view_is in
-    let layout = c.self.inside.table.shared.key in
+    let layout = layout_of c.self.inside.table.shared.key in
     let below : c.args.sheet < length layout.sheets = subst (λ p. c.args.sheet < length p.sheets) (sym same) c.requires.sheet in
     let most = within layout c.self.invariant.sound.narrow c.args.sheet below in
     let room = c.self.invariant.room in
@@ -23,7 +23,7 @@ load-found-requires g c =
 
 pub returns : goal.returns
 returns g c =
-    let layout = c.self.inside.table.shared.key in
+    let layout = layout_of c.self.inside.table.shared.key in
     let same = ap (λ t. t.layout) c.self.view_is in
     let below : c.args.sheet < length layout.sheets = subst (λ p. c.args.sheet < length p.sheets) (sym same) c.requires.sheet in
     let sheets = c.self.invariant.count_full in

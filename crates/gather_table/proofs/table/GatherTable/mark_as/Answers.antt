@@ -1,6 +1,6 @@
 use Rattle.std.proofs.Common.{arith, sym, ap, ◌∙◌, subst, ◌≡◌, ◌<◌, ◌+◌, ◌^◌, length}
 use Rattle.std.proofs.lemmas.Nat.{one_shl}
-use Rattle.profile.specs.Sheets.{Layout}
+use Rattle.profile.specs.Sheets.{Layout, layout as layout_of}
 use Rattle.gather_table.specs.declared.lane.Lane.{Lane}
 use Rattle.gather_table.specs.History.{after_history}
 use Rattle.gather_table.specs.Lanes.{lane}
@@ -16,7 +16,7 @@ pub fetch_or-found-requires : goal.fetch_or-found-requires
 fetch_or-found-requires g c =
     let ours = ap (λ t. t.table) c.seat.view_is ∙ c.requires.seat.0 ∙ sym (ap (λ t. t.table) c.self.view_is) in
     let same = ap (λ t. t.layout) c.self.view_is in
-    let layout = c.self.inside.table.shared.key in
+    let layout = layout_of c.self.inside.table.shared.key in
     let below : c.args.sheet < length layout.sheets = subst (λ p. c.args.sheet < length p.sheets) (sym same) c.requires.sheet in
     let markable : IsMarkable layout (after_history layout c.seat.inside.seat.me.0.mine.front) c.args.sheet c.args.slot =
     subst (λ (f : _). IsMarkable layout (after_history layout f) c.args.sheet c.args.slot) (sym (ap (λ t. t.front) c.seat.view_is))
@@ -45,7 +45,7 @@ overflow_shl-slot g c = slot_narrow _ _ c.args.sheet c.args.slot _ (ap (λ t. t.
 pub returns : goal.returns
 returns g c =
     let narrow = slot_narrow _ _ c.args.sheet c.args.slot _ (ap (λ t. t.layout) c.self.view_is) c.self.invariant.sound.narrow c.requires.sheet c.requires.slot.needed in
-    let layout = c.self.inside.table.shared.key in
+    let layout = layout_of c.self.inside.table.shared.key in
     let same = ap (λ t. t.layout) c.self.view_is in
     let below : c.args.sheet < length layout.sheets = subst (λ p. c.args.sheet < length p.sheets) (sym same) c.requires.sheet in
     let sheets = c.self.invariant.count_full in

@@ -1,10 +1,11 @@
 use Rattle.std.proofs.Common.{arith, rules, ◌≡◌, ◌<◌, ◌+◌, ◌-◌, ◌*◌, ◌%◌, ◌^◌, List, length, ℕ, suc, refl, sym, ap, ◌∙◌, subst}
 use Rattle.std.specs.Prelude.{slice_index, slice_set}
-use Rattle.profile.specs.Sheets.{Layout}
+use Rattle.profile.specs.Sheets.{Layout, layout as layout_of}
 use Rattle.gather_table.specs.declared.lane.Lane.{Lane}
 use Rattle.gather_table.specs.Counts.{KeepsCounts}
 use Rattle.gather_table.specs.Lanes.{free, behind}
 use Rattle.gather_table.specs.Table.{slots, slot_count, is_blank}
+use Rattle.gather_table.proofs.Blanks.{sheets_of, sound_of}
 use Rattle.gather_table.proofs.Bits.{bits_lt}
 use Rattle.gather_table.proofs.Lanes.{inside, free_inside}
 use Rattle.gather_table.proofs.Laying.{Laid, laid_fitted, laid_more, opens, all_laid, counts_kept, word_below, sum_fits}
@@ -14,9 +15,9 @@ use Rattle.gather_table.proofs.table.GatherTable.new.Goals as goal
 
 pub fit-requires : goal.fit-requires
 fit-requires c =
-    let layout = c.args.plan.now in
-    let sound = c.pages-pages.ensures.sound in
-    let end = c.sheets-sheet-end.ensures.value in
+    let layout = layout_of c.args.plan.now in
+    let sound = sound_of c.args.plan.now c.pages-pages.ensures.sound in
+    let end = c.sheets-sheet-end.ensures.value ∙ sym (sheets_of c.args.plan.now) in
     let lt : c.loop-sheet.sheet < length layout.sheets = let t = c.loop-sheet-test.true in omega arith in
     let n = sound.narrow c.loop-sheet.sheet lt in
     let e = c.slots-slots.ensures.value in
@@ -29,10 +30,10 @@ fit-requires c =
 
 pub overflow_add-index_mut : goal.overflow_add-index_mut
 overflow_add-index_mut c =
-    let layout = c.args.plan.now in
+    let layout = layout_of c.args.plan.now in
     let at = c.loop-sheet.sheet in
-    let sound = c.pages-pages.ensures.sound in
-    let end = c.sheets-sheet-end.ensures.value in
+    let sound = sound_of c.args.plan.now c.pages-pages.ensures.sound in
+    let end = c.sheets-sheet-end.ensures.value ∙ sym (sheets_of c.args.plan.now) in
     let lt : at < length layout.sheets = let t = c.loop-sheet-test.true in omega arith in
     let f = laid_fitted layout _ _ _ _ _ _ _ _ sound lt c.loop-sheet.invariant.0 c.loop-sheet.invariant.1 c.slots-slots.ensures.value c.in_ok-next.ensures.lane c.in_ok-next.ensures.words in
     let i = inside layout sound.narrow at lt in
@@ -48,10 +49,10 @@ overflow_add-index_mut c =
 
 pub loop-sheet-preserved : goal.loop-sheet-preserved
 loop-sheet-preserved c =
-    let layout = c.args.plan.now in
+    let layout = layout_of c.args.plan.now in
     let at = c.loop-sheet.sheet in
-    let sound = c.pages-pages.ensures.sound in
-    let end = c.sheets-sheet-end.ensures.value in
+    let sound = sound_of c.args.plan.now c.pages-pages.ensures.sound in
+    let end = c.sheets-sheet-end.ensures.value ∙ sym (sheets_of c.args.plan.now) in
     let lt : at < length layout.sheets = let t = c.loop-sheet-test.true in omega arith in
     let count = c.slots-slots.ensures.value in
     let f = laid_fitted layout _ _ _ _ _ _ _ _ sound lt c.loop-sheet.invariant.0 c.loop-sheet.invariant.1 count c.in_ok-next.ensures.lane c.in_ok-next.ensures.words in
@@ -77,19 +78,19 @@ loop-sheet-preserved c =
 
 pub of_words-requires : goal.of_words-requires
 of_words-requires c =
-    let laid = all_laid _ _ _ _ _ _ _ c.loop-sheet-test.false c.loop-sheet.auto.sheet-end c.sheets-sheet-end.ensures.value c.loop-sheet.invariant in
+    let laid = all_laid _ _ _ _ _ _ _ c.loop-sheet-test.false c.loop-sheet.auto.sheet-end (c.sheets-sheet-end.ensures.value ∙ sym (sheets_of c.args.plan.now)) c.loop-sheet.invariant in
     rw c.as_slice.ensures.value (opens _ _ _ _ _ laid.0 laid.1)
 
 pub invariant_of-result : goal.invariant_of-result
 invariant_of-result c =
     let h = c.in_ok-table.ensures in
-    let laid = all_laid _ _ _ _ _ _ _ c.loop-sheet-test.false c.loop-sheet.auto.sheet-end c.sheets-sheet-end.ensures.value c.loop-sheet.invariant in
-    let same : c.in_ok-table.table.shared.key ≡ c.args.plan.now = h.5 in
+    let laid = all_laid _ _ _ _ _ _ _ c.loop-sheet-test.false c.loop-sheet.auto.sheet-end (c.sheets-sheet-end.ensures.value ∙ sym (sheets_of c.args.plan.now)) c.loop-sheet.invariant in
+    let same : layout_of c.in_ok-table.table.shared.key ≡ layout_of c.args.plan.now = ap layout_of h.5 in
     subst (λ (p : Layout). KeepsCounts p c.in_ok-table.table.shared.table_id.words c.pages-pages.result c.loop-sheet.full.items c.loop-sheet.lanes.items) (sym same)
-    (counts_kept _ _ _ _ _ c.pages-pages.ensures.sound laid.0 laid.1 _ _ (h.0 ∙ ap length c.as_slice.ensures.value) c.pages-pages.ensures.value)
+    (counts_kept _ _ _ _ _ (sound_of c.args.plan.now c.pages-pages.ensures.sound) laid.0 laid.1 _ _ (h.0 ∙ ap length c.as_slice.ensures.value) c.pages-pages.ensures.value)
 
 pub invariant_of-result-2 : goal.invariant_of-result-2
-invariant_of-result-2 c = let h = c.in_ok-table.ensures in stands_open _ c.args.plan.now 4294967296 (ap (λ p. p.1) h.4) (ap (λ p. p.0) h.4) refl
+invariant_of-result-2 c = let h = c.in_ok-table.ensures in stands_open _ (layout_of c.args.plan.now) 4294967296 (ap (λ p. p.1) h.4) (ap (λ p. p.0) h.4) refl
 
 pub returns-clause-seat : goal.returns-clause-seat
-returns-clause-seat c = let h = c.in_ok-table.ensures in view_opens _ _ _ c.args.plan.now _ h.2 (ap (λ p. p.0) h.4) h.5
+returns-clause-seat c = let h = c.in_ok-table.ensures in view_opens _ _ _ (layout_of c.args.plan.now) _ h.2 (ap (λ p. p.0) h.4) (ap layout_of h.5)
