@@ -1,7 +1,7 @@
 -- What the values of the options stand for.
-use Rattle.std.specs.Prelude.{ℕ, ℤ, pos, int_le, unwrap_or, ok_or, option_map, option_and_then, if◌then◌else◌, List, [], Option, Some, None, Result, Ok, Err, codes}
+use Rattle.std.specs.Prelude.{◌≡◌, ◌↔◌, ◌++◌, ℕ, ℤ, false, pos, int_le, unwrap_or, ok_or, option_map, option_and_then, if◌then◌else◌, List, [], Option, Some, None, Result, Ok, Err, codes}
 use Rattle.std.specs.Str.{bytes_eq}
-use Rattle.profile.specs.Numbers.{is_large}
+use Rattle.profile.specs.Numbers.{IsNumber, is_large}
 use Rattle.profile.specs.Papers.{LengthUnit, Pt, Cm, Mm, In, Paper, grains, is_side, paper_named}
 use Rattle.lengths.specs.Reading.{number_at}
 use Rattle.imposer.specs.declared.options.Options.{Options}
@@ -29,6 +29,16 @@ length_of paper (Some (number, rest)) = if is_large number then None else option
 -- the paper
 abbrev pub length_named : Paper → List ℕ → Option ℤ
 length_named paper text = length_of paper (number_at text)
+
+-- the text is a number text, with a unit or nothing behind it, and names this length
+abbrev pub IsLength : Paper → (text : List ℕ) → (length : ℤ) → Type 0
+IsLength paper text length =
+    (number unit : List ℕ) × (v : ℤ) × (u : LengthUnit) × (text ≡ number ++ unit) × IsNumber number v × (is_large v ≡ false)
+    × (unit_named unit ≡ Some u) × (length ≡ grains paper v u)
+
+-- a law: what is read off a text's front is all that its parts can be
+abbrev pub LengthsAreNumbers : Type 0
+LengthsAreNumbers = (paper : Paper) (text : List ℕ) (length : ℤ) → (length_named paper text ≡ Some length) ↔ IsLength paper text length
 
 -- ---- the paper and the border
 

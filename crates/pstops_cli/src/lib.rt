@@ -3,6 +3,7 @@
 
 mod command;
 mod input;
+pub mod laws;
 mod lines;
 mod requests;
 mod values;
