@@ -2,14 +2,13 @@
 use Rattle.std.proofs.Common.{◌≡◌, ◌<◌, ℕ, List, Option, Result, Ok, Err, IfOk, lit<, arith}
 use Rattle.std.specs.Io.KnownBytes.{Appends}
 use Rattle.profile.specs.Output.{output}
-use Rattle.imposer.specs.Frame.{frame}
-use Rattle.imposer.specs.Runs.{Accepted, Reports, Request}
-use Rattle.imposer.specs.declared.error.SpecError.{SpecError}
-use Rattle.imposer.specs.declared.error.SpecError.TheVariants as spec
+use Rattle.imposer.specs.Runs.{Accepted, Reports, Request, frame_of}
+use Rattle.pagespec.specs.declared.error.SpecError.{SpecError}
+use Rattle.pagespec.specs.declared.error.SpecError.TheVariants as spec
 use Rattle.dsc.specs.declared.errors.DscError.{DscError}
 use Rattle.dsc.specs.declared.errors.DscError.TheVariants as document
-use Rattle.imposer.specs.declared.error.PlanError.{PlanError}
-use Rattle.imposer.specs.declared.error.PlanError.TheVariants as plan
+use Rattle.sheet_plan.specs.declared.error.PlanError.{PlanError}
+use Rattle.sheet_plan.specs.declared.error.PlanError.TheVariants as plan
 use Rattle.imposer.specs.declared.outcome.Report.{Report}
 use Rattle.imposer.specs.declared.outcome.RunError.{RunError}
 use Rattle.imposer.specs.declared.outcome.RunError.TheVariants as run
@@ -53,7 +52,7 @@ run_status-above (run.Write written) = lit< tt
 
 -- so at status 0 the output was appended
 pub finished_at_zero : (a : Request) (told told' : Option (List ℕ)) (ended : Result Report RunError) → outcome_status ended ≡ 0
-    → IfOk ended (λ r. Accepted a (λ spec us. Appends told told' (output frame spec us) × Reports spec us r))
-    → Accepted a (λ spec us. Appends told told' (output frame spec us))
+    → IfOk ended (λ r. Accepted a (λ spec us. Appends told told' (output (frame_of a.options) spec us) × Reports (frame_of a.options) spec us r))
+    → Accepted a (λ spec us. Appends told told' (output (frame_of a.options) spec us))
 finished_at_zero a told told' (Ok report) zero finished = (finished.0, finished.1, finished.2, finished.3.0)
 finished_at_zero a told told' (Err e) zero finished = let above = run_status-above e in absurd (omega (arith, above, zero))

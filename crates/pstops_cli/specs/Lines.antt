@@ -1,12 +1,12 @@
 -- What is said on standard error, and with which exit status the program ends.
 use Rattle.std.specs.Prelude.{◌++◌, ℕ, List, codes, decimal, encode_utf8}
 use Rattle.profile.specs.Bytes.{line}
-use Rattle.imposer.specs.declared.error.SpecError.{SpecError}
-use Rattle.imposer.specs.declared.error.SpecError.TheVariants as spec
+use Rattle.pagespec.specs.declared.error.SpecError.{SpecError}
+use Rattle.pagespec.specs.declared.error.SpecError.TheVariants as spec
 use Rattle.dsc.specs.declared.errors.DscError.{DscError}
 use Rattle.dsc.specs.declared.errors.DscError.TheVariants as document
-use Rattle.imposer.specs.declared.error.PlanError.{PlanError}
-use Rattle.imposer.specs.declared.error.PlanError.TheVariants as plan
+use Rattle.sheet_plan.specs.declared.error.PlanError.{PlanError}
+use Rattle.sheet_plan.specs.declared.error.PlanError.TheVariants as plan
 use Rattle.imposer.specs.declared.outcome.RunError.{RunError}
 use Rattle.imposer.specs.declared.outcome.RunError.TheVariants as run
 use Rattle.imposer.specs.declared.outcome.Report.{Report}

@@ -5,7 +5,9 @@ ghost use Rattle.pstops_cli.specs.Lines.{command_text as text_of_command, docume
 use crate::command::CommandFault;
 use crate::input::ReadFault;
 use dsc::DscError;
-use imposer::{PlanError, Report, RunError, SpecError};
+use imposer::{Report, RunError};
+use pagespec::SpecError;
+use sheet_plan::PlanError;
 use std::alloc::{AllocError, Global};
 
 /// Why the program ends without having written its output.

@@ -2,8 +2,7 @@
 ghost use Rattle.std.specs.Prelude.{◌≡◌, ◌<◌, ◌^◌, [], false, Option, Result, IfOk, OnErr, string_bytes};
 ghost use Rattle.std.specs.Io.KnownBytes.{Appends};
 ghost use Rattle.profile.specs.Output.{output};
-ghost use Rattle.imposer.specs.Frame.{frame};
-ghost use Rattle.imposer.specs.Runs.{Accepted};
+ghost use Rattle.imposer.specs.Runs.{Accepted, frame_of};
 ghost use Rattle.imposer.specs.declared.outcome.Report.{Report as ReportValue};
 ghost use Rattle.imposer.specs.declared.outcome.RunError.{RunError as RunErrorValue};
 ghost use Rattle.pstops_cli.specs.Requests.{Ends, IsTold, asked_by, is_silent, outcome_line, outcome_status};
@@ -31,7 +30,7 @@ pub fn run_request<S: Sink>(
         × IsTold request.now.quiet ended result.0 result.1.items }
     // Status 0 comes only where exactly the output was written.
     ensures finished { result.0 ≡ 0 → Accepted (asked_by request.now input.now) (λ spec us.
-        Appends (S.told sink.old) (S.told sink.new) (output frame spec us)) }
+        Appends (S.told sink.old) (S.told sink.new) (output (frame_of request.now.options) spec us)) }
 {
     let ended = run(
         alloc,
