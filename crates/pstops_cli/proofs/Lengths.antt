@@ -1,9 +1,9 @@
 -- Lengths by their parts.
-use Rattle.std.proofs.Common.{◌≡◌, ◌∙◌, ap, refl, sym, subst, ℕ, ℤ, Bool, true, false, List, [], ◌∷◌, ◌++◌, Option, Some, None, option_map}
+use Rattle.std.proofs.Common.{◌≡◌, ◌∙◌, ap, refl, sym, subst, ℕ, ℤ, Bool, true, false, List, [], Option, Some, None, option_map}
 use Rattle.std.specs.Prelude.{codes, if◌then◌else◌}
 use Rattle.std.specs.Str.{bytes_eq}
 use Rattle.std.proofs.lemmas.Slice.Eq.{bytes_eq-Decides}
-use Rattle.profile.specs.Numbers.{IsNumber, is_large}
+use Rattle.profile.specs.Numbers.{is_large}
 use Rattle.profile.specs.Papers.{LengthUnit, Pt, Cm, Mm, In, Paper, grains}
 use Rattle.lengths.specs.Reading.{Ends, number_at}
 use Rattle.lengths.proofs.Numbers.{number_found, number_read}

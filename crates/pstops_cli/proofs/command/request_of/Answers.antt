@@ -1,4 +1,4 @@
-use Rattle.std.proofs.Common.{◌∙◌, sym, subst, IfErr, Err}
+use Rattle.std.proofs.Common.{sym, subst, IfErr}
 use Rattle.clap.specs.Words.{found_of, rows_of}
 use Rattle.pstops_cli.specs.Command.{RefusesFound}
 use Rattle.pstops_cli.proofs.ValueFaults.{handed_on, refuses_found}
