@@ -43,7 +43,7 @@ stands_kept me new share rest give g is same some less is_rest s =
       no_slots = ap (λ (p : Me Unit Sight). p.1) is ∙ s.no_slots;
       one_part = ap (λ (u : Sight). u.other) kept ∙ s.one_part;
       share = is_rest ∙ ap (λ (n : ℕ). n - give) s.share ∙ sym (ap (λ (u : Sight). u.mine.share) kept);
-      held = subst Held (sym kept) (held_keeps (IsLegal me.0.key) me.0.mine.front me.0.mine.own me.0.mine.share give s.held some less)
+      held = subst Held (sym kept) (held_keeps (IsLegal me.0.key) me.0.mine.front me.0.mine.own me.0.mine.share give s.held some less);
     }
 
 pub stands_given : (me new : Me Unit Sight) (share give g : ℕ) → new ≡ (given g me.0, []) → give ≡ g → 0 < give → give < me.0.mine.share → StandsAlone me share → StandsAlone new give
@@ -53,7 +53,7 @@ stands_given me new share give g is same some less s =
       no_slots = ap (λ (p : Me Unit Sight). p.1) is;
       one_part = ap (λ (u : Sight). u.other) got;
       share = sym (ap (λ (u : Sight). u.mine.share) got);
-      held = subst Held (sym got) (held_given (IsLegal me.0.key) me.0.mine.front me.0.mine.own me.0.mine.share give s.held some less)
+      held = subst Held (sym got) (held_given (IsLegal me.0.key) me.0.mine.front me.0.mine.own me.0.mine.share give s.held some less);
     }
 
 -- a join

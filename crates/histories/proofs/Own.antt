@@ -1,6 +1,6 @@
 -- The own entries of a seat, and what every seat keeps to.
-use Rattle.std.proofs.Common.{◌≡◌, ◌≢◌, ◌⊎◌, inl, inr, ⊎_elim, ℕ, zero, suc, ◌+◌, ◌-◌, ◌*◌, ◌<◌, ◌≤◌, ◌==◌, List, [], ◌∷◌, ◌++◌, length, take, drop, refl, sym, ap, ◌∙◌, subst, arith, append_assoc, append-nil, length-append, Bool, true, false, if◌then◌else◌, eq-eqb, ne_eqb}
-use Rattle.std.specs.Prelude.{nat_lt, flat_map}
+use Rattle.std.proofs.Common.{◌≡◌, ◌⊎◌, inl, inr, ⊎_elim, ℕ, zero, suc, ◌+◌, ◌-◌, ◌<◌, ◌≤◌, ◌==◌, List, [], ◌∷◌, ◌++◌, length, refl, sym, ap, ◌∙◌, subst, arith, append_assoc, append-nil, length-append, Bool, true, false, if◌then◌else◌, eq-eqb, ne_eqb}
+use Rattle.std.specs.Prelude.{nat_lt}
 use mathlib.Core.List.{IsPrefix}
 use mathlib.Core.Logic.{dite}
 use native.Mathlib.Decide.{ℕ_discrete}
@@ -42,8 +42,8 @@ module _ {E : Type 0} where
   entries_added front between own e inside =
       let log : List E = front ++ between in
       let first : entries_at (log ++ e ∷ []) own ≡ entries_at front own =
-          entries_stay log (e ∷ []) own (λ x has. let i = inside x has in omega (arith, length-append front between))
-          ∙ entries_stay front between own inside in
+      entries_stay log (e ∷ []) own (λ x has. let i = inside x has in omega (arith, length-append front between))
+      ∙ entries_stay front between own inside in
       let last : entries_at (log ++ e ∷ []) (length log ∷ []) ≡ e ∷ [] = append-nil (entry_at (log ++ e ∷ []) (length log)) ∙ entry_last log e in
       entries_at-append (log ++ e ∷ []) own (length log ∷ []) ∙ (λ i. first i ++ last i)
 
@@ -73,7 +73,7 @@ module _ {E : Type 0} (Legal : List E → Type 0) where
     once = λ x. told x (times_push x own n);
     some_share = k.some_share;
     most_share = k.most_share;
-    every = λ whole x lt. all whole x (times_push x own n) (omega (arith, length-append log (e ∷ [])))
+    every = λ whole x lt. all whole x (times_push x own n) (omega (arith, length-append log (e ∷ [])));
   }
     where
       log : List E
@@ -94,14 +94,14 @@ module _ {E : Type 0} (Legal : List E → Type 0) where
       told : (x : ℕ) → times x (own ++ n ∷ []) ≡ times x own + times x (n ∷ []) → times x (own ++ n ∷ []) ≤ 1
       told x t = dite (ℕ_discrete n x)
           (λ same. let z : times x own ≡ 0 = not_pos _ (λ pos. let i = k.inside x pos in let l = le in absurd (omega arith)) in
-              let one : times x (n ∷ []) ≡ 1 = subst (λ y. times x (y ∷ []) ≡ 1) (sym same) (times_same x) in omega arith)
+          let one : times x (n ∷ []) ≡ 1 = subst (λ y. times x (y ∷ []) ≡ 1) (sym same) (times_same x) in omega arith)
           (λ other. let z = times_else x n other in let o = k.once x in omega arith)
 
       all : share ≡ whole_share → (x : ℕ) → times x (own ++ n ∷ []) ≡ times x own + times x (n ∷ []) → x < n + 1 → 0 < times x (own ++ n ∷ [])
       all whole x t lt = dite (ℕ_discrete n x)
           (λ same. let one : times x (n ∷ []) ≡ 1 = subst (λ y. times x (y ∷ []) ≡ 1) (sym same) (times_same x) in omega arith)
           (λ other. let l : length log ≡ length front = ap length (ap (λ b. front ++ b) (alone whole) ∙ append-nil front) in
-              let ev = k.every whole x (omega arith) in omega arith)
+          let ev = k.every whole x (omega arith) in omega arith)
 
   longer_legal : (a b : List E) → Legal a → Legal b → Legal (longer a b)
   longer_legal a b la lb = two (nat_lt (length a) (length b))
@@ -120,7 +120,7 @@ module _ {E : Type 0} (Legal : List E → Type 0) where
     once = λ x. let t : times x (own ++ mine) ≡ times x own + times x mine = total-append _ own mine in let one = apart x in omega arith;
     some_share = let s = ka.some_share in omega arith;
     most_share = small;
-    every = λ whole x lt. let t : times x (own ++ mine) ≡ times x own + times x mine = total-append _ own mine in let e = every whole x lt in omega arith
+    every = λ whole x lt. let t : times x (own ++ mine) ≡ times x own + times x mine = total-append _ own mine in let e = every whole x lt in omega arith;
   }
     where
       within : (x : ℕ) → 0 < times x (own ++ mine) → times x (own ++ mine) ≡ times x own + times x mine → x < length (longer a b)
@@ -137,7 +137,7 @@ module _ {E : Type 0} (Legal : List E → Type 0) where
     once = k.once;
     some_share = k.some_share;
     most_share = k.most_share;
-    every = λ whole. absurd (omega arith)
+    every = λ whole. absurd (omega arith);
   }
 
   -- two seats that meet
@@ -156,7 +156,7 @@ module _ {E : Type 0} (Legal : List E → Type 0) where
     once = k.once;
     some_share = omega arith;
     most_share = let s = k.most_share in omega arith;
-    every = λ whole. absurd (let s = k.most_share in omega arith)
+    every = λ whole. absurd (let s = k.most_share in omega arith);
   }
 
   pub held_given : (front : List E) (own : List ℕ) (share give : ℕ) → IsHeld Legal front own share → 0 < give → give < share → IsHeld Legal front [] give
@@ -166,7 +166,7 @@ module _ {E : Type 0} (Legal : List E → Type 0) where
     once = λ x. omega arith;
     some_share = some;
     most_share = let s = k.most_share in omega arith;
-    every = λ whole. absurd (let s = k.most_share in omega arith)
+    every = λ whole. absurd (let s = k.most_share in omega arith);
   }
 
   pub held_opens : Legal [] → IsHeld Legal [] [] whole_share
@@ -208,10 +208,10 @@ below_one : (y : ℕ) (f : ℕ → ℕ) (n : ℕ) → y < n → below (only y f)
 below_one y f zero lt = absurd (omega arith)
 below_one y f (suc n) lt = dite (ℕ_discrete y n)
     (λ same. let h = below_only y f n (omega arith) in
-      let o : only y f n ≡ f n = ap (λ b. if b then f n else 0) (eq-eqb y n same) in
-      let e : f y ≡ f n = ap f same in omega arith)
+    let o : only y f n ≡ f n = ap (λ b. if b then f n else 0) (eq-eqb y n same) in
+    let e : f y ≡ f n = ap f same in omega arith)
     (λ other. let h = below_one y f n (omega arith) in
-      let z : only y f n ≡ 0 = ap (λ b. if b then f n else 0) (ne_eqb y n other) in omega arith)
+    let z : only y f n ≡ 0 = ap (λ b. if b then f n else 0) (ne_eqb y n other) in omega arith)
 
 -- the weight of x, as often as x stands in the list
 abbrev each : (ℕ → ℕ) → List ℕ → ℕ → ℕ
@@ -231,17 +231,17 @@ each_none f [] x t = refl
 each_none f (y ∷ ys) x t = dite (ℕ_discrete y x)
     (λ same. let o : times x (y ∷ []) ≡ 1 = subst (λ z. times x (z ∷ []) ≡ 1) (sym same) (times_same x) in absurd (omega arith))
     (λ other. let o : only y f x ≡ 0 = ap (λ b. if b then f x else 0) (ne_eqb y x other) in
-      let r = each_none f ys x (omega arith) in omega arith)
+    let r = each_none f ys x (omega arith) in omega arith)
 
 each_once : (f : ℕ → ℕ) (ys : List ℕ) (x : ℕ) → times x ys ≡ 1 → each f ys x ≡ f x
 each_once f [] x t = absurd (omega arith)
 each_once f (y ∷ ys) x t = dite (ℕ_discrete y x)
     (λ same. let o : times x (y ∷ []) ≡ 1 = subst (λ z. times x (z ∷ []) ≡ 1) (sym same) (times_same x) in
-      let v : only y f x ≡ f x = ap (λ b. if b then f x else 0) (eq-eqb y x same) in
-      let r = each_none f ys x (omega arith) in omega arith)
+    let v : only y f x ≡ f x = ap (λ b. if b then f x else 0) (eq-eqb y x same) in
+    let r = each_none f ys x (omega arith) in omega arith)
     (λ other. let o : times x (y ∷ []) ≡ 0 = times_else x y other in
-      let v : only y f x ≡ 0 = ap (λ b. if b then f x else 0) (ne_eqb y x other) in
-      let r = each_once f ys x (omega arith) in omega arith)
+    let v : only y f x ≡ 0 = ap (λ b. if b then f x else 0) (ne_eqb y x other) in
+    let r = each_once f ys x (omega arith) in omega arith)
 
 module _ {E : Type 0} (h : E → ℕ) where
   -- the weight of the entry at a place
