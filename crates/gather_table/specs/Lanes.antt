@@ -25,6 +25,7 @@ lane layout s = fitted (free layout s) (slot_count layout s)
 abbrev pub in_lane : ℕ → ℕ → ℕ → ℕ
 in_lane word first n = word / 2 ^ first % 2 ^ n
 
+-- a lane lies inside its word
 abbrev pub LanesInside : Type 0
 LanesInside = (layout : Layout) (s : ℕ) → IsSound layout → s < length layout.sheets → (lane layout s).first + slot_count layout s ≤ 64
 
@@ -38,5 +39,6 @@ pub record ArePlaced (layout : Layout) : Type 0 where
   pub follows : (s : ℕ) → s + 1 < length layout.sheets → (lane layout s).first + slot_count layout s + slot_count layout (s + 1) ≤ 64 → lane layout (s + 1) ≡ record { word = (lane layout s).word; first = (lane layout s).first + slot_count layout s }
   pub turns : (s : ℕ) → s + 1 < length layout.sheets → 64 < (lane layout s).first + slot_count layout s + slot_count layout (s + 1) → lane layout (s + 1) ≡ record { word = (lane layout s).word + 1; first = 0 }
 
+-- so no bit that was passed over is used later
 abbrev pub LanesPlaced : Type 0
 LanesPlaced = (layout : Layout) → IsSound layout → ArePlaced layout

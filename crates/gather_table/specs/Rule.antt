@@ -20,13 +20,14 @@ pub record Holds (layout : Layout) (t : TableState) (words : List ℕ) : Type 0 
   pub page : (p : ℕ) → p < layout.pages → slice_index words p ≡ page_word (t.index p)
   pub slot : (s k : ℕ) → s < length layout.sheets → k < slot_count layout s → has_bit (slice_index words (layout.pages + (lane layout s).word)) ((lane layout s).first + k) ≡ t.marked s k
 
--- there is one legal history, whose state the words hold, and which the seats have seen beginnings of
+-- this is one legal history, whose state the words hold and whose beginnings the seats have seen
 pub record IsKept (layout : Layout) (s : State Unit Sight) (log : List Entry) : Type 0 where
   pub legal : IsLegal layout log
   pub words : Holds layout (after_history layout log) s.words
   pub small : (p i : ℕ) → (after_history layout log).index p ≡ Some i → i < 2 ^ 32
   pub seats : AreSeats layout log s.views
 
+-- the rule: there is such a history
 abbrev pub Kept : Layout → State Unit Sight → Type 0
 Kept layout s = (log : List Entry) × IsKept layout s log
 
