@@ -99,7 +99,7 @@ decimals_below decimals pass = subst (λ n. decimals_value 9 decimals < 10 ^ n) 
 decimals_printed : (decimals : List ℕ) → AllPass is_ascii_digit decimals → decimals_of 9 (decimals_value 9 decimals) ≡ without_last_zeros (nine decimals)
 decimals_printed decimals pass =
     let row = nine decimals in
-    let value : fold with_digit 1 row ≡ 10 ^ 9 + decimals_value 9 decimals = omega (arith, number_behind row 1, ap (λ n. 10 ^ n) (nine_long decimals)) in
+    let value : fold with_digit 1 row ≡ 10 ^ 9 + decimals_value 9 decimals = omega (arith, number_behind row (1), ap (λ n. 10 ^ n) (nine_long decimals)) in
     let text : decimal (10 ^ 9 + decimals_value 9 decimals) ≡ 49 ∷ row =
     ap decimal (sym value) ∙ (decimal_goes_on 1 row (omega arith) (nine_pass decimals pass) (omega (arith, value, decimals_below decimals pass)) ∙ ap (λ x. x ++ row) (decimal_digit 1 (omega arith))) in
     ap (λ xs. without_last_zeros (drop 1 xs)) text

@@ -95,7 +95,7 @@ decimals_same e ds small pass few stripped =
     let digits : AllPass is_ascii_digit row = All-append IsDigit ds (replicate (e - length ds) 48) pass (All-replicate IsDigit (e - length ds) 48 refl) in
     let value : decimals_value e ds ≡ number_of row = ap number_of (filled ds e e few (omega arith)) in
     let below : number_of row < 10 ^ e = subst (λ n. number_of row < 10 ^ n) long (number_below row digits) in
-    let behind_one : 10 ^ e + decimals_value e ds ≡ number_of (49 ∷ row) = omega (arith, number_behind row 1, ap (λ n. 10 ^ n) long, value) in
+    let behind_one : 10 ^ e + decimals_value e ds ≡ number_of (49 ∷ row) = omega (arith, number_behind row (1), ap (λ n. 10 ^ n) long, value) in
     let text : decimal (10 ^ e + decimals_value e ds) ≡ 49 ∷ row =
     ap decimal behind_one ∙ decimal_of (49 ∷ row) (All-cons IsDigit 49 row refl digits) (omega arith) (λ h. one_first 49 refl) (omega (arith, behind_one, fits e (number_of row) below small, value)) in
     (omega (arith, value, below), ap (λ xs. without_last_zeros (drop 1 xs)) text ∙ (without_last_zeros-filled ds (e - length ds) ∙ stripped))
