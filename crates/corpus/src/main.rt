@@ -1,5 +1,5 @@
-//! Imposes the documents of `examples/documents` as a user would, and prints how many pages and sheets each has and how many
-//! bytes are written for it. The folder is this program's `data`; its `stdout` was made by a separate program.
+//! Imposes the documents of its folder `data`, which real programs wrote, as a user would, and prints how many pages and
+//! sheets each has and how many bytes are written for it. Its `stdout` was made by a separate program.
 #![tactic(auto)]
 
 use imposer::MemorySink;
