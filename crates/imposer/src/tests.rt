@@ -34,6 +34,14 @@ const TWO_UP: &str = "2:0L@.7(21cm,0)+1L@.7(21cm,14.85cm)";
 const TURNED_PAIR: &str =
     "%!PS-Adobe-3.0\n%%Pages: 1\n%%EndComments\n%%Page: 1 1\nuserdict /ImposeSave save put\nuserdict /showpage {} put\n[0 0.7 -0.7 0 595.27559 0] concat\nnewpath 0 0 moveto 595 0 lineto 595 842 lineto 0 842 lineto closepath clip newpath\n(0) pop\nshowpage\nImposeSave restore\nuserdict /ImposeSave save put\nuserdict /showpage {} put\n[0 0.7 -0.7 0 595.27559 420.94488] concat\nnewpath 0 0 moveto 595 0 lineto 595 842 lineto 0 842 lineto closepath clip newpath\n(1) pop\nshowpage\nImposeSave restore\nshowpage\n%%Trailer\n%%EOF\n";
 
+/// Four pages.
+const FOUR_PAGES: &str =
+    "%!PS-Adobe-3.0\n%%Pages: 4\n%%EndComments\n%%Page: 1 1\n(0) pop\nshowpage\n%%Page: 2 2\n(1) pop\nshowpage\n%%Page: 3 3\n(2) pop\nshowpage\n%%Page: 4 4\n(3) pop\nshowpage\n%%Trailer\n%%EOF\n";
+
+/// The same of four pages: the first two on one sheet, the others on the next.
+const TURNED_PAIRS: &str =
+    "%!PS-Adobe-3.0\n%%Pages: 2\n%%EndComments\n%%Page: 1 1\nuserdict /ImposeSave save put\nuserdict /showpage {} put\n[0 0.7 -0.7 0 595.27559 0] concat\nnewpath 0 0 moveto 595 0 lineto 595 842 lineto 0 842 lineto closepath clip newpath\n(0) pop\nshowpage\nImposeSave restore\nuserdict /ImposeSave save put\nuserdict /showpage {} put\n[0 0.7 -0.7 0 595.27559 420.94488] concat\nnewpath 0 0 moveto 595 0 lineto 595 842 lineto 0 842 lineto closepath clip newpath\n(1) pop\nshowpage\nImposeSave restore\nshowpage\n%%Page: 2 2\nuserdict /ImposeSave save put\nuserdict /showpage {} put\n[0 0.7 -0.7 0 595.27559 0] concat\nnewpath 0 0 moveto 595 0 lineto 595 842 lineto 0 842 lineto closepath clip newpath\n(2) pop\nshowpage\nImposeSave restore\nuserdict /ImposeSave save put\nuserdict /showpage {} put\n[0 0.7 -0.7 0 595.27559 420.94488] concat\nnewpath 0 0 moveto 595 0 lineto 595 842 lineto 0 842 lineto closepath clip newpath\n(3) pop\nshowpage\nImposeSave restore\nshowpage\n%%Trailer\n%%EOF\n";
+
 fn a4(rt: &impl Abort) -> Paper {
     paper_by_name("a4").expect(rt, "a4 is a paper")
 }
@@ -80,6 +88,31 @@ fn two_pages_turned_to_the_left(rt: HostRuntime) -> Result<(), Fail> {
             born: 0,
             swept: 0,
             bytes: 503
+        }
+    );
+    Ok(())
+}
+
+#[test]
+fn four_pages_on_two_sheets(rt: HostRuntime) -> Result<(), Fail> {
+    let mut sink = MemorySink::new(rt.alloc(), 2_000, 2_000, 100)?;
+    let report = run(
+        rt.alloc(),
+        FOUR_PAGES.as_bytes(),
+        TWO_UP,
+        &workers(&rt, 1, 1),
+        &Open {},
+        &mut sink,
+    )?;
+    assert_eq!(rt; sink.bytes(), TURNED_PAIRS.as_bytes());
+    assert_eq!(rt;
+        report,
+        Report {
+            pages: 4,
+            sheets: 2,
+            born: 0,
+            swept: 0,
+            bytes: 950
         }
     );
     Ok(())
