@@ -19,7 +19,8 @@ use std::alloc::Global;
 ///
 /// A refusal names the first check that fails: of the options, the specification, the document, the plan; nothing is
 /// written then. After `NoMemory` and `Write` the sink has taken the first `written` bytes of the output.
-/// The sink isn't flushed.
+/// The sink isn't flushed. Everything runs on the caller's thread, so the gate isn't called and the numbers of workers have no
+/// effect beyond their check.
 pub fn run<G: Gate, S: Sink>(
     alloc: Global,
     input: &[u8],
