@@ -4,3 +4,8 @@ pub mod Workers
 pub mod Faults
 pub mod Outcomes
 pub mod Runs
+pub mod Delivery
+pub mod Duty
+pub mod Gathered
+pub mod Tokens
+pub mod LookUps

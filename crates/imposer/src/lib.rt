@@ -1,7 +1,10 @@
 //! A run: a document and a page specification in, the sheets out.
 #![tactic(auto)]
 
+mod channel;
+mod crew;
 mod gate;
+mod impose;
 mod job;
 mod options;
 mod outcome;
@@ -9,6 +12,7 @@ mod output;
 mod runs;
 mod sheet;
 mod sink;
+mod tokens;
 #[cfg(test)]
 mod tests;
 

@@ -1,0 +1,53 @@
+-- What the histories of a gathered run are.
+use Rattle.std.specs.Prelude.{◌≡◌, ℕ, zero, suc, ◌+◌, ◌<◌, ◌≤◌, ◌==◌, ◌&&◌, if◌then◌else◌, List, [], ◌∷◌, ◌++◌, length, Option, Some, None, slice_get}
+use Rattle.profile.specs.Sheets.{Layout}
+use Rattle.histories.specs.Seats.{total, times, whole_share}
+use Rattle.gather_table.specs.Table.{slots}
+use Rattle.gather_table.specs.History.{Entry, IsLegal, IsComplete}
+use Rattle.gather_table.specs.Laws.{completings}
+use Rattle.gather_table.specs.Shared.{SeatView, IsSeat, own_calls}
+use Rattle.handover.specs.Queue.{Move, content, sheets_put, sheets_taken}
+use Rattle.imposer.specs.Duty.{Duty, OfPage, OfSlot, worth, owed}
+
+abbrev pub page_is : ℕ → Duty → ℕ
+page_is p (OfPage q) = if q == p then 1 else 0
+page_is p (OfSlot s k) = 0
+
+abbrev pub slot_is : ℕ → ℕ → Duty → ℕ
+slot_is s k (OfPage q) = 0
+slot_is s k (OfSlot r j) = if (r == s) && (j == k) then 1 else 0
+
+-- how many publishes of page p there are, and how many marks of slot k of sheet s
+abbrev pub publishes : ℕ → List Entry → ℕ
+publishes p log = total (worth (page_is p)) log
+
+abbrev pub marks : ℕ → ℕ → List Entry → ℕ
+marks s k log = total (worth (slot_is s k)) log
+
+-- slot k of sheet s holds page p
+abbrev pub Holds : Layout → (s k p : ℕ) → Type 0
+Holds layout s k p = slice_get (slots layout s) k ≡ Some (Some p)
+
+-- each slot that isn't blank has one of the pages
+abbrev pub HasPages : Layout → Type 0
+HasPages layout = (s k p : ℕ) → Holds layout s k p → p < layout.pages
+
+-- one publish for each page and one mark for each needed slot, and no others of these; every sheet is complete, and each
+-- that wasn't born complete has exactly one Completing
+pub record IsGathered (layout : Layout) (log : List Entry) : Type 0 where
+  pub legal : IsLegal layout log
+  pub published : (p : ℕ) → p < layout.pages → publishes p log ≡ 1
+  pub no_other_page : (p : ℕ) → layout.pages ≤ p → publishes p log ≡ 0
+  pub marked : (s k p : ℕ) → Holds layout s k p → marks s k log ≡ 1
+  pub no_other_slot : (s k : ℕ) → ((p : ℕ) → ¬ Holds layout s k p) → marks s k log ≡ 0
+  pub complete : (s : ℕ) → s < length layout.sheets → IsComplete layout log s
+  pub completing : (s : ℕ) → s < length layout.sheets → ¬ IsComplete layout [] s → completings s log ≡ 1
+
+-- a seat with all shares whose own calls weigh what all pages want done has gathered them
+abbrev pub GathersAll : Type 0
+GathersAll = (seat : SeatView) → IsSeat seat → seat.share ≡ whole_share → HasPages seat.layout → ((h : Duty → ℕ) → total (worth h) (own_calls seat) ≡ owed h seat.layout seat.layout.pages) → IsGathered seat.layout seat.front
+
+-- no sheet was put twice, and what was taken and what is left is what was put
+pub record IsHandedOn (log : List Move) : Type 0 where
+  pub once : (s : ℕ) → times s (sheets_put log) ≤ 1
+  pub balanced : sheets_taken log ++ content log ≡ sheets_put log

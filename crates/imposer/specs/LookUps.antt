@@ -1,0 +1,29 @@
+-- The calls by which a sheet's pages are found.
+use Rattle.std.specs.Prelude.{◌≡◌, ◌⊎◌, ℕ, ◌≤◌, List, [], ◌∷◌, length, Option, Some, None}
+use Rattle.profile.specs.Sheets.{Layout}
+use Rattle.gather_table.specs.Table.{slots}
+use Rattle.gather_table.specs.History.{Entry, PageAt}
+use Rattle.gather_table.specs.Shared.{SeatView, Makes}
+
+-- the pages of these slots, in slot order
+abbrev pub needed : List (Option ℕ) → List ℕ
+needed [] = []
+needed (None ∷ xs) = needed xs
+needed (Some p ∷ xs) = p ∷ needed xs
+
+-- the pages of a sheet, in slot order
+abbrev pub pages_of : Layout → ℕ → List ℕ
+pages_of layout sheet = needed (slots layout sheet)
+
+-- one look-up for each page, each of which finds an index
+abbrev pub look_ups : List ℕ → List ℕ → List Entry
+look_ups [] is = []
+look_ups (p ∷ ps) [] = []
+look_ups (p ∷ ps) (i ∷ is) = PageAt p (Some i) ∷ look_ups ps is
+
+-- the first n of these pages were looked up, in order, each found an index, and nothing else was called
+pub record LooksUp (pages : List ℕ) (n : ℕ) (old new : SeatView) : Type 0 where
+  pub within : n ≤ length pages
+  pub indexes : List ℕ
+  pub found : length indexes ≡ n
+  pub made : Makes old (look_ups pages indexes) new

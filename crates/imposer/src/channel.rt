@@ -1,0 +1,48 @@
+//! The channel of finished sheets, from the imposers to the collector.
+ghost use Rattle.std.specs.Prelude.{◌≡◌, ℕ, List, [], All, ⊤};
+
+use crate::impose::Imposed;
+use crossbeam_channel::protocol::{Lesson, Outcome, Protocol, Split};
+use crossbeam_channel::{Pass, RuledReceiver, RuledSender};
+use std::marker::{Brand, PhantomData};
+
+/// The text of each sheet in the run's job: a number of a call that is picked when it is proved, and takes no part in it.
+pub(crate) trait Texts {
+    ghost text: { ℕ → List ℕ };
+}
+
+impl Texts for Brand {
+    ghost text = { λ s. [] };
+}
+
+/// The channel's rule: each message's text is its sheet's.
+pub(crate) struct Right<T: Texts> {
+    of: PhantomData<T>,
+}
+
+impl<T: Texts> Protocol<Imposed, ()> for Right<T> {
+    ghost holds = { λ items views. All (λ m. m.text.items ≡ T.text m.sheet) items };
+
+    ghost first = { tt };
+}
+
+impl<T: Texts> Outcome<Imposed, ()> for Right<T> {
+    ghost then = { λ v m w. m.text.items ≡ T.text m.sheet };
+}
+
+impl<T: Texts> Lesson<Imposed, ()> for Right<T> {
+    ghost fact = { λ v items. ⊤ };
+}
+
+impl<T: Texts> Split<()> for Right<T> {
+    ghost left = { λ v. v };
+
+    ghost right = { λ v. v };
+}
+
+/// What a thread needs to send or to receive.
+pub(crate) type Ticket = Pass<Imposed, ()>;
+
+pub(crate) type Outlet<T> = RuledSender<Imposed, (), Right<T>>;
+
+pub(crate) type Inlet<T> = RuledReceiver<Imposed, (), Right<T>>;

@@ -1,0 +1,115 @@
+//! What the threads of a run need, behind a type parameter, and what each of them promises.
+ghost use Rattle.std.specs.Prelude.{◌≡◌, ℕ, ◌+◌, ◌-◌, ◌<◌, [], IfOk, IsNone, ◌⊎◌};
+ghost use Rattle.crossbeam_channel.specs.Claims.{Pass};
+ghost use Rattle.gather_table.specs.Shared.{TableView};
+ghost use Rattle.handover.specs.Passes.{QueueView};
+ghost use Rattle.imposer.specs.declared.impose.Imposed.{Imposed};
+ghost use Rattle.imposer.specs.Duty.{Duty, share_below};
+ghost use Rattle.imposer.specs.Tokens.{AreTokens, AreUnused, AreOfBoth, PutsCompleted, done};
+
+use crate::channel::Ticket;
+use crate::tokens::Tokens;
+use std::alloc::AllocError;
+use std::sync::Wait;
+use std::thread::Promise;
+
+/// What a worker hands back: its tokens, and what stands for a page that the shelf gave no receipt for, where there was one.
+#[derive(Drop)]
+pub(crate) struct Ended<L> {
+    pub(crate) tokens: Tokens,
+    pub(crate) unshelved: Option<L>,
+}
+
+/// What all threads of a run share. L is what stands for a page without a receipt; neither it nor the crew shows a lifetime
+/// to the code that starts and joins threads.
+pub(crate) trait Crew<L> {
+    ghost table: { Self → TableView };
+
+    ghost queue: { Self → QueueView };
+
+    // The ticket is one for sending finished sheets.
+    ghost sends: { Self → Pass Imposed (Unit {0}) → Type 0 };
+
+    /// The work of the preparer with this number, of so many.
+    fn prepare<R: Wait>(
+        &self,
+        rt: &R,
+        tokens: Tokens,
+        number: u32,
+        count: u32,
+    ) -> Result<Ended<L>, AllocError>
+        requires count { 0 < count }
+        requires tokens { AreTokens (table self.now) (queue self.now) 1 tokens × AreUnused tokens }
+        ensures tokens { IfOk result (λ e. AreTokens (table self.now) (queue self.now) 1 e.tokens) }
+        ensures done { IfOk result (λ e. IsNone e.unshelved → (h : Duty → ℕ) → done h e.tokens ≡ share_below h (table self.now).layout count number (table self.now).layout.pages) }
+        ensures put { IfOk result (λ e. PutsCompleted e.tokens) };
+
+    /// The work of an imposer.
+    fn impose<R: Wait>(&self, rt: &R, tokens: Tokens, ticket: Ticket) -> Result<Ended<L>, AllocError>
+        requires tokens { AreTokens (table self.now) (queue self.now) 1 tokens × AreUnused tokens }
+        requires ticket { sends self.now ticket }
+        ensures tokens { IfOk result (λ e. AreTokens (table self.now) (queue self.now) 1 e.tokens) }
+        ensures done { IfOk result (λ e. IsNone e.unshelved × ((h : Duty → ℕ) → done h e.tokens ≡ 0)) }
+        ensures put { IfOk result (λ e. PutsCompleted e.tokens) };
+
+    /// Tokens for one more worker, with a share of one each.
+    fn split(&self, tokens: &mut Tokens) -> Tokens
+        requires tokens { AreTokens (table self.now) (queue self.now) tokens.old.seat.share tokens.old }
+        requires share { 1 < tokens.old.seat.share }
+        ensures kept { AreTokens (table self.now) (queue self.now) (tokens.old.seat.share - 1) tokens.new }
+        ensures own { (tokens.new.seat.own ≡ tokens.old.seat.own) × (tokens.new.pass.own ≡ tokens.old.pass.own) × (tokens.new.pass.front ≡ tokens.old.pass.front) }
+        ensures given { AreTokens (table self.now) (queue self.now) 1 result × AreUnused result };
+
+    /// One ticket more.
+    fn another(&self, ticket: &mut Ticket) -> Ticket
+        requires { sends self.now ticket.old }
+        ensures kept { sends self.now ticket.new }
+        ensures given { sends self.now result };
+
+    /// Joins a worker's tokens to those of all that were joined before.
+    fn join(&self, all: Tokens, theirs: Tokens) -> Tokens
+        requires all { AreTokens (table self.now) (queue self.now) all.seat.share all }
+        requires theirs { AreTokens (table self.now) (queue self.now) 1 theirs }
+        ensures tokens { AreTokens (table self.now) (queue self.now) (all.seat.share + 1) result }
+        ensures both { AreOfBoth all theirs result };
+}
+
+/// What is done on the caller's thread while the workers run, with a desk D.
+pub(crate) trait Collector<D> {
+    // The desk is as it must be at the start.
+    ghost is_laid: { Self → D → Type 0 };
+
+    // What became of the desk.
+    ghost collected: { Self → D → D → Type 0 };
+
+    /// Takes what the workers finish until all have ended.
+    fn collect<R: Wait>(&self, rt: &R, desk: &mut D)
+        requires { is_laid self.now desk.old }
+        ensures { collected self.now desk.old desk.new };
+}
+
+/// What a preparer promises.
+#[derive(Drop)]
+pub(crate) struct Prepares<'a, C> {
+    pub(crate) crew: &'a C,
+    pub(crate) number: u32,
+    pub(crate) count: u32,
+}
+
+impl<'a, L, C: Crew<L>> Promise<Result<Ended<L>, AllocError>> for Prepares<'a, C> {
+    ghost kept_by = { λ p r. IfOk r (λ e. AreTokens (C.table p.crew.now) (C.queue p.crew.now) 1 e.tokens
+        × (IsNone e.unshelved → (h : Duty → ℕ) → done h e.tokens ≡ share_below h (C.table p.crew.now).layout p.count p.number (C.table p.crew.now).layout.pages)
+        × PutsCompleted e.tokens) };
+}
+
+/// What an imposer promises.
+#[derive(Drop)]
+pub(crate) struct Imposes<'a, C> {
+    pub(crate) crew: &'a C,
+}
+
+impl<'a, L, C: Crew<L>> Promise<Result<Ended<L>, AllocError>> for Imposes<'a, C> {
+    ghost kept_by = { λ p r. IfOk r (λ e. AreTokens (C.table p.crew.now) (C.queue p.crew.now) 1 e.tokens
+        × IsNone e.unshelved × ((h : Duty → ℕ) → done h e.tokens ≡ 0)
+        × PutsCompleted e.tokens) };
+}
