@@ -2,6 +2,7 @@
 #![tactic(auto)]
 
 mod channel;
+mod collecting;
 mod crew;
 mod gate;
 mod impose;
