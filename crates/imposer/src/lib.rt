@@ -12,6 +12,7 @@ mod outcome;
 mod output;
 mod runs;
 mod sheet;
+mod shop;
 mod sink;
 mod tokens;
 #[cfg(test)]

@@ -1,0 +1,140 @@
+//! What all threads of one run share, and what the collector keeps.
+ghost use Rattle.std.specs.Prelude.{◌≡◌, ℕ, ◌+◌, ◌<◌, ◌≤◌, None, Some, length, false, IsTrue};
+ghost use Rattle.crossbeam_channel.specs.Claims.{IsSeatAt};
+ghost use Rattle.crossbeam_channel.specs.Ends.{sends_on, receives_on};
+ghost use Rattle.profile.specs.Sheets.{layout};
+ghost use Rattle.profile.specs.Filters.{preamble_text};
+ghost use Rattle.imposer.specs.Jobs.{text_of};
+ghost use Rattle.imposer.specs.Collecting.{Stands, GoesOn, AreEarly};
+
+use crate::channel::{Inlet, Right, Texts, Ticket};
+use crate::collecting::{Progress, write_early, write_text};
+use crate::crew::Collector;
+use crate::job::Job;
+use crate::sink::Sink;
+use crossbeam_utils::Backoff;
+use std::sync::Wait;
+use std::sync::atomic::AtomicU32;
+use std::sync::atomic::Ordering::SeqCst;
+
+/// What the collector needs of the run.
+#[derive(Drop)]
+pub(crate) struct Intake<'s, 'j, 'd, T: Texts> {
+    pub(crate) job: &'s Job<'j, 'd>,
+    /// How many imposers haven't ended.
+    pub(crate) working: &'s AtomicU32,
+    pub(crate) inlet: &'s Inlet<T>,
+}
+
+/// What the collector writes to, and the sheets that came before their turn.
+#[derive(Drop)]
+pub(crate) struct Desk<'a, S> {
+    pub(crate) sink: &'a mut S,
+    pub(crate) ticket: Ticket,
+    pub(crate) header: Vec<u8>,
+    pub(crate) progress: Progress,
+    pub(crate) early: Vec<Option<Vec<u8>>>,
+}
+
+impl<'s, 'j, 'd, 'a, T: Texts, S: Sink> Collector<Desk<'a, S>> for Intake<'s, 'j, 'd, T> {
+    ghost is_laid = { λ s d. ((k : ℕ) → T.text k ≡ text_of s.job.now k)
+        × IsSeatAt (receives_on s.inlet.now) d.ticket
+        × (d.header.items ≡ preamble_text (length s.job.now.plan.sheets) s.job.now.units)
+        × (d.progress ≡ record { next = 0; written = 0; halted = None })
+        × AreEarly s.job.now d.early.items
+        × (S.failures d.sink.now < 18_446_744_073_709_551_615) };
+
+    ghost collected = { λ s d e. (e.sink.ghost_name ≡ d.sink.ghost_name)
+        × Stands s.job.now (S.told d.sink.now) (S.told e.sink.now) (S.failures d.sink.now) (S.failures e.sink.now) e.progress
+        × AreEarly s.job.now e.early.items };
+
+    fn collect<R: Wait>(&self, rt: &R, desk: &mut Desk<'a, S>) {
+        desk.progress = write_text(desk.sink, desk.progress, desk.header.as_slice());
+        if desk.progress.halted.is_none() {
+            take_all(rt, self, desk);
+        }
+    }
+}
+
+/// Takes finished sheets until all imposers have ended, or nothing more is to be written.
+fn take_all<R: Wait, T: Texts, S: Sink>(
+    rt: &R,
+    intake: &Intake<'_, '_, '_, T>,
+    desk: &mut Desk<'_, S>,
+)
+    requires countable { S.failures desk.old.sink.now < u64.MAX }
+    requires texts { (s : ℕ) → T.text s ≡ text_of intake.now.job.now s }
+    requires ticket { IsSeatAt (receives_on intake.now.inlet.now) desk.old.ticket }
+    requires going { desk.old.progress.halted ≡ None }
+    requires early { AreEarly intake.now.job.now desk.old.early.items }
+    ensures early { AreEarly intake.now.job.now desk.new.early.items }
+    ensures same { desk.new.sink.ghost_name ≡ desk.old.sink.ghost_name }
+    ensures goes_on { GoesOn intake.now.job.now (S.told desk.old.sink.now) (S.told desk.new.sink.now) (S.failures desk.old.sink.now) (S.failures desk.new.sink.now) desk.old.progress desk.new.progress }
+{
+    let backoff = Backoff::new();
+    for _ in rt.forever() {
+        if !take_turn(rt, intake, &backoff, desk) {
+            break;
+        }
+    }
+}
+
+/// Takes a sheet where one was finished, and waits a little where none was. False where nothing is to come, or nothing more is to
+/// be written.
+fn take_turn<R: Wait, T: Texts, S: Sink>(
+    rt: &R,
+    intake: &Intake<'_, '_, '_, T>,
+    backoff: &Backoff,
+    desk: &mut Desk<'_, S>,
+) -> bool
+    requires countable { S.failures desk.old.sink.now < u64.MAX }
+    requires texts { (s : ℕ) → T.text s ≡ text_of intake.now.job.now s }
+    requires ticket { IsSeatAt (receives_on intake.now.inlet.now) desk.old.ticket }
+    requires going { desk.old.progress.halted ≡ None }
+    requires early { AreEarly intake.now.job.now desk.old.early.items }
+    ensures ticket { IsSeatAt (receives_on intake.now.inlet.now) desk.new.ticket }
+    ensures going { IsTrue result → desk.new.progress.halted ≡ None }
+    ensures early { AreEarly intake.now.job.now desk.new.early.items }
+    ensures same { desk.new.sink.ghost_name ≡ desk.old.sink.ghost_name }
+    ensures goes_on { GoesOn intake.now.job.now (S.told desk.old.sink.now) (S.told desk.new.sink.now) (S.failures desk.old.sink.now) (S.failures desk.new.sink.now) desk.old.progress desk.new.progress }
+    ensures steady { IsTrue result → S.failures desk.new.sink.now ≡ S.failures desk.old.sink.now }
+{
+    // Asked before the channel is: what the last imposer sent is there then.
+    let is_last = intake.working.load(SeqCst) == 0;
+    if take_one(rt, intake.job, intake.inlet, desk) {
+        backoff.reset();
+        return desk.progress.halted.is_none();
+    }
+    backoff.snooze();
+    !is_last
+}
+
+/// Takes a finished sheet, and writes those whose turn it is now. False where no sheet was there.
+fn take_one<R: Wait, T: Texts, S: Sink>(
+    rt: &R,
+    job: &Job<'_, '_>,
+    inlet: &Inlet<T>,
+    desk: &mut Desk<'_, S>,
+) -> bool
+    requires countable { S.failures desk.old.sink.now < u64.MAX }
+    requires texts { (s : ℕ) → T.text s ≡ text_of job.now s }
+    requires ticket { IsSeatAt (receives_on inlet.now) desk.old.ticket }
+    requires going { desk.old.progress.halted ≡ None }
+    requires early { AreEarly job.now desk.old.early.items }
+    ensures ticket { IsSeatAt (receives_on inlet.now) desk.new.ticket }
+    ensures early { AreEarly job.now desk.new.early.items }
+    ensures same { desk.new.sink.ghost_name ≡ desk.old.sink.ghost_name }
+    ensures goes_on { GoesOn job.now (S.told desk.old.sink.now) (S.told desk.new.sink.now) (S.failures desk.old.sink.now) (S.failures desk.new.sink.now) desk.old.progress desk.new.progress }
+    ensures steady { desk.new.progress.halted ≡ None → S.failures desk.new.sink.now ≡ S.failures desk.old.sink.now }
+    ensures nothing { result ≡ false → desk.new.progress.halted ≡ None }
+{
+    let Ok(done) = inlet.try_recv_as::<Right<T>, R>(rt, &mut desk.ticket) else {
+        return false;
+    };
+    let at = done.sheet as usize;
+    if at < desk.early.len() {
+        desk.early[at] = Some(done.text);
+        desk.progress = write_early(job, desk.sink, desk.progress, &mut desk.early);
+    }
+    true
+}
