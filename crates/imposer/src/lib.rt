@@ -6,15 +6,16 @@ mod crew;
 mod gate;
 mod impose;
 mod job;
+pub mod laws;
 mod options;
 mod outcome;
 mod output;
 mod runs;
 mod sheet;
 mod sink;
-mod tokens;
 #[cfg(test)]
 mod tests;
+mod tokens;
 
 pub use gate::{Gate, Open, Step};
 pub use job::Job;
