@@ -4,3 +4,4 @@ pub mod Refusals
 pub mod Sheets
 pub mod Slots
 pub mod Shares
+pub mod Held
