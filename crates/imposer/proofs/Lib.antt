@@ -5,3 +5,4 @@ pub mod Sheets
 pub mod Slots
 pub mod Shares
 pub mod Held
+pub mod Counts
