@@ -4,12 +4,13 @@ use Rattle.std.specs.Prelude.{Option, Some, None, slice_get, slice_index_or}
 use mathlib.Core.Logic.{dite}
 use native.Mathlib.Decide.{ℕ_discrete}
 use Rattle.profile.specs.Sheets.{Plan, Layout, layout}
-use Rattle.histories.specs.Seats.{whole_share, total, times}
-use Rattle.histories.proofs.Totals.{total-append}
+use Rattle.histories.specs.Seats.{whole_share, total}
 use Rattle.sheet_plan.specs.Places.{has_page, places_in, places_from, places_of}
-use Rattle.gather_table.specs.Table.{TableState, slots, slot_count, start, with_mark, is_blank}
-use Rattle.gather_table.specs.History.{Entry, Publish, Mark, Look, PageAt, after, after_all, after_history, IsLegal, IsComplete}
-use Rattle.gather_table.specs.Shared.{TableView, SeatView, IsSeat, own_calls}
+use Rattle.sheet_plan.specs.Plans.{IsSound}
+use Rattle.std.proofs.lemmas.List.{length-map}
+use Rattle.gather_table.specs.Table.{TableState, slots, start, with_mark, is_blank}
+use Rattle.gather_table.specs.History.{Entry, Publish, Mark, Look, PageAt, after, after_all, IsLegal, IsComplete}
+use Rattle.gather_table.specs.Shared.{TableView}
 use Rattle.gather_table.proofs.Calls.{whole_seat_made_all}
 use Rattle.gather_table.proofs.Legal.{one_where}
 use Rattle.gather_table.proofs.Shows.{stays_marked}
@@ -208,3 +209,15 @@ pub tokens_gathered : (table : TableView) (queue : QueueView) (tokens : Tokens) 
 tokens_gathered table queue tokens a pages w =
     let same : tokens.seat.layout ≡ table.layout = a.of_table.1 in
     gathered table.layout tokens.seat.front (subst (λ (l : Layout). IsLegal l tokens.seat.front) same a.seat.legal) pages (λ h. sym (whole_seat_made_all tokens.seat (worth h) a.seat a.seat_share) ∙ w h)
+
+-- a slot of a sheet that is there
+sheet_there : (xs : List (List (Option ℕ))) (s k : ℕ) (x : Option ℕ) → slice_get (slice_index_or xs s []) k ≡ Some x → s < length xs
+sheet_there [] s k x e = absurd (cc)
+sheet_there (y ∷ xs) zero k x e = omega arith
+sheet_there (y ∷ xs) (suc s) k x e = let r = sheet_there xs s k x e in omega arith
+
+-- the slots of a sound plan hold its pages
+pub has_pages : (plan : Plan) → IsSound plan → HasPages (layout plan)
+has_pages plan sound s k p at =
+    let there = sheet_there (layout plan).sheets s k (Some p) at in
+    sound.paged s k p (omega (arith, length-map plan.sheets (λ slots. map (λ slot. slot.page) slots))) at

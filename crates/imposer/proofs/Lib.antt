@@ -6,3 +6,4 @@ pub mod Slots
 pub mod Shares
 pub mod Held
 pub mod Counts
+pub mod HandedOn
