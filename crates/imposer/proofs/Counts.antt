@@ -221,3 +221,7 @@ pub has_pages : (plan : Plan) → IsSound plan → HasPages (layout plan)
 has_pages plan sound s k p at =
     let there = sheet_there (layout plan).sheets s k (Some p) at in
     sound.paged s k p (omega (arith, length-map plan.sheets (λ slots. map (λ slot. slot.page) slots))) at
+
+-- and so do those of a table that is laid out for it
+pub table_has_pages : (plan : Plan) (table : TableView) → IsSound plan → table.layout ≡ layout plan → HasPages table.layout
+table_has_pages plan table sound is = subst HasPages (sym is) (has_pages plan sound)

@@ -21,7 +21,9 @@ use Rattle.handover.specs.Passes.{QueueView, PassView, IsPass, own_moves}
 use Rattle.handover.proofs.Histories.{first_put_is_first_taken}
 use Rattle.handover.proofs.Moves.{put_weight, whole_pass_made_all}
 use Rattle.imposer.specs.Gathered.{IsHandedOn}
-use Rattle.imposer.specs.Tokens.{AreTokens, put, completed}
+use Rattle.imposer.specs.Delivery.{HandedOn}
+use Rattle.imposer.specs.Tokens.{AreTokens, AreUnused, put, completed}
+use Rattle.imposer.proofs.Held.{unused_put, puts_handed_on}
 use Rattle.imposer.specs.declared.tokens.Tokens.{Tokens}
 
 -- what a pass with all shares put is what its front shows as put
@@ -133,3 +135,16 @@ pub tokens_handed_on : (table : TableView) (queue : QueueView) (tokens : Tokens)
 tokens_handed_on table queue tokens a puts =
     handed_on tokens.seat tokens.pass a.seat a.seat_share a.pass a.pass_share
     (subst (λ (l : Layout). (s : ℕ) → put s tokens ≤ times s (born_complete l) + completed s tokens) (sym a.of_table.1) puts)
+
+-- what tokens put of which nothing was called before
+pub started_puts : (s : ℕ) (queue : QueueView) (sheets back : List ℕ) (old new : Tokens) → AreUnused old → HandedOn queue sheets back old.pass new.pass → put s new ≤ times s sheets
+started_puts s queue sheets back old new unused h =
+    let none = unused_put s old unused in
+    let few = puts_handed_on s queue sheets back old.pass new.pass h in
+    omega arith
+
+-- the sheets without pages were put first, and each other one where a mark completed it
+pub gathered_handed_on : (table : TableView) (queue : QueueView) (first all : Tokens) → AreTokens table queue whole_share all
+    → ((s : ℕ) → put s first ≤ times s (born_complete table.layout)) → ((s : ℕ) → put s all ≤ put s first + completed s all) → IsHandedOn all.pass.front
+gathered_handed_on table queue first all a start since =
+    tokens_handed_on table queue all a (λ s. let one = start s in let more = since s in omega arith)

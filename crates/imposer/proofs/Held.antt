@@ -14,6 +14,7 @@ use Rattle.gather_table.specs.Laws.{is_completing, completings}
 use Rattle.gather_table.specs.Shared.{TableView, SeatView, IsSeat, IsSeatOf, own_calls, opening_seat}
 use Rattle.gather_table.specs.Shared as table
 use Rattle.gather_table.proofs.Calls.{same_makes, seat_makes, own_calls_are_kept}
+use Rattle.gather_table.proofs.Legal.{completings-append}
 use Rattle.handover.specs.Queue.{Move, Put, Take, IsQueueHistory, sheets_put}
 use Rattle.handover.specs.Passes.{QueueView, PassView, IsPass, IsPassOf, own_moves, opening_pass}
 use Rattle.handover.specs.Passes as queue
@@ -91,10 +92,6 @@ tokens_delivered t q r n old new es sheets back a m h =
 -- what calls weigh, and what they complete, is added
 pub done_called : (h : Duty → ℕ) (old new : SeatView) (es : List Entry) → table.Makes old es new → total (worth h) (own_calls new) ≡ total (worth h) (own_calls old) + total (worth h) es
 done_called h old new es m = ap (total (worth h)) (own_calls_are_kept.0 old new es m) ∙ total-append (worth h) (own_calls old) es
-
-pub completings-append : (s : ℕ) (xs ys : List Entry) → completings s (xs ++ ys) ≡ completings s xs + completings s ys
-completings-append s [] ys = omega arith
-completings-append s (x ∷ xs) ys = let h = completings-append s xs ys in omega arith
 
 pub completings_called : (s : ℕ) (old new : SeatView) (es : List Entry) → table.Makes old es new → completings s (own_calls new) ≡ completings s (own_calls old) + completings s es
 completings_called s old new es m = ap (completings s) (own_calls_are_kept.0 old new es m) ∙ completings-append s (own_calls old) es
