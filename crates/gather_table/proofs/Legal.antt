@@ -105,7 +105,7 @@ full_if false h = absurd (omega arith)
 pub at_most_one : AtMostOneCompleting
 at_most_one layout log s l = let c = counts layout (start layout) log s l in let d = digit_le (is_full layout (after_history layout log) s) in omega arith
 
-completings-append : (s : ℕ) (xs ys : List Entry) → completings s (xs ++ ys) ≡ completings s xs + completings s ys
+pub completings-append : (s : ℕ) (xs ys : List Entry) → completings s (xs ++ ys) ≡ completings s xs + completings s ys
 completings-append s [] ys = omega arith
 completings-append s (x ∷ xs) ys = let h = completings-append s xs ys in omega arith
 

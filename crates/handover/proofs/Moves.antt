@@ -95,7 +95,7 @@ pub whole_pass_made_all : WholePassMadeAll
 whole_pass_made_all pass weight k whole = whole_weight weight (IsQueueHistory pass.capacity) pass.front pass.own pass.share k whole
 
 -- how often a sheet is put, and taken, is a weight of moves
-put_weight : (s : ℕ) (log : List Move) → total (λ m. times s (sheets_put (m ∷ []))) log ≡ times s (sheets_put log)
+pub put_weight : (s : ℕ) (log : List Move) → total (λ m. times s (sheets_put (m ∷ []))) log ≡ times s (sheets_put log)
 put_weight s [] = refl
 put_weight s (Put x ∷ log) = let r = put_weight s log in omega arith
 put_weight s (Take x ∷ log) = let r = put_weight s log in omega arith

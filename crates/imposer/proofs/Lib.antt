@@ -4,3 +4,7 @@ pub mod Refusals
 pub mod Sheets
 pub mod Slots
 pub mod Fronts
+pub mod Shares
+pub mod Held
+pub mod Counts
+pub mod HandedOn

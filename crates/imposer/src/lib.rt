@@ -7,6 +7,7 @@ mod crew;
 mod gate;
 mod impose;
 mod job;
+pub mod laws;
 mod options;
 mod outcome;
 mod output;
@@ -14,9 +15,9 @@ mod runs;
 mod sheet;
 mod shop;
 mod sink;
-mod tokens;
 #[cfg(test)]
 mod tests;
+mod tokens;
 
 pub use gate::{Gate, Open, Step};
 pub use job::Job;
