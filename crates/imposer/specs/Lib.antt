@@ -8,4 +8,5 @@ pub mod Delivery
 pub mod Duty
 pub mod Gathered
 pub mod Tokens
+pub mod Joining
 pub mod LookUps

@@ -4,6 +4,7 @@
 mod channel;
 mod crew;
 mod gate;
+mod gathering;
 mod impose;
 mod job;
 pub mod laws;
@@ -13,6 +14,7 @@ mod output;
 mod runs;
 mod sheet;
 mod sink;
+mod start;
 #[cfg(test)]
 mod tests;
 mod tokens;
