@@ -103,7 +103,8 @@ fn join_imposers<'s, R: Threads, L: Drop, C: Crew<L>>(
     all
 }
 
-/// All threads of a run: None where one was refused.
+/// Starts all threads of a run. None where one was refused: those that were started end by themselves. Imposers wait
+/// for all preparers, so none of them is started where a preparer was refused.
 fn start<'s, E, R: Wait + Sync, L: Send + Drop + 's, C: Crew<L> + Sync>(
     rt: &'s R,
     scope: &'s Scope<'s, E>,

@@ -94,8 +94,7 @@ pub(crate) fn start_imposers<'s, E, R: Wait + Sync, L: Send + Drop + 's, C: Crew
 {
     let mut ticket = ticket;
     let mut handles = Vec::with_capacity(alloc, count as usize)?;
-    for number in 0..count {
-        let _ = number;
+    for _ in 0..count {
         let theirs = crew.split(tokens);
         let sending = crew.another(&mut ticket);
         match start_imposer(rt, scope, crew, theirs, sending) {
