@@ -8,5 +8,6 @@ pub mod Delivery
 pub mod Duty
 pub mod Gathered
 pub mod Tokens
+pub mod Joining
 pub mod LookUps
 pub mod Collecting

@@ -45,7 +45,12 @@ pub(crate) trait Crew<L> {
         ensures put { IfOk result (λ e. PutsCompleted e.tokens) };
 
     /// The work of an imposer.
-    fn impose<R: Wait>(&self, rt: &R, tokens: Tokens, ticket: Ticket) -> Result<Ended<L>, AllocError>
+    fn impose<R: Wait>(
+        &self,
+        rt: &R,
+        tokens: Tokens,
+        ticket: Ticket,
+    ) -> Result<Ended<L>, AllocError>
         requires tokens { AreTokens (table self.now) (queue self.now) 1 tokens × AreUnused tokens }
         requires ticket { sends self.now ticket }
         ensures tokens { IfOk result (λ e. AreTokens (table self.now) (queue self.now) 1 e.tokens) }

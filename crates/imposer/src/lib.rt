@@ -5,6 +5,7 @@ mod channel;
 mod collecting;
 mod crew;
 mod gate;
+mod gathering;
 mod impose;
 mod job;
 pub mod laws;
@@ -15,6 +16,7 @@ mod runs;
 mod sheet;
 mod shop;
 mod sink;
+mod start;
 #[cfg(test)]
 mod tests;
 mod tokens;

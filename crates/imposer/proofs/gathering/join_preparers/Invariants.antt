@@ -1,0 +1,15 @@
+use Rattle.std.proofs.Common.{◌≡◌, ℕ, ◌<◌, ◌≤◌, ◌+◌, ◌-◌, get_or, IfSome, IsNone}
+use Rattle.std.specs.Vec.Iter.{into_iter_items, into_iter_len}
+use Rattle.imposer.specs.Duty.{Duty, shares}
+use Rattle.imposer.specs.Tokens.{AreTokens, done}
+use Rattle.imposer.specs.Joining.{PutsCompletedSince}
+use Rattle.imposer.proofs.gathering.join_preparers.Given as goal
+
+abbrev pub invariant-loop-handle : goal.invariant-loop-handle
+invariant-loop-handle g l =
+    let rest = l.handle-iterator in
+    let joined = l.count - into_iter_len rest in
+    let layout = (g.C.Crew.table l.crew).layout in
+    (into_iter_len rest ≤ l.count)
+    × ((k : ℕ) (d : _) → k < into_iter_len rest → ((get_or (into_iter_items rest) k d).promise.number ≡ joined + k) × ((get_or (into_iter_items rest) k d).promise.count ≡ l.count) × ((get_or (into_iter_items rest) k d).promise.crew.now ≡ l.crew))
+    × IfSome l.all (λ e. AreTokens (g.C.Crew.table l.crew) (g.C.Crew.queue l.crew) (l.fn.tokens.seat.share + joined) e.tokens × (IsNone e.unshelved → (h : Duty → ℕ) → done h e.tokens ≡ shares h layout l.count layout.pages joined) × PutsCompletedSince l.fn.tokens e.tokens)
