@@ -3,3 +3,6 @@ pub mod Made
 pub mod Refusals
 pub mod Sheets
 pub mod Slots
+pub mod Marks
+pub mod PlacesOf
+pub mod HandingOn

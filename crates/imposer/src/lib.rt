@@ -3,6 +3,7 @@
 
 mod channel;
 mod crew;
+mod delivery;
 mod gate;
 mod impose;
 mod job;
@@ -12,10 +13,11 @@ mod output;
 mod runs;
 mod sheet;
 mod sink;
-mod tokens;
 #[cfg(test)]
 mod tests;
+mod tokens;
 
+pub use delivery::{DeliverError, Delivered, deliver};
 pub use gate::{Gate, Open, Step};
 pub use job::Job;
 pub use options::{Options, Workers};
