@@ -6,3 +6,4 @@ pub mod Slots
 pub mod Marks
 pub mod PlacesOf
 pub mod HandingOn
+pub mod Shares

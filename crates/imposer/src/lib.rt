@@ -7,6 +7,7 @@ mod delivery;
 mod gate;
 mod impose;
 mod job;
+pub mod laws;
 mod options;
 mod outcome;
 mod output;
