@@ -7,3 +7,4 @@ pub mod Marks
 pub mod PlacesOf
 pub mod HandingOn
 pub mod Shares
+pub mod Held

@@ -1,11 +1,11 @@
 -- The shares of all preparers make up the whole, and a delivery does what its page wants done.
-use Rattle.std.proofs.Common.{◌≡◌, ℕ, zero, suc, true, false, ◌+◌, ◌<◌, ◌≤◌, ◌%◌, ◌==◌, if◌then◌else◌, List, [], ◌∷◌, ◌++◌, length, map, arith, refl, sym, ap, ◌∙◌}
+use Rattle.std.proofs.Common.{◌≡◌, ℕ, zero, suc, ◌+◌, ◌<◌, ◌≤◌, ◌%◌, ◌==◌, if◌then◌else◌, List, [], ◌∷◌, length, map, arith, refl}
 use Rattle.profile.specs.Sheets.{Layout}
 use Rattle.histories.specs.Seats.{total}
 use Rattle.sheet_plan.specs.Places.{places_of}
 use Rattle.gather_table.specs.declared.answers.Reply.{Reply}
 use Rattle.imposer.specs.Delivery.{marks_of}
-use Rattle.imposer.specs.Duty.{Duty, worth, of_place, duties, share_below, owed, shares, DeliveriesWeigh, SharesAreAll}
+use Rattle.imposer.specs.Duty.{Duty, worth, of_place, duties, shares, DeliveriesWeigh, SharesAreAll}
 
 -- what the first k preparers owe for page p alone
 abbrev at_page : (Duty → ℕ) → Layout → ℕ → ℕ → ℕ → ℕ
