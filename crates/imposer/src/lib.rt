@@ -11,6 +11,7 @@ pub mod laws;
 mod options;
 mod outcome;
 mod output;
+mod preparing;
 mod runs;
 mod sheet;
 mod sink;
