@@ -6,6 +6,9 @@ pub mod Refusals
 pub mod Sheets
 pub mod Slots
 pub mod Fronts
+pub mod Marks
+pub mod PlacesOf
+pub mod HandingOn
 pub mod Shares
 pub mod Held
 pub mod Counts

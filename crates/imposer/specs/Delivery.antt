@@ -1,11 +1,12 @@
 -- What the delivery of a page calls, and what it hands on.
-use Rattle.std.specs.Prelude.{◌≡◌, ◌⊎◌, ℕ, List, [], ◌∷◌, ◌++◌, length, if◌then◌else◌}
+use Rattle.std.specs.Prelude.{◌≡◌, ◌⊎◌, ℕ, ◌<◌, List, [], ◌∷◌, ◌++◌, length, if◌then◌else◌}
 use Rattle.profile.specs.Sheets.{Layout}
 use Rattle.histories.specs.Seats.{whole_share}
 use Rattle.sheet_plan.specs.Places.{places_of}
 use Rattle.gather_table.specs.declared.answers.Published.{Published}
 use Rattle.gather_table.specs.declared.answers.Reply.{Reply}
-use Rattle.gather_table.specs.History.{Entry, Publish, Mark}
+use Rattle.gather_table.specs.Table.{IsMarkable}
+use Rattle.gather_table.specs.History.{Entry, Publish, Mark, after_history}
 use Rattle.gather_table.specs.Laws.{is_completing}
 use Rattle.handover.specs.Queue.{Put, content}
 use Rattle.handover.specs.Passes.{QueueView, PassView, Made}
@@ -19,6 +20,10 @@ marks_of (x ∷ xs) (r ∷ rs) = Mark x.0 x.1 r ∷ marks_of xs rs
 -- what a delivery of page p calls: a publish, and a mark for each place of the page
 abbrev pub delivery : Layout → (p index : ℕ) → Published → List Reply → List Entry
 delivery layout p index was replies = Publish p index was ∷ marks_of (places_of layout p) replies
+
+-- a place that may be marked by who has seen this much
+abbrev pub IsReady : Layout → List Entry → ℕ × ℕ → Type 0
+IsReady layout front x = (x.0 < length layout.sheets) × IsMarkable layout (after_history layout front) x.0 x.1
 
 -- the sheets that these marks completed, in order
 abbrev pub completed : List (ℕ × ℕ) → List Reply → List ℕ

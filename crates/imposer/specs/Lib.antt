@@ -11,3 +11,4 @@ pub mod Tokens
 pub mod Joining
 pub mod LookUps
 pub mod Collecting
+pub mod HandingBack

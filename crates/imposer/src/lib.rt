@@ -4,6 +4,7 @@
 mod channel;
 mod collecting;
 mod crew;
+mod delivery;
 mod gate;
 mod gathering;
 mod impose;
@@ -12,6 +13,7 @@ pub mod laws;
 mod options;
 mod outcome;
 mod output;
+mod preparing;
 mod runs;
 mod sheet;
 mod shop;
@@ -21,6 +23,7 @@ mod start;
 mod tests;
 mod tokens;
 
+pub use delivery::{DeliverError, Delivered, deliver};
 pub use gate::{Gate, Open, Step};
 pub use job::Job;
 pub use options::{Options, Workers};
