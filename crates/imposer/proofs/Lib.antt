@@ -3,3 +3,4 @@ pub mod Made
 pub mod Refusals
 pub mod Sheets
 pub mod Slots
+pub mod LookUps

@@ -3,7 +3,7 @@ ghost use Rattle.std.specs.Prelude.{◌≡◌, ℕ, ◌+◌, ◌-◌, ◌<◌, [
 ghost use Rattle.crossbeam_channel.specs.Claims.{Pass};
 ghost use Rattle.gather_table.specs.Shared.{TableView};
 ghost use Rattle.handover.specs.Passes.{QueueView};
-ghost use Rattle.imposer.specs.declared.impose.Imposed.{Imposed};
+ghost use Rattle.imposer.specs.declared.imposition.Imposed.{Imposed};
 ghost use Rattle.imposer.specs.Duty.{Duty, share_below};
 ghost use Rattle.imposer.specs.Tokens.{AreTokens, AreUnused, AreOfBoth, PutsCompleted, done};
 
@@ -45,7 +45,12 @@ pub(crate) trait Crew<L> {
         ensures put { IfOk result (λ e. PutsCompleted e.tokens) };
 
     /// The work of an imposer.
-    fn impose<R: Wait>(&self, rt: &R, tokens: Tokens, ticket: Ticket) -> Result<Ended<L>, AllocError>
+    fn impose<R: Wait>(
+        &self,
+        rt: &R,
+        tokens: Tokens,
+        ticket: Ticket,
+    ) -> Result<Ended<L>, AllocError>
         requires tokens { AreTokens (table self.now) (queue self.now) 1 tokens × AreUnused tokens }
         requires ticket { sends self.now ticket }
         ensures tokens { IfOk result (λ e. AreTokens (table self.now) (queue self.now) 1 e.tokens) }

@@ -4,7 +4,7 @@
 mod channel;
 mod crew;
 mod gate;
-mod impose;
+mod imposition;
 mod job;
 mod options;
 mod outcome;
@@ -12,11 +12,12 @@ mod output;
 mod runs;
 mod sheet;
 mod sink;
-mod tokens;
 #[cfg(test)]
 mod tests;
+mod tokens;
 
 pub use gate::{Gate, Open, Step};
+pub use imposition::{ImposeError, Imposed, impose};
 pub use job::Job;
 pub use options::{Options, Workers};
 pub use outcome::{Report, RunError};
