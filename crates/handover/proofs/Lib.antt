@@ -1,4 +1,4 @@
-mod Histories
+pub mod Histories
 mod Steps
 mod Views
-mod Moves
+pub mod Moves

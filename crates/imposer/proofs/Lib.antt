@@ -4,3 +4,6 @@ pub mod Refusals
 pub mod Sheets
 pub mod Slots
 pub mod LookUps
+pub mod Shares
+pub mod Held
+pub mod Counts

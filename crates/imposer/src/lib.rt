@@ -6,6 +6,7 @@ mod crew;
 mod gate;
 mod imposition;
 mod job;
+pub mod laws;
 mod options;
 mod outcome;
 mod output;
