@@ -9,6 +9,7 @@ pub mod Fronts
 pub mod Marks
 pub mod PlacesOf
 pub mod HandingOn
+pub mod LookUps
 pub mod Shares
 pub mod Held
 pub mod Counts

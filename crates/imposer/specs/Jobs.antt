@@ -1,5 +1,5 @@
 -- What is to be imposed: a plan of the pages of a document, and how they are placed.
-use Rattle.std.specs.Prelude.{◌≡◌, ℕ, List, [], ◌++◌, length, flat_map, slice_index_or}
+use Rattle.std.specs.Prelude.{ℕ, List, [], ◌++◌, length, flat_map, slice_index_or}
 use Rattle.std.specs.List.{enumerate_from}
 use Rattle.profile.specs.Sheets.{Slot, Plan}
 use Rattle.profile.specs.Parts.{NestedUnit, pages}

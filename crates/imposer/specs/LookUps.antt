@@ -1,9 +1,9 @@
 -- The calls by which a sheet's pages are found.
-use Rattle.std.specs.Prelude.{◌≡◌, ◌⊎◌, ℕ, ◌≤◌, List, [], ◌∷◌, length, Option, Some, None}
+use Rattle.std.specs.Prelude.{◌≡◌, ℕ, ◌≤◌, List, [], ◌∷◌, length, Option, Some, None}
 use Rattle.profile.specs.Sheets.{Layout}
 use Rattle.gather_table.specs.Table.{slots}
-use Rattle.gather_table.specs.History.{Entry, PageAt}
-use Rattle.gather_table.specs.Shared.{SeatView, Makes}
+use Rattle.gather_table.specs.History.{Entry, PageAt, after_history}
+use Rattle.gather_table.specs.Shared.{SeatView, Made, Makes}
 
 -- the pages of these slots, in slot order
 abbrev pub needed : List (Option ℕ) → List ℕ
@@ -27,3 +27,13 @@ pub record LooksUp (pages : List ℕ) (n : ℕ) (old new : SeatView) : Type 0 wh
   pub indexes : List ℕ
   pub found : length indexes ≡ n
   pub made : Makes old (look_ups pages indexes) new
+
+-- the page of a slot was looked up and found, and nothing else was called; a blank slot, or one that isn't there, has none
+abbrev pub LooksAt : Option (Option ℕ) → (old new : SeatView) → Type 0
+LooksAt None old new = new ≡ old
+LooksAt (Some None) old new = new ≡ old
+LooksAt (Some (Some p)) old new = (index : ℕ) × Made old (PageAt p (Some index)) new
+
+-- the page has an index after this history
+abbrev pub HasIndex : Layout → List Entry → ℕ → Type 0
+HasIndex layout log p = (index : ℕ) × ((after_history layout log).index p ≡ Some index)

@@ -1,5 +1,5 @@
 -- Which options a run takes.
-use Rattle.std.specs.Prelude.{◌≡◌, ℕ, ◌≤◌, ℤ, pos, int_lt, Bool, true, Option, Some, None}
+use Rattle.std.specs.Prelude.{◌≡◌, ◌≤◌, ℤ, pos, int_lt, Bool, true, Option, Some, None}
 use Rattle.imposer.specs.declared.options.Workers.{Workers}
 use Rattle.imposer.specs.declared.options.Options.{Options}
 

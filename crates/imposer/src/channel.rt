@@ -1,7 +1,7 @@
 //! The channel of finished sheets, from the imposers to the collector.
 ghost use Rattle.std.specs.Prelude.{◌≡◌, ℕ, List, [], All, ⊤};
 
-use crate::impose::Imposed;
+use crate::imposition::Imposed;
 use crossbeam_channel::protocol::{Lesson, Outcome, Protocol, Split};
 use crossbeam_channel::{Pass, RuledReceiver, RuledSender};
 use std::marker::{Brand, PhantomData};

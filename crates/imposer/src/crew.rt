@@ -3,7 +3,7 @@ ghost use Rattle.std.specs.Prelude.{◌≡◌, ℕ, ◌+◌, ◌-◌, ◌<◌, [
 ghost use Rattle.crossbeam_channel.specs.Claims.{Pass};
 ghost use Rattle.gather_table.specs.Shared.{TableView};
 ghost use Rattle.handover.specs.Passes.{QueueView};
-ghost use Rattle.imposer.specs.declared.impose.Imposed.{Imposed};
+ghost use Rattle.imposer.specs.declared.imposition.Imposed.{Imposed};
 ghost use Rattle.imposer.specs.Duty.{Duty, share_below};
 ghost use Rattle.imposer.specs.Tokens.{AreTokens, AreUnused, AreOfBoth, PutsCompleted, done};
 

@@ -8,6 +8,7 @@ mod delivery;
 mod gate;
 mod gathering;
 mod impose;
+mod imposition;
 mod job;
 pub mod laws;
 mod options;
@@ -25,6 +26,7 @@ mod tokens;
 
 pub use delivery::{DeliverError, Delivered, deliver};
 pub use gate::{Gate, Open, Step};
+pub use imposition::{ImposeError, Imposed, impose};
 pub use job::Job;
 pub use options::{Options, Workers};
 pub use outcome::{Report, RunError};

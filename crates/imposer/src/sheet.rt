@@ -42,7 +42,7 @@ pub(crate) fn append_sheet(
 }
 
 /// Appends the line that begins a sheet. Sheets are counted from 0, and from 1 in the text.
-fn append_page_line(text: &mut Vec<u8>, sheet: u32) -> Result<(), AllocError>
+pub(crate) fn append_page_line(text: &mut Vec<u8>, sheet: u32) -> Result<(), AllocError>
     ensures { OnOk result (text.new.items ≡ text.old.items ++ line (codes "%%Page: " ++ decimal (sheet + 1) ++ codes " " ++ decimal (sheet + 1))) }
 {
     let mut buffer = Buffer::new();
@@ -97,7 +97,7 @@ fn append_slot(
 }
 
 /// Appends a prepared body as it is placed in a slot: the texts that open and close it round it.
-fn append_placed(
+pub(crate) fn append_placed(
     text: &mut Vec<u8>,
     job: &Job<'_, '_>,
     sheet: u32,

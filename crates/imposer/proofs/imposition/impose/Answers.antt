@@ -1,0 +1,5 @@
+use Rattle.imposer.proofs.imposition.impose.Goals as goal
+use Rattle.imposer.proofs.LookUps.{looks_none}
+
+pub returns-in_default-clause-looked_up : goal.returns-in_default-clause-looked_up
+returns-in_default-clause-looked_up c = (0, looks_none _ _)

@@ -1,0 +1,159 @@
+//! A sheet is made of the pages that are shelved.
+ghost use Rattle.std.specs.Prelude.{◌≡◌, ℕ, ◌+◌, ◌-◌, ◌<◌, ◌≤◌, ◌++◌, ◌∷◌, [], IfOk, OnOk, MatchResult, length, Some, slice_get, slice_index_or};
+ghost use Rattle.profile.specs.Parts.{pages};
+ghost use Rattle.profile.specs.Sheets.{Slot, layout};
+ghost use Rattle.profile.specs.Output.{slot_text};
+ghost use Rattle.sheet_plan.specs.Plans.{pages_on};
+ghost use Rattle.gather_table.specs.History.{PageAt, IsComplete};
+ghost use Rattle.gather_table.specs.Shared.{IsSeatOf, Made};
+ghost use Rattle.handover.specs.Pages.{IsPrepared};
+ghost use Rattle.imposer.specs.Jobs.{slots_of, slots_text, text_of};
+ghost use Rattle.imposer.specs.LookUps.{pages_of, LooksUp, LooksAt, HasIndex};
+
+use crate::job::Job;
+use crate::sheet::{append_page_line, append_placed};
+use gather_table::{GatherTable, Seat};
+use handover::{Prepared, Shelf};
+use std::alloc::Global;
+use thiserror::Error;
+
+/// A finished sheet, counted from 0, with its text.
+#[derive(Drop)]
+pub struct Imposed {
+    pub sheet: u32,
+    pub text: Vec<u8>,
+}
+
+/// Why a sheet wasn't imposed.
+#[derive(Debug, Drop, Error)]
+pub enum ImposeError {
+    #[error("out of memory")]
+    NoMemory,
+    /// The shelf showed no entry at a page's index, or one that isn't the document's page.
+    #[error("a page is not on the shelf")]
+    NotShown,
+}
+
+/// Makes the text of a complete sheet, counted from 0, of the pages that stand on the shelf. The text is that of `sheet_text`.
+/// The table is one for the job's plan, and the seat has seen the sheet complete: a look that was answered 0 shows it.
+/// Each page of the sheet is looked up in slot order. After a refusal some of the first were.
+pub fn impose<'d>(
+    alloc: Global,
+    seat: &mut Seat,
+    job: &Job<'_, 'd>,
+    table: &GatherTable<'_>,
+    shelf: &Shelf<'d>,
+    sheet: u32,
+) -> Result<Imposed, ImposeError>
+    requires seat { IsSeatOf table.now seat.old }
+    requires table { table.now.layout ≡ layout job.now.plan }
+    requires sheet { sheet < length job.now.plan.sheets }
+    requires complete { IsComplete table.now.layout seat.old.front sheet }
+    ensures text { IfOk result (λ m. (m.sheet ≡ sheet) × (m.text.items ≡ text_of job.now sheet)) }
+    ensures looked_up { MatchResult result
+        (λ m. LooksUp (pages_of table.now.layout sheet) (length (pages_of table.now.layout sheet)) seat.old seat.new)
+        (λ e. (n : ℕ) × LooksUp (pages_of table.now.layout sheet) n seat.old seat.new) }
+{
+    let mut text = Vec::new(alloc);
+    let Ok(()) = append_page_line(&mut text, sheet) else {
+        return Err(ImposeError::NoMemory);
+    };
+    match append_shelved_slots(&mut text, seat, job, table, shelf, sheet) {
+        Ok(()) => {}
+        Err(error) => return Err(error),
+    }
+    let Ok(()) = text.extend_from_slice(b"showpage\n") else {
+        return Err(ImposeError::NoMemory);
+    };
+    Ok(Imposed { sheet, text })
+}
+
+/// Looks up the pages of all slots of a sheet, in order, and appends the slots' texts.
+fn append_shelved_slots<'d>(
+    text: &mut Vec<u8>,
+    seat: &mut Seat,
+    job: &Job<'_, 'd>,
+    table: &GatherTable<'_>,
+    shelf: &Shelf<'d>,
+    sheet: u32,
+) -> Result<(), ImposeError>
+    requires seat { IsSeatOf table.now seat.old }
+    requires table { table.now.layout ≡ layout job.now.plan }
+    requires sheet { sheet < length job.now.plan.sheets }
+    requires complete { IsComplete table.now.layout seat.old.front sheet }
+    ensures text { OnOk result (text.new.items ≡ text.old.items ++ slots_text job.now (slots_of job.now sheet)) }
+    ensures looked_up { MatchResult result
+        (λ m. LooksUp (pages_of table.now.layout sheet) (length (pages_of table.now.layout sheet)) seat.old seat.new)
+        (λ e. (n : ℕ) × LooksUp (pages_of table.now.layout sheet) n seat.old seat.new) }
+{
+    for slot in 0..job.plan.slots(sheet) {
+        match append_shelved(text, seat, job, table, shelf, sheet, slot) {
+            Ok(()) => {}
+            Err(error) => return Err(error),
+        }
+    }
+    Ok(())
+}
+
+/// Looks up the page of a slot and appends the slot's text; nothing where it is blank.
+fn append_shelved<'d>(
+    text: &mut Vec<u8>,
+    seat: &mut Seat,
+    job: &Job<'_, 'd>,
+    table: &GatherTable<'_>,
+    shelf: &Shelf<'d>,
+    sheet: u32,
+    slot: u16,
+) -> Result<(), ImposeError>
+    requires seat { IsSeatOf table.now seat.old }
+    requires table { table.now.layout ≡ layout job.now.plan }
+    requires sheet { sheet < length job.now.plan.sheets }
+    requires slot { slot < length (pages_on job.now.plan sheet) }
+    requires complete { IsComplete table.now.layout seat.old.front sheet }
+    ensures text { OnOk result ((it : Slot) → slice_get (slots_of job.now sheet) slot ≡ Some it →
+        text.new.items ≡ text.old.items ++ slot_text job.now.frame (pages job.now.units) it.page it.item) }
+    ensures looked_up { LooksAt (slice_get (pages_on job.now.plan sheet) slot) seat.old seat.new }
+{
+    let Some(page) = job.plan.page_of(sheet, slot) else {
+        return Ok(());
+    };
+
+    // The seat tells that its front is a legal history, in which the pages of a complete sheet have an index.
+    seat.share();
+    let shown = match find_shelved(seat, job, table, shelf, page) {
+        Ok(shown) => shown,
+        Err(error) => return Err(error),
+    };
+    match append_placed(text, job, sheet, slot, shown.body()) {
+        Ok(()) => Ok(()),
+        Err(_) => Err(ImposeError::NoMemory),
+    }
+}
+
+/// Looks up a page that has an index, and finds it on the shelf.
+fn find_shelved<'a, 'd>(
+    seat: &mut Seat,
+    job: &Job<'_, 'd>,
+    table: &GatherTable<'_>,
+    shelf: &'a Shelf<'d>,
+    page: u32,
+) -> Result<&'a Prepared<'d>, ImposeError>
+    requires seat { IsSeatOf table.now seat.old }
+    requires in_table { page < table.now.layout.pages }
+    requires in_document { page < length (pages job.now.units) }
+    requires index { HasIndex table.now.layout seat.old.front page }
+    ensures looked_up { LooksAt (Some (Some page)) seat.old seat.new }
+    ensures page { IfOk result (λ shown. shown.now.raw ≡ slice_index_or (pages job.now.units) page []) }
+    ensures prepared { IfOk result (λ shown. IsPrepared shown.now) }
+{
+    let Some(index) = table.page_at(seat, page) else {
+        unreachable!();
+    };
+    let Some(shown) = shelf.at(index) else {
+        return Err(ImposeError::NotShown);
+    };
+    if shown.page() != page || shown.raw() != job.document.page(page) {
+        return Err(ImposeError::NotShown);
+    }
+    Ok(shown)
+}
