@@ -12,3 +12,5 @@ pub mod Joining
 pub mod LookUps
 pub mod Collecting
 pub mod HandingBack
+pub mod Reading
+pub mod Gathering

@@ -7,7 +7,7 @@ mod crew;
 mod delivery;
 mod gate;
 mod gathering;
-mod impose;
+mod imposing;
 mod imposition;
 mod job;
 pub mod laws;

@@ -7,15 +7,105 @@ ghost use Rattle.profile.specs.Filters.{preamble_text};
 ghost use Rattle.imposer.specs.Jobs.{text_of};
 ghost use Rattle.imposer.specs.Collecting.{Stands, GoesOn, AreEarly};
 
-use crate::channel::{Inlet, Right, Texts, Ticket};
+use crate::channel::{Inlet, Outlet, Right, Texts, Ticket};
 use crate::collecting::{Progress, write_early, write_text};
-use crate::crew::Collector;
+use crate::crew::{Collector, Crew, Ended};
+use crate::gate::Gate;
+use crate::imposing::impose_all;
 use crate::job::Job;
+use crate::preparing::prepare;
 use crate::sink::Sink;
+use crate::tokens::Tokens;
 use crossbeam_utils::Backoff;
+use gather_table::GatherTable;
+use handover::{Overflow, Ready, Shelf};
+use std::alloc::{AllocError, Global};
 use std::sync::Wait;
 use std::sync::atomic::AtomicU32;
 use std::sync::atomic::Ordering::SeqCst;
+
+/// What the workers share.
+#[derive(Drop)]
+pub(crate) struct Shop<'s, 'j, 'd, T: Texts, G> {
+    pub(crate) alloc: Global,
+    pub(crate) gate: &'s G,
+    pub(crate) table: &'s GatherTable<'j>,
+    pub(crate) shelf: &'s Shelf<'d>,
+    pub(crate) ready: &'s Ready,
+    /// How many preparers haven't ended.
+    pub(crate) running: &'s AtomicU32,
+    pub(crate) outlet: &'s Outlet<T>,
+    pub(crate) intake: Intake<'s, 'j, 'd, T>,
+    ghost same_plan: { table.now.layout ≡ layout intake.job.now.plan },
+}
+
+impl<'s, 'j, 'd, T: Texts, G: Gate> Crew<Overflow<'d>> for Shop<'s, 'j, 'd, T, G> {
+    ghost table = { λ s. s.table.now };
+
+    ghost queue = { λ s. s.ready.now };
+
+    ghost sends = { λ s t. ((k : ℕ) → T.text k ≡ text_of s.intake.job.now k) × IsSeatAt (sends_on s.outlet.now) t };
+
+    fn prepare<R: Wait>(
+        &self,
+        rt: &R,
+        tokens: Tokens,
+        number: u32,
+        count: u32,
+    ) -> Result<Ended<Overflow<'d>>, AllocError> {
+        prepare(
+            rt,
+            self.alloc,
+            tokens,
+            self.intake.job,
+            self.table,
+            self.shelf,
+            self.ready,
+            self.gate,
+            self.running,
+            number,
+            count,
+        )
+    }
+
+    fn impose<R: Wait>(
+        &self,
+        rt: &R,
+        tokens: Tokens,
+        ticket: Ticket,
+    ) -> Result<Ended<Overflow<'d>>, AllocError> {
+        impose_all(
+            rt,
+            self.alloc,
+            tokens,
+            ticket,
+            self.intake.job,
+            self.table,
+            self.shelf,
+            self.ready,
+            self.outlet,
+            self.gate,
+            self.running,
+            self.intake.working,
+        )
+    }
+
+    fn split(&self, tokens: &mut Tokens) -> Tokens {
+        let seat = self.table.split(&mut tokens.seat, 1);
+        let pass = self.ready.split(&mut tokens.pass, 1);
+        Tokens { seat, pass }
+    }
+
+    fn another(&self, ticket: &mut Ticket) -> Ticket {
+        self.outlet.another::<Right<T>>(ticket)
+    }
+
+    fn join(&self, all: Tokens, theirs: Tokens) -> Tokens {
+        let seat = self.table.join(all.seat, theirs.seat);
+        let pass = self.ready.join(all.pass, theirs.pass);
+        Tokens { seat, pass }
+    }
+}
 
 /// What the collector needs of the run.
 #[derive(Drop)]
@@ -36,22 +126,22 @@ pub(crate) struct Desk<'a, S> {
     pub(crate) early: Vec<Option<Vec<u8>>>,
 }
 
-impl<'s, 'j, 'd, 'a, T: Texts, S: Sink> Collector<Desk<'a, S>> for Intake<'s, 'j, 'd, T> {
-    ghost is_laid = { λ s d. ((k : ℕ) → T.text k ≡ text_of s.job.now k)
-        × IsSeatAt (receives_on s.inlet.now) d.ticket
-        × (d.header.items ≡ preamble_text (length s.job.now.plan.sheets) s.job.now.units)
+impl<'s, 'j, 'd, 'a, T: Texts, G, S: Sink> Collector<Desk<'a, S>> for Shop<'s, 'j, 'd, T, G> {
+    ghost is_laid = { λ s d. ((k : ℕ) → T.text k ≡ text_of s.intake.job.now k)
+        × IsSeatAt (receives_on s.intake.inlet.now) d.ticket
+        × (d.header.items ≡ preamble_text (length s.intake.job.now.plan.sheets) s.intake.job.now.units)
         × (d.progress ≡ record { next = 0; written = 0; halted = None })
-        × AreEarly s.job.now d.early.items
+        × AreEarly s.intake.job.now d.early.items
         × (S.failures d.sink.now < 18_446_744_073_709_551_615) };
 
     ghost collected = { λ s d e. (e.sink.ghost_name ≡ d.sink.ghost_name)
-        × Stands s.job.now (S.told d.sink.now) (S.told e.sink.now) (S.failures d.sink.now) (S.failures e.sink.now) e.progress
-        × AreEarly s.job.now e.early.items };
+        × Stands s.intake.job.now (S.told d.sink.now) (S.told e.sink.now) (S.failures d.sink.now) (S.failures e.sink.now) e.progress
+        × AreEarly s.intake.job.now e.early.items };
 
     fn collect<R: Wait>(&self, rt: &R, desk: &mut Desk<'a, S>) {
         desk.progress = write_text(desk.sink, desk.progress, desk.header.as_slice());
         if desk.progress.halted.is_none() {
-            take_all(rt, self, desk);
+            take_all(rt, &self.intake, desk);
         }
     }
 }

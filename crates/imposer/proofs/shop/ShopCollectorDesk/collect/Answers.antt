@@ -1,11 +1,11 @@
 use Rattle.std.proofs.Common.{rules, ◌≡◌, ◌∙◌, subst, sym, ap}
 use Rattle.imposer.specs.Collecting.{Stands, StandsAt, Handed}
 use Rattle.imposer.proofs.Fronts.{header_handed}
-use Rattle.imposer.proofs.shop.IntakeCollectorDesk.collect.Goals as goal
+use Rattle.imposer.proofs.shop.ShopCollectorDesk.collect.Goals as goal
 
 pub returns-then-is_none : goal.returns-then-is_none
 returns-then-is_none g c =
-    let job = c.args.self.now.job.now in
+    let job = c.args.self.now.intake.job.now in
     let d = c.args.desk.now in
     let p = c.write_text-desk.result in
     let next : p.next ≡ 0 = c.write_text-desk.ensures.next ∙ ap (λ q. q.next) c.requires.3 in

@@ -1,0 +1,56 @@
+-- What the answers of a gathering mean.
+use Rattle.std.specs.Prelude.{◌≡◌, ◌⊎◌, ℕ, ◌+◌, ◌≤◌, List, [], length, Option, IsSomeAnd, IsNone, ⊤}
+use Rattle.std.specs.Io.KnownBytes.{Appends}
+use Rattle.profile.specs.Sheets.{Layout, layout}
+use Rattle.histories.specs.Seats.{whole_share}
+use Rattle.sheet_plan.specs.Places.{born_complete}
+use Rattle.gather_table.specs.Shared.{TableView, SeatView, IsSeat, IsSeatOf}
+use Rattle.handover.specs.Passes.{QueueView, PassView, IsPass, IsPassOf}
+use Rattle.imposer.specs.Jobs.{JobView, output_of}
+use Rattle.imposer.specs.Collecting.{WroteFirst}
+use Rattle.imposer.specs.declared.outcome.Report.{Report}
+use Rattle.imposer.specs.declared.outcome.RunError.{RunError}
+use Rattle.imposer.specs.declared.outcome.RunError.TheVariants as error
+
+-- the seat has all shares of the table, and has seen nothing yet
+abbrev pub IsFreshSeat : TableView → SeatView → Type 0
+IsFreshSeat table seat = IsSeatOf table seat × (seat.front ≡ []) × (seat.share ≡ whole_share)
+
+-- the pass has all shares of the queue, and has seen nothing yet
+abbrev pub IsFreshPass : QueueView → PassView → Type 0
+IsFreshPass queue pass = IsPassOf queue pass × (pass.front ≡ []) × (pass.share ≡ whole_share)
+
+-- the numbers of a report on a job
+pub record ReportsOf (job : JobView) (report : Report) : Type 0 where
+  pub page_count : report.pages ≡ job.plan.pages
+  pub sheet_count : report.sheets ≡ length job.plan.sheets
+  pub born_blank : report.born ≡ length (born_complete (layout job.plan))
+  pub swept_within : report.swept ≤ report.sheets
+  pub byte_count : report.bytes ≡ length (output_of job)
+
+-- want of memory and a failed write are the only errors, and as much of the output was written as they say
+abbrev pub WrotePartOf : JobView → (old new : Option (List ℕ)) → RunError → Type 0
+WrotePartOf job old new error.Options = ⊥
+WrotePartOf job old new (error.Spec e) = ⊥
+WrotePartOf job old new (error.Document e) = ⊥
+WrotePartOf job old new (error.Plan e) = ⊥
+WrotePartOf job old new (error.NoMemory written) = WroteFirst job old new written
+WrotePartOf job old new (error.Write written) = WroteFirst job old new written
+
+-- the tokens come back, but after want of memory
+abbrev pub HandsBackTokens : {T : Type 0} → RunError → Option T → Type 0
+HandsBackTokens error.Options tokens = ⊥
+HandsBackTokens (error.Spec e) tokens = ⊥
+HandsBackTokens (error.Document e) tokens = ⊥
+HandsBackTokens (error.Plan e) tokens = ⊥
+HandsBackTokens (error.NoMemory written) tokens = IsNone tokens
+HandsBackTokens (error.Write written) tokens = IsSomeAnd tokens (λ t. ⊤)
+
+-- a seat and a pass that have all shares again
+pub record AreWhole (table : TableView) (queue : QueueView) (seat : SeatView) (pass : PassView) : Type 0 where
+  pub of_table : IsSeatOf table seat
+  pub of_queue : IsPassOf queue pass
+  pub seat : IsSeat seat
+  pub pass : IsPass pass
+  pub seat_share : seat.share ≡ whole_share
+  pub pass_share : pass.share ≡ whole_share
