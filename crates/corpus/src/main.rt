@@ -42,7 +42,13 @@ fn main(rt: HostRuntime) -> anyhow::Result<()> {
                 continue;
             };
             let mut sink = MemorySink::new(rt.alloc(), ROOM, ROOM, 1_000)?;
-            let (status, line) = run_request(rt.alloc(), &request, input.as_slice(), &mut sink);
+            let (status, line) = run_request(
+                &rt,
+                rt.alloc(),
+                &request,
+                input.as_slice(),
+                &mut sink,
+            );
             let line = String::from_utf8_lossy(rt.alloc(), line.as_slice())?;
             print!(rt; "{name} {spec}: status {status}, {line}")?;
         }

@@ -1,6 +1,6 @@
 -- What the answers of a run mean.
 use Rattle.std.specs.Io.KnownBytes.{Appends, Keeps}
-use Rattle.std.specs.Prelude.{Ok, Err, IsSomeAnd, ⊤, ◌⊎◌, ◌≡◌, ℕ, ◌≤◌, Bool, true, false, List, length, take, Option, if◌then◌else◌}
+use Rattle.std.specs.Prelude.{Ok, Err, IsSomeAnd, ⊤, ◌⊎◌, ◌≡◌, ℕ, ◌≤◌, ◌+◌, List, length, take, Option}
 use Rattle.profile.specs.Specification.{Spec}
 use Rattle.profile.specs.Admissible.{Takes, Refuses}
 use Rattle.profile.specs.Sheets.{sheets, layout}
@@ -70,17 +70,15 @@ HasWritten r old new (error.Plan e) = Keeps old new
 HasWritten r old new (error.NoMemory written) = ((written ≡ 0) × Keeps old new) ⊎ WrotePart r old new written
 HasWritten r old new (error.Write written) = WrotePart r old new written
 
-abbrev pub is_write : RunError → Bool
-is_write error.Options = false
-is_write (error.Spec e) = false
-is_write (error.Document e) = false
-is_write (error.Plan e) = false
-is_write (error.NoMemory written) = false
-is_write (error.Write written) = true
-
--- how often the sink failed in a run that ended so
-abbrev pub failures_of : RunError → ℕ
-failures_of e = if is_write e then 1 else 0
+-- how often the sink had failed before a run that ended so, and after it: a failed write is one failure, and want of memory
+-- may have met one too
+abbrev pub FailedIn : RunError → (before after : ℕ) → Type 0
+FailedIn error.Options before after = after ≡ before
+FailedIn (error.Spec e) before after = after ≡ before
+FailedIn (error.Document e) before after = after ≡ before
+FailedIn (error.Plan e) before after = after ≡ before
+FailedIn (error.NoMemory written) before after = (after ≡ before) ⊎ (after ≡ before + 1)
+FailedIn (error.Write written) before after = after ≡ before + 1
 
 -- the numbers of a report
 pub record Reports (frame : Frame) (spec : Spec) (us : List NestedUnit) (report : Report) : Type 0 where

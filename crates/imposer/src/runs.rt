@@ -2,7 +2,7 @@
 ghost use Rattle.std.specs.Prelude.{◌≡◌, ℕ, ◌+◌, ◌<◌, IfOk, IfErr, OnOk};
 ghost use Rattle.std.specs.Io.KnownBytes.{Appends};
 ghost use Rattle.profile.specs.Output.{output};
-ghost use Rattle.imposer.specs.Runs.{request, frame_of, Accepted, IsRefusal, HasWritten, Reports, failures_of, IsUnwritten};
+ghost use Rattle.imposer.specs.Runs.{request, frame_of, Accepted, IsRefusal, HasWritten, Reports, FailedIn, IsUnwritten};
 
 use crate::gate::Gate;
 use crate::job::Job;
@@ -14,6 +14,8 @@ use dsc::Document;
 use pagespec::read_spec;
 use sheet_plan::Plan;
 use std::alloc::Global;
+use std::sync::Wait;
+use std::thread::Threads;
 
 /// Reads the specification and the document, and hands the sink the sheets.
 ///
@@ -21,7 +23,8 @@ use std::alloc::Global;
 /// written then. After `NoMemory` and `Write` the sink has taken the first `written` bytes of the output.
 /// The sink isn't flushed. Everything runs on the caller's thread, so the gate isn't called and the numbers of workers have no
 /// effect beyond their check.
-pub fn run<G: Gate, S: Sink>(
+pub fn run<R: Threads + Wait + Sync, G: Gate + Sync, S: Sink>(
+    rt: &R,
     alloc: Global,
     input: &[u8],
     spec: &str,
@@ -37,10 +40,11 @@ pub fn run<G: Gate, S: Sink>(
     ensures refused { IfErr result (λ e. IsRefusal (request options.now spec.now input.now) e) }
     // After an error the sink has taken as much of the output as the error says, and nothing after a refusal.
     ensures written { IfErr result (λ e. HasWritten (request options.now spec.now input.now) (S.told sink.old) (S.told sink.new) e) }
-    // The sink failed in the call exactly where the answer is Write, and once.
+    // At Ok the sink didn't fail in the call, and after an error as often as the error allows: at Write once.
     ensures steady { OnOk result (S.failures sink.new ≡ S.failures sink.old) }
-    ensures failed { IfErr result (λ e. S.failures sink.new ≡ S.failures sink.old + failures_of e) }
+    ensures failed { IfErr result (λ e. FailedIn e (S.failures sink.old) (S.failures sink.new)) }
 {
+    let _ = rt;
     let _ = gate;
     let made = make(alloc, input, spec, options)?;
     match write_all(sink, made.text.as_slice()) {

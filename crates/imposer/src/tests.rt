@@ -72,6 +72,7 @@ fn bordered(rt: &impl Abort, border: i128) -> Options {
 fn two_pages_turned_to_the_left(rt: HostRuntime) -> Result<(), Fail> {
     let mut sink = MemorySink::new(rt.alloc(), 1_000, 1_000, 100)?;
     let report = run(
+        &rt,
         rt.alloc(),
         TWO_PAGES.as_bytes(),
         TWO_UP,
@@ -97,6 +98,7 @@ fn two_pages_turned_to_the_left(rt: HostRuntime) -> Result<(), Fail> {
 fn four_pages_on_two_sheets(rt: HostRuntime) -> Result<(), Fail> {
     let mut sink = MemorySink::new(rt.alloc(), 2_000, 2_000, 100)?;
     let report = run(
+        &rt,
         rt.alloc(),
         FOUR_PAGES.as_bytes(),
         TWO_UP,
@@ -129,6 +131,7 @@ fn selections_have_their_lengths(rt: HostRuntime) -> Result<(), Fail> {
     for (document, spec, options, bytes, sheets) in cases {
         let mut sink = MemorySink::new(rt.alloc(), 2_000, 2_000, 100)?;
         let report = run(
+            &rt,
             rt.alloc(),
             document.as_bytes(),
             spec,
@@ -166,6 +169,7 @@ fn a_border_is_wider_than_nothing(rt: HostRuntime) -> Result<(), Fail> {
     for border in [0, -1] {
         let mut sink = MemorySink::new(rt.alloc(), 1_000, 1_000, 100)?;
         let answer = run(
+            &rt,
             rt.alloc(),
             ONE_PAGE.as_bytes(),
             "0",
@@ -182,6 +186,7 @@ fn a_border_is_wider_than_nothing(rt: HostRuntime) -> Result<(), Fail> {
 fn one_page_is_copied(rt: HostRuntime) -> Result<(), Fail> {
     let mut sink = MemorySink::new(rt.alloc(), 1_000, 1_000, 100)?;
     let report = run(
+        &rt,
         rt.alloc(),
         ONE_PAGE.as_bytes(),
         "0",
@@ -207,6 +212,7 @@ fn one_page_is_copied(rt: HostRuntime) -> Result<(), Fail> {
 fn a_sheet_without_pages(rt: HostRuntime) -> Result<(), Fail> {
     let mut sink = MemorySink::new(rt.alloc(), 1_000, 1_000, 100)?;
     let report = run(
+        &rt,
         rt.alloc(),
         ONE_PAGE.as_bytes(),
         "2:1",
@@ -232,6 +238,7 @@ fn a_sheet_without_pages(rt: HostRuntime) -> Result<(), Fail> {
 fn five_pages_in_blocks_of_four(rt: HostRuntime) -> Result<(), Fail> {
     let mut sink = MemorySink::new(rt.alloc(), 2_000, 2_000, 100)?;
     let report = run(
+        &rt,
         rt.alloc(),
         FIVE_PAGES.as_bytes(),
         "4:0,1,2,3",
@@ -260,6 +267,7 @@ fn a_sink_that_fails_has_the_first_bytes(rt: HostRuntime) -> Result<(), Fail> {
     for room in 0..273usize {
         let mut sink = MemorySink::new(rt.alloc(), room, 1_000, 1_000)?;
         let answer = run(
+            &rt,
             rt.alloc(),
             ONE_PAGE.as_bytes(),
             "0",
@@ -281,6 +289,7 @@ fn a_sink_that_fails_has_the_first_bytes(rt: HostRuntime) -> Result<(), Fail> {
 fn a_sink_that_takes_one_byte_a_call(rt: HostRuntime) -> Result<(), Fail> {
     let mut sink = MemorySink::new(rt.alloc(), 273, 1, 273)?;
     let report = run(
+        &rt,
         rt.alloc(),
         ONE_PAGE.as_bytes(),
         "0",
@@ -303,12 +312,13 @@ fn options_are_checked_first_and_then_the_specification(rt: HostRuntime) -> Resu
         workers(&rt, 17, 1),
     ] {
         let mut sink = MemorySink::new(rt.alloc(), 1_000, 1_000, 100)?;
-        let answer = run(rt.alloc(), b"", "x", &options, &Open {}, &mut sink);
+        let answer = run(&rt, rt.alloc(), b"", "x", &options, &Open {}, &mut sink);
         assert!(rt; matches!(answer, Err(RunError::Options)));
         assert!(rt; sink.bytes().is_empty());
     }
     let mut sink = MemorySink::new(rt.alloc(), 1_000, 1_000, 100)?;
     let answer = run(
+        &rt,
         rt.alloc(),
         b"",
         "x",

@@ -13,9 +13,11 @@ use std::env::Env;
 use std::fs::File;
 use std::io::{ErrorKind, Read, Write};
 use std::process::ExitCode;
+use std::sync::Wait;
+use std::thread::Threads;
 
 fn main(rt: HostRuntime) -> ExitCode {
-    let told = match status_and_line(&rt) {
+    let told = match status_and_line(&rt, &rt) {
         Ok(told) => Ok(told),
         Err(fault) => fault_line(rt.alloc(), &fault),
     };
@@ -31,16 +33,19 @@ fn main(rt: HostRuntime) -> ExitCode {
 }
 
 // Reads the words, then the input, then creates the output and runs the request: the exit status and the line for standard
-// error.
-fn status_and_line(rt: &HostRuntime) -> Result<(u8, Vec<u8>), Fault> {
+// error. Only `main` may hand on the runtime as what starts threads, so it comes a second time, as `threads`.
+fn status_and_line<R: Threads + Wait + Sync>(
+    rt: &HostRuntime,
+    threads: &R,
+) -> Result<(u8, Vec<u8>), Fault> {
     let words = words(rt).map_err(Fault::Command)?;
     let request = read_command(rt.alloc(), words.as_slice()).map_err(Fault::Command)?;
     // The input is read whole and closed before the output is created, so both may be one file.
     let input = input_of(rt, &request).map_err(Fault::Read)?;
     match &request.outfile {
-        None => run_into(rt.alloc(), &request, input.as_slice(), rt.stdout()),
+        None => run_into(threads, rt.alloc(), &request, input.as_slice(), rt.stdout()),
         Some(path) => match File::create(rt, path.as_str()) {
-            Ok(file) => run_into(rt.alloc(), &request, input.as_slice(), file),
+            Ok(file) => run_into(threads, rt.alloc(), &request, input.as_slice(), file),
             Err(error) if error.kind() == ErrorKind::OutOfMemory => {
                 Err(Fault::Run(RunError::NoMemory { written: 0 }))
             }
@@ -76,14 +81,15 @@ fn read_from(alloc: Global, reader: impl Read + Drop) -> Result<Vec<u8>, ReadFau
 }
 
 // Runs the request and flushes what it wrote.
-fn run_into(
+fn run_into<R: Threads + Wait + Sync>(
+    threads: &R,
     alloc: Global,
     request: &Request,
     input: &[u8],
     mut output: impl Write + Drop,
 ) -> Result<(u8, Vec<u8>), Fault> {
     let mut sink = WriteSink::new(&mut output);
-    let (status, line) = run_request(alloc, request, input, &mut sink);
+    let (status, line) = run_request(threads, alloc, request, input, &mut sink);
     if status == 0 && output.flush().is_err() {
         // A failed flush is a failed write, whose line doesn't say how much was written.
         return Err(Fault::Run(RunError::Write { written: 0 }));

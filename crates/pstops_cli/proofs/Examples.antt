@@ -2,10 +2,10 @@
 use Rattle.std.proofs.Common.{◌≡◌, refl, [], ◌∷◌, Some, Err}
 use Rattle.std.specs.Prelude.{codes}
 use Rattle.clap.specs.Words.{fault_of, first_of, matches_of}
-use Rattle.clap.specs.declared.error.kind.ErrorKind.TheVariants.{ArgumentConflict, InvalidValue, MissingRequiredArgument, UnknownArgument}
+use Rattle.clap.specs.declared.error.kind.ErrorKind.TheVariants.{ArgumentConflict, InvalidValue, MissingRequiredArgument, UnknownArgument, ValueValidation}
 use Rattle.lengths.specs.Reading.{number_at}
 use Rattle.clap.proofs.OnLiterals.{clap_on_literals}
-use Rattle.pstops_cli.specs.Command.{Takes, options_found, pstops}
+use Rattle.pstops_cli.specs.Command.{Takes, options_found, pstops, workers_found}
 use Rattle.pstops_cli.specs.Values.{letter_w, options_named}
 use Rattle.pstops_cli.specs.declared.command.CommandFault.TheVariants.{BadLength, UnknownPaper}
 
@@ -73,3 +73,45 @@ after_two_dashes = refl
 pub no_help : fault_of pstops (codes "--help" ∷ []) ≡ UnknownArgument ∷ []
 unfolding clap_on_literals pstops
 no_help = refl
+
+-- ---- the numbers of workers
+
+pub two_of_each : workers_found (matches_of pstops (codes "0" ∷ [])) ≡ record { preparers = 2; imposers = 2 }
+unfolding clap_on_literals pstops
+two_of_each = refl
+
+pub sixteen_and_one : workers_found (matches_of pstops (codes "-j16" ∷ codes "-k" ∷ codes "1" ∷ codes "0" ∷ [])) ≡ record { preparers = 16; imposers = 1 }
+unfolding clap_on_literals pstops
+sixteen_and_one = refl
+
+pub sixteen_taken : Takes (codes "-j16" ∷ codes "-k" ∷ codes "1" ∷ codes "0" ∷ [])
+unfolding clap_on_literals pstops
+sixteen_taken = refl
+
+pub seventeen : fault_of pstops (codes "-j" ∷ codes "17" ∷ codes "0" ∷ []) ≡ ValueValidation ∷ []
+unfolding clap_on_literals pstops
+seventeen = refl
+
+pub no_preparers : fault_of pstops (codes "-j" ∷ codes "0" ∷ codes "0" ∷ []) ≡ ValueValidation ∷ []
+unfolding clap_on_literals pstops
+no_preparers = refl
+
+pub no_number : fault_of pstops (codes "-k" ∷ codes "x" ∷ codes "0" ∷ []) ≡ ValueValidation ∷ []
+unfolding clap_on_literals pstops
+no_number = refl
+
+pub workers_twice : fault_of pstops (codes "-j1" ∷ codes "-j2" ∷ codes "0" ∷ []) ≡ ArgumentConflict ∷ []
+unfolding clap_on_literals pstops
+workers_twice = refl
+
+pub plus_before : workers_found (matches_of pstops (codes "-j" ∷ codes "+3" ∷ codes "0" ∷ [])) ≡ record { preparers = 3; imposers = 2 }
+unfolding clap_on_literals pstops
+plus_before = refl
+
+pub plus_taken : Takes (codes "-j" ∷ codes "+3" ∷ codes "0" ∷ [])
+unfolding clap_on_literals pstops
+plus_taken = refl
+
+pub zero_before : workers_found (matches_of pstops (codes "-j" ∷ codes "03" ∷ codes "0" ∷ [])) ≡ record { preparers = 3; imposers = 2 }
+unfolding clap_on_literals pstops
+zero_before = refl

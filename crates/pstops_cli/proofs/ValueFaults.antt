@@ -3,10 +3,11 @@ use Rattle.std.proofs.Common.{◌≡◌, ◌∙◌, ap, sym, subst, ok_or, List,
 use Rattle.std.specs.Prelude.{codes, ⊤}
 use Rattle.clap.specs.Words.{Row, Text, first_of, matches_of}
 use Rattle.imposer.specs.declared.options.Options.{Options}
+use Rattle.imposer.specs.declared.options.Workers.{Workers}
 use Rattle.pstops_cli.specs.declared.command.CommandFault.{CommandFault}
 use Rattle.pstops_cli.specs.declared.command.CommandFault.TheVariants.{BadLength, BadWords, NoMemory, UnknownPaper}
 use Rattle.pstops_cli.specs.Values.{and_then, border_named, letter_d, letter_h, letter_w, options_named, paper_or_a4, with_height, with_width}
-use Rattle.pstops_cli.specs.Command.{Refuses, RefusesFound, Takes, options_found, pstops}
+use Rattle.pstops_cli.specs.Command.{Refuses, RefusesFound, Takes, options_found, pstops, workers_found}
 
 abbrev IsOfValue : CommandFault → Type 0
 IsOfValue BadWords = ⊥
@@ -20,9 +21,9 @@ step None e f k he hk h = let same : e ≡ f = cc in subst IsOfValue same he
 step (Some x) e f k he hk h = hk x h
 
 -- a fault of the values is no other one
-of_value : (p w h d : Option Text) (f : CommandFault) → options_named p w h d ≡ Err f → IsOfValue f
+of_value : (p w h d : Option Text) (workers : Workers) (f : CommandFault) → options_named p w h d workers ≡ Err f → IsOfValue f
 unfolding options_named
-of_value p w h d f =
+of_value p w h d workers f =
     step (paper_or_a4 p) UnknownPaper f _ tt (λ named.
     step (with_width named w) (BadLength letter_w) f _ tt (λ wide.
     step (with_height wide h) (BadLength letter_h) f _ tt (λ sides.
@@ -36,7 +37,7 @@ refused_as found NoMemory is e = absurd is
 
 pub refuses_found : (found : List Row) (f : CommandFault) → options_found found ≡ Err f → RefusesFound found f
 refuses_found found f e =
-    refused_as found f (of_value (first_of (codes "paper") found) (first_of (codes "width") found) (first_of (codes "height") found) (first_of (codes "border") found) f e) e
+    refused_as found f (of_value (first_of (codes "paper") found) (first_of (codes "width") found) (first_of (codes "height") found) (first_of (codes "border") found) (workers_found found) f e) e
 
 -- what was found is that of words which are taken
 pub refuses_words : (words : List Text) (found : List Row) (f : CommandFault) → Takes words → found ≡ matches_of pstops words → RefusesFound found f → Refuses words f

@@ -1,19 +1,22 @@
--- The command line: pstops [-q] [-p paper] [-w W] [-h H] [-d width] SPECS [INFILE [OUTFILE]].
-use Rattle.std.specs.Prelude.{◌≡◌, ◌≢◌, ◌∷◌, ◌&&◌, Bool, true, false, not, List, [], Some, None, Option, Result, Ok, Err, codes, string_bytes, ℕ, ⊤, is_some, map, option_map}
+-- The command line:
+-- pstops [-q] [-p paper] [-w W] [-h H] [-d width] [-j preparers] [-k imposers] SPECS [INFILE [OUTFILE]].
+use Rattle.std.specs.Prelude.{◌≡◌, ◌≢◌, ◌∷◌, ◌&&◌, Bool, true, false, not, List, [], Some, None, Option, Result, Ok, Err, codes, string_bytes, ℕ, ⊤, is_some, map, option_map, pos}
 use Rattle.std.specs.List.{list_any}
 use Rattle.std.specs.Str.{bytes_eq}
-use Rattle.clap.specs.Words.{AddsArg, AddsInTurn, App, Row, Rule, Text, app_of, args_of, fault_of, first_of, first_value, found_of, groups_of, matches_of, new_app, new_rule, rows_of, rule_of}
+use Rattle.clap.specs.Words.{AddsArg, AddsInTurn, App, Row, Rule, Text, app_of, args_of, fault_of, first_of, first_value, found_of, groups_of, matches_of, new_app, new_rule, one_of, rows_of, rule_of}
 use Rattle.clap.specs.Simple.{Shape, on_top}
 use Rattle.clap.specs.declared.builder.action.ArgAction.TheVariants.{Set, SetTrue}
 use Rattle.clap.specs.declared.builder.arg.Arg.{Arg}
 use Rattle.clap.specs.declared.builder.command.Command.{Command}
 use Rattle.clap.specs.declared.builder.command.Command.TheViews.{out-Command}
+use Rattle.clap.specs.declared.builder.value_parser.ValueParser.TheVariants.{Signed}
 use Rattle.clap.specs.declared.parser.matches.ArgMatches.{ArgMatches}
 use Rattle.imposer.specs.declared.options.Options.{Options}
+use Rattle.imposer.specs.declared.options.Workers.{Workers}
 use Rattle.pstops_cli.specs.declared.command.Request.{Request}
 use Rattle.pstops_cli.specs.declared.command.CommandFault.{CommandFault}
 use Rattle.pstops_cli.specs.declared.command.CommandFault.TheVariants.{BadLength, BadWords, NoMemory, UnknownPaper}
-use Rattle.pstops_cli.specs.Values.{letter_d, letter_h, letter_p, letter_w, options_named}
+use Rattle.pstops_cli.specs.Values.{letter_d, letter_h, letter_j, letter_k, letter_p, letter_w, options_named, workers_named}
 
 -- ---- the command
 
@@ -26,6 +29,10 @@ flag_rule id letter = record (new_rule id) { short = Some letter; action = Some 
 -- an option with a value
 abbrev pub valued_rule : Text → (letter : ℕ) → Rule
 valued_rule id letter = record (new_rule id) { short = Some letter; action = Some Set }
+
+-- an option with a whole number from 1 to 16
+abbrev pub counted_rule : Text → (letter : ℕ) → Rule
+counted_rule id letter = record (valued_rule id letter) { parser = Some (Signed (pos 1) (pos 16)) }
 
 abbrev pub letter_q : ℕ
 letter_q = 113
@@ -41,6 +48,8 @@ rules =
     ∷ valued_rule (codes "width") letter_w
     ∷ valued_rule (codes "height") letter_h
     ∷ valued_rule (codes "border") letter_d
+    ∷ counted_rule (codes "preparers") letter_j
+    ∷ counted_rule (codes "imposers") letter_k
     ∷ []
 
 -- no word is the program's name, and -h, --help, -V and --version aren't added
@@ -62,10 +71,15 @@ abbrev pub has_true : Option Text → Bool
 has_true None = false
 has_true (Some text) = bytes_eq text (codes "true")
 
--- what the values found of -p, -w, -h and -d name, or the fault of the first of them, in this order, that names nothing
+-- as many workers as the numbers found of -j and -k say
+abbrev pub workers_found : (found : List Row) → Workers
+workers_found found = workers_named (one_of (codes "preparers") found) (one_of (codes "imposers") found)
+
+-- what the values found name, or the fault of the first of -p, -w, -h and -d, in this order, that names nothing
 abbrev pub options_found : (found : List Row) → Result Options CommandFault
 options_found found =
     options_named (first_of (codes "paper") found) (first_of (codes "width") found) (first_of (codes "height") found) (first_of (codes "border") found)
+    (workers_found found)
 
 -- the request is what was found
 pub record Reads (found : List Row) (r : Request) : Type 0 where

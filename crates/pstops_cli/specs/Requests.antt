@@ -1,8 +1,8 @@
 -- The run of a request, and what is said of how it ended.
-use Rattle.std.specs.Prelude.{◌≡◌, ◌+◌, ◌⊎◌, ℕ, Bool, false, if◌then◌else◌, List, [], Option, Result, Ok, Err, IfOk, IfErr, OnOk, string_bytes}
+use Rattle.std.specs.Prelude.{◌≡◌, ◌⊎◌, ℕ, Bool, false, if◌then◌else◌, List, [], Option, Result, Ok, Err, IfOk, IfErr, OnOk, string_bytes}
 use Rattle.std.specs.Io.KnownBytes.{Appends}
 use Rattle.profile.specs.Output.{output}
-use Rattle.imposer.specs.Runs.{Accepted, HasWritten, IsRefusal, Reports, failures_of, frame_of, request}
+use Rattle.imposer.specs.Runs.{Accepted, FailedIn, HasWritten, IsRefusal, Reports, frame_of, request}
 use Rattle.imposer.specs.Runs as runs
 use Rattle.imposer.specs.declared.outcome.Report.{Report}
 use Rattle.imposer.specs.declared.outcome.RunError.{RunError}
@@ -22,9 +22,9 @@ pub record Ends (a : runs.Request) (told told' : Option (List ℕ)) (failures fa
   pub refused : IfErr ended (λ e. IsRefusal a e)
   -- after an error the sink has the first bytes of the output, as many as the error says, and none after a refusal
   pub written : IfErr ended (λ e. HasWritten a told told' e)
-  -- the sink failed exactly where the answer is a failed write
+  -- the sink didn't fail where the run finished, and else as often as the error allows: once where a write failed
   pub steady : OnOk ended (failures' ≡ failures)
-  pub failed : IfErr ended (λ e. failures' ≡ failures + failures_of e)
+  pub failed : IfErr ended (λ e. FailedIn e failures failures')
 
 abbrev pub outcome_status : Result Report RunError → ℕ
 outcome_status (Ok report) = 0

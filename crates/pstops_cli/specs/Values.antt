@@ -1,6 +1,8 @@
 -- What the values of the options stand for.
-use Rattle.std.specs.Prelude.{◌≡◌, ◌↔◌, ◌++◌, ℕ, ℤ, false, pos, int_le, unwrap_or, ok_or, option_map, option_and_then, if◌then◌else◌, List, [], Option, Some, None, Result, Ok, Err, codes}
+use Rattle.std.specs.Prelude.{◌≡◌, ◌↔◌, ◌++◌, ◌^◌, ◌&&◌, ℕ, ℤ, false, pos, int_le, nat_lt, unwrap_or, ok_or, option_map, option_and_then, if◌then◌else◌, List, [], Option, Some, None, Result, Ok, Err, codes}
 use Rattle.std.specs.Str.{bytes_eq}
+use Rattle.std.specs.Str.Parse.{digits_value, without_leading_plus}
+use Rattle.clap.specs.ValueTests.{is_numeral}
 use Rattle.profile.specs.Numbers.{IsNumber, is_large}
 use Rattle.profile.specs.Papers.{LengthUnit, Pt, Cm, Mm, In, Paper, grains, is_side, paper_named}
 use Rattle.lengths.specs.Reading.{number_at}
@@ -64,11 +66,22 @@ abbrev pub border_named : Paper → Option (List ℕ) → Option (Option ℤ)
 border_named paper None = Some None
 border_named paper (Some text) = option_and_then border_of (length_named paper text)
 
--- ---- all of them
+-- ---- the numbers of workers
 
--- where no option names them
-abbrev pub default_workers : Workers
-default_workers = record { preparers = 2; imposers = 2 }
+-- a whole number of 32 bits, in digits with or without a plus before them
+abbrev pub number_of : List ℕ → Option ℕ
+number_of text =
+    let digits = without_leading_plus text in
+    if is_numeral digits && nat_lt (digits_value 10 digits) (2 ^ 32) then Some (digits_value 10 digits) else None
+
+-- as many workers as the text says, 2 where there is none. The command takes no text but a number from 1 to 16
+abbrev pub count_named : Option (List ℕ) → ℕ
+count_named text = unwrap_or (option_and_then number_of text) 2
+
+abbrev pub workers_named : (preparers imposers : Option (List ℕ)) → Workers
+workers_named preparers imposers = record { preparers = count_named preparers; imposers = count_named imposers }
+
+-- ---- all of them
 
 abbrev pub and_then : {T U E : Type 0} → Result T E → (T → Result U E) → Result U E
 and_then (Ok x) f = f x
@@ -87,12 +100,18 @@ letter_h = 104
 abbrev pub letter_d : ℕ
 letter_d = 100
 
--- what the values of -p, -w, -h and -d name, or the fault of the first, in this order, that names no paper or no length
--- that its option takes
-unfoldable pub options_named : (paper width height border : Option (List ℕ)) → Result Options CommandFault
-options_named paper width height border =
+abbrev pub letter_j : ℕ
+letter_j = 106
+
+abbrev pub letter_k : ℕ
+letter_k = 107
+
+-- what the values of -p, -w, -h and -d name beside these workers, or the fault of the first, in this order, that names no
+-- paper or no length that its option takes
+unfoldable pub options_named : (paper width height border : Option (List ℕ)) → Workers → Result Options CommandFault
+options_named paper width height border workers =
     and_then (ok_or (paper_or_a4 paper) UnknownPaper) (λ named.
     and_then (ok_or (with_width named width) (BadLength letter_w)) (λ wide.
     and_then (ok_or (with_height wide height) (BadLength letter_h)) (λ sides.
     and_then (ok_or (border_named sides border) (BadLength letter_d)) (λ around.
-    Ok (record { paper = sides; border = around; workers = default_workers })))))
+    Ok (record { paper = sides; border = around; workers = workers })))))

@@ -1,13 +1,14 @@
 //! What the words after the program's name ask for.
 ghost use Rattle.std.specs.Prelude.{◌≡◌, IfOk, IfErr, codes, is_some, map, option_map, true, string_bytes};
-ghost use Rattle.clap.specs.Words.{first_of, first_value, found_of, is_simple, matches_of, rows_of, rule_of};
-ghost use Rattle.pstops_cli.specs.Command.{Finds, IsChain, ParseRefuses, Reads, RefusesFound, Refuses, Takes, flag_rule, has_true, options_found, positional_rule, pstops, rules, valued_rule};
+ghost use Rattle.clap.specs.Words.{first_of, first_value, found_of, is_simple, matches_of, one_of, rows_of, rule_of};
+ghost use Rattle.pstops_cli.specs.Command.{Finds, IsChain, ParseRefuses, Reads, RefusesFound, Refuses, Takes, counted_rule, flag_rule, has_true, options_found, positional_rule, pstops, rules, valued_rule, workers_found};
+ghost use Rattle.pstops_cli.specs.Values as meaning;
 ghost use Rattle.pstops_cli.specs.declared.command.CommandFault.TheVariants.{NoMemory};
 
 use crate::values::options_named;
 use clap::error::ErrorKind;
-use clap::{Arg, ArgAction, ArgMatches, Command};
-use imposer::Options;
+use clap::{Arg, ArgAction, ArgMatches, Command, value_parser};
+use imposer::{Options, Workers};
 use std::alloc::{AllocError, Global};
 
 /// What a command line asks for.
@@ -47,14 +48,16 @@ impl From<AllocError> for CommandFault {
 }
 
 /// The request that the words after the program's name make:
-/// `[-q] [-p paper] [-w W] [-h H] [-d width] SPECS [INFILE [OUTFILE]]`, as in pstops(1).
+/// `[-q] [-p paper] [-w W] [-h H] [-d width] [-j preparers] [-k imposers] SPECS [INFILE [OUTFILE]]`, as in pstops(1) but for
+/// `-j` and `-k`.
 ///
 /// `-q` leaves the report line out, and SPECS is a page specification, which isn't looked at here. `-p` names the paper,
 /// which is a4 where none is named; `-w` replaces its width and `-h` its height. `-d` asks for a border of this width round
 /// each page, and a width of 0 for none. A length is a number and its unit, `pt`, `cm`, `mm` or `in`, without which it is
-/// in points. The workers are two preparers and two imposers.
+/// in points. `-j` and `-k` are how many threads prepare pages and how many impose sheets: whole numbers from 1 to 16, 2
+/// where they aren't named.
 ///
-/// Words that the command doesn't take are `BadWords`. Among words that it takes, a paper without a name comes first as
+/// Words that the command doesn't take are `BadWords`, and so are other values of `-j` and `-k`. Among words that it takes, a paper without a name comes first as
 /// `UnknownPaper`, then as `BadLength` the values of `-w` and `-h`, which are lengths above zero, and of `-d`, which isn't
 /// below zero, whatever order they stand in.
 #[tactic(auto, using(crate::proofs::Pstops::pstops_is_simple))]
@@ -119,7 +122,25 @@ fn options_of(matches: &ArgMatches<'_>) -> Result<Options, CommandFault>
         text_of(matches, "width"),
         text_of(matches, "height"),
         text_of(matches, "border"),
+        workers_of(matches),
     )
+}
+
+// As many workers as the matches name.
+fn workers_of(matches: &ArgMatches<'_>) -> Workers
+    ensures { result ≡ workers_found (rows_of (found_of matches.now)) }
+{
+    Workers {
+        preparers: count_of(matches, "preparers"),
+        imposers: count_of(matches, "imposers"),
+    }
+}
+
+// The number of workers that an argument names, 2 where it isn't there.
+fn count_of(matches: &ArgMatches<'_>, id: &str) -> u32
+    ensures { result ≡ meaning.count_named (one_of id.now (rows_of (found_of matches.now))) }
+{
+    matches.get_one::<u32>(id).unwrap_or(2)
 }
 
 // The command. Its own help and version options are switched off, so that their letters are free.
@@ -146,6 +167,8 @@ fn args<'a>(alloc: Global) -> Result<Vec<Arg<'a>>, AllocError>
         valued(alloc, "width", 'w'),
         valued(alloc, "height", 'h'),
         valued(alloc, "border", 'd'),
+        counted(alloc, "preparers", 'j'),
+        counted(alloc, "imposers", 'k'),
     ]?;
     Ok(args)
 }
@@ -167,6 +190,13 @@ fn valued<'a>(alloc: Global, id: &'a str, short: char) -> Arg<'a>
     ensures { rule_of result ≡ valued_rule id.entry.now short }
 {
     Arg::new(alloc, id).short(short).action(ArgAction::Set)
+}
+
+// An option with a whole number from 1 to 16.
+fn counted<'a>(alloc: Global, id: &'a str, short: char) -> Arg<'a>
+    ensures { rule_of result ≡ counted_rule id.entry.now short }
+{
+    valued(alloc, id, short).value_parser(value_parser!(u32).range(1..=16))
 }
 
 // The value of an argument as text.

@@ -11,13 +11,16 @@ use crate::command::Request;
 use crate::lines::{Fault, fault_line, report_line};
 use imposer::{Open, Report, RunError, Sink, run};
 use std::alloc::{AllocError, Global};
+use std::sync::Wait;
+use std::thread::Threads;
 
 /// Runs a request on an input, and gives the exit status and the line for standard error, which is empty where there is
 /// none.
 ///
 /// The status is 0 where the run finished, and its line is then the report unless the request is quiet. Where the line
 /// finds no memory it is empty and the status is 3.
-pub fn run_request<S: Sink>(
+pub fn run_request<R: Threads + Wait + Sync, S: Sink>(
+    rt: &R,
     alloc: Global,
     request: &Request,
     input: &[u8],
@@ -33,6 +36,7 @@ pub fn run_request<S: Sink>(
         Appends (S.told sink.old) (S.told sink.new) (output (frame_of request.now.options) spec us)) }
 {
     let ended = run(
+        rt,
         alloc,
         input,
         request.spec.as_str(),

@@ -24,6 +24,10 @@ const TWO_PAGES: &str =
 const TWO_PAGES_ON_A_SHEET: &str =
     "%!PS-Adobe-3.0\n%%Pages: 1\n%%EndComments\n%%Page: 1 1\nuserdict /ImposeSave save put\nuserdict /showpage {} put\n[0 0.7 -0.7 0 595.27559 0] concat\nnewpath 0 0 moveto 595 0 lineto 595 842 lineto 0 842 lineto closepath clip newpath\n(0) pop\nshowpage\nImposeSave restore\nuserdict /ImposeSave save put\nuserdict /showpage {} put\n[0 0.7 -0.7 0 595.27559 420.94488] concat\nnewpath 0 0 moveto 595 0 lineto 595 842 lineto 0 842 lineto closepath clip newpath\n(1) pop\nshowpage\nImposeSave restore\nshowpage\n%%Trailer\n%%EOF\n";
 
+const TWO_UP: &str = "2:0L@.7(21cm,0)+1L@.7(21cm,14.85cm)";
+
+const TWO_UP_BY_MANY_WORKERS: &str = "-j16 -k 16 2:0L@.7(21cm,0)+1L@.7(21cm,14.85cm)";
+
 const ONE_SHEET_WITH_A_BORDER: &str =
     "%!PS-Adobe-3.0\n%%Pages: 1\n%%EndComments\n%%Page: 1 1\nuserdict /ImposeSave save put\nuserdict /showpage {} put\n[1 0 0 1 0 0] concat\nnewpath 0 0 moveto 595.27559 0 lineto 595.27559 841.88976 lineto 0 841.88976 lineto closepath clip newpath\ngsave 1 setlinewidth newpath 0 0 moveto 595.27559 0 lineto 595.27559 841.88976 lineto 0 841.88976 lineto closepath stroke grestore\n(0) pop\nshowpage\nImposeSave restore\nshowpage\n%%Trailer\n%%EOF\n";
 
@@ -242,7 +246,14 @@ fn command_lines_and_their_runs(rt: HostRuntime) -> Result<(), Fail> {
             ONE_SHEET,
         ),
         (
-            "2:0L@.7(21cm,0)+1L@.7(21cm,14.85cm)",
+            TWO_UP,
+            TWO_PAGES,
+            0,
+            "pstops: pages 2, sheets 1, bytes 503\n",
+            TWO_PAGES_ON_A_SHEET,
+        ),
+        (
+            TWO_UP_BY_MANY_WORKERS,
             TWO_PAGES,
             0,
             "pstops: pages 2, sheets 1, bytes 503\n",
@@ -262,12 +273,19 @@ fn command_lines_and_their_runs(rt: HostRuntime) -> Result<(), Fail> {
             "pstops: specification: item 0: page number not below modulo\n",
             "",
         ),
+        (
+            "2:2",
+            ONE_PAGE,
+            1,
+            "pstops: specification: item 0: page number not below modulo\n",
+            "",
+        ),
         ("0", "", 1, "pstops: input is not PostScript\n", ""),
     ];
     for (words, input, status, line, output) in rows {
         let request = read(rt.alloc(), words)?;
         let mut sink = MemorySink::new(rt.alloc(), 1000, 1000, 1000)?;
-        let told = run_request(rt.alloc(), &request, input.as_bytes(), &mut sink);
+        let told = run_request(&rt, rt.alloc(), &request, input.as_bytes(), &mut sink);
         assert_eq!(rt; str::from_utf8(told.1.as_slice()), Ok(line));
         assert_eq!(rt; told.0, status, "at {words}");
         assert_eq!(rt; str::from_utf8(sink.bytes()), Ok(output));
@@ -280,7 +298,7 @@ fn no_preparer_is_a_bad_option(rt: HostRuntime) -> Result<(), Fail> {
     let mut request = read(rt.alloc(), "-q 0")?;
     request.options.workers.preparers = 0;
     let mut sink = MemorySink::new(rt.alloc(), 1000, 1000, 1000)?;
-    let told = run_request(rt.alloc(), &request, ONE_PAGE.as_bytes(), &mut sink);
+    let told = run_request(&rt, rt.alloc(), &request, ONE_PAGE.as_bytes(), &mut sink);
     assert_eq!(rt;
         str::from_utf8(told.1.as_slice()),
         Ok("pstops: bad options\n")
@@ -294,7 +312,7 @@ fn no_preparer_is_a_bad_option(rt: HostRuntime) -> Result<(), Fail> {
 fn a_sink_that_fails_after_a_hundred_bytes(rt: HostRuntime) -> Result<(), Fail> {
     let request = read(rt.alloc(), "0")?;
     let mut sink = MemorySink::new(rt.alloc(), 100, 1000, 1000)?;
-    let told = run_request(rt.alloc(), &request, ONE_PAGE.as_bytes(), &mut sink);
+    let told = run_request(&rt, rt.alloc(), &request, ONE_PAGE.as_bytes(), &mut sink);
     assert_eq!(rt;
         str::from_utf8(told.1.as_slice()),
         Ok("pstops: cannot write output\n")
@@ -302,5 +320,41 @@ fn a_sink_that_fails_after_a_hundred_bytes(rt: HostRuntime) -> Result<(), Fail> 
     assert_eq!(rt; told.0, 3);
     assert_eq!(rt; ONE_SHEET.len(), 273);
     assert_eq!(rt; sink.bytes(), &ONE_SHEET.as_bytes()[..100]);
+    Ok(())
+}
+
+#[test]
+fn two_pages_on_a_sheet_into_a_sink_that_fails(rt: HostRuntime) -> Result<(), Fail> {
+    for words in [TWO_UP, TWO_UP_BY_MANY_WORKERS] {
+        let request = read(rt.alloc(), words)?;
+        let mut sink = MemorySink::new(rt.alloc(), 100, 1000, 1000)?;
+        let told = run_request(&rt, rt.alloc(), &request, TWO_PAGES.as_bytes(), &mut sink);
+        assert_eq!(rt;
+            str::from_utf8(told.1.as_slice()),
+            Ok("pstops: cannot write output\n")
+        );
+        assert_eq!(rt; told.0, 3, "at {words}");
+        assert_eq!(rt; TWO_PAGES_ON_A_SHEET.len(), 503);
+        assert_eq!(rt; sink.bytes(), &TWO_PAGES_ON_A_SHEET.as_bytes()[..100]);
+    }
+    Ok(())
+}
+
+// What the program says of words that it doesn't take.
+#[test]
+fn refused_words_have_their_line(rt: HostRuntime) -> Result<(), Fail> {
+    let rows = [
+        ("-j 17 0", "pstops: bad command line\n"),
+        ("-j 0 0", "pstops: bad command line\n"),
+        ("-k x 0", "pstops: bad command line\n"),
+        ("-p b9 0", "pstops: unknown paper\n"),
+        ("-w0 0", "pstops: bad length after -w\n"),
+    ];
+    for (words, line) in rows {
+        let Err(fault) = read(rt.alloc(), words) else {
+            panic!(rt; "taken: {words}");
+        };
+        assert_line(&rt, Fault::Command(fault), 2, line)?;
+    }
     Ok(())
 }

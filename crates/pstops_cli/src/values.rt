@@ -7,15 +7,17 @@ use crate::command::CommandFault;
 use imposer::{Options, Workers};
 use lengths::{Grains, Paper, Unit, paper_by_name, read_number, to_grains};
 
-// The options that the values of `-p`, `-w`, `-h` and `-d` name. The first in this order that names none is the fault.
+// The options that the values of `-p`, `-w`, `-h` and `-d` name, beside these workers. The first in this order that names
+// none is the fault.
 pub(crate) fn options_named(
     paper: Option<&str>,
     width: Option<&str>,
     height: Option<&str>,
     border: Option<&str>,
+    workers: Workers,
 ) -> Result<Options, CommandFault>
     ensures { result ≡ meaning.options_named (option_map (λ s. s.now) paper.entry) (option_map (λ s. s.now) width.entry)
-        (option_map (λ s. s.now) height.entry) (option_map (λ s. s.now) border.entry) }
+        (option_map (λ s. s.now) height.entry) (option_map (λ s. s.now) border.entry) workers }
 {
     let named = paper_or_a4(paper).ok_or(CommandFault::UnknownPaper)?;
     let wide = with_width(named, width).ok_or(CommandFault::BadLength('w'))?;
@@ -24,10 +26,7 @@ pub(crate) fn options_named(
     Ok(Options {
         paper: sides,
         border,
-        workers: Workers {
-            preparers: 2,
-            imposers: 2,
-        },
+        workers,
     })
 }
 

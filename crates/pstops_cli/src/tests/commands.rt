@@ -56,6 +56,28 @@ fn words_that_are_taken(rt: HostRuntime) -> Result<(), Fail> {
 }
 
 #[test]
+fn workers_that_are_asked_for(rt: HostRuntime) -> Result<(), Fail> {
+    let rows = [
+        ("0", 2u32, 2u32),
+        ("-j16 -k 1 0", 16, 1),
+        ("-j 1 0", 1, 2),
+        ("0 -k16", 2, 16),
+        ("-k 5 -j 4 0", 4, 5),
+        ("-qj3 0", 3, 2),
+        // A plus and zeros before a number, and an equals sign before a value, change nothing.
+        ("-j +3 0", 3, 2),
+        ("-j 03 0", 3, 2),
+        ("-j=3 0", 3, 2),
+    ];
+    for (line, preparers, imposers) in rows {
+        let workers = read(rt.alloc(), line)?.options.workers;
+        assert_eq!(rt; workers.preparers, preparers, "at {line}");
+        assert_eq!(rt; workers.imposers, imposers, "at {line}");
+    }
+    Ok(())
+}
+
+#[test]
 fn words_that_are_refused(rt: HostRuntime) {
     let lines = [
         "",
@@ -79,9 +101,23 @@ fn words_that_are_refused(rt: HostRuntime) {
         "-V 0",
         "--help",
         "--quiet 0",
-        "-j 17 0",
-        "-k 2 0",
         "-s 8 0",
+        // There are whole numbers from 1 to 16 of workers.
+        "-j 17 0",
+        "-j 0 0",
+        "-k 0 0",
+        "-k 17 0",
+        "-k x 0",
+        "-j 1.0 0",
+        "-j '' 0",
+        "-j-3 0",
+        "-j -3 0",
+        "-jq2 0",
+        "-j1 -j2 0",
+        "-k2 -k2 0",
+        "0 -k",
+        // That comes before any fault of another value.
+        "-p b9 -w x -k 17 0",
     ];
     for line in lines {
         match read(rt.alloc(), line) {

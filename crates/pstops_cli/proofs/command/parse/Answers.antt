@@ -22,13 +22,13 @@ abbrev first_rule : Rule
 first_rule = record (positional_rule (codes "specs")) { required = true }
 
 first_is : (xs : List Arg) (d : Arg) → map rule_of xs ≡ rules → (0 < length xs) × TakesValue (get_or xs 0 d) × ((get_or xs 0 d).id.now ≡ codes "specs")
-first_is [] d e = let bad : 0 ≡ 8 = ap length e in absurd (omega (arith, bad))
+first_is [] d e = let bad : 0 ≡ 10 = ap length e in absurd (omega (arith, bad))
 first_is (x ∷ xs) d e =
     let is : rule_of x ≡ first_rule = ap (λ l. get_or l 0 first_rule) e in
     (omega arith, takes_a_value x (ap (λ r. r.required) is) (ap (λ r. r.action) is) (ap (λ r. r.range) is) (ap fits is), ap (λ r. r.id) is)
 
 some_arg : (xs : List Arg) → map rule_of xs ≡ rules → Arg
-some_arg [] e = let bad : 0 ≡ 8 = ap length e in absurd (omega (arith, bad))
+some_arg [] e = let bad : 0 ≡ 10 = ap length e in absurd (omega (arith, bad))
 some_arg (x ∷ xs) e = x
 
 has_specs : (c : Command) (m : ArgMatches) → IsChain c → IsParsedFrom c m → is_some (first_value (found_of m) (codes "specs")) ≡ true
