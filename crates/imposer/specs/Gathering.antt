@@ -1,5 +1,5 @@
 -- What the answers of a gathering mean.
-use Rattle.std.specs.Prelude.{◌≡◌, ◌⊎◌, ℕ, ◌+◌, ◌≤◌, List, [], length, Option, IsSomeAnd, IsNone, ⊤}
+use Rattle.std.specs.Prelude.{◌≡◌, ◌⊎◌, ℕ, ◌+◌, ◌≤◌, List, [], length, Option, Result, Ok, Err, IsSomeAnd, IsNone, ⊤}
 use Rattle.std.specs.Io.KnownBytes.{Appends}
 use Rattle.profile.specs.Sheets.{Layout, layout}
 use Rattle.histories.specs.Seats.{whole_share}
@@ -7,7 +7,9 @@ use Rattle.sheet_plan.specs.Places.{born_complete}
 use Rattle.gather_table.specs.Shared.{TableView, SeatView, IsSeat, IsSeatOf}
 use Rattle.handover.specs.Passes.{QueueView, PassView, IsPass, IsPassOf}
 use Rattle.imposer.specs.Jobs.{JobView, output_of}
-use Rattle.imposer.specs.Collecting.{WroteFirst}
+use Rattle.imposer.specs.Collecting.{WroteFirst, Stands}
+use Rattle.imposer.specs.Runs.{FailedIn}
+use Rattle.imposer.specs.declared.collecting.Progress.{Progress}
 use Rattle.imposer.specs.declared.outcome.Report.{Report}
 use Rattle.imposer.specs.declared.outcome.RunError.{RunError}
 use Rattle.imposer.specs.declared.outcome.RunError.TheVariants as error
@@ -45,6 +47,16 @@ HandsBackTokens (error.Document e) tokens = ⊥
 HandsBackTokens (error.Plan e) tokens = ⊥
 HandsBackTokens (error.NoMemory written) tokens = IsNone tokens
 HandsBackTokens (error.Write written) tokens = IsSomeAnd tokens (λ t. ⊤)
+
+-- what the answer says of the sink, which took the whole output or a part of it
+abbrev pub Answers : JobView → (old new : Option (List ℕ)) → (before after : ℕ) → Result Report RunError → Type 0
+Answers job old new before after (Ok report) = Appends old new (output_of job) × (after ≡ before) × ReportsOf job report
+Answers job old new before after (Err e) = WrotePartOf job old new e × FailedIn e before after
+
+-- the same, wherever the collector began that had come so far
+abbrev pub AnswersAfter : JobView → (old new : Option (List ℕ)) → (before after : ℕ) → Progress → Result Report RunError → Type 0
+AnswersAfter job old new before after p outcome =
+    (start : Option (List ℕ)) (first : ℕ) → Stands job start old first before p → Answers job start new first after outcome
 
 -- a seat and a pass that have all shares again
 pub record AreWhole (table : TableView) (queue : QueueView) (seat : SeatView) (pass : PassView) : Type 0 where

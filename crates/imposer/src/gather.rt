@@ -1,23 +1,37 @@
 //! The part of a run in which all its workers start and end.
-ghost use Rattle.std.specs.Prelude.{◌≡◌, ◌<◌, ◌≤◌, None, length, IfOk, IfErr, IfSome, IsNone, IsSomeAnd, OnOk, ⊤};
+ghost use Rattle.std.specs.Prelude.{◌≡◌, ℕ, ◌<◌, ◌≤◌, List, Option, None, Err, length, IfOk, IfErr, IfSome, IsNone, IsSomeAnd, MatchResult, OnOk, ⊤};
 ghost use Rattle.std.specs.Io.KnownBytes.{Appends};
 ghost use Rattle.profile.specs.Sheets.{layout};
+ghost use Rattle.profile.specs.Filters.{trailer_text};
+ghost use Rattle.handover.specs.Passes.{IsPassOf};
 ghost use Rattle.handover.specs.Shelves.{IsOn};
-ghost use Rattle.imposer.specs.Jobs.{output_of};
+ghost use Rattle.imposer.specs.declared.outcome.RunError.TheVariants.{NoMemory};
+ghost use Rattle.imposer.specs.Jobs.{text_of, output_of};
 ghost use Rattle.imposer.specs.Workers.{AreWorkers};
 ghost use Rattle.imposer.specs.Runs.{FailedIn};
+ghost use Rattle.imposer.specs.Delivery.{HandedOn};
+ghost use Rattle.imposer.specs.Collecting.{AreEarly, EndsAt};
 ghost use Rattle.imposer.specs.Gathered.{IsGathered, IsHandedOn};
-ghost use Rattle.imposer.specs.Gathering.{IsFreshSeat, IsFreshPass, ReportsOf, WrotePartOf, HandsBackTokens, AreWhole};
+ghost use Rattle.imposer.specs.Gathering.{IsFreshSeat, IsFreshPass, ReportsOf, WrotePartOf, HandsBackTokens, AreWhole, Answers, AnswersAfter};
 
+use crate::channel::Texts;
+use crate::collecting::{Halt, Progress, Rest, write_rest};
+use crate::crew::Ended;
 use crate::gate::Gate;
+use crate::gathering::gather_by;
+use crate::hall::Hall;
 use crate::job::Job;
 use crate::options::Workers;
 use crate::outcome::{Report, RunError};
+use crate::shop::{Desk, Intake, Shop};
 use crate::sink::Sink;
+use crate::tokens::Tokens;
 use gather_table::{GatherTable, Seat};
 use handover::{Overflow, Pass, Ready, Shelf};
 use std::alloc::Global;
+use std::marker::Brand;
 use std::sync::Wait;
+use std::sync::atomic::AtomicU32;
 use std::thread::Threads;
 
 /// What a run is when all its workers have ended.
@@ -29,4 +43,210 @@ pub struct Gathered<'d> {
     pub unshelved: Option<Overflow<'d>>,
     /// The joined seats and passes of all workers; none after want of memory.
     pub tokens: Option<(Seat, Pass)>,
+}
+
+/// Lets preparers deliver the document's pages and imposers impose the sheets, while the caller's thread writes them in order,
+/// each as soon as all before it are written. What no imposer sent is made at the end, in its place.
+///
+/// The table is one of the job's plan, seat and pass have seen nothing yet, and the queue has room for every sheet. Each
+/// worker has a seat and a pass of its own, which are joined when it ends.
+pub fn gather<'j, 'd, R: Threads + Wait + Sync, G: Gate + Sync, S: Sink>(
+    rt: &R,
+    alloc: Global,
+    job: &Job<'j, 'd>,
+    table: &GatherTable<'j>,
+    seat: Seat,
+    shelf: &Shelf<'d>,
+    ready: &Ready,
+    pass: Pass,
+    workers: Workers,
+    gate: &G,
+    sink: &mut S,
+) -> Gathered<'d>
+    requires table { table.now.layout ≡ layout job.now.plan }
+    requires seat { IsFreshSeat table.now seat }
+    requires pass { IsFreshPass ready.now pass }
+    requires room { length job.now.plan.sheets ≤ ready.now.capacity }
+    requires workers { AreWorkers workers }
+    requires countable { S.failures sink.old < u64.MAX }
+
+    // At Ok exactly the output was appended, and the report has its numbers.
+    ensures finished { IfOk result.outcome (λ report. Appends (S.told sink.old) (S.told sink.new) (output_of job.now) × ReportsOf job.now report) }
+
+    // After an error the sink has taken as much of the output as the error says.
+    ensures written { IfErr result.outcome (WrotePartOf job.now (S.told sink.old) (S.told sink.new)) }
+    ensures steady { OnOk result.outcome (S.failures sink.new ≡ S.failures sink.old) }
+    ensures failed { IfErr result.outcome (λ e. FailedIn e (S.failures sink.old) (S.failures sink.new)) }
+
+    // Seat and pass come back whole, but after want of memory.
+    ensures handed_back { MatchResult result.outcome (λ _. IsSomeAnd result.tokens (λ t. ⊤)) (λ e. HandsBackTokens e result.tokens) }
+    ensures whole { IfSome result.tokens (λ t. AreWhole table.now ready.now t.0 t.1) }
+
+    // One publish for each page, one mark for each needed slot, and exactly one completing mark for each sheet that has pages.
+    ensures gathered { OnOk result.outcome (IsNone result.unshelved → IfSome result.tokens (λ t. IsGathered table.now.layout t.0.front)) }
+
+    // No sheet was put on the queue twice, and what was taken and what is left is what was put.
+    ensures handed_on { IfSome result.tokens (λ t. IsHandedOn t.1.front) }
+    ensures unshelved { IfSome result.unshelved (IsOn shelf.now) }
+{
+    let tokens = Tokens { seat, pass };
+    gather_as::<Brand, R, G, S>(
+        rt, alloc, job, table, shelf, ready, tokens, workers, gate, sink,
+    )
+}
+
+fn gather_as<'j, 'd, T: Texts + Send + Sync, R: Threads + Wait + Sync, G: Gate + Sync, S: Sink>(
+    rt: &R,
+    alloc: Global,
+    job: &Job<'j, 'd>,
+    table: &GatherTable<'j>,
+    shelf: &Shelf<'d>,
+    ready: &Ready,
+    tokens: Tokens,
+    workers: Workers,
+    gate: &G,
+    sink: &mut S,
+) -> Gathered<'d>
+    requires texts { (s : ℕ) → T.text s ≡ text_of job.now s }
+    requires table { table.now.layout ≡ layout job.now.plan }
+    requires tokens { IsFreshSeat table.now tokens.seat × IsFreshPass ready.now tokens.pass }
+    requires workers { AreWorkers workers }
+    requires countable { S.failures sink.old < u64.MAX }
+    ensures outcome { Answers job.now (S.told sink.old) (S.told sink.new) (S.failures sink.old) (S.failures sink.new) result.outcome }
+    ensures tokens { MatchResult result.outcome (λ _. IsSomeAnd result.tokens (λ t. ⊤)) (λ e. HandsBackTokens e result.tokens) }
+    ensures whole { IfSome result.tokens (λ t. AreWhole table.now ready.now t.0 t.1 × IsHandedOn t.1.front × (IsNone result.unshelved → IsGathered table.now.layout t.0.front)) }
+    ensures unshelved { IfSome result.unshelved (IsOn shelf.now) }
+{
+    let mut tokens = tokens;
+    put_blank_sheets(rt, ready, job.plan.born_complete(), &mut tokens.pass);
+    let Ok(hall) = Hall::<T>::new(alloc, job) else {
+        return out_of_memory(0);
+    };
+    let Hall {
+        header,
+        trailer,
+        early,
+        outlet,
+        inlet,
+        ours,
+        theirs,
+    } = hall;
+    let running = AtomicU32::new(workers.preparers);
+    let working = AtomicU32::new(workers.imposers);
+    let shop = Shop {
+        alloc,
+        gate,
+        table,
+        shelf,
+        ready,
+        running: &running,
+        outlet: &outlet,
+        intake: Intake {
+            job,
+            working: &working,
+            inlet: &inlet,
+        },
+    };
+    let desk = Desk {
+        sink,
+        ticket: ours,
+        header,
+        progress: Progress {
+            next: 0,
+            written: 0,
+            halted: None,
+        },
+        early,
+    };
+    let (desk, all) = gather_by(rt, alloc, &shop, desk, tokens, theirs, workers);
+    let Desk {
+        sink,
+        progress,
+        early,
+        ..
+    } = desk;
+    match all {
+        Some(ended) => finish(alloc, job, sink, progress, early, trailer.as_slice(), ended),
+        None => out_of_memory(progress.written),
+    }
+}
+
+/// Puts the sheets without pages on the queue: no preparer completes them.
+fn put_blank_sheets<R: Wait>(rt: &R, ready: &Ready, sheets: &[u32], pass: &mut Pass)
+    requires pass { IsPassOf ready.now pass.old }
+    ensures pass { IsPassOf ready.now pass.new }
+    ensures put { (back : List ℕ) × HandedOn ready.now sheets.now back pass.old pass.new }
+{
+    for k in 0..sheets.len() {
+        // What the queue hands back is made by the collector.
+        let _ = ready.put(rt, pass, sheets[k]);
+    }
+}
+
+/// The answer where memory was refused.
+fn out_of_memory<'d>(written: u64) -> Gathered<'d>
+    ensures { result ≡ record { outcome = Err (NoMemory written); unshelved = None; tokens = None } }
+{
+    Gathered {
+        outcome: Err(RunError::NoMemory { written }),
+        unshelved: None,
+        tokens: None,
+    }
+}
+
+/// Writes what is left when all workers have ended, and answers.
+fn finish<'d, S: Sink>(
+    alloc: Global,
+    job: &Job<'_, 'd>,
+    sink: &mut S,
+    progress: Progress,
+    early: Vec<Option<Vec<u8>>>,
+    trailer: &[u8],
+    ended: Ended<Overflow<'d>>,
+) -> Gathered<'d>
+    requires countable { progress.halted ≡ None → S.failures sink.old < u64.MAX }
+    requires next { progress.halted ≡ None → progress.next ≤ length job.now.plan.sheets }
+    requires early { AreEarly job.now early.items }
+    requires trailer { trailer.now ≡ trailer_text job.now.units }
+    ensures outcome { AnswersAfter job.now (S.told sink.old) (S.told sink.new) (S.failures sink.old) (S.failures sink.new) progress result.outcome }
+    ensures tokens { MatchResult result.outcome (λ _. IsSomeAnd result.tokens (λ t. ⊤)) (λ e. HandsBackTokens e result.tokens) }
+    ensures same { IfSome result.tokens (λ t. (t.0 ≡ ended.tokens.seat) × (t.1 ≡ ended.tokens.pass)) }
+    ensures unshelved { result.unshelved ≡ ended.unshelved }
+{
+    let rest = if progress.halted.is_some() {
+        Rest { progress, swept: 0 }
+    } else {
+        write_rest(alloc, job, sink, progress, early, trailer)
+    };
+    let Ended { tokens, unshelved } = ended;
+    let Tokens { seat, pass } = tokens;
+    let outcome = answer(job, rest);
+    let tokens = match outcome {
+        Err(RunError::NoMemory { written: _ }) => None,
+        _ => Some((seat, pass)),
+    };
+    Gathered {
+        outcome,
+        unshelved,
+        tokens,
+    }
+}
+
+/// What a run answers whose collector came so far.
+fn answer(job: &Job<'_, '_>, rest: Rest) -> Result<Report, RunError>
+    requires swept { rest.swept ≤ length job.now.plan.sheets }
+    ensures { (old new : Option (List ℕ)) (before after : ℕ) → EndsAt job.now old new before after rest.progress.written rest.progress.halted → Answers job.now old new before after result }
+{
+    let written = rest.progress.written;
+    match rest.progress.halted {
+        Some(Halt::NoMemory) => Err(RunError::NoMemory { written }),
+        Some(Halt::Failed) => Err(RunError::Write { written }),
+        None => Ok(Report {
+            pages: job.plan.pages(),
+            sheets: job.plan.sheets(),
+            born: job.plan.born_complete().len() as u32,
+            swept: rest.swept,
+            bytes: written,
+        }),
+    }
 }

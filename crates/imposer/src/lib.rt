@@ -6,7 +6,9 @@ mod collecting;
 mod crew;
 mod delivery;
 mod gate;
+mod gather;
 mod gathering;
+mod hall;
 mod imposing;
 mod imposition;
 mod job;
@@ -26,6 +28,7 @@ mod tokens;
 
 pub use delivery::{DeliverError, Delivered, deliver};
 pub use gate::{Gate, Open, Step};
+pub use gather::{Gathered, gather};
 pub use imposition::{ImposeError, Imposed, impose};
 pub use job::Job;
 pub use options::{Options, Workers};
