@@ -3,13 +3,12 @@ use Rattle.std.proofs.Common.{◌≡◌, ◌≢◌, ◌⊎◌, inl, inr, ⊎_eli
 use Rattle.std.specs.Prelude.{Option, Some, None, slice_get, slice_index_or}
 use mathlib.Core.Logic.{dite}
 use native.Mathlib.Decide.{ℕ_discrete}
-use Rattle.profile.specs.Sheets.{Plan, Layout, layout}
-use Rattle.histories.specs.Seats.{whole_share, total, times}
-use Rattle.histories.proofs.Totals.{total-append}
+use Rattle.profile.specs.Sheets.{Layout, layout}
+use Rattle.histories.specs.Seats.{whole_share, total}
 use Rattle.sheet_plan.specs.Places.{has_page, places_in, places_from, places_of}
-use Rattle.gather_table.specs.Table.{TableState, slots, slot_count, start, with_mark, is_blank}
-use Rattle.gather_table.specs.History.{Entry, Publish, Mark, Look, PageAt, after, after_all, after_history, IsLegal, IsComplete}
-use Rattle.gather_table.specs.Shared.{TableView, SeatView, IsSeat, own_calls}
+use Rattle.gather_table.specs.Table.{TableState, slots, start, with_mark, is_blank}
+use Rattle.gather_table.specs.History.{Entry, Publish, Mark, Look, PageAt, after, after_all, IsLegal, IsComplete}
+use Rattle.gather_table.specs.Shared.{TableView}
 use Rattle.gather_table.proofs.Calls.{whole_seat_made_all}
 use Rattle.gather_table.proofs.Legal.{one_where}
 use Rattle.gather_table.proofs.Shows.{stays_marked}

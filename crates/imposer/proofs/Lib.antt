@@ -7,3 +7,4 @@ pub mod LookUps
 pub mod Shares
 pub mod Held
 pub mod Counts
+pub mod Reading

@@ -9,3 +9,4 @@ pub mod Duty
 pub mod Gathered
 pub mod Tokens
 pub mod LookUps
+pub mod Reading

@@ -4,6 +4,7 @@
 mod channel;
 mod crew;
 mod gate;
+mod imposing;
 mod imposition;
 mod job;
 pub mod laws;
