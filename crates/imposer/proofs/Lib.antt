@@ -14,3 +14,4 @@ pub mod Shares
 pub mod Held
 pub mod Counts
 pub mod HandedOn
+pub mod Reading

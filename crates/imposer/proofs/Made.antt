@@ -1,5 +1,5 @@
 -- What the parts of a run make together.
-use Rattle.std.proofs.Common.{ℕ, ◌+◌, ◌≤◌, ◌≡◌, ◌∙◌, ap, sym, subst, List, [], ◌∷◌, Bool, true, false, length, arith}
+use Rattle.std.proofs.Common.{ℕ, ◌≤◌, ◌≡◌, ◌∙◌, ap, subst, List, [], ◌∷◌, Bool, true, false, length, arith}
 use Rattle.std.specs.Prelude.{Ok, filter, if◌then◌else◌}
 use Rattle.std.specs.List.{range_with_len}
 use Rattle.std.proofs.lemmas.List.{length-map}

@@ -1,13 +1,12 @@
 -- What the refusals of the parts say of a run.
-use Rattle.std.proofs.Common.{ℕ, ◌≤◌, ◌≡◌, List, length, refl, sym, subst, None}
-use Rattle.std.specs.Prelude.{Result, Ok, Err, IfSome, IfErr, IsErrAnd, IsSomeAnd}
+use Rattle.std.proofs.Common.{ℕ, ◌≡◌, List, length, refl, sym, subst}
+use Rattle.std.specs.Prelude.{Result, Ok, Err, IfSome, IfErr, IsErrAnd}
 use Rattle.profile.specs.Specification.{Spec}
-use Rattle.profile.specs.Run.{document_of, plan_of}
+use Rattle.profile.specs.Run.{document_of}
 use Rattle.profile.specs.Parts.{NestedUnit, pages}
 use Rattle.profile.specs.Admissible.{Takes}
 use Rattle.pagespec.specs.Refusals as spec_said
 use Rattle.sheet_plan.specs.Refusals as plan_said
-use Rattle.imposer.specs.Faults.{plan_fault_told}
 use Rattle.dsc.specs.Faults as dsc
 use Rattle.imposer.specs.Workers.{AreOptions}
 use Rattle.imposer.specs.Outcomes.{of_spec, of_document, of_plan}

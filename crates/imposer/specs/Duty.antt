@@ -1,5 +1,5 @@
 -- What preparers owe, weighed: each page is published once, and each place of it is marked once.
-use Rattle.std.specs.Prelude.{◌≡◌, ℕ, zero, suc, ◌+◌, ◌<◌, ◌%◌, ◌==◌, if◌then◌else◌, List, [], ◌∷◌, length, map}
+use Rattle.std.specs.Prelude.{◌≡◌, ℕ, zero, suc, ◌+◌, ◌<◌, ◌%◌, ◌==◌, if◌then◌else◌, List, ◌∷◌, length, map}
 use Rattle.profile.specs.Sheets.{Layout}
 use Rattle.histories.specs.Seats.{total}
 use Rattle.sheet_plan.specs.Places.{places_of}

@@ -1,5 +1,5 @@
 -- What the histories of a gathered run are.
-use Rattle.std.specs.Prelude.{◌≡◌, ℕ, zero, suc, ◌+◌, ◌<◌, ◌≤◌, ◌==◌, ◌&&◌, if◌then◌else◌, List, [], ◌∷◌, ◌++◌, length, Option, Some, None, slice_get}
+use Rattle.std.specs.Prelude.{◌≡◌, ℕ, ◌<◌, ◌≤◌, ◌==◌, ◌&&◌, if◌then◌else◌, List, [], ◌++◌, length, Some, slice_get}
 use Rattle.profile.specs.Sheets.{Layout}
 use Rattle.histories.specs.Seats.{total, times, whole_share}
 use Rattle.gather_table.specs.Table.{slots}

@@ -1,10 +1,10 @@
 -- What a worker of a run holds: a seat of the table and a pass of the queue.
-use Rattle.std.specs.Prelude.{◌≡◌, ℕ, ◌+◌, ◌≤◌, List, []}
+use Rattle.std.specs.Prelude.{◌≡◌, ℕ, ◌+◌, ◌≤◌, []}
 use Rattle.histories.specs.Seats.{total, times}
 use Rattle.gather_table.specs.Laws.{completings}
-use Rattle.gather_table.specs.Shared.{TableView, SeatView, IsSeat, IsSeatOf, own_calls}
+use Rattle.gather_table.specs.Shared.{TableView, IsSeat, IsSeatOf, own_calls}
 use Rattle.handover.specs.Queue.{sheets_put}
-use Rattle.handover.specs.Passes.{QueueView, PassView, IsPass, IsPassOf, own_moves}
+use Rattle.handover.specs.Passes.{QueueView, IsPass, IsPassOf, own_moves}
 use Rattle.imposer.specs.Duty.{Duty, worth}
 use Rattle.imposer.specs.declared.tokens.Tokens.{Tokens}
 

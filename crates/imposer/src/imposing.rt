@@ -84,6 +84,16 @@ fn impose_ready<'d, T: Texts, G: Gate, R: Wait>(
         let is_last = running.load(SeqCst) == 0;
         if take_turn(
             rt, alloc, &mut tokens, &mut ticket, job, table, shelf, ready, outlet, gate,
+            rt,
+            alloc,
+            &mut tokens,
+            &mut ticket,
+            job,
+            table,
+            shelf,
+            ready,
+            outlet,
+            gate,
         )? {
             backoff.reset();
         } else {

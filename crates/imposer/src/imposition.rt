@@ -143,7 +143,8 @@ fn find_shelved<'a, 'd>(
     requires in_document { page < length (pages job.now.units) }
     requires index { HasIndex table.now.layout seat.old.front page }
     ensures looked_up { LooksAt (Some (Some page)) seat.old seat.new }
-    ensures page { IfOk result (λ shown. shown.now.raw ≡ slice_index_or (pages job.now.units) page []) }
+    ensures page { IfOk result (λ shown. shown.now.page ≡ page) }
+    ensures raw { IfOk result (λ shown. shown.now.raw ≡ slice_index_or (pages job.now.units) page []) }
     ensures prepared { IfOk result (λ shown. IsPrepared shown.now) }
 {
     let Some(index) = table.page_at(seat, page) else {

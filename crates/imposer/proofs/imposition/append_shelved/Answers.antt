@@ -13,7 +13,7 @@ find_shelved-requires-clause-index c =
 
 pub returns-in-Ok-append_placed-clause-text : goal.returns-in-Ok-append_placed-clause-text
 returns-in-Ok-append_placed-clause-text c = λ it at.
-    let raw_is = c.in-Ok.ensures.page ∙ ap (λ (j : JobView). slice_index_or (pages j.units) c.in-Some.page []) (sym c.job.view_is) in
+    let raw_is = c.in-Ok.ensures.raw ∙ ap (λ (j : JobView). slice_index_or (pages j.units) c.in-Some.page []) (sym c.job.view_is) in
     c.in-Ok-append_placed.ensures it at
     ∙ ap (λ b. c.args.text.now.items ++ (opening_text c.args.job.now.frame it.item ++ b ++ closing_text)) c.body.ensures.body
     ∙ ap (λ t. c.args.text.now.items ++ t) (slot_placed _ _ c.args.sheet c.args.slot _ _ it _ _ c.job.view_is c.page_of.ensures.value c.in-Some.is raw_is c.in-Ok.ensures.prepared at)

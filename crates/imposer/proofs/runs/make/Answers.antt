@@ -1,5 +1,4 @@
 use Rattle.std.proofs.Common.{rules, arith, refl, ap, length, ◌∙◌}
-use Rattle.profile.specs.Parts.{pages}
 use Rattle.imposer.specs.Runs.{request}
 use Rattle.imposer.proofs.Made.{made_is, born_few}
 use Rattle.imposer.proofs.runs.make.Goals as goal

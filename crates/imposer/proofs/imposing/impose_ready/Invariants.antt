@@ -1,0 +1,14 @@
+use Rattle.std.proofs.Common.{◌≡◌, ℕ}
+use Rattle.crossbeam_channel.specs.Claims.{IsSeatAt}
+use Rattle.crossbeam_channel.specs.Ends.{sends_on}
+use Rattle.imposer.specs.Duty.{Duty}
+use Rattle.imposer.specs.Tokens.{AreTokens, done, put}
+use Rattle.imposer.proofs.imposing.impose_ready.Given as goal
+
+abbrev pub invariant-loop : goal.invariant-loop
+invariant-loop g l =
+    (goal.iterator-loop g).can_next l.iterator' × (goal.iterator-loop g).is_finite l.iterator'
+    × AreTokens l.table l.ready 1 l.tokens
+    × IsSeatAt (sends_on l.outlet) l.ticket
+    × ((h : Duty → ℕ) → done h l.tokens ≡ 0)
+    × ((s : ℕ) → put s l.tokens ≡ 0)
