@@ -8,7 +8,6 @@ use Rattle.histories.specs.Seats.{whole_share, total}
 use Rattle.sheet_plan.specs.Places.{has_page, places_in, places_from, places_of}
 use Rattle.sheet_plan.specs.Plans.{IsSound}
 use Rattle.std.proofs.lemmas.List.{length-map}
-use Rattle.profile.specs.Sheets.{Layout, layout}
 use Rattle.gather_table.specs.Table.{TableState, slots, start, with_mark, is_blank}
 use Rattle.gather_table.specs.History.{Entry, Publish, Mark, Look, PageAt, after, after_all, IsLegal, IsComplete}
 use Rattle.gather_table.specs.Shared.{TableView}

@@ -173,3 +173,16 @@ trailer_handed job start old new first before after n written written' text (Som
     )
 trailer_handed job start old new first before after n written written' text (Some NoMemory) all is (more, same, steady) (small, count, so_far, kept) =
     (subst (WroteFirst job start new) (sym (more ∙ count)) (wrote_front job start old new n so_far same), steady ∙ kept)
+
+-- no sheet came yet
+abbrev pub AreNone : List (Option (Vec ℕ Global)) → Type 0
+AreNone texts = (s : ℕ) (text : Vec ℕ Global) → slice_get texts s ≡ Some (Some text) → ⊥
+
+pub none_pushed : (texts : List (Option (Vec ℕ Global))) → AreNone texts → AreNone (texts ++ None ∷ [])
+none_pushed [] none zero text at = absurd (cc (at))
+none_pushed [] none (suc s) text at = absurd (cc (at))
+none_pushed (x ∷ texts) none zero text at = none zero text at
+none_pushed (x ∷ texts) none (suc s) text at = none_pushed texts (λ k t e. none (suc k) t e) s text at
+
+pub none_early : (job : JobView) (texts : List (Option (Vec ℕ Global))) → length texts ≡ length job.plan.sheets → AreNone texts → AreEarly job texts
+none_early job texts places none = record { places = places; right = λ s text at. absurd (none s text at) }

@@ -1,217 +1,252 @@
-//! Runs the threads of a run, and joins what they hold.
-ghost use Rattle.std.specs.Prelude.{◌≡◌, ℕ, ◌+◌, ◌-◌, ◌<◌, ◌⊎◌, [], IfOk, IfSome, IsSomeAnd, IsOkAnd, IsNone, slice_index_or, vec_len};
-ghost use Rattle.histories.specs.Seats.{whole_share};
-ghost use Rattle.imposer.specs.Duty.{Duty, owed};
-ghost use Rattle.imposer.specs.Joining.{AddsNoWork, KeepsOwn, PutsCompletedSince};
-ghost use Rattle.imposer.specs.Tokens.{AreTokens, AreOfBoth, done};
+//! The part of a run in which all its workers start and end.
+ghost use Rattle.std.specs.Prelude.{◌≡◌, ℕ, ◌<◌, ◌≤◌, List, Option, None, Err, length, IfOk, IfErr, IfSome, IsNone, IsSomeAnd, MatchResult, OnOk, ⊤};
+ghost use Rattle.std.specs.Io.KnownBytes.{Appends};
+ghost use Rattle.profile.specs.Sheets.{layout};
+ghost use Rattle.profile.specs.Filters.{trailer_text};
+ghost use Rattle.handover.specs.Passes.{IsPassOf};
+ghost use Rattle.handover.specs.Shelves.{IsOn};
+ghost use Rattle.imposer.specs.declared.outcome.RunError.TheVariants.{NoMemory};
+ghost use Rattle.imposer.specs.Jobs.{text_of, output_of};
 ghost use Rattle.imposer.specs.Workers.{AreWorkers};
+ghost use Rattle.imposer.specs.Runs.{FailedIn};
+ghost use Rattle.imposer.specs.Delivery.{HandedOn};
+ghost use Rattle.imposer.specs.Collecting.{AreEarly, EndsAt};
+ghost use Rattle.imposer.specs.Gathered.{IsGathered, IsHandedOn};
+ghost use Rattle.imposer.specs.Gathering.{IsFreshSeat, IsFreshPass, ReportsOf, WrotePartOf, HandsBackTokens, AreWhole, Answers, AnswersAfter};
 
-use crate::channel::Ticket;
-use crate::crew::{Collector, Crew, Ended};
+use crate::channel::Texts;
+use crate::collecting::{Halt, Progress, Rest, write_rest};
+use crate::crew::Ended;
+use crate::gate::Gate;
+use crate::threads::gather_by;
+use crate::hall::Hall;
+use crate::job::Job;
 use crate::options::Workers;
-use crate::start::{Imposer, Preparer, start_imposers, start_preparers};
+use crate::outcome::{Report, RunError};
+use crate::shop::{Desk, Intake, Shop};
+use crate::sink::Sink;
 use crate::tokens::Tokens;
-use std::alloc::{AllocError, Global};
+use gather_table::{GatherTable, Seat};
+use handover::{Overflow, Pass, Ready, Shelf};
+use std::alloc::Global;
+use std::marker::Brand;
 use std::sync::Wait;
-use std::thread;
-use std::thread::{Scope, Threads};
+use std::sync::atomic::AtomicU32;
+use std::thread::Threads;
 
-/// Joins what a worker hands back to what all before it did. None where one of the two is missing.
-fn merge<L: Drop, C: Crew<L>>(
-    crew: &C,
-    all: Option<Ended<L>>,
-    theirs: Result<Ended<L>, AllocError>,
-) -> Option<Ended<L>>
-    requires all { IfSome all (λ a. AreTokens (C.table crew.now) (C.queue crew.now) a.tokens.seat.share a.tokens) }
-    requires theirs { IfOk theirs (λ t. AreTokens (C.table crew.now) (C.queue crew.now) 1 t.tokens) }
-    ensures both { IfSome result (λ e. IsSomeAnd all (λ a. IsOkAnd theirs (λ t. AreTokens (C.table crew.now) (C.queue crew.now) (a.tokens.seat.share + 1) e.tokens × AreOfBoth a.tokens t.tokens e.tokens × (IsNone e.unshelved → IsNone a.unshelved × IsNone t.unshelved)))) }
-{
-    let Some(all) = all else {
-        return None;
-    };
-    let Ok(theirs) = theirs else {
-        return None;
-    };
-    Some(join_two(crew, all, theirs))
+/// What a run is when all its workers have ended.
+#[derive(Drop)]
+pub struct Gathered<'d> {
+    /// What the run answers: of the errors, want of memory and a failed write alone.
+    pub outcome: Result<Report, RunError>,
+    /// The token of one page for which the shelf gave no receipt, where there was one.
+    pub unshelved: Option<Overflow<'d>>,
+    /// The joined seats and passes of all workers; none after want of memory.
+    pub tokens: Option<(Seat, Pass)>,
 }
 
-fn join_two<L: Drop, C: Crew<L>>(crew: &C, all: Ended<L>, theirs: Ended<L>) -> Ended<L>
-    requires all { AreTokens (C.table crew.now) (C.queue crew.now) all.tokens.seat.share all.tokens }
-    requires theirs { AreTokens (C.table crew.now) (C.queue crew.now) 1 theirs.tokens }
-    ensures tokens { AreTokens (C.table crew.now) (C.queue crew.now) (all.tokens.seat.share + 1) result.tokens }
-    ensures both { AreOfBoth all.tokens theirs.tokens result.tokens }
-    ensures unshelved { IsNone result.unshelved → IsNone all.unshelved × IsNone theirs.unshelved }
-{
-    let Ended { tokens, unshelved } = all;
-    let Ended {
-        tokens: others,
-        unshelved: lost,
-    } = theirs;
-    let tokens = crew.join(tokens, others);
-    Ended {
-        tokens,
-        unshelved: unshelved.or(lost),
-    }
-}
-
-/// Waits for all preparers, and joins their tokens to these.
-fn join_preparers<'s, R: Threads, L: Drop, C: Crew<L>>(
+/// Lets preparers deliver the document's pages and imposers impose the sheets, while the caller's thread writes them in order,
+/// each as soon as all before it are written. What no imposer sent is made at the end, in its place.
+///
+/// The table is one of the job's plan, seat and pass have seen nothing yet, and the queue has room for every sheet. Each
+/// worker has a seat and a pass of its own, which are joined when it ends.
+pub fn gather<'j, 'd, R: Threads + Wait + Sync, G: Gate + Sync, S: Sink>(
     rt: &R,
-    crew: &'s C,
-    tokens: Tokens,
-    count: u32,
-    handles: Vec<Preparer<'s, L, C>>,
-) -> Option<Ended<L>>
-    requires count { 0 < count }
-    requires tokens { AreTokens (C.table crew.now) (C.queue crew.now) tokens.seat.share tokens }
-    requires unused { tokens.seat.own ≡ [] }
-    requires len { vec_len handles ≡ count }
-    requires each { (k : ℕ) (d : _) → k < vec_len handles → ((slice_index_or handles.items k d).promise.number ≡ k) × ((slice_index_or handles.items k d).promise.count ≡ count) × ((slice_index_or handles.items k d).promise.crew.now ≡ crew.now) }
-    ensures tokens { IfSome result (λ e. AreTokens (C.table crew.now) (C.queue crew.now) (tokens.seat.share + count) e.tokens) }
-    ensures done { IfSome result (λ e. IsNone e.unshelved → (h : Duty → ℕ) → done h e.tokens ≡ owed h (C.table crew.now).layout (C.table crew.now).layout.pages) }
-    ensures put { IfSome result (λ e. PutsCompletedSince tokens e.tokens) }
+    alloc: Global,
+    job: &Job<'j, 'd>,
+    table: &GatherTable<'j>,
+    seat: Seat,
+    shelf: &Shelf<'d>,
+    ready: &Ready,
+    pass: Pass,
+    workers: Workers,
+    gate: &G,
+    sink: &mut S,
+) -> Gathered<'d>
+    requires table { table.now.layout ≡ layout job.now.plan }
+    requires seat { IsFreshSeat table.now seat }
+    requires pass { IsFreshPass ready.now pass }
+    requires room { length job.now.plan.sheets ≤ ready.now.capacity }
+    requires workers { AreWorkers workers }
+    requires countable { S.failures sink.old < u64.MAX }
+
+    // At Ok exactly the output was appended, and the report has its numbers.
+    ensures finished { IfOk result.outcome (λ report. Appends (S.told sink.old) (S.told sink.new) (output_of job.now) × ReportsOf job.now report) }
+
+    // After an error the sink has taken as much of the output as the error says.
+    ensures written { IfErr result.outcome (WrotePartOf job.now (S.told sink.old) (S.told sink.new)) }
+    ensures steady { OnOk result.outcome (S.failures sink.new ≡ S.failures sink.old) }
+    ensures failed { IfErr result.outcome (λ e. FailedIn e (S.failures sink.old) (S.failures sink.new)) }
+
+    // Seat and pass come back whole, but after want of memory.
+    ensures handed_back { MatchResult result.outcome (λ _. IsSomeAnd result.tokens (λ t. ⊤)) (λ e. HandsBackTokens e result.tokens) }
+    ensures whole { IfSome result.tokens (λ t. AreWhole table.now ready.now t.0 t.1) }
+
+    // One publish for each page, one mark for each needed slot, and exactly one completing mark for each sheet that has pages.
+    ensures gathered { OnOk result.outcome (IsNone result.unshelved → IfSome result.tokens (λ t. IsGathered table.now.layout t.0.front)) }
+
+    // No sheet was put on the queue twice, and what was taken and what is left is what was put.
+    ensures handed_on { IfSome result.tokens (λ t. IsHandedOn t.1.front) }
+    ensures unshelved { IfSome result.unshelved (IsOn shelf.now) }
 {
-    let mut all = Some(Ended {
-        tokens,
-        unshelved: None,
-    });
-    for handle in handles {
-        let theirs = handle.join(rt);
-        all = merge(crew, all, theirs);
-    }
-    all
+    let tokens = Tokens { seat, pass };
+    gather_as::<Brand, R, G, S>(
+        rt, alloc, job, table, shelf, ready, tokens, workers, gate, sink,
+    )
 }
 
-/// Waits for all imposers, and joins their tokens to the preparers'.
-fn join_imposers<'s, R: Threads, L: Drop, C: Crew<L>>(
+fn gather_as<'j, 'd, T: Texts + Send + Sync, R: Threads + Wait + Sync, G: Gate + Sync, S: Sink>(
     rt: &R,
-    crew: &'s C,
-    prepared: Option<Ended<L>>,
-    count: u32,
-    handles: Vec<Imposer<'s, L, C>>,
-) -> Option<Ended<L>>
-    requires tokens { IfSome prepared (λ a. AreTokens (C.table crew.now) (C.queue crew.now) a.tokens.seat.share a.tokens) }
-    requires len { vec_len handles ≡ count }
-    requires each { (k : ℕ) (d : _) → k < vec_len handles → (slice_index_or handles.items k d).promise.crew.now ≡ crew.now }
-    ensures all { IfSome result (λ e. IsSomeAnd prepared (λ a. AreTokens (C.table crew.now) (C.queue crew.now) (a.tokens.seat.share + count) e.tokens × AddsNoWork a.tokens e.tokens × (IsNone e.unshelved → IsNone a.unshelved))) }
-{
-    let mut all = prepared;
-    for handle in handles {
-        let theirs = handle.join(rt);
-        all = merge(crew, all, theirs);
-    }
-    all
-}
-
-/// Starts all threads of a run. None where one was refused: those that were started end by themselves. Imposers wait
-/// for all preparers, so none of them is started where a preparer was refused.
-fn start<'s, E, R: Wait + Sync, L: Send + Drop + 's, C: Crew<L> + Sync>(
-    rt: &'s R,
-    scope: &'s Scope<'s, E>,
     alloc: Global,
-    crew: &'s C,
-    tokens: &mut Tokens,
-    ticket: Ticket,
-    workers: Workers,
-) -> Option<(Vec<Preparer<'s, L, C>>, Vec<Imposer<'s, L, C>>)>
-    requires tokens { AreTokens (C.table crew.now) (C.queue crew.now) whole_share tokens.old }
-    requires ticket { C.sends crew.now ticket }
-    requires workers { AreWorkers workers }
-    ensures tokens { IfSome result (λ t. AreTokens (C.table crew.now) (C.queue crew.now) (whole_share - workers.preparers - workers.imposers) tokens.new) }
-    ensures kept { KeepsOwn tokens.old tokens.new }
-    ensures preparers { IfSome result (λ t. vec_len t.0 ≡ workers.preparers) }
-    ensures imposers { IfSome result (λ t. vec_len t.1 ≡ workers.imposers) }
-    ensures numbered { IfSome result (λ t. (k : ℕ) (d : _) → k < vec_len t.0 → ((slice_index_or t.0.items k d).promise.number ≡ k) × ((slice_index_or t.0.items k d).promise.count ≡ workers.preparers) × ((slice_index_or t.0.items k d).promise.crew.now ≡ crew.now)) }
-    ensures ours { IfSome result (λ t. (k : ℕ) (d : _) → k < vec_len t.1 → (slice_index_or t.1.items k d).promise.crew.now ≡ crew.now) }
-{
-    let preparers = start_preparers(rt, scope, alloc, crew, tokens, workers.preparers).ok()?;
-    if preparers.len() != workers.preparers as usize {
-        return None;
-    }
-    let imposers = start_imposers(rt, scope, alloc, crew, tokens, ticket, workers.imposers).ok()?;
-    if imposers.len() != workers.imposers as usize {
-        return None;
-    }
-    Some((preparers, imposers))
-}
-
-/// The body of the scope: all threads start, the caller's thread collects, and all are joined.
-fn run<'s, E, R: Threads + Wait + Sync, L: Send + Drop + 's, D, C: Crew<L> + Collector<D> + Sync>(
-    rt: &'s R,
-    scope: &'s Scope<'s, E>,
-    alloc: Global,
-    crew: &'s C,
-    desk: &mut D,
+    job: &Job<'j, 'd>,
+    table: &GatherTable<'j>,
+    shelf: &Shelf<'d>,
+    ready: &Ready,
     tokens: Tokens,
-    ticket: Ticket,
     workers: Workers,
-) -> Option<Ended<L>>
-    requires tokens { AreTokens (C.table crew.now) (C.queue crew.now) whole_share tokens }
-    requires unused { tokens.seat.own ≡ [] }
-    requires ticket { C.sends crew.now ticket }
-    requires desk { C.is_laid crew.now desk.old }
+    gate: &G,
+    sink: &mut S,
+) -> Gathered<'d>
+    requires texts { (s : ℕ) → T.text s ≡ text_of job.now s }
+    requires table { table.now.layout ≡ layout job.now.plan }
+    requires tokens { IsFreshSeat table.now tokens.seat × IsFreshPass ready.now tokens.pass }
     requires workers { AreWorkers workers }
-    ensures desk { (desk.new ≡ desk.old) ⊎ C.collected crew.now desk.old desk.new }
-    ensures collected { IfSome result (λ e. C.collected crew.now desk.old desk.new) }
-    ensures tokens { IfSome result (λ e. AreTokens (C.table crew.now) (C.queue crew.now) whole_share e.tokens) }
-    ensures done { IfSome result (λ e. IsNone e.unshelved → (h : Duty → ℕ) → done h e.tokens ≡ owed h (C.table crew.now).layout (C.table crew.now).layout.pages) }
-    ensures put { IfSome result (λ e. PutsCompletedSince tokens e.tokens) }
+    requires countable { S.failures sink.old < u64.MAX }
+    ensures outcome { Answers job.now (S.told sink.old) (S.told sink.new) (S.failures sink.old) (S.failures sink.new) result.outcome }
+    ensures tokens { MatchResult result.outcome (λ _. IsSomeAnd result.tokens (λ t. ⊤)) (λ e. HandsBackTokens e result.tokens) }
+    ensures whole { IfSome result.tokens (λ t. AreWhole table.now ready.now t.0 t.1 × IsHandedOn t.1.front × (IsNone result.unshelved → IsGathered table.now.layout t.0.front)) }
+    ensures unshelved { IfSome result.unshelved (IsOn shelf.now) }
 {
     let mut tokens = tokens;
-    let Some((preparers, imposers)) = start(rt, scope, alloc, crew, &mut tokens, ticket, workers)
-    else {
-        return None;
+    put_blank_sheets(rt, ready, job.plan.born_complete(), &mut tokens.pass);
+    let Ok(hall) = Hall::<T>::new(alloc, job) else {
+        return out_of_memory(0);
     };
-    crew.collect(rt, desk);
-    let prepared = join_preparers(rt, crew, tokens, workers.preparers, preparers);
-    join_imposers(rt, crew, prepared, workers.imposers, imposers)
+    let Hall {
+        header,
+        trailer,
+        early,
+        outlet,
+        inlet,
+        ours,
+        theirs,
+    } = hall;
+    let running = AtomicU32::new(workers.preparers);
+    let working = AtomicU32::new(workers.imposers);
+    let shop = Shop {
+        alloc,
+        gate,
+        table,
+        shelf,
+        ready,
+        running: &running,
+        outlet: &outlet,
+        intake: Intake {
+            job,
+            working: &working,
+            inlet: &inlet,
+        },
+    };
+    let desk = Desk {
+        sink,
+        ticket: ours,
+        header,
+        progress: Progress {
+            next: 0,
+            written: 0,
+            halted: None,
+        },
+        early,
+    };
+    let (desk, all) = gather_by(rt, alloc, &shop, desk, tokens, theirs, workers);
+    let Desk {
+        sink,
+        progress,
+        early,
+        ..
+    } = desk;
+    match all {
+        Some(ended) => finish(alloc, job, sink, progress, early, trailer.as_slice(), ended),
+        None => out_of_memory(progress.written),
+    }
 }
 
-/// Starts all threads of a run, collects on the caller's thread while they work, and joins what they hold. Nothing was
-/// collected where a thread was refused; None there, and where a worker wanted memory.
-pub(crate) fn gather_by<
-    R: Threads + Wait + Sync,
-    L: Send + Drop,
-    D: Drop,
-    C: Crew<L> + Collector<D> + Sync,
->(
-    rt: &R,
-    alloc: Global,
-    crew: &C,
-    desk: D,
-    tokens: Tokens,
-    ticket: Ticket,
-    workers: Workers,
-) -> (D, Option<Ended<L>>)
-    requires tokens { AreTokens (C.table crew.now) (C.queue crew.now) whole_share tokens }
-    requires unused { tokens.seat.own ≡ [] }
-    requires ticket { C.sends crew.now ticket }
-    requires desk { C.is_laid crew.now desk }
-    requires workers { AreWorkers workers }
-    ensures desk { (result.0 ≡ desk) ⊎ C.collected crew.now desk result.0 }
-    ensures collected { IfSome result.1 (λ e. C.collected crew.now desk result.0) }
-    ensures tokens { IfSome result.1 (λ e. AreTokens (C.table crew.now) (C.queue crew.now) whole_share e.tokens) }
-    ensures done { IfSome result.1 (λ e. IsNone e.unshelved → (h : Duty → ℕ) → done h e.tokens ≡ owed h (C.table crew.now).layout (C.table crew.now).layout.pages) }
-    ensures put { IfSome result.1 (λ e. PutsCompletedSince tokens e.tokens) }
+/// Puts the sheets without pages on the queue: no preparer completes them.
+fn put_blank_sheets<R: Wait>(rt: &R, ready: &Ready, sheets: &[u32], pass: &mut Pass)
+    requires pass { IsPassOf ready.now pass.old }
+    ensures pass { IsPassOf ready.now pass.new }
+    ensures put { (back : List ℕ) × HandedOn ready.now sheets.now back pass.old pass.new }
 {
-    thread::scope(
-        thread::scope_env(),
-        rt,
-        move |scope| -> (D, Option<Ended<L>>)
-            requires tokens { AreTokens (C.table crew.now) (C.queue crew.now) whole_share tokens }
-            requires unused { tokens.seat.own ≡ [] }
-            requires ticket { C.sends crew.now ticket }
-            requires desk { C.is_laid crew.now desk }
-            requires workers { AreWorkers workers }
-            ensures desk { (result.0 ≡ desk) ⊎ C.collected crew.entry.now desk result.0 }
-            ensures collected { IfSome result.1 (λ e. C.collected crew.entry.now desk result.0) }
-            ensures tokens { IfSome result.1 (λ e. AreTokens (C.table crew.entry.now) (C.queue crew.entry.now) whole_share e.tokens) }
-            ensures done { IfSome result.1 (λ e. IsNone e.unshelved → (h : Duty → ℕ) → done h e.tokens ≡ owed h (C.table crew.entry.now).layout (C.table crew.entry.now).layout.pages) }
-            ensures put { IfSome result.1 (λ e. PutsCompletedSince tokens e.tokens) }
-        {
-            let mut desk = desk;
-            let all = run(rt, scope, alloc, crew, &mut desk, tokens, ticket, workers);
-            (desk, all)
-        },
-    )
+    for k in 0..sheets.len() {
+        // What the queue hands back is made by the collector.
+        let _ = ready.put(rt, pass, sheets[k]);
+    }
+}
+
+/// The answer where memory was refused.
+fn out_of_memory<'d>(written: u64) -> Gathered<'d>
+    ensures { result ≡ record { outcome = Err (NoMemory written); unshelved = None; tokens = None } }
+{
+    Gathered {
+        outcome: Err(RunError::NoMemory { written }),
+        unshelved: None,
+        tokens: None,
+    }
+}
+
+/// Writes what is left when all workers have ended, and answers.
+fn finish<'d, S: Sink>(
+    alloc: Global,
+    job: &Job<'_, 'd>,
+    sink: &mut S,
+    progress: Progress,
+    early: Vec<Option<Vec<u8>>>,
+    trailer: &[u8],
+    ended: Ended<Overflow<'d>>,
+) -> Gathered<'d>
+    requires countable { progress.halted ≡ None → S.failures sink.old < u64.MAX }
+    requires next { progress.halted ≡ None → progress.next ≤ length job.now.plan.sheets }
+    requires early { AreEarly job.now early.items }
+    requires trailer { trailer.now ≡ trailer_text job.now.units }
+    ensures outcome { AnswersAfter job.now (S.told sink.old) (S.told sink.new) (S.failures sink.old) (S.failures sink.new) progress result.outcome }
+    ensures tokens { MatchResult result.outcome (λ _. IsSomeAnd result.tokens (λ t. ⊤)) (λ e. HandsBackTokens e result.tokens) }
+    ensures same { IfSome result.tokens (λ t. (t.0 ≡ ended.tokens.seat) × (t.1 ≡ ended.tokens.pass)) }
+    ensures unshelved { result.unshelved ≡ ended.unshelved }
+{
+    let rest = if progress.halted.is_some() {
+        Rest { progress, swept: 0 }
+    } else {
+        write_rest(alloc, job, sink, progress, early, trailer)
+    };
+    let Ended { tokens, unshelved } = ended;
+    let Tokens { seat, pass } = tokens;
+    let outcome = answer(job, rest);
+    let tokens = match outcome {
+        Err(RunError::NoMemory { written: _ }) => None,
+        _ => Some((seat, pass)),
+    };
+    Gathered {
+        outcome,
+        unshelved,
+        tokens,
+    }
+}
+
+/// What a run answers whose collector came so far.
+fn answer(job: &Job<'_, '_>, rest: Rest) -> Result<Report, RunError>
+    requires swept { rest.swept ≤ length job.now.plan.sheets }
+    ensures { (old new : Option (List ℕ)) (before after : ℕ) → EndsAt job.now old new before after rest.progress.written rest.progress.halted → Answers job.now old new before after result }
+{
+    let written = rest.progress.written;
+    match rest.progress.halted {
+        Some(Halt::NoMemory) => Err(RunError::NoMemory { written }),
+        Some(Halt::Failed) => Err(RunError::Write { written }),
+        None => Ok(Report {
+            pages: job.plan.pages(),
+            sheets: job.plan.sheets(),
+            born: job.plan.born_complete().len() as u32,
+            swept: rest.swept,
+            bytes: written,
+        }),
+    }
 }

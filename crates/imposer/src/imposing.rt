@@ -83,7 +83,6 @@ fn impose_ready<'d, T: Texts, G: Gate, R: Wait>(
         // Read before the queue is: what the last preparer puts is put before it ends.
         let is_last = running.load(SeqCst) == 0;
         if take_turn(
-            rt, alloc, &mut tokens, &mut ticket, job, table, shelf, ready, outlet, gate,
             rt,
             alloc,
             &mut tokens,

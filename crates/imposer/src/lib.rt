@@ -6,7 +6,6 @@ mod collecting;
 mod crew;
 mod delivery;
 mod gate;
-mod gather;
 mod gathering;
 mod hall;
 mod imposing;
@@ -22,13 +21,14 @@ mod sheet;
 mod shop;
 mod sink;
 mod start;
+mod threads;
+mod tokens;
 #[cfg(test)]
 mod tests;
-mod tokens;
 
 pub use delivery::{DeliverError, Delivered, deliver};
 pub use gate::{Gate, Open, Step};
-pub use gather::{Gathered, gather};
+pub use gathering::{Gathered, gather};
 pub use imposition::{ImposeError, Imposed, impose};
 pub use job::Job;
 pub use options::{Options, Workers};

@@ -3,7 +3,7 @@ use Rattle.std.specs.Vec.Iter.{into_iter_len}
 use Rattle.imposer.specs.Tokens.{AreTokens}
 use Rattle.imposer.specs.Joining.{AddsNoWork}
 use Rattle.imposer.proofs.Merged.{merged, also}
-use Rattle.imposer.proofs.gathering.join_imposers.Goals as goal
+use Rattle.imposer.proofs.threads.join_imposers.Goals as goal
 
 pub loop-handle-preserved : goal.loop-handle-preserved
 loop-handle-preserved g c =

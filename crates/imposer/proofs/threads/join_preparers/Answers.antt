@@ -4,7 +4,7 @@ use Rattle.imposer.specs.Duty.{share_below, shares}
 use Rattle.imposer.specs.Tokens.{AreTokens, done}
 use Rattle.imposer.proofs.Shares.{together}
 use Rattle.imposer.proofs.Merged.{merged, mapped}
-use Rattle.imposer.proofs.gathering.join_preparers.Goals as goal
+use Rattle.imposer.proofs.threads.join_preparers.Goals as goal
 
 pub loop-handle-preserved : goal.loop-handle-preserved
 loop-handle-preserved g c =

@@ -3,7 +3,7 @@ use Rattle.std.specs.Vec.Iter.{into_iter_items, into_iter_len}
 use Rattle.imposer.specs.Duty.{Duty, shares}
 use Rattle.imposer.specs.Tokens.{AreTokens, done}
 use Rattle.imposer.specs.Joining.{PutsCompletedSince}
-use Rattle.imposer.proofs.gathering.join_preparers.Given as goal
+use Rattle.imposer.proofs.threads.join_preparers.Given as goal
 
 abbrev pub invariant-loop-handle : goal.invariant-loop-handle
 invariant-loop-handle g l =

@@ -1,6 +1,6 @@
 use Rattle.std.proofs.Common.{◌≡◌, ℕ, ◌∙◌}
 use Rattle.imposer.proofs.Merged.{chained}
-use Rattle.imposer.proofs.gathering.run.Goals as goal
+use Rattle.imposer.proofs.threads.run.Goals as goal
 
 pub returns-clause-done : goal.returns-clause-done
 returns-clause-done g c =

@@ -2,7 +2,7 @@ use Rattle.std.proofs.Common.{◌≡◌, ℕ, ◌<◌, ◌≤◌, ◌+◌, ◌-�
 use Rattle.std.specs.Vec.Iter.{into_iter_items, into_iter_len}
 use Rattle.imposer.specs.Tokens.{AreTokens}
 use Rattle.imposer.specs.Joining.{AddsNoWork}
-use Rattle.imposer.proofs.gathering.join_imposers.Given as goal
+use Rattle.imposer.proofs.threads.join_imposers.Given as goal
 
 abbrev pub invariant-loop-handle : goal.invariant-loop-handle
 invariant-loop-handle g l =

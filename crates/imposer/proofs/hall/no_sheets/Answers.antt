@@ -1,0 +1,13 @@
+use Rattle.std.proofs.Common.{rules, arith, ap, ◌∙◌, ◌≡◌, length, subst, sym}
+use Rattle.imposer.proofs.Fronts.{AreNone, none_pushed, none_early}
+use Rattle.imposer.proofs.hall.no_sheets.Goals as goal
+
+pub loop-preserved : goal.loop-preserved
+loop-preserved c = record {
+  count = search rules;
+  room = search rules;
+  none = search (rules, none_pushed);
+}
+
+pub returns : goal.returns
+returns c = none_early c.args.job.now c.loop.early.items (search rules) c.loop.invariant.none
