@@ -59,10 +59,10 @@ AnswersAfter job old new before after p outcome =
     (start : Option (List ℕ)) (first : ℕ) → Stands job start old first before p → Answers job start new first after outcome
 
 -- a seat and a pass that have all shares again
-pub record AreWhole (table : TableView) (queue : QueueView) (seat : SeatView) (pass : PassView) : Type 0 where
-  pub of_table : IsSeatOf table seat
-  pub of_queue : IsPassOf queue pass
-  pub seat : IsSeat seat
-  pub pass : IsPass pass
-  pub seat_share : seat.share ≡ whole_share
-  pub pass_share : pass.share ≡ whole_share
+pub record AreWhole (table : TableView) (queue : QueueView) (its_seat : SeatView) (its_pass : PassView) : Type 0 where
+  pub of_table : IsSeatOf table its_seat
+  pub of_queue : IsPassOf queue its_pass
+  pub seat : IsSeat its_seat
+  pub pass : IsPass its_pass
+  pub seat_share : its_seat.share ≡ whole_share
+  pub pass_share : its_pass.share ≡ whole_share

@@ -87,7 +87,6 @@ pub fn gather<'j, 'd, R: Threads + Wait + Sync, G: Gate + Sync, S: Sink>(
 
     // No sheet was put on the queue twice, and what was taken and what is left is what was put.
     ensures handed_on { IfSome result.tokens (λ t. IsHandedOn t.1.front) }
-    ensures unshelved { IfSome result.unshelved (IsOn shelf.now) }
 {
     let tokens = Tokens { seat, pass };
     gather_as::<Brand, R, G, S>(
@@ -95,16 +94,16 @@ pub fn gather<'j, 'd, R: Threads + Wait + Sync, G: Gate + Sync, S: Sink>(
     )
 }
 
-fn gather_as<'j, 'd, T: Texts + Send + Sync, R: Threads + Wait + Sync, G: Gate + Sync, S: Sink>(
+fn gather_as<'s, 'j, 'd, T: Texts + Send + Sync, R: Threads + Wait + Sync, G: Gate + Sync, S: Sink>(
     rt: &R,
     alloc: Global,
-    job: &Job<'j, 'd>,
-    table: &GatherTable<'j>,
-    shelf: &Shelf<'d>,
-    ready: &Ready,
+    job: &'s Job<'j, 'd>,
+    table: &'s GatherTable<'j>,
+    shelf: &'s Shelf<'d>,
+    ready: &'s Ready,
     tokens: Tokens,
     workers: Workers,
-    gate: &G,
+    gate: &'s G,
     sink: &mut S,
 ) -> Gathered<'d>
     requires texts { (s : ℕ) → T.text s ≡ text_of job.now s }
@@ -115,7 +114,6 @@ fn gather_as<'j, 'd, T: Texts + Send + Sync, R: Threads + Wait + Sync, G: Gate +
     ensures outcome { Answers job.now (S.told sink.old) (S.told sink.new) (S.failures sink.old) (S.failures sink.new) result.outcome }
     ensures tokens { MatchResult result.outcome (λ _. IsSomeAnd result.tokens (λ t. ⊤)) (λ e. HandsBackTokens e result.tokens) }
     ensures whole { IfSome result.tokens (λ t. AreWhole table.now ready.now t.0 t.1 × IsHandedOn t.1.front × (IsNone result.unshelved → IsGathered table.now.layout t.0.front)) }
-    ensures unshelved { IfSome result.unshelved (IsOn shelf.now) }
 {
     let mut tokens = tokens;
     put_blank_sheets(rt, ready, job.plan.born_complete(), &mut tokens.pass);
@@ -210,8 +208,8 @@ fn finish<'d, S: Sink>(
     requires trailer { trailer.now ≡ trailer_text job.now.units }
     ensures outcome { AnswersAfter job.now (S.told sink.old) (S.told sink.new) (S.failures sink.old) (S.failures sink.new) progress result.outcome }
     ensures tokens { MatchResult result.outcome (λ _. IsSomeAnd result.tokens (λ t. ⊤)) (λ e. HandsBackTokens e result.tokens) }
-    ensures same { IfSome result.tokens (λ t. (t.0 ≡ ended.tokens.seat) × (t.1 ≡ ended.tokens.pass)) }
-    ensures unshelved { result.unshelved ≡ ended.unshelved }
+    ensures same { IfSome result.tokens (λ t. (t.0 ≡ ended.entry.tokens.seat) × (t.1 ≡ ended.entry.tokens.pass)) }
+    ensures unshelved { result.unshelved ≡ ended.entry.unshelved }
 {
     let rest = if progress.halted.is_some() {
         Rest { progress, swept: 0 }

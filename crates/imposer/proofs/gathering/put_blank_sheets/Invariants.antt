@@ -1,0 +1,10 @@
+use Rattle.std.proofs.Common.{ℕ, List, take}
+use Rattle.handover.specs.Passes.{IsPassOf}
+use Rattle.imposer.specs.Delivery.{HandedOn}
+use Rattle.imposer.proofs.gathering.put_blank_sheets.Given as goal
+
+abbrev pub invariant-loop-k : goal.invariant-loop-k
+invariant-loop-k g l = record {
+  pass : IsPassOf l.ready l.pass;
+  put : (back : List ℕ) × HandedOn l.ready (take l.k l.sheets) back l.initial.pass l.pass;
+}
