@@ -115,7 +115,7 @@ pub(crate) struct Rest {
 }
 
 /// Writes what is left when all workers have ended: the other sheets in order, each made anew where it never came, and the
-/// trailer.
+/// trailer. Nothing more is written after a halt.
 pub(crate) fn write_rest<S: Sink>(
     alloc: Global,
     job: &Job<'_, '_>,
@@ -124,8 +124,8 @@ pub(crate) fn write_rest<S: Sink>(
     early: Vec<Option<Vec<u8>>>,
     trailer: &[u8],
 ) -> Rest
-    requires countable { S.failures sink.old < u64.MAX }
-    requires going { (progress.halted ≡ None) × (progress.next ≤ length job.now.plan.sheets) }
+    requires countable { progress.halted ≡ None → S.failures sink.old < u64.MAX }
+    requires next { progress.halted ≡ None → progress.next ≤ length job.now.plan.sheets }
     requires early { AreEarly job.now early.items }
     requires trailer { trailer.now ≡ trailer_text job.now.units }
     ensures ended { EndsAfter job.now (S.told sink.old) (S.told sink.new) (S.failures sink.old) (S.failures sink.new) progress result.progress }
@@ -134,6 +134,9 @@ pub(crate) fn write_rest<S: Sink>(
     let mut progress = progress;
     let mut early = early;
     let mut swept = 0;
+    if progress.halted.is_some() {
+        return Rest { progress, swept };
+    }
     for sheet in progress.next..job.sheets {
         let Ok(text) = next_text(alloc, job, &mut early, sheet, &mut swept) else {
             return Rest {

@@ -211,40 +211,41 @@ fn finish<'d, S: Sink>(
     ensures same { IfSome result.tokens (λ t. (t.0 ≡ ended.entry.tokens.seat) × (t.1 ≡ ended.entry.tokens.pass)) }
     ensures unshelved { result.unshelved ≡ ended.entry.unshelved }
 {
-    let rest = if progress.halted.is_some() {
-        Rest { progress, swept: 0 }
-    } else {
-        write_rest(alloc, job, sink, progress, early, trailer)
-    };
+    let rest = write_rest(alloc, job, sink, progress, early, trailer);
     let Ended { tokens, unshelved } = ended;
     let Tokens { seat, pass } = tokens;
-    let outcome = answer(job, rest);
-    let tokens = match outcome {
-        Err(RunError::NoMemory { written: _ }) => None,
-        _ => Some((seat, pass)),
-    };
-    Gathered {
-        outcome,
-        unshelved,
-        tokens,
+    let written = rest.progress.written;
+    match rest.progress.halted {
+        None => Gathered {
+            outcome: Ok(report_on(job, rest)),
+            unshelved,
+            tokens: Some((seat, pass)),
+        },
+        Some(why) => match why {
+            Halt::Failed => Gathered {
+                outcome: Err(RunError::Write { written }),
+                unshelved,
+                tokens: Some((seat, pass)),
+            },
+            Halt::NoMemory => Gathered {
+                outcome: Err(RunError::NoMemory { written }),
+                unshelved,
+                tokens: None,
+            },
+        },
     }
 }
 
-/// What a run answers whose collector came so far.
-fn answer(job: &Job<'_, '_>, rest: Rest) -> Result<Report, RunError>
+/// The numbers of a job whose whole output was written.
+fn report_on(job: &Job<'_, '_>, rest: Rest) -> Report
     requires swept { rest.swept ≤ length job.now.plan.sheets }
-    ensures { (old new : Option (List ℕ)) (before after : ℕ) → EndsAt job.now old new before after rest.progress.written rest.progress.halted → Answers job.now old new before after result }
+    ensures { rest.progress.written ≡ length (output_of job.now) → ReportsOf job.now result }
 {
-    let written = rest.progress.written;
-    match rest.progress.halted {
-        Some(Halt::NoMemory) => Err(RunError::NoMemory { written }),
-        Some(Halt::Failed) => Err(RunError::Write { written }),
-        None => Ok(Report {
-            pages: job.plan.pages(),
-            sheets: job.plan.sheets(),
-            born: job.plan.born_complete().len() as u32,
-            swept: rest.swept,
-            bytes: written,
-        }),
+    Report {
+        pages: job.plan.pages(),
+        sheets: job.plan.sheets(),
+        born: job.plan.born_complete().len() as u32,
+        swept: rest.swept,
+        bytes: rest.progress.written,
     }
 }

@@ -3,6 +3,10 @@ use Rattle.imposer.specs.Collecting.{StandsAt, EndsAt}
 use Rattle.imposer.proofs.Fronts.{stopped, halted_ends, trailer_handed}
 use Rattle.imposer.proofs.collecting.write_rest.Goals as goal
 
+pub returns-then-is_some-clause-ended : goal.returns-then-is_some-clause-ended
+returns-then-is_some-clause-ended g c = λ start first stands.
+    let p = c.args.progress in halted_ends c.args.job.now start _ first _ p.next p.written p.halted (search rules) stands
+
 pub returns-in_default-clause-ended : goal.returns-in_default-clause-ended
 returns-in_default-clause-ended g c = λ start first stands.
     let here = c.loop-sheet.invariant.goes_on start first stands in
@@ -13,8 +17,8 @@ returns-in_default-clause-ended g c = λ start first stands.
     subst (λ q. EndsAt job start now first after q.written q.halted) (sym c.halted.ensures)
     (stopped job start now first after p.next p.written (subst (λ h. StandsAt job start now first after p.next p.written h) c.loop-sheet.invariant.going here))
 
-pub returns-then-is_some-clause-ended : goal.returns-then-is_some-clause-ended
-returns-then-is_some-clause-ended g c = λ start first stands.
+pub returns-then-is_some-2-clause-ended : goal.returns-then-is_some-2-clause-ended
+returns-then-is_some-2-clause-ended g c = λ start first stands.
     let p = c.write_sheet-progress.result in
     halted_ends c.args.job.now start _ first _ p.next p.written p.halted (search rules) (c.write_sheet-progress.ensures.goes_on start first (c.loop-sheet.invariant.goes_on start first stands))
 
