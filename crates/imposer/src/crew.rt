@@ -87,10 +87,15 @@ pub(crate) trait Collector<D> {
     // What became of the desk.
     ghost collected: { Self → D → D → Type 0 };
 
+    // The ghost name of the reference that the desk holds, or 0: who lent it learns what was written only while it is known
+    // to be the same one.
+    ghost reference: { Self → D → ℕ };
+
     /// Takes what the workers finish until all have ended.
     fn collect<R: Wait>(&self, rt: &R, desk: &mut D)
         requires { is_laid self.now desk.old }
-        ensures { collected self.now desk.old desk.new };
+        ensures same_reference { reference self.now desk.new ≡ reference self.now desk.old }
+        ensures collected { collected self.now desk.old desk.new };
 }
 
 /// What a preparer promises.

@@ -156,14 +156,25 @@ fn gather_as<'s, 'j, 'd, T: Texts + Send + Sync, R: Threads + Wait + Sync, G: Ga
         },
         early,
     };
-    let (desk, all) = gather_by(rt, alloc, &shop, desk, tokens, theirs, workers);
+    let mut ended = None;
+    let desk = gather_by(
+        rt,
+        alloc,
+        &shop,
+        &shop.intake,
+        desk,
+        tokens,
+        theirs,
+        workers,
+        &mut ended,
+    );
     let Desk {
         sink,
         progress,
         early,
         ..
     } = desk;
-    match all {
+    match ended {
         Some(ended) => finish(alloc, job, sink, progress, early, trailer.as_slice(), ended),
         None => out_of_memory(progress.written),
     }

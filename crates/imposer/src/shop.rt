@@ -126,22 +126,23 @@ pub(crate) struct Desk<'a, S> {
     pub(crate) early: Vec<Option<Vec<u8>>>,
 }
 
-impl<'s, 'j, 'd, 'a, T: Texts, G, S: Sink> Collector<Desk<'a, S>> for Shop<'s, 'j, 'd, T, G> {
-    ghost is_laid = { λ s d. ((k : ℕ) → T.text k ≡ text_of s.intake.job.now k)
-        × IsSeatAt (receives_on s.intake.inlet.now) d.ticket
-        × (d.header.items ≡ preamble_text (length s.intake.job.now.plan.sheets) s.intake.job.now.units)
+impl<'s, 'j, 'd, 'a, T: Texts, S: Sink> Collector<Desk<'a, S>> for Intake<'s, 'j, 'd, T> {
+    ghost reference = { λ s d. d.sink.ghost_name };
+
+    ghost is_laid = { λ s d. ((k : ℕ) → T.text k ≡ text_of s.job.now k)
+        × IsSeatAt (receives_on s.inlet.now) d.ticket
+        × (d.header.items ≡ preamble_text (length s.job.now.plan.sheets) s.job.now.units)
         × (d.progress ≡ record { next = 0; written = 0; halted = None })
-        × AreEarly s.intake.job.now d.early.items
+        × AreEarly s.job.now d.early.items
         × (S.failures d.sink.now < 18_446_744_073_709_551_615) };
 
-    ghost collected = { λ s d e. (e.sink.ghost_name ≡ d.sink.ghost_name)
-        × Stands s.intake.job.now (S.told d.sink.now) (S.told e.sink.now) (S.failures d.sink.now) (S.failures e.sink.now) e.progress
-        × AreEarly s.intake.job.now e.early.items };
+    ghost collected = { λ s d e. Stands s.job.now (S.told d.sink.now) (S.told e.sink.now) (S.failures d.sink.now) (S.failures e.sink.now) e.progress
+        × AreEarly s.job.now e.early.items };
 
     fn collect<R: Wait>(&self, rt: &R, desk: &mut Desk<'a, S>) {
         desk.progress = write_text(desk.sink, desk.progress, desk.header.as_slice());
         if desk.progress.halted.is_none() {
-            take_all(rt, &self.intake, desk);
+            take_all(rt, self, desk);
         }
     }
 }

@@ -136,11 +136,12 @@ fn start<'s, E, R: Wait + Sync, L: Send + Drop + 's, C: Crew<L> + Sync>(
 }
 
 /// The body of the scope: all threads start, the caller's thread collects, and all are joined.
-fn run<'s, E, R: Threads + Wait + Sync, L: Send + Drop + 's, D, C: Crew<L> + Collector<D> + Sync>(
+fn run<'s, E, R: Threads + Wait + Sync, L: Send + Drop + 's, D, C: Crew<L> + Sync, K: Collector<D>>(
     rt: &'s R,
     scope: &'s Scope<'s, E>,
     alloc: Global,
     crew: &'s C,
+    collector: &K,
     desk: &mut D,
     tokens: Tokens,
     ticket: Ticket,
@@ -149,10 +150,11 @@ fn run<'s, E, R: Threads + Wait + Sync, L: Send + Drop + 's, D, C: Crew<L> + Col
     requires tokens { AreTokens (C.table crew.now) (C.queue crew.now) whole_share tokens }
     requires unused { tokens.seat.own ≡ [] }
     requires ticket { C.sends crew.now ticket }
-    requires desk { C.is_laid crew.now desk.old }
+    requires desk { K.is_laid collector.now desk.old }
     requires workers { AreWorkers workers }
-    ensures desk { (desk.new ≡ desk.old) ⊎ C.collected crew.now desk.old desk.new }
-    ensures collected { IfSome result (λ e. C.collected crew.now desk.old desk.new) }
+    ensures same_reference { K.reference collector.now desk.new ≡ K.reference collector.now desk.old }
+    ensures desk { (desk.new ≡ desk.old) ⊎ K.collected collector.now desk.old desk.new }
+    ensures collected { IfSome result (λ e. K.collected collector.now desk.old desk.new) }
     ensures tokens { IfSome result (λ e. AreTokens (C.table crew.now) (C.queue crew.now) whole_share e.tokens) }
     ensures done { IfSome result (λ e. IsNone e.unshelved → (h : Duty → ℕ) → done h e.tokens ≡ owed h (C.table crew.now).layout (C.table crew.now).layout.pages) }
     ensures put { IfSome result (λ e. PutsCompletedSince tokens e.tokens) }
@@ -162,22 +164,23 @@ fn run<'s, E, R: Threads + Wait + Sync, L: Send + Drop + 's, D, C: Crew<L> + Col
     else {
         return None;
     };
-    crew.collect(rt, desk);
+    collector.collect(rt, desk);
     let prepared = join_preparers(rt, crew, tokens, workers.preparers, preparers);
     join_imposers(rt, crew, prepared, workers.imposers, imposers)
 }
 
-/// Starts all threads of a run, collects on the caller's thread while they work, and joins what they hold. Nothing was
-/// collected where a thread was refused; None there, and where a worker wanted memory.
-pub(crate) fn gather_by<
+/// All threads end before this returns.
+fn run_in_scope<
     R: Threads + Wait + Sync,
     L: Send + Drop,
     D: Drop,
-    C: Crew<L> + Collector<D> + Sync,
+    C: Crew<L> + Sync,
+    K: Collector<D>,
 >(
     rt: &R,
     alloc: Global,
     crew: &C,
+    collector: &K,
     desk: D,
     tokens: Tokens,
     ticket: Ticket,
@@ -186,10 +189,11 @@ pub(crate) fn gather_by<
     requires tokens { AreTokens (C.table crew.now) (C.queue crew.now) whole_share tokens }
     requires unused { tokens.seat.own ≡ [] }
     requires ticket { C.sends crew.now ticket }
-    requires desk { C.is_laid crew.now desk }
+    requires desk { K.is_laid collector.now desk }
     requires workers { AreWorkers workers }
-    ensures desk { (result.0 ≡ desk) ⊎ C.collected crew.now desk result.0 }
-    ensures collected { IfSome result.1 (λ e. C.collected crew.now desk result.0) }
+    ensures same_reference { K.reference collector.now result.0 ≡ K.reference collector.now desk }
+    ensures desk { (result.0 ≡ desk) ⊎ K.collected collector.now desk result.0 }
+    ensures collected { IfSome result.1 (λ e. K.collected collector.now desk result.0) }
     ensures tokens { IfSome result.1 (λ e. AreTokens (C.table crew.now) (C.queue crew.now) whole_share e.tokens) }
     ensures done { IfSome result.1 (λ e. IsNone e.unshelved → (h : Duty → ℕ) → done h e.tokens ≡ owed h (C.table crew.now).layout (C.table crew.now).layout.pages) }
     ensures put { IfSome result.1 (λ e. PutsCompletedSince tokens e.tokens) }
@@ -201,17 +205,59 @@ pub(crate) fn gather_by<
             requires tokens { AreTokens (C.table crew.now) (C.queue crew.now) whole_share tokens }
             requires unused { tokens.seat.own ≡ [] }
             requires ticket { C.sends crew.now ticket }
-            requires desk { C.is_laid crew.now desk }
+            requires desk { K.is_laid collector.now desk }
             requires workers { AreWorkers workers }
-            ensures desk { (result.0 ≡ desk) ⊎ C.collected crew.entry.now desk result.0 }
-            ensures collected { IfSome result.1 (λ e. C.collected crew.entry.now desk result.0) }
+            ensures same_reference { K.reference collector.entry.now result.0 ≡ K.reference collector.entry.now desk }
+            ensures desk { (result.0 ≡ desk) ⊎ K.collected collector.entry.now desk result.0 }
+            ensures collected { IfSome result.1 (λ e. K.collected collector.entry.now desk result.0) }
             ensures tokens { IfSome result.1 (λ e. AreTokens (C.table crew.entry.now) (C.queue crew.entry.now) whole_share e.tokens) }
             ensures done { IfSome result.1 (λ e. IsNone e.unshelved → (h : Duty → ℕ) → done h e.tokens ≡ owed h (C.table crew.entry.now).layout (C.table crew.entry.now).layout.pages) }
             ensures put { IfSome result.1 (λ e. PutsCompletedSince tokens e.tokens) }
         {
             let mut desk = desk;
-            let all = run(rt, scope, alloc, crew, &mut desk, tokens, ticket, workers);
+            let all = run(
+                rt, scope, alloc, crew, collector, &mut desk, tokens, ticket, workers,
+            );
             (desk, all)
         },
     )
+}
+
+/// Starts all threads of a run, collects on the caller's thread while they work, and joins what they hold. Nothing was
+/// collected where a thread was refused; `ended` is None there, and where a worker wanted memory.
+///
+/// Crew and collector are two, since the one is shared with the threads and the other, which may write to a sink that no
+/// thread may have, isn't. The desk comes back alone: in a pair it would not be known to hold what the caller lent it.
+pub(crate) fn gather_by<
+    R: Threads + Wait + Sync,
+    L: Send + Drop,
+    D: Drop,
+    C: Crew<L> + Sync,
+    K: Collector<D>,
+>(
+    rt: &R,
+    alloc: Global,
+    crew: &C,
+    collector: &K,
+    desk: D,
+    tokens: Tokens,
+    ticket: Ticket,
+    workers: Workers,
+    ended: &mut Option<Ended<L>>,
+) -> D
+    requires tokens { AreTokens (C.table crew.now) (C.queue crew.now) whole_share tokens }
+    requires unused { tokens.seat.own ≡ [] }
+    requires ticket { C.sends crew.now ticket }
+    requires desk { K.is_laid collector.now desk }
+    requires workers { AreWorkers workers }
+    ensures same_reference { K.reference collector.now result ≡ K.reference collector.now desk }
+    ensures desk { (result ≡ desk) ⊎ K.collected collector.now desk result }
+    ensures collected { IfSome ended.new (λ e. K.collected collector.now desk result) }
+    ensures tokens { IfSome ended.new (λ e. AreTokens (C.table crew.now) (C.queue crew.now) whole_share e.tokens) }
+    ensures done { IfSome ended.new (λ e. IsNone e.unshelved → (h : Duty → ℕ) → done h e.tokens ≡ owed h (C.table crew.now).layout (C.table crew.now).layout.pages) }
+    ensures put { IfSome ended.new (λ e. PutsCompletedSince tokens e.tokens) }
+{
+    let (desk, all) = run_in_scope(rt, alloc, crew, collector, desk, tokens, ticket, workers);
+    *ended = all;
+    desk
 }

@@ -1,11 +1,11 @@
 use Rattle.std.proofs.Common.{rules, ◌≡◌, ◌∙◌, subst, sym, ap}
 use Rattle.imposer.specs.Collecting.{Stands, StandsAt, Handed}
 use Rattle.imposer.proofs.Fronts.{header_handed}
-use Rattle.imposer.proofs.shop.ShopCollectorDesk.collect.Goals as goal
+use Rattle.imposer.proofs.shop.IntakeCollectorDesk.collect.Goals as goal
 
-pub returns-then-is_none : goal.returns-then-is_none
-returns-then-is_none g c =
-    let job = c.args.self.now.intake.job.now in
+pub returns-then-is_none-clause-collected : goal.returns-then-is_none-clause-collected
+returns-then-is_none-clause-collected g c =
+    let job = c.args.self.now.job.now in
     let d = c.args.desk.now in
     let p = c.write_text-desk.result in
     let next : p.next ≡ 0 = c.write_text-desk.ensures.next ∙ ap (λ q. q.next) c.requires.3 in
@@ -14,4 +14,4 @@ returns-then-is_none g c =
     let stands = header_handed job _ _ _ _ p.written c.as_slice.result.now p.halted (c.as_slice.ensures.value ∙ header) handed in
     let begun : Stands job (g.S.Sink.told d.sink.now) (g.S.Sink.told c.write_text-desk.new.sink) (g.S.Sink.failures d.sink.now) (g.S.Sink.failures c.write_text-desk.new.sink) p =
     subst (λ n. StandsAt job (g.S.Sink.told d.sink.now) (g.S.Sink.told c.write_text-desk.new.sink) (g.S.Sink.failures d.sink.now) (g.S.Sink.failures c.write_text-desk.new.sink) n p.written p.halted) (sym next) stands in
-    (c.take_all.ensures.same, c.take_all.ensures.goes_on _ _ begun, c.take_all.ensures.early)
+    (c.take_all.ensures.goes_on _ _ begun, c.take_all.ensures.early)
