@@ -6,5 +6,5 @@ use Rattle.imposer.proofs.delivery.deliver.Goals as goal
 
 pub mark_all-replies-requires-clause-places : goal.mark_all-replies-requires-clause-places
 mark_all-replies-requires-clause-places g c =
-    ready_published c.args.table.now.layout c.args.seat.now c.publish-published.new.seat c.page-page.result c.index.result c.publish-published.result c.slots_of_page-places.result.now
+    ready_published c.args.table.now.layout c.args.seat.now c.publish-published.new.seat c.page-page.result _ c.publish-published.result c.slots_of_page-places.result.now
     c.requires.seat.1 c.publish-published.ensures (c.slots_of_page-places.ensures.value ∙ ap (λ (l : Layout). places_of l c.page-page.result) (sym c.requires.plan))
