@@ -62,6 +62,7 @@ pub fn deliver<'d, R: Wait>(
         (λ d. Makes seat.old (delivery table.now.layout prepared.entry.page d.receipt.index d.published d.replies.items) seat.new)
         (λ e. seat.new ≡ seat.old) }
     ensures answered { IfOk result (λ d. length d.replies.items ≡ length (places_of table.now.layout prepared.entry.page)) }
+    ensures seat { IsSeatOf table.now seat.new }
 
     // At Ok each sheet that the page completed was put on the queue, in order, but for those handed back.
     ensures handed_on { MatchResult result
