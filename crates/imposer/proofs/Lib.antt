@@ -15,3 +15,4 @@ pub mod Held
 pub mod Counts
 pub mod HandedOn
 pub mod Reading
+pub mod Ends

@@ -1,5 +1,5 @@
 -- What the answers of a gathering mean.
-use Rattle.std.specs.Prelude.{◌≡◌, ◌⊎◌, ℕ, ◌+◌, ◌≤◌, List, [], length, Option, Result, Ok, Err, IsSomeAnd, IsNone, ⊤}
+use Rattle.std.specs.Prelude.{◌≡◌, ◌⊎◌, ℕ, ◌+◌, ◌≤◌, List, [], length, Option, Result, Ok, Err, MatchResult, IfSome, IsSomeAnd, IsNone, ⊤}
 use Rattle.std.specs.Io.KnownBytes.{Appends}
 use Rattle.profile.specs.Sheets.{Layout, layout}
 use Rattle.histories.specs.Seats.{whole_share}
@@ -10,6 +10,9 @@ use Rattle.imposer.specs.Jobs.{JobView, output_of}
 use Rattle.imposer.specs.Collecting.{WroteFirst, Stands}
 use Rattle.imposer.specs.Runs.{FailedIn}
 use Rattle.imposer.specs.declared.collecting.Progress.{Progress}
+use Rattle.handover.specs.declared.receipts.Overflow.{Overflow}
+use Rattle.imposer.specs.declared.crew.Ended.{Ended}
+use Rattle.imposer.specs.declared.gathering.Gathered.{Gathered}
 use Rattle.imposer.specs.declared.outcome.Report.{Report}
 use Rattle.imposer.specs.declared.outcome.RunError.{RunError}
 use Rattle.imposer.specs.declared.outcome.RunError.TheVariants as error
@@ -53,11 +56,6 @@ abbrev pub Answers : JobView → (old new : Option (List ℕ)) → (before after
 Answers job old new before after (Ok report) = Appends old new (output_of job) × (after ≡ before) × ReportsOf job report
 Answers job old new before after (Err e) = WrotePartOf job old new e × FailedIn e before after
 
--- the same, wherever the collector began that had come so far
-abbrev pub AnswersAfter : JobView → (old new : Option (List ℕ)) → (before after : ℕ) → Progress → Result Report RunError → Type 0
-AnswersAfter job old new before after p outcome =
-    (start : Option (List ℕ)) (first : ℕ) → Stands job start old first before p → Answers job start new first after outcome
-
 -- a seat and a pass that have all shares again
 pub record AreWhole (table : TableView) (queue : QueueView) (its_seat : SeatView) (its_pass : PassView) : Type 0 where
   pub of_table : IsSeatOf table its_seat
@@ -66,3 +64,10 @@ pub record AreWhole (table : TableView) (queue : QueueView) (its_seat : SeatView
   pub pass : IsPass its_pass
   pub seat_share : its_seat.share ≡ whole_share
   pub pass_share : its_pass.share ≡ whole_share
+
+-- how a run answers whose workers have ended, wherever its collector began: their tokens come back, but after want of memory
+pub record Concludes (job : JobView) (old new : Option (List ℕ)) (before after : ℕ) (p : Progress) (ended : Ended Overflow) (gathered : Gathered) : Type 0 where
+  pub answers : (start : Option (List ℕ)) (first : ℕ) → Stands job start old first before p → Answers job start new first after gathered.outcome
+  pub tokens : MatchResult gathered.outcome (λ _. IsSomeAnd gathered.tokens (λ t. ⊤)) (λ e. HandsBackTokens e gathered.tokens)
+  pub same : IfSome gathered.tokens (λ t. (t.0 ≡ ended.tokens.seat) × (t.1 ≡ ended.tokens.pass))
+  pub unshelved : gathered.unshelved ≡ ended.unshelved

@@ -121,24 +121,23 @@ pub(crate) fn write_rest<S: Sink>(
     job: &Job<'_, '_>,
     sink: &mut S,
     progress: Progress,
-    early: Vec<Option<Vec<u8>>>,
+    early: &mut Vec<Option<Vec<u8>>>,
     trailer: &[u8],
 ) -> Rest
     requires countable { progress.halted ≡ None → S.failures sink.old < u64.MAX }
     requires next { progress.halted ≡ None → progress.next ≤ length job.now.plan.sheets }
-    requires early { AreEarly job.now early.items }
+    requires early { AreEarly job.now early.old.items }
     requires trailer { trailer.now ≡ trailer_text job.now.units }
     ensures ended { EndsAfter job.now (S.told sink.old) (S.told sink.new) (S.failures sink.old) (S.failures sink.new) progress result.progress }
     ensures swept { result.swept ≤ length job.now.plan.sheets }
 {
     let mut progress = progress;
-    let mut early = early;
     let mut swept = 0;
     if progress.halted.is_some() {
         return Rest { progress, swept };
     }
     for sheet in progress.next..job.sheets {
-        let Ok(text) = next_text(alloc, job, &mut early, sheet, &mut swept) else {
+        let Ok(text) = next_text(alloc, job, early, sheet, &mut swept) else {
             return Rest {
                 progress: halted(progress, progress.written, Halt::NoMemory),
                 swept,

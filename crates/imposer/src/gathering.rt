@@ -1,8 +1,9 @@
 //! The part of a run in which all its workers start and end.
-ghost use Rattle.std.specs.Prelude.{◌≡◌, ℕ, ◌<◌, ◌≤◌, List, Option, None, Err, length, IfOk, IfErr, IfSome, IsNone, IsSomeAnd, MatchResult, OnOk, ⊤};
+ghost use Rattle.std.specs.Prelude.{◌≡◌, ℕ, ◌<◌, ◌≤◌, List, Option, None, Err, length, IfOk, IfErr, IfSome, IsNone, IsSome, IsSomeAnd, MatchResult, OnOk, ⊤};
 ghost use Rattle.std.specs.Io.KnownBytes.{Appends};
 ghost use Rattle.profile.specs.Sheets.{layout};
 ghost use Rattle.profile.specs.Filters.{trailer_text};
+ghost use Rattle.histories.specs.Seats.{whole_share};
 ghost use Rattle.handover.specs.Passes.{IsPassOf};
 ghost use Rattle.handover.specs.Shelves.{IsOn};
 ghost use Rattle.imposer.specs.declared.outcome.RunError.TheVariants.{NoMemory};
@@ -11,8 +12,9 @@ ghost use Rattle.imposer.specs.Workers.{AreWorkers};
 ghost use Rattle.imposer.specs.Runs.{FailedIn};
 ghost use Rattle.imposer.specs.Delivery.{HandedOn};
 ghost use Rattle.imposer.specs.Collecting.{AreEarly, EndsAt};
+ghost use Rattle.imposer.specs.Tokens.{AreTokens, AreUnused};
 ghost use Rattle.imposer.specs.Gathered.{IsGathered, IsHandedOn};
-ghost use Rattle.imposer.specs.Gathering.{IsFreshSeat, IsFreshPass, ReportsOf, WrotePartOf, HandsBackTokens, AreWhole, Answers, AnswersAfter};
+ghost use Rattle.imposer.specs.Gathering.{IsFreshSeat, IsFreshPass, ReportsOf, WrotePartOf, HandsBackTokens, AreWhole, Answers, Concludes};
 
 use crate::channel::Texts;
 use crate::collecting::{Halt, Progress, Rest, write_rest};
@@ -88,6 +90,9 @@ pub fn gather<'j, 'd, R: Threads + Wait + Sync, G: Gate + Sync, S: Sink>(
     // No sheet was put on the queue twice, and what was taken and what is left is what was put.
     ensures handed_on { IfSome result.tokens (λ t. IsHandedOn t.1.front) }
 {
+    // Each tells that it keeps what every seat and every pass keeps.
+    seat.share();
+    pass.share();
     let tokens = Tokens { seat, pass };
     gather_as::<Brand, R, G, S>(
         rt, alloc, job, table, shelf, ready, tokens, workers, gate, sink,
@@ -108,7 +113,7 @@ fn gather_as<'s, 'j, 'd, T: Texts + Send + Sync, R: Threads + Wait + Sync, G: Ga
 ) -> Gathered<'d>
     requires texts { (s : ℕ) → T.text s ≡ text_of job.now s }
     requires table { table.now.layout ≡ layout job.now.plan }
-    requires tokens { IsFreshSeat table.now tokens.seat × IsFreshPass ready.now tokens.pass }
+    requires tokens { AreTokens table.now ready.now whole_share tokens × AreUnused tokens }
     requires workers { AreWorkers workers }
     requires countable { S.failures sink.old < u64.MAX }
     ensures outcome { Answers job.now (S.told sink.old) (S.told sink.new) (S.failures sink.old) (S.failures sink.new) result.outcome }
@@ -123,10 +128,10 @@ fn gather_as<'s, 'j, 'd, T: Texts + Send + Sync, R: Threads + Wait + Sync, G: Ga
     let Hall {
         header,
         trailer,
-        early,
+        mut early,
         outlet,
         inlet,
-        ours,
+        mut ours,
         theirs,
     } = hall;
     let running = AtomicU32::new(workers.preparers);
@@ -147,17 +152,17 @@ fn gather_as<'s, 'j, 'd, T: Texts + Send + Sync, R: Threads + Wait + Sync, G: Ga
     };
     let desk = Desk {
         sink,
-        ticket: ours,
-        header,
+        early: &mut early,
+        header: header.as_slice(),
+        ticket: &mut ours,
         progress: Progress {
             next: 0,
             written: 0,
             halted: None,
         },
-        early,
     };
     let mut ended = None;
-    let desk = gather_by(
+    let mut desk = gather_by(
         rt,
         alloc,
         &shop,
@@ -168,16 +173,16 @@ fn gather_as<'s, 'j, 'd, T: Texts + Send + Sync, R: Threads + Wait + Sync, G: Ga
         workers,
         &mut ended,
     );
+    let gathered = finish(alloc, job, &mut desk, trailer.as_slice(), ended);
+    // Taken apart, so that what became of the sink is known.
     let Desk {
-        sink,
-        progress,
-        early,
-        ..
+        sink: _,
+        early: _,
+        header: _,
+        ticket: _,
+        progress: _,
     } = desk;
-    match ended {
-        Some(ended) => finish(alloc, job, sink, progress, early, trailer.as_slice(), ended),
-        None => out_of_memory(progress.written),
-    }
+    gathered
 }
 
 /// Puts the sheets without pages on the queue: no preparer completes them.
@@ -203,26 +208,52 @@ fn out_of_memory<'d>(written: u64) -> Gathered<'d>
     }
 }
 
-/// Writes what is left when all workers have ended, and answers.
+/// Answers when all workers have ended: want of memory where one of them met it, else what the collector came to.
 fn finish<'d, S: Sink>(
     alloc: Global,
     job: &Job<'_, 'd>,
-    sink: &mut S,
-    progress: Progress,
-    early: Vec<Option<Vec<u8>>>,
+    desk: &mut Desk<'_, S>,
+    trailer: &[u8],
+    ended: Option<Ended<Overflow<'d>>>,
+) -> Gathered<'d>
+    requires countable { IsSome ended → desk.old.progress.halted ≡ None → S.failures desk.old.sink.now < u64.MAX }
+    requires next { IsSome ended → desk.old.progress.halted ≡ None → desk.old.progress.next ≤ length job.now.plan.sheets }
+    requires early { IsSome ended → AreEarly job.now desk.old.early.now.items }
+    requires trailer { trailer.now ≡ trailer_text job.now.units }
+    ensures same_sink { desk.new.sink.ghost_name ≡ desk.old.sink.ghost_name }
+    ensures ended { IfSome ended.entry (λ e. Concludes job.now (S.told desk.old.sink.now) (S.told desk.new.sink.now) (S.failures desk.old.sink.now) (S.failures desk.new.sink.now) desk.old.progress e result) }
+    ensures missing { IsNone ended.entry → (result ≡ record { outcome = Err (NoMemory desk.old.progress.written); unshelved = None; tokens = None })
+        × (S.told desk.new.sink.now ≡ S.told desk.old.sink.now) × (S.failures desk.new.sink.now ≡ S.failures desk.old.sink.now) }
+{
+    match ended {
+        Some(ended) => conclude(alloc, job, desk, trailer, ended),
+        None => out_of_memory(desk.progress.written),
+    }
+}
+
+/// Writes what is left when all workers have ended, and answers.
+fn conclude<'d, S: Sink>(
+    alloc: Global,
+    job: &Job<'_, 'd>,
+    desk: &mut Desk<'_, S>,
     trailer: &[u8],
     ended: Ended<Overflow<'d>>,
 ) -> Gathered<'d>
-    requires countable { progress.halted ≡ None → S.failures sink.old < u64.MAX }
-    requires next { progress.halted ≡ None → progress.next ≤ length job.now.plan.sheets }
-    requires early { AreEarly job.now early.items }
+    requires countable { desk.old.progress.halted ≡ None → S.failures desk.old.sink.now < u64.MAX }
+    requires next { desk.old.progress.halted ≡ None → desk.old.progress.next ≤ length job.now.plan.sheets }
+    requires early { AreEarly job.now desk.old.early.now.items }
     requires trailer { trailer.now ≡ trailer_text job.now.units }
-    ensures outcome { AnswersAfter job.now (S.told sink.old) (S.told sink.new) (S.failures sink.old) (S.failures sink.new) progress result.outcome }
-    ensures tokens { MatchResult result.outcome (λ _. IsSomeAnd result.tokens (λ t. ⊤)) (λ e. HandsBackTokens e result.tokens) }
-    ensures same { IfSome result.tokens (λ t. (t.0 ≡ ended.entry.tokens.seat) × (t.1 ≡ ended.entry.tokens.pass)) }
-    ensures unshelved { result.unshelved ≡ ended.entry.unshelved }
+    ensures same_sink { desk.new.sink.ghost_name ≡ desk.old.sink.ghost_name }
+    ensures ended { Concludes job.now (S.told desk.old.sink.now) (S.told desk.new.sink.now) (S.failures desk.old.sink.now) (S.failures desk.new.sink.now) desk.old.progress ended.entry result }
 {
-    let rest = write_rest(alloc, job, sink, progress, early, trailer);
+    let rest = write_rest(
+        alloc,
+        job,
+        desk.sink,
+        desk.progress,
+        desk.early,
+        trailer,
+    );
     let Ended { tokens, unshelved } = ended;
     let Tokens { seat, pass } = tokens;
     let written = rest.progress.written;

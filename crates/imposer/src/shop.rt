@@ -116,31 +116,32 @@ pub(crate) struct Intake<'s, 'j, 'd, T: Texts> {
     pub(crate) inlet: &'s Inlet<T>,
 }
 
-/// What the collector writes to, and the sheets that came before their turn.
+/// What the collector writes to, and the sheets that came before their turn. It owns no memory, so that what becomes of the
+/// sink is known to whom it belongs.
 #[derive(Drop)]
 pub(crate) struct Desk<'a, S> {
     pub(crate) sink: &'a mut S,
-    pub(crate) ticket: Ticket,
-    pub(crate) header: Vec<u8>,
+    pub(crate) early: &'a mut Vec<Option<Vec<u8>>>,
+    pub(crate) header: &'a [u8],
+    pub(crate) ticket: &'a mut Ticket,
     pub(crate) progress: Progress,
-    pub(crate) early: Vec<Option<Vec<u8>>>,
 }
 
 impl<'s, 'j, 'd, 'a, T: Texts, S: Sink> Collector<Desk<'a, S>> for Intake<'s, 'j, 'd, T> {
     ghost reference = { λ s d. d.sink.ghost_name };
 
     ghost is_laid = { λ s d. ((k : ℕ) → T.text k ≡ text_of s.job.now k)
-        × IsSeatAt (receives_on s.inlet.now) d.ticket
-        × (d.header.items ≡ preamble_text (length s.job.now.plan.sheets) s.job.now.units)
+        × IsSeatAt (receives_on s.inlet.now) d.ticket.now
+        × (d.header.now ≡ preamble_text (length s.job.now.plan.sheets) s.job.now.units)
         × (d.progress ≡ record { next = 0; written = 0; halted = None })
-        × AreEarly s.job.now d.early.items
+        × AreEarly s.job.now d.early.now.items
         × (S.failures d.sink.now < 18_446_744_073_709_551_615) };
 
     ghost collected = { λ s d e. Stands s.job.now (S.told d.sink.now) (S.told e.sink.now) (S.failures d.sink.now) (S.failures e.sink.now) e.progress
-        × AreEarly s.job.now e.early.items };
+        × AreEarly s.job.now e.early.now.items };
 
     fn collect<R: Wait>(&self, rt: &R, desk: &mut Desk<'a, S>) {
-        desk.progress = write_text(desk.sink, desk.progress, desk.header.as_slice());
+        desk.progress = write_text(desk.sink, desk.progress, desk.header);
         if desk.progress.halted.is_none() {
             take_all(rt, self, desk);
         }
@@ -155,10 +156,10 @@ fn take_all<R: Wait, T: Texts, S: Sink>(
 )
     requires countable { S.failures desk.old.sink.now < u64.MAX }
     requires texts { (s : ℕ) → T.text s ≡ text_of intake.now.job.now s }
-    requires ticket { IsSeatAt (receives_on intake.now.inlet.now) desk.old.ticket }
+    requires ticket { IsSeatAt (receives_on intake.now.inlet.now) desk.old.ticket.now }
     requires going { desk.old.progress.halted ≡ None }
-    requires early { AreEarly intake.now.job.now desk.old.early.items }
-    ensures early { AreEarly intake.now.job.now desk.new.early.items }
+    requires early { AreEarly intake.now.job.now desk.old.early.now.items }
+    ensures early { AreEarly intake.now.job.now desk.new.early.now.items }
     ensures same { desk.new.sink.ghost_name ≡ desk.old.sink.ghost_name }
     ensures goes_on { GoesOn intake.now.job.now (S.told desk.old.sink.now) (S.told desk.new.sink.now) (S.failures desk.old.sink.now) (S.failures desk.new.sink.now) desk.old.progress desk.new.progress }
 {
@@ -180,12 +181,12 @@ fn take_turn<R: Wait, T: Texts, S: Sink>(
 ) -> bool
     requires countable { S.failures desk.old.sink.now < u64.MAX }
     requires texts { (s : ℕ) → T.text s ≡ text_of intake.now.job.now s }
-    requires ticket { IsSeatAt (receives_on intake.now.inlet.now) desk.old.ticket }
+    requires ticket { IsSeatAt (receives_on intake.now.inlet.now) desk.old.ticket.now }
     requires going { desk.old.progress.halted ≡ None }
-    requires early { AreEarly intake.now.job.now desk.old.early.items }
-    ensures ticket { IsSeatAt (receives_on intake.now.inlet.now) desk.new.ticket }
+    requires early { AreEarly intake.now.job.now desk.old.early.now.items }
+    ensures ticket { IsSeatAt (receives_on intake.now.inlet.now) desk.new.ticket.now }
     ensures going { IsTrue result → desk.new.progress.halted ≡ None }
-    ensures early { AreEarly intake.now.job.now desk.new.early.items }
+    ensures early { AreEarly intake.now.job.now desk.new.early.now.items }
     ensures same { desk.new.sink.ghost_name ≡ desk.old.sink.ghost_name }
     ensures goes_on { GoesOn intake.now.job.now (S.told desk.old.sink.now) (S.told desk.new.sink.now) (S.failures desk.old.sink.now) (S.failures desk.new.sink.now) desk.old.progress desk.new.progress }
     ensures steady { IsTrue result → S.failures desk.new.sink.now ≡ S.failures desk.old.sink.now }
@@ -209,23 +210,23 @@ fn take_one<R: Wait, T: Texts, S: Sink>(
 ) -> bool
     requires countable { S.failures desk.old.sink.now < u64.MAX }
     requires texts { (s : ℕ) → T.text s ≡ text_of job.now s }
-    requires ticket { IsSeatAt (receives_on inlet.now) desk.old.ticket }
+    requires ticket { IsSeatAt (receives_on inlet.now) desk.old.ticket.now }
     requires going { desk.old.progress.halted ≡ None }
-    requires early { AreEarly job.now desk.old.early.items }
-    ensures ticket { IsSeatAt (receives_on inlet.now) desk.new.ticket }
-    ensures early { AreEarly job.now desk.new.early.items }
+    requires early { AreEarly job.now desk.old.early.now.items }
+    ensures ticket { IsSeatAt (receives_on inlet.now) desk.new.ticket.now }
+    ensures early { AreEarly job.now desk.new.early.now.items }
     ensures same { desk.new.sink.ghost_name ≡ desk.old.sink.ghost_name }
     ensures goes_on { GoesOn job.now (S.told desk.old.sink.now) (S.told desk.new.sink.now) (S.failures desk.old.sink.now) (S.failures desk.new.sink.now) desk.old.progress desk.new.progress }
     ensures steady { desk.new.progress.halted ≡ None → S.failures desk.new.sink.now ≡ S.failures desk.old.sink.now }
     ensures nothing { result ≡ false → desk.new.progress.halted ≡ None }
 {
-    let Ok(done) = inlet.try_recv_as::<Right<T>, R>(rt, &mut desk.ticket) else {
+    let Ok(done) = inlet.try_recv_as::<Right<T>, R>(rt, desk.ticket) else {
         return false;
     };
     let at = done.sheet as usize;
     if at < desk.early.len() {
         desk.early[at] = Some(done.text);
-        desk.progress = write_early(job, desk.sink, desk.progress, &mut desk.early);
+        desk.progress = write_early(job, desk.sink, desk.progress, desk.early);
     }
     true
 }

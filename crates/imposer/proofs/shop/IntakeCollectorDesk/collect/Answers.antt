@@ -9,9 +9,9 @@ returns-then-is_none-clause-collected g c =
     let d = c.args.desk.now in
     let p = c.write_text-desk.result in
     let next : p.next ≡ 0 = c.write_text-desk.ensures.next ∙ ap (λ q. q.next) c.requires.3 in
-    let header : d.header.items ≡ _ = c.requires.2 in
-    let handed = subst (λ w. Handed c.as_slice.result.now (g.S.Sink.told d.sink.now) (g.S.Sink.told c.write_text-desk.new.sink) (g.S.Sink.failures d.sink.now) (g.S.Sink.failures c.write_text-desk.new.sink) w p.written p.halted) (ap (λ q. q.written) c.requires.3) c.write_text-desk.ensures.handed in
-    let stands = header_handed job _ _ _ _ p.written c.as_slice.result.now p.halted (c.as_slice.ensures.value ∙ header) handed in
+    let header : d.header.now ≡ _ = c.requires.2 in
+    let handed = subst (λ w. Handed d.header.now (g.S.Sink.told d.sink.now) (g.S.Sink.told c.write_text-desk.new.sink) (g.S.Sink.failures d.sink.now) (g.S.Sink.failures c.write_text-desk.new.sink) w p.written p.halted) (ap (λ q. q.written) c.requires.3) c.write_text-desk.ensures.handed in
+    let stands = header_handed job _ _ _ _ p.written d.header.now p.halted header handed in
     let begun : Stands job (g.S.Sink.told d.sink.now) (g.S.Sink.told c.write_text-desk.new.sink) (g.S.Sink.failures d.sink.now) (g.S.Sink.failures c.write_text-desk.new.sink) p =
     subst (λ n. StandsAt job (g.S.Sink.told d.sink.now) (g.S.Sink.told c.write_text-desk.new.sink) (g.S.Sink.failures d.sink.now) (g.S.Sink.failures c.write_text-desk.new.sink) n p.written p.halted) (sym next) stands in
     (c.take_all.ensures.goes_on _ _ begun, c.take_all.ensures.early)
