@@ -1,4 +1,6 @@
 //! Runs on small documents, and sinks that fail.
+mod impositions;
+
 use crate::{Job, MemorySink, Open, Options, Report, RunError, Sink, Workers, run, sheet_text};
 use dsc::Document;
 use lengths::{Grains, Paper, paper_by_name};
