@@ -1,5 +1,6 @@
-//! Runs on small documents, sinks that fail, and deliveries.
+//! Runs on small documents, sinks that fail, deliveries and impositions.
 mod deliveries;
+mod impositions;
 
 use crate::{Job, MemorySink, Open, Options, Report, RunError, Sink, Workers, run, sheet_text};
 use dsc::Document;
