@@ -1,5 +1,6 @@
 pub mod Cases
 pub mod LineLengths
+pub mod LineSearches
 pub mod Cut
 pub mod PlainLines
 pub mod Fronts
