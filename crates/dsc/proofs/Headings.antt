@@ -63,7 +63,7 @@ stripped : (content name : List ℕ) (t : Bool) → list_all in_key name ≡ tru
 stripped content name t free h = comment_is content name t free (flipped (take (length (name ++ 58 ∷ [])) content) (name ++ 58 ∷ []) t h)
 
 -- what doesn't begin with some bytes doesn't begin with these and more
-unbegun : (content start more : List ℕ) → starts_with nat_eq content start ≡ false → starts_with nat_eq content (start ++ more) ≡ false
+pub unbegun : (content start more : List ℕ) → starts_with nat_eq content start ≡ false → starts_with nat_eq content (start ++ more) ≡ false
 unbegun content start more h = by_test (starts_with nat_eq content (start ++ more))
     (λ is.
     let n : ℕ = length start in

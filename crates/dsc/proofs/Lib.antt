@@ -1,6 +1,8 @@
 pub mod Cases
 pub mod LineLengths
+pub mod LineSearches
 pub mod Cut
+pub mod PlainLines
 pub mod Fronts
 pub mod Rows
 pub mod FieldRows
@@ -11,6 +13,7 @@ pub mod Scans
 pub mod PartMarks
 pub mod Reading
 pub mod Filtering
+pub mod Passing
 pub mod Slices
 pub mod Trailers
 pub mod Preambles

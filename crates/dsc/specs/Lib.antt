@@ -1,3 +1,5 @@
+pub mod Bodies
+pub mod Plain
 pub mod Fields
 pub mod Views
 pub mod Laws

@@ -1,7 +1,7 @@
 //! What is kept of a text.
-ghost use Rattle.std.specs.Prelude.{◌≡◌, ◌+◌, ◌≤◌, [], ◌∷◌, ◌++◌, length, take, drop, IfOk, IfErr, OnOk, if◌then◌else◌, false, Ok, codes, decimal};
+ghost use Rattle.std.specs.Prelude.{◌≡◌, ◌+◌, ◌<◌, ◌≤◌, [], ◌∷◌, ◌++◌, length, take, drop, IfOk, IfErr, OnOk, if◌then◌else◌, false, Ok, codes, decimal};
 ghost use Rattle.profile.specs.Bytes.{line};
-ghost use Rattle.profile.specs.Units.{is_end, cut};
+ghost use Rattle.profile.specs.Units.{cut};
 ghost use Rattle.profile.specs.Parts.{bytes_of};
 ghost use Rattle.profile.specs.Filters.{kept, drops_in_header, ended, prepared};
 ghost use Rattle.dsc.specs.Units.{or_none, units_of};
@@ -13,13 +13,16 @@ ghost use Rattle.dsc.specs.Filters.{drops_of, is_dropped, filter_on};
 
 use crate::errors::{CutError, DscError, widen};
 use crate::keys::{key_of, meaning_of};
+use crate::lines::is_line_end;
+use crate::plain::plain_len;
 use crate::units::{Unit, UnitError, first_unit};
 use itoa::Buffer;
+use memchr::memmem::Finder;
 use std::alloc::{AllocError, Global};
 
 /// The lines that a filter drops: those that set up a page, or those that describe the whole document.
 #[derive(Clone, Copy)]
-enum Drops {
+pub enum Drops {
     PageSetup,
     DocumentSetup,
 }
@@ -58,34 +61,85 @@ fn drops_unit(drops: Drops, was: bool, unit: &Unit<'_>, depth: usize) -> bool
     (depth == 0 && drops_line(drops, unit.content)) || (was && unit.content.starts_with(b"%%+"))
 }
 
-/// Goes on by a unit of this length: a run of kept bytes grows, or it is copied and the next begins behind the unit.
+/// Whether this is said of the unit before, where so many bytes of lines were kept since it was said.
+fn is_next(said: bool, kept: usize) -> bool
+    ensures none_kept { kept ≡ 0 → result ≡ said }
+    ensures some_kept { 0 < kept → result ≡ false }
+{
+    said && kept == 0
+}
+
+/// What is kept of a text: what was copied of it, and behind that two runs of it that weren't.
+#[derive(Drop)]
+pub struct Kept<'d> {
+    pub copied: Vec<u8>,
+    pub held: &'d [u8],
+    pub run: &'d [u8],
+}
+
+impl<'d> Kept<'d> {
+    /// All of it in one list.
+    pub fn into_copy(self) -> Result<Vec<u8>, AllocError>
+        ensures { IfOk result (λ v. v.items ≡ (self.entry.copied.items ++ self.entry.held.now) ++ self.entry.run.now) }
+    {
+        let Kept {
+            mut copied,
+            held,
+            run,
+        } = self;
+        copied.reserve(held.len() + run.len() + 1)?;
+        copied.extend_from_slice(held)?;
+        copied.extend_from_slice(run)?;
+        Ok(copied)
+    }
+}
+
+/// Copies a part, if it has bytes. There will be room for so many bytes.
+fn copy(copied: &mut Vec<u8>, part: &[u8], room: usize) -> Result<(), AllocError>
+    ensures { OnOk result (copied.new.items ≡ copied.old.items ++ part.now) }
+{
+    if part.is_empty() {
+        return Ok(());
+    }
+    copied.reserve(room)?;
+    copied.extend_from_slice(part)
+}
+
+/// Goes on by a unit of this length: a run of kept bytes grows, or it is held and the next begins behind the unit. A run
+/// that was held before is copied then. So what is one run of the text is never copied.
 fn go_on<'d>(
-    kept: &mut Vec<u8>,
+    copied: &mut Vec<u8>,
+    held: &'d [u8],
     run: &'d [u8],
     run_len: usize,
     len: usize,
     dropped: bool,
-) -> Result<(&'d [u8], usize), AllocError>
+) -> Result<(&'d [u8], &'d [u8], usize), AllocError>
     requires { run_len + len ≤ length run.now }
-    ensures kept { IfOk result (λ r. kept.new.items ++ take r.1 r.0.now ≡ (kept.old.items ++ take run_len run.now) ++ (if dropped then [] else take len (drop run_len run.now))) }
-    ensures rest { IfOk result (λ r. drop r.1 r.0.now ≡ drop len (drop run_len run.now)) }
-    ensures within { IfOk result (λ r. r.1 ≤ length r.0.now) }
+    ensures kept { IfOk result (λ r. (copied.new.items ++ r.0.now) ++ take r.2 r.1.now ≡ ((copied.old.items ++ held.now) ++ take run_len run.now) ++ (if dropped then [] else take len (drop run_len run.now))) }
+    ensures rest { IfOk result (λ r. drop r.2 r.1.now ≡ drop len (drop run_len run.now)) }
+    ensures within { IfOk result (λ r. r.2 ≤ length r.1.now) }
 {
     if dropped {
-        let (pending, _) = run.split_at(run_len);
+        let (ended, _) = run.split_at(run_len);
         let (_, behind) = run.split_at(run_len + len);
-        kept.extend_from_slice(pending)?;
-        Ok((behind, 0))
+        if ended.is_empty() {
+            return Ok((held, behind, 0));
+        }
+        copy(copied, held, held.len() + run.len() + 1)?;
+        Ok((ended, behind, 0))
     } else {
-        Ok((run, run_len + len))
+        Ok((held, run, run_len + len))
     }
 }
 
-/// Adds to `kept` what is kept of the text.
-fn filter(kept: Vec<u8>, drops: Drops, text: &[u8]) -> Result<Vec<u8>, CutError>
-    ensures { Gives (λ v. v.items) block_fault_told result (filter_on drops kept.items false 0 0 text.now) }
+/// What is kept of the text, behind what was copied before.
+pub fn filter<'d>(copied: Vec<u8>, drops: Drops, text: &'d [u8]) -> Result<Kept<'d>, CutError>
+    ensures { Gives (λ k. (k.copied.items ++ k.held.now) ++ k.run.now) block_fault_told result (filter_on drops copied.items false 0 0 text.now) }
 {
-    let mut kept = kept;
+    let percent_signs = Finder::new(b"%%".as_slice());
+    let mut copied = copied;
+    let mut held: &[u8] = &[];
     let mut run = text;
     let mut run_len = 0usize;
     let mut at = 0usize;
@@ -93,26 +147,38 @@ fn filter(kept: Vec<u8>, drops: Drops, text: &[u8]) -> Result<Vec<u8>, CutError>
     let mut was = false;
     while run_len < run.len() {
         let (_, rest) = run.split_at(run_len);
-        let unit = match first_unit(rest) {
+        let plain = plain_len(&percent_signs, rest);
+        let (_, comment) = rest.split_at(plain);
+        run_len += plain;
+        at += plain;
+        if comment.is_empty() {
+            return Ok(Kept { copied, held, run });
+        }
+        let unit = match first_unit(comment) {
             Ok(unit) => unit,
             Err(UnitError::BadCount) => return Err(CutError::BadCount(at)),
             Err(UnitError::ShortData) => return Err(CutError::ShortData(at)),
         };
-        let dropped = drops_unit(drops, was, &unit, depth);
-        let (next, next_len) = match go_on(&mut kept, run, run_len, unit.bytes.len(), dropped) {
+        let dropped = drops_unit(drops, is_next(was, plain), &unit, depth);
+        let (next_held, next, next_len) = match go_on(
+            &mut copied,
+            held,
+            run,
+            run_len,
+            unit.bytes.len(),
+            dropped,
+        ) {
             Ok(next) => next,
             Err(_) => return Err(CutError::NoMemory),
         };
         depth = meaning_of(&unit, depth).depth;
         at += unit.bytes.len();
         was = dropped;
+        held = next_held;
         run = next;
         run_len = next_len;
     }
-    match kept.extend_from_slice(run) {
-        Ok(()) => Ok(kept),
-        Err(_) => Err(CutError::NoMemory),
-    }
+    Ok(Kept { copied, held, run })
 }
 
 /// Adds to `front` what is kept of a part of a preamble or of a trailer, which has no faulty block.
@@ -121,7 +187,7 @@ pub fn filter_header(front: Vec<u8>, text: &[u8]) -> Result<Vec<u8>, AllocError>
     ensures { IfOk result (λ v. v.items ≡ front.items ++ bytes_of (kept drops_in_header (units_of text.now))) }
 {
     match filter(front, Drops::DocumentSetup, text) {
-        Ok(kept) => Ok(kept),
+        Ok(kept) => kept.into_copy(),
         Err(CutError::NoMemory) => Err(AllocError),
         Err(CutError::BadCount(_)) => unreachable!(),
         Err(CutError::ShortData(_)) => unreachable!(),
@@ -140,14 +206,8 @@ pub fn with_count(alloc: Global, first: &[u8], sheets: u32) -> Result<Vec<u8>, A
     Ok(text)
 }
 
-fn is_line_end(byte: u8) -> bool
-    ensures { result ≡ is_end byte }
-{
-    byte == b'\r' || byte == b'\n'
-}
-
 /// Whether the bytes want a line end.
-fn wants_end(bytes: &[u8]) -> bool
+pub fn wants_end(bytes: &[u8]) -> bool
     ensures { ended bytes.now ≡ (if result then bytes.now ++ 10 ∷ [] else bytes.now) }
 {
     match bytes.last() {
@@ -190,12 +250,16 @@ fn prepare_page(alloc: Global, page: &[u8]) -> Result<Vec<u8>, CutError>
         Ok(room) => room,
         Err(_) => return Err(CutError::NoMemory),
     };
-    let mut kept = match filter(room, Drops::PageSetup, page) {
+    let kept = match filter(room, Drops::PageSetup, page) {
         Ok(kept) => kept,
         Err(e) => return Err(e),
     };
-    match end_line(&mut kept) {
-        Ok(()) => Ok(kept),
+    let mut copy = match kept.into_copy() {
+        Ok(copy) => copy,
+        Err(_) => return Err(CutError::NoMemory),
+    };
+    match end_line(&mut copy) {
+        Ok(()) => Ok(copy),
         Err(_) => Err(CutError::NoMemory),
     }
 }

@@ -2,6 +2,7 @@
 //! and trailer, and what is kept of each of them when its pages are placed on sheets.
 #![tactic(auto)]
 
+mod bodies;
 mod document;
 mod errors;
 mod fields;
@@ -9,9 +10,11 @@ mod filters;
 mod keys;
 pub mod laws;
 mod lines;
+mod plain;
 mod scan;
 mod units;
 
+pub use bodies::Body;
 pub use document::Document;
 pub use errors::DscError;
 pub use filters::prepare;

@@ -1,8 +1,15 @@
 //! The lines of a text. A line ends with CR LF, CR or LF; the last one may have no end.
 ghost use Rattle.std.specs.Prelude.{◌≡◌, ◌<◌, ◌≤◌, length, IfSome};
-ghost use Rattle.profile.specs.Units.{line_len, lines_len, end_len, content_of};
+ghost use Rattle.profile.specs.Units.{is_end, line_len, lines_len, end_len, content_of};
 
-use memchr::memchr2;
+use memchr::memchr2_iter;
+
+/// Whether the byte ends a line.
+pub fn is_line_end(byte: u8) -> bool
+    ensures { result ≡ is_end byte }
+{
+    byte == b'\r' || byte == b'\n'
+}
 
 /// How long the line end is that the bytes begin with.
 fn end_at(text: &[u8]) -> usize
@@ -24,7 +31,8 @@ fn end_at(text: &[u8]) -> usize
 pub fn content_end(text: &[u8]) -> usize
     ensures { result ≡ length (content_of text.now) }
 {
-    match memchr2(b'\r', b'\n', text) {
+    // The iterator looks at the next few bytes first, and most lines are short.
+    match memchr2_iter(b'\r', b'\n', text).next() {
         Some(at) => at,
         None => text.len(),
     }

@@ -6,7 +6,9 @@ ghost use Rattle.dsc.specs.Marks.{marks_on, scan_on, noted_starts, noted_end, st
 
 use crate::errors::CutError;
 use crate::keys::{Meaning, meaning_of};
+use crate::plain::plain_len;
 use crate::units::{UnitError, first_unit};
+use memchr::memmem::Finder;
 use std::alloc::{AllocError, Global};
 
 /// Where the pages begin, and where the trailer does once it was seen. One start more than a document may have pages
@@ -48,6 +50,7 @@ impl Seen {
 pub fn scan(alloc: Global, text: &[u8]) -> Result<Seen, CutError>
     ensures { Gives (λ s. marks_on 1_000_001 s.starts.items s.stop (length text.now) []) block_fault_told result (scan_on 1_000_001 [] None 0 0 text.now) }
 {
+    let percent_signs = Finder::new(b"%%".as_slice());
     let mut seen = Seen {
         starts: Vec::new(alloc),
         stop: None,
@@ -56,7 +59,13 @@ pub fn scan(alloc: Global, text: &[u8]) -> Result<Seen, CutError>
     let mut at = 0usize;
     let mut depth = 0usize;
     while !rest.is_empty() {
-        let unit = match first_unit(rest) {
+        let plain = plain_len(&percent_signs, rest);
+        let (_, comment) = rest.split_at(plain);
+        at += plain;
+        if comment.is_empty() {
+            return Ok(seen);
+        }
+        let unit = match first_unit(comment) {
             Ok(unit) => unit,
             Err(UnitError::BadCount) => return Err(CutError::BadCount(at)),
             Err(UnitError::ShortData) => return Err(CutError::ShortData(at)),
@@ -67,7 +76,7 @@ pub fn scan(alloc: Global, text: &[u8]) -> Result<Seen, CutError>
             Err(_) => return Err(CutError::NoMemory),
         }
         depth = meaning.depth;
-        let (_, others) = rest.split_at(unit.bytes.len());
+        let (_, others) = comment.split_at(unit.bytes.len());
         at += unit.bytes.len();
         rest = others;
     }

@@ -1,5 +1,5 @@
 //! Examples, and each public call once.
-use crate::{Document, DscError, laws, prepare};
+use crate::{Body, Document, DscError, laws, prepare};
 use std::alloc::Global;
 use std::test::Fail;
 
@@ -83,6 +83,41 @@ fn page_setup_is_dropped(rt: HostRuntime) -> Result<(), Fail> {
         b"%%Page: 1 1\n%%+ x\n%%PageBoundingBox: 0 0 1 1\n%%BeginPageSetup\nsave\n%%EndPageSetup\nx".as_slice();
     let body = prepare(rt.alloc(), page)?;
     assert_eq!(rt; body.as_slice(), b"save\nx\n".as_slice());
+    Ok(())
+}
+
+#[test]
+fn a_body_is_what_prepare_copies(rt: HostRuntime) -> Result<(), Fail> {
+    for (page, wanted) in [
+        (b"".as_slice(), b"".as_slice()),
+        (b"%%Page: 1 1\n", b""),
+        (b"%%Page: 1 1\nx", b"x\n"),
+        (
+            b"%%Page: 1 1\r\nx\r\ny %%Page\r\n%%Page\r\n",
+            b"x\r\ny %%Page\r\n",
+        ),
+        (b"x\n%%PageTrailer\n%%+ a\n", b"x\n"),
+        (b"%%Page: 1 1\nx\n%%PageTrailer\ny\n", b"x\ny\n"),
+        (
+            b"a\n%%PageA\n%%+\nb\n%%+ c\n%%PageD\n\ne\n%%PageF\n",
+            b"a\nb\n%%+ c\n\ne\n",
+        ),
+        (
+            b"%%Page: 1 1\n%%BeginData: 2 Hex Lines\n%%Page\n%%Page\n%%EndData\n",
+            b"%%BeginData: 2 Hex Lines\n%%Page\n%%Page\n%%EndData\n",
+        ),
+    ] {
+        let body = Body::prepare(rt.alloc(), page)?;
+        assert_eq!(rt; body.as_slice(), wanted);
+        let copy = prepare(rt.alloc(), page)?;
+        assert_eq!(rt; copy.as_slice(), wanted);
+    }
+    assert!(rt;
+        matches!(
+            Body::prepare(rt.alloc(), b"x\ny%%\n%%BeginData: 2\n\n"),
+            Err(DscError::ShortData(6))
+        )
+    );
     Ok(())
 }
 

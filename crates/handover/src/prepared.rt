@@ -6,17 +6,18 @@ ghost use Rattle.dsc.specs.Faults.{page_fault_told, IsPageError};
 ghost use Rattle.dsc.specs.Laws.{HasBody};
 ghost use Rattle.dsc.specs.declared.errors.DscError.TheVariants.{NoMemory};
 
-use dsc::{DscError, prepare};
+use dsc::{Body, DscError};
 use std::alloc::Global;
 use std::marker::Model;
 
 /// A page of a document with its prepared body: what is kept of its bytes when it is placed on a sheet (the page comments
-/// and the page setup lines of DSC 3.0 are dropped).
+/// and the page setup lines of DSC 3.0 are dropped). It takes 48 bytes, and memory for a copy of the body only where that is no
+/// run of the page's bytes.
 #[derive(Drop)]
 pub struct Prepared<'d> {
     page: u32,
     raw: &'d [u8],
-    kept: Vec<u8>,
+    body: Body<'d>,
 }
 
 impl<'d> Model for Prepared<'d> {
@@ -26,9 +27,9 @@ impl<'d> Model for Prepared<'d> {
 
     ghost Value = { PreparedPage };
 
-    ghost view = { λ p. record { page = p.page; raw = p.raw.now; body = p.kept.items } };
+    ghost view = { λ p. record { page = p.page; raw = p.raw.now; body = p.body } };
 
-    ghost invariant = { λ p. prepared p.raw.now ≡ Ok p.kept.items };
+    ghost invariant = { λ p. prepared p.raw.now ≡ Ok p.body };
 }
 
 impl<'d> Prepared<'d> {
@@ -41,8 +42,8 @@ impl<'d> Prepared<'d> {
         ensures refusals { IfErr result IsPageError }
         ensures memory_alone { HasBody raw.now → IfErr result (λ e. e ≡ NoMemory) }
     {
-        let kept = prepare(alloc, raw)?;
-        Ok(Prepared { page, raw, kept })
+        let body = Body::prepare(alloc, raw)?;
+        Ok(Prepared { page, raw, body })
     }
 
     /// The number of the page in its document, counted from 0.
@@ -64,6 +65,6 @@ impl<'d> Prepared<'d> {
         ensures body { result.now ≡ self.now.body }
         ensures prepared { prepared self.now.raw ≡ Ok result.now }
     {
-        self.kept.as_slice()
+        self.body.as_slice()
     }
 }

@@ -9,7 +9,7 @@ ghost use Rattle.sheet_plan.specs.Plans.{pages_on};
 ghost use Rattle.imposer.specs.Jobs.{slots_of, slots_text, text_of};
 
 use crate::job::Job;
-use dsc::{DscError, prepare};
+use dsc::{Body, DscError};
 use itoa::Buffer;
 use placement::{closing_text, opening_text};
 use std::alloc::{AllocError, Global};
@@ -87,7 +87,7 @@ fn append_slot(
     let Some(page) = job.plan.page_of(sheet, slot) else {
         return Ok(());
     };
-    let body = match prepare(alloc, job.document.page(page)) {
+    let body = match Body::prepare(alloc, job.document.page(page)) {
         Ok(body) => body,
         Err(DscError::NoMemory) => return Err(AllocError),
         Err(_) => unreachable!(),

@@ -65,9 +65,22 @@ fn append_decimal(value: i64, places: u32, out: &mut Vec<u8>) -> Result<(), Allo
     append(
         value < 0,
         whole_digits.format(size / one).as_bytes(),
-        decimals(part_digits.format(one + size % one).as_bytes()),
+        decimals_of_part(&mut part_digits, places, size % one),
         out,
     )
+}
+
+/// The decimals of a part, in units of 10^-places. Most numbers are whole, and these are told first.
+fn decimals_of_part(digits: &mut Buffer, places: u32, part: u64) -> &[u8]
+    requires places { places ≤ 9 }
+    requires part { part < 10 ^ places }
+    ensures value { result.now ≡ decimals_of places part }
+    ensures short { length result.now ≤ 40 }
+{
+    if part == 0 {
+        return &[];
+    }
+    decimals(digits.format(10u64.pow(places) + part).as_bytes())
 }
 
 /// The digits of a whole part, which is left out where it is 0 and decimals stand behind it.

@@ -1,3 +1,5 @@
+use Rattle.std.proofs.Common.{◌∙◌}
+use Rattle.dsc.proofs.Cases.{if_ok}
 use Rattle.dsc.proofs.Filtering.{header_found, same_found, no_fault}
 use Rattle.dsc.proofs.filters.filter_header.Goals as goal
 
@@ -10,4 +12,5 @@ unreachable-requires-in-Err-ShortData c =
     no_fault _ _ _ (header_found c.args.front.items c.args.text.now c.requires) (rw c.in-Err-ShortData.field-0-is at c.in-Err-ShortData.ensures)
 
 pub returns-in-Ok : goal.returns-in-Ok
-returns-in-Ok c = same_found _ _ _ c.in-Ok.ensures (header_found c.args.front.items c.args.text.now c.requires)
+returns-in-Ok c =
+    if_ok c.into_copy.result (λ v e. e ∙ same_found _ _ _ c.in-Ok.ensures (header_found c.args.front.items c.args.text.now c.requires)) c.into_copy.ensures

@@ -1,0 +1,36 @@
+//! Lines that begin with no two percent signs. They mean nothing for the parts of a document, and no filter drops them, so
+//! they are passed many at a time.
+ghost use Rattle.std.specs.Prelude.{◌≡◌, ◌<◌, ◌≤◌, length, codes};
+ghost use Rattle.dsc.specs.Plain.{BeginsPlain, next_line};
+
+use crate::lines::{content_end, is_line_end, line_end_after};
+use memchr::memmem::Finder;
+
+/// How many bytes at the start of the text can be passed, by a search for two percent signs: up to the first two, or, where
+/// these begin no line, behind the line that has them.
+pub fn plain_len(percent_signs: &Finder<'_>, text: &[u8]) -> usize
+    requires { percent_signs.now ≡ codes "%%" }
+    ensures plain { BeginsPlain result text.now }
+    ensures within { result ≤ length text.now }
+{
+    if text.starts_with(b"%%") {
+        return 0;
+    }
+    match percent_signs.find(text) {
+        None => text.len(),
+        Some(at) => next_line(text, at),
+    }
+}
+
+/// Where the next line begins, from a byte on that is no line end itself.
+fn next_line(text: &[u8], at: usize) -> usize
+    requires { at < length text.now }
+    ensures value { result ≡ next_line at text.now }
+    ensures within { result ≤ length text.now }
+{
+    if at == 0 || is_line_end(text[at - 1]) {
+        return at;
+    }
+    let (_, rest) = text.split_at(at);
+    at + line_end_after(rest, content_end(rest))
+}
