@@ -1,13 +1,14 @@
-//! Imposes the documents of its folder `data`, which real programs wrote, as a user would, and prints how many pages and
-//! sheets each has and how many bytes are written for it. Its `stdout` was made by a separate program.
+//! Imposes the documents of its folder `data`, which real programs wrote, as a user would. For each it prints how many pages
+//! and sheets it has, how many bytes are written, and their digest. Its `stdout` was made by a separate program.
 #![tactic(auto)]
 
 use imposer::MemorySink;
 use pstops_cli::{ReadSource, read_command, read_input, run_request};
+use sha2::{Digest, Sha256};
 use std::fs::File;
 
 /// The documents, by the programs that wrote them.
-const DOCUMENTS: [&str; 7] = [
+const DOCUMENTS: [&str; 15] = [
     "groff.ps",
     "figure.ps",
     "ps2write.ps",
@@ -15,11 +16,20 @@ const DOCUMENTS: [&str; 7] = [
     "cairo.ps",
     "a2ps.ps",
     "enscript.ps",
+    "gnuplot.ps",
+    "dvips.ps",
+    "vim.ps",
+    "barcode.ps",
+    "graphviz.ps",
+    "graphicsmagick.ps",
+    "paps.ps",
+    "psutils.ps",
 ];
 
-/// A copy, a selection, two pages on a sheet, a booklet.
-const SPECIFICATIONS: [&str; 4] = [
+/// A copy, the pages from last to first, a selection, two pages on a sheet, a booklet.
+const SPECIFICATIONS: [&str; 5] = [
     "0",
+    "1:-0",
     "2:-0",
     "2:0L@.7(21cm,0)+1L@.7(21cm,14.85cm)",
     "4:-3L@.7(21cm,0)+0L@.7(21cm,14.85cm),1L@.7(21cm,0)+-2L@.7(21cm,14.85cm)",
@@ -51,6 +61,8 @@ fn main(rt: HostRuntime) -> anyhow::Result<()> {
             );
             let line = String::from_utf8_lossy(rt.alloc(), line.as_slice())?;
             print!(rt; "{name} {spec}: status {status}, {line}")?;
+            let digest = hex::encode(rt.alloc(), Sha256::digest(sink.bytes()))?;
+            println!(rt; "    SHA-256 {digest}")?;
         }
     }
     Ok(())
