@@ -1,6 +1,6 @@
 -- What the answers of a run mean.
 use Rattle.std.specs.Io.KnownBytes.{Appends, Keeps}
-use Rattle.std.specs.Prelude.{Ok, Err, IsSomeAnd, ⊤, ◌⊎◌, ◌≡◌, ℕ, ◌≤◌, ◌+◌, List, length, take, Option}
+use Rattle.std.specs.Prelude.{Result, Ok, Err, IsSomeAnd, ⊤, ◌⊎◌, ◌≡◌, ℕ, ◌≤◌, ◌+◌, List, length, take, Option}
 use Rattle.profile.specs.Specification.{Spec}
 use Rattle.profile.specs.Admissible.{Takes, Refuses}
 use Rattle.profile.specs.Sheets.{sheets, layout}
@@ -17,6 +17,7 @@ use Rattle.imposer.specs.declared.outcome.RunError.{RunError}
 use Rattle.imposer.specs.declared.outcome.RunError.TheVariants as error
 use Rattle.imposer.specs.declared.options.Options.{Options}
 use Rattle.imposer.specs.declared.outcome.Report.{Report}
+use Rattle.imposer.specs.declared.runs.Given.{Given}
 
 -- how pages are placed
 abbrev pub frame_of : Options → Frame
@@ -96,3 +97,17 @@ IsUnwritten (error.Document e) = ⊤
 IsUnwritten (error.Plan e) = ⊤
 IsUnwritten (error.NoMemory written) = written ≡ 0
 IsUnwritten (error.Write written) = ⊥
+
+-- the request was read: its options are taken, its specification is this one, and its input is cut into these units
+pub record IsGiven (r : Request) (options : Options) (given : Given) : Type 0 where
+  pub same_options : r.options ≡ options
+  pub options : AreOptions r.options
+  pub takes : Takes 64 r.spec given.spec
+  pub document : document_of r.input ≡ Ok given.document
+
+-- what a run answers: at Ok exactly the output was written; an error names the first check that fails, and as much of the
+-- output was written as it says
+abbrev pub AnswersRequest : Request → (old new : Option (List ℕ)) → (before after : ℕ) → Result Report RunError → Type 0
+AnswersRequest r old new before after (Ok report) =
+    Accepted r (λ spec us. Appends old new (output (frame_of r.options) spec us) × Reports (frame_of r.options) spec us report) × (after ≡ before)
+AnswersRequest r old new before after (Err e) = IsRefusal r e × HasWritten r old new e × FailedIn e before after

@@ -14,7 +14,6 @@ mod job;
 pub mod laws;
 mod options;
 mod outcome;
-mod output;
 mod preparing;
 mod runs;
 mod sheet;

@@ -2,16 +2,20 @@
 ghost use Rattle.std.specs.Prelude.{◌≡◌, ℕ, ◌+◌, ◌<◌, IfOk, IfErr, OnOk};
 ghost use Rattle.std.specs.Io.KnownBytes.{Appends};
 ghost use Rattle.profile.specs.Output.{output};
-ghost use Rattle.imposer.specs.Runs.{request, frame_of, Accepted, IsRefusal, HasWritten, Reports, FailedIn, IsUnwritten};
+ghost use Rattle.imposer.specs.Gathering.{Answers};
+ghost use Rattle.imposer.specs.Workers.{AreWorkers};
+ghost use Rattle.imposer.specs.Runs.{Request, request, frame_of, Accepted, IsRefusal, HasWritten, Reports, FailedIn, IsUnwritten, IsGiven, AnswersRequest};
 
 use crate::gate::Gate;
+use crate::gathering::gather;
 use crate::job::Job;
-use crate::options::{Options, are_valid};
+use crate::options::{Options, Workers, are_valid};
 use crate::outcome::{Report, RunError};
-use crate::output::output_text;
-use crate::sink::{Sink, write_all};
+use crate::sink::Sink;
 use dsc::Document;
-use pagespec::read_spec;
+use gather_table::GatherTable;
+use handover::{Ready, Shelf};
+use pagespec::{Spec, read_spec};
 use sheet_plan::Plan;
 use std::alloc::Global;
 use std::sync::Wait;
@@ -21,8 +25,10 @@ use std::thread::Threads;
 ///
 /// A refusal names the first check that fails: of the options, the specification, the document, the plan; nothing is
 /// written then. After `NoMemory` and `Write` the sink has taken the first `written` bytes of the output.
-/// The sink isn't flushed. Everything runs on the caller's thread, so the gate isn't called and the numbers of workers have no
-/// effect beyond their check.
+/// The sink isn't flushed.
+///
+/// Preparers and imposers run in threads of their own, and the caller's thread writes the sheets in order, each as soon as all
+/// before it are written. No byte depends on the numbers of workers or on how the threads run beside each other.
 pub fn run<R: Threads + Wait + Sync, G: Gate + Sync, S: Sink>(
     rt: &R,
     alloc: Global,
@@ -44,29 +50,29 @@ pub fn run<R: Threads + Wait + Sync, G: Gate + Sync, S: Sink>(
     ensures steady { OnOk result (S.failures sink.new ≡ S.failures sink.old) }
     ensures failed { IfErr result (λ e. FailedIn e (S.failures sink.old) (S.failures sink.new)) }
 {
-    let _ = rt;
-    let _ = gate;
-    let made = make(alloc, input, spec, options)?;
-    match write_all(sink, made.text.as_slice()) {
-        Ok(()) => Ok(made.report),
-        Err(stopped) => Err(RunError::Write {
-            written: stopped.written as u64,
-        }),
-    }
+    let read = match read_request(alloc, input, spec, options) {
+        Ok(read) => read,
+        Err(error) => return Err(error),
+    };
+    run_read(rt, alloc, &read, options, gate, sink)
 }
 
-/// The whole output, and what the run reports of it.
+/// What a run was given, once it is read.
 #[derive(Drop)]
-struct Made {
-    text: Vec<u8>,
-    report: Report,
+struct Given<'d> {
+    spec: Spec,
+    document: Document<'d>,
 }
 
-/// Makes the output, or refuses.
-fn make(alloc: Global, input: &[u8], spec: &str, options: &Options) -> Result<Made, RunError>
-    ensures made { IfOk result (λ made. Accepted (request options.now spec.now input.now) (λ spec us.
-        (made.text.items ≡ output (frame_of options.now) spec us) × Reports (frame_of options.now) spec us made.report)) }
-    ensures refused { IfErr result (λ e. IsRefusal (request options.now spec.now input.now) e) }
+/// Checks the options, and reads the specification and the document.
+fn read_request<'d>(
+    alloc: Global,
+    input: &'d [u8],
+    spec: &str,
+    options: &Options,
+) -> Result<Given<'d>, RunError>
+    ensures read { IfOk result (λ given. IsGiven (request options.now spec.now input.now) options.now given) }
+    ensures refused { IfErr result (IsRefusal (request options.now spec.now input.now)) }
     ensures unwritten { IfErr result IsUnwritten }
 {
     if !are_valid(options) {
@@ -74,15 +80,53 @@ fn make(alloc: Global, input: &[u8], spec: &str, options: &Options) -> Result<Ma
     }
     let spec = read_spec(alloc, spec)?;
     let document = Document::read(alloc, input)?;
-    let plan = Plan::new(alloc, &spec, document.pages())?;
-    let job = Job::new(&plan, &document, options.paper, options.border);
-    let text = output_text(alloc, &job)?;
-    let report = Report {
-        pages: plan.pages(),
-        sheets: plan.sheets(),
-        born: plan.born_complete().len() as u32,
-        swept: 0,
-        bytes: text.len() as u64,
+    Ok(Given { spec, document })
+}
+
+/// Plans the sheets, and runs on them.
+fn run_read<R: Threads + Wait + Sync, G: Gate + Sync, S: Sink>(
+    rt: &R,
+    alloc: Global,
+    given: &Given<'_>,
+    options: &Options,
+    gate: &G,
+    sink: &mut S,
+) -> Result<Report, RunError>
+    requires countable { S.failures sink.old < u64.MAX }
+    ensures { (r : Request) → IsGiven r options.now given.now → AnswersRequest r (S.told sink.old) (S.told sink.new) (S.failures sink.old) (S.failures sink.new) result }
+{
+    let plan = match Plan::new(alloc, &given.spec, given.document.pages()) {
+        Ok(plan) => plan,
+        Err(error) => return Err(RunError::from(error)),
     };
-    Ok(Made { text, report })
+    let job = Job::new(&plan, &given.document, options.paper, options.border);
+    run_job(rt, alloc, &job, options.workers, gate, sink)
+}
+
+/// Makes what the workers share, and gathers.
+fn run_job<R: Threads + Wait + Sync, G: Gate + Sync, S: Sink>(
+    rt: &R,
+    alloc: Global,
+    job: &Job<'_, '_>,
+    workers: Workers,
+    gate: &G,
+    sink: &mut S,
+) -> Result<Report, RunError>
+    requires workers { AreWorkers workers }
+    requires countable { S.failures sink.old < u64.MAX }
+    ensures { Answers job.now (S.told sink.old) (S.told sink.new) (S.failures sink.old) (S.failures sink.new) result }
+{
+    let Ok((table, seat)) = GatherTable::new(alloc, job.plan) else {
+        return Err(RunError::NoMemory { written: 0 });
+    };
+    let Ok(shelf) = Shelf::new(alloc) else {
+        return Err(RunError::NoMemory { written: 0 });
+    };
+    let Ok((ready, pass)) = Ready::new(alloc, job.sheets.max(1)) else {
+        return Err(RunError::NoMemory { written: 0 });
+    };
+    let gathered = gather(
+        rt, alloc, job, &table, seat, &shelf, &ready, pass, workers, gate, sink,
+    );
+    gathered.outcome
 }
