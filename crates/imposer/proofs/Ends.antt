@@ -46,9 +46,9 @@ AnswersNoMemory written g = g ≡ record { outcome = Err (NoMemory written); uns
 used_wrote : (job : JobView) (old new : Option (List ℕ)) (before after : ℕ) (p : Progress) → WasUsed job old new before after p → Answers job old new before after (Err (NoMemory p.written))
 used_wrote job old new before after p used = ⊎_elim
     (λ u.
-      let none : Appends old old (take 0 (output_of job)) = Appends-nil old in
-      let here : Appends old new (take p.written (output_of job)) = subst (λ t. Appends old t (take p.written (output_of job))) (sym u.0) (subst (λ n. Appends old old (take n (output_of job))) (sym u.2) none) in
-      ((omega (arith, u.2), here), inl u.1))
+    let none : Appends old old (take 0 (output_of job)) = Appends-nil old in
+    let here : Appends old new (take p.written (output_of job)) = subst (λ t. Appends old t (take p.written (output_of job))) (sym u.0) (subst (λ n. Appends old old (take n (output_of job))) (sym u.2) none) in
+    ((omega (arith, u.2), here), inl u.1))
     (λ stands. stands_wrote job old new before after p.next p.written p.halted stands)
     used
 
@@ -92,6 +92,15 @@ gathered_whole job mid last more after p table queue first (Some e) g pages star
     back_whole table queue e g.tokens g.unshelved whole (gathered_handed_on table queue first e.tokens whole start puts) (λ none. tokens_gathered table queue e.tokens whole pages (weighs none)) concluded.same concluded.unshelved
 gathered_whole job mid last more after p table queue first None g pages start whole weighs puts concluded missing =
     subst (IsWhole table queue) (sym (missing refl).0) tt
+
+-- what holds of a token that the workers handed back holds of the one that comes back
+pub gathered_unshelved : (P : Overflow → Type 0) (job : JobView) (mid last : Option (List ℕ)) (more after : ℕ) (p : Progress) (ended : Option (Ended Overflow)) (g : Gathered)
+    → IfSome ended (λ e. IfSome e.unshelved P)
+    → IfSome ended (λ e. Concludes job mid last more after p e g)
+    → (IsNone ended → AnswersNoMemory p.written g × (last ≡ mid) × (after ≡ more))
+    → IfSome g.unshelved P
+gathered_unshelved P job mid last more after p (Some e) g lost concluded missing = subst (λ u. IfSome u P) (sym concluded.unshelved) lost
+gathered_unshelved P job mid last more after p None g lost concluded missing = subst (λ x. IfSome x.unshelved P) (sym (missing refl).0) tt
 
 -- tokens of which nothing was used have no calls and no moves
 none_inside : (own : List ℕ) → ((x : ℕ) → 0 < times x own → x < 0) → own ≡ []

@@ -20,13 +20,13 @@ use crate::channel::Texts;
 use crate::collecting::{Halt, Progress, Rest, write_rest};
 use crate::crew::Ended;
 use crate::gate::Gate;
-use crate::threads::gather_by;
 use crate::hall::Hall;
 use crate::job::Job;
 use crate::options::Workers;
 use crate::outcome::{Report, RunError};
 use crate::shop::{Desk, Intake, Shop};
 use crate::sink::Sink;
+use crate::threads::gather_by;
 use crate::tokens::Tokens;
 use gather_table::{GatherTable, Seat};
 use handover::{Overflow, Pass, Ready, Shelf};
@@ -87,6 +87,9 @@ pub fn gather<'j, 'd, R: Threads + Wait + Sync, G: Gate + Sync, S: Sink>(
     // One publish for each page, one mark for each needed slot, and exactly one completing mark for each sheet that has pages.
     ensures gathered { OnOk result.outcome (IsNone result.unshelved → IfSome result.tokens (λ t. IsGathered table.now.layout t.0.front)) }
 
+    // A token that comes back without a receipt is one of this shelf.
+    ensures unshelved { IfSome result.unshelved (IsOn shelf.now) }
+
     // No sheet was put on the queue twice, and what was taken and what is left is what was put.
     ensures handed_on { IfSome result.tokens (λ t. IsHandedOn t.1.front) }
 {
@@ -119,6 +122,7 @@ fn gather_as<'s, 'j, 'd, T: Texts + Send + Sync, R: Threads + Wait + Sync, G: Ga
     ensures outcome { Answers job.now (S.told sink.old) (S.told sink.new) (S.failures sink.old) (S.failures sink.new) result.outcome }
     ensures tokens { MatchResult result.outcome (λ _. IsSomeAnd result.tokens (λ t. ⊤)) (λ e. HandsBackTokens e result.tokens) }
     ensures whole { IfSome result.tokens (λ t. AreWhole table.now ready.now t.0 t.1 × IsHandedOn t.1.front × (IsNone result.unshelved → IsGathered table.now.layout t.0.front)) }
+    ensures unshelved { IfSome result.unshelved (IsOn shelf.now) }
 {
     let mut tokens = tokens;
     put_blank_sheets(rt, ready, job.plan.born_complete(), &mut tokens.pass);
@@ -246,14 +250,7 @@ fn conclude<'d, S: Sink>(
     ensures same_sink { desk.new.sink.ghost_name ≡ desk.old.sink.ghost_name }
     ensures ended { Concludes job.now (S.told desk.old.sink.now) (S.told desk.new.sink.now) (S.failures desk.old.sink.now) (S.failures desk.new.sink.now) desk.old.progress ended.entry result }
 {
-    let rest = write_rest(
-        alloc,
-        job,
-        desk.sink,
-        desk.progress,
-        desk.early,
-        trailer,
-    );
+    let rest = write_rest(alloc, job, desk.sink, desk.progress, desk.early, trailer);
     let Ended { tokens, unshelved } = ended;
     let Tokens { seat, pass } = tokens;
     let written = rest.progress.written;
