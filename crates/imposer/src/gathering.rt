@@ -87,7 +87,7 @@ pub fn gather<'j, 'd, R: Threads + Wait + Sync, G: Gate + Sync, S: Sink>(
     // One publish for each page, one mark for each needed slot, and exactly one completing mark for each sheet that has pages.
     ensures gathered { OnOk result.outcome (IsNone result.unshelved → IfSome result.tokens (λ t. IsGathered table.now.layout t.0.front)) }
 
-    // A token that comes back without a receipt is one of this shelf.
+    // A token that comes back is that of an entry of this shelf.
     ensures unshelved { IfSome result.unshelved (IsOn shelf.now) }
 
     // No sheet was put on the queue twice, and what was taken and what is left is what was put.
