@@ -46,9 +46,9 @@ AnswersNoMemory written g = g ≡ record { outcome = Err (NoMemory written); uns
 used_wrote : (job : JobView) (old new : Option (List ℕ)) (before after : ℕ) (p : Progress) → WasUsed job old new before after p → Answers job old new before after (Err (NoMemory p.written))
 used_wrote job old new before after p used = ⊎_elim
     (λ u.
-      let none : Appends old old (take 0 (output_of job)) = Appends-nil old in
-      let here : Appends old new (take p.written (output_of job)) = subst (λ t. Appends old t (take p.written (output_of job))) (sym u.0) (subst (λ n. Appends old old (take n (output_of job))) (sym u.2) none) in
-      ((omega (arith, u.2), here), inl u.1))
+    let none : Appends old old (take 0 (output_of job)) = Appends-nil old in
+    let here : Appends old new (take p.written (output_of job)) = subst (λ t. Appends old t (take p.written (output_of job))) (sym u.0) (subst (λ n. Appends old old (take n (output_of job))) (sym u.2) none) in
+    ((omega (arith, u.2), here), inl u.1))
     (λ stands. stands_wrote job old new before after p.next p.written p.halted stands)
     used
 

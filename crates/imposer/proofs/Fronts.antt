@@ -24,11 +24,10 @@ front_begins job n =
     let row = enumerate_from 0 job.plan.sheets in
     let text : ℕ × List Slot → List ℕ = λ (s, slots). sheet_text job.frame (pages job.units) s slots in
     let header = preamble_text (length job.plan.sheets) job.units in
-    let whole : flat_map text (take n row) ++ flat_map text (drop n row) ≡ flat_map text row = sym (flat_map-append text (take n row) (drop n row)) ∙ ap (λ xs. flat_map text xs) (take-append-drop n row) in
-    (
+    let whole : flat_map text (take n row) ++ flat_map text (drop n row) ≡ flat_map text row = sym (flat_map-append text (take n row) (drop n row)) ∙ ap (λ xs. flat_map text xs) (take-append-drop n row) in (
       flat_map text (drop n row) ++ trailer_text job.units,
       sym (append_assoc (header ++ flat_map text (take n row)) (flat_map text (drop n row)) (trailer_text job.units))
-      ∙ ap (λ t. t ++ trailer_text job.units) (append_assoc header (flat_map text (take n row)) (flat_map text (drop n row)) ∙ ap (λ t. header ++ t) whole),
+          ∙ ap (λ t. t ++ trailer_text job.units) (append_assoc header (flat_map text (take n row)) (flat_map text (drop n row)) ∙ ap (λ t. header ++ t) whole),
     )
 
 -- a first part of a whole, and some bytes behind it
@@ -57,17 +56,15 @@ wrote_front job start old new n so_far same =
 handed_behind : (job : JobView) (start old new : Option (List ℕ)) (first before after : ℕ) (n m written written' : ℕ) (text : List ℕ) (h : Option Halt)
     → front_text job n ++ text ≡ front_text job m → m ≤ length job.plan.sheets
     → Handed text old new before after written written' h → StandsAt job start old first before n written None → StandsAt job start new first after m written' h
-handed_behind job start old new first before after n m written written' text None grown within (more, appended, steady) (small, count, so_far, kept) =
-    (
-      within,
-      more ∙ ap (λ k. k + length text) count ∙ sym (length-append (front_text job n) text) ∙ ap (λ t. length t) grown,
-      subst (Appends start new) grown (Appends-trans start old new (front_text job n) text so_far appended),
-      steady ∙ kept,
-    )
+handed_behind job start old new first before after n m written written' text None grown within (more, appended, steady) (small, count, so_far, kept) = (
+  within,
+  more ∙ ap (λ k. k + length text) count ∙ sym (length-append (front_text job n) text) ∙ ap (λ t. length t) grown,
+  subst (Appends start new) grown (Appends-trans start old new (front_text job n) text so_far appended),
+  steady ∙ kept,
+)
 handed_behind job start old new first before after n m written written' text (Some Failed) grown within (k, few, more, appended, raised) (small, count, so_far, kept) =
     let begins = front_begins job m in
-    let whole : (front_text job n ++ text) ++ begins.0 ≡ output_of job = ap (λ t. t ++ begins.0) grown ∙ begins.1 in
-    (
+    let whole : (front_text job n ++ text) ++ begins.0 ≡ output_of job = ap (λ t. t ++ begins.0) grown ∙ begins.1 in (
       subst (WroteFirst job start new) (sym (more ∙ ap (λ x. x + k) count)) (wrote_behind job start old new (front_text job n) text begins.0 k whole few so_far appended),
       raised ∙ ap (λ x. x + 1) kept,
     )
@@ -126,7 +123,7 @@ some_inside {A = A} x y e = ap (λ o. inside o) e
 pub early_taken : (job : JobView) (texts : List (Option (Vec ℕ Global))) (j : ℕ) (x : Option (Vec ℕ Global)) → x ≡ None → AreEarly job texts → AreEarly job (slice_set texts j x)
 early_taken job texts j x none early = record {
   places = same_length texts j x ∙ early.places;
-  right = λ s text at. ⊎_elim (λ p. absurd (cc (none, p.1))) (λ p. early.right s text p) (found_after texts j s x (Some text) at)
+  right = λ s text at. ⊎_elim (λ p. absurd (cc (none, p.1))) (λ p. early.right s text p) (found_after texts j s x (Some text) at);
 }
 
 -- a sheet's place was filled
@@ -136,7 +133,7 @@ early_filled job texts j new is early = record {
   right = λ s text at. ⊎_elim
       (λ p. let same : new ≡ text = some_inside new text (some_inside (Some new) (Some text) p.1) in ap (λ t. t.items) (sym same) ∙ is ∙ ap (λ n. text_of job n) (sym p.0))
       (λ p. early.right s text p)
-      (found_after texts j s (Some new) (Some text) at)
+      (found_after texts j s (Some new) (Some text) at);
 }
 
 -- nothing more is written for want of memory
@@ -159,15 +156,13 @@ pub trailer_handed : (job : JobView) (start old new : Option (List ℕ)) (first 
     → n ≡ length job.plan.sheets → text ≡ trailer_text job.units
     → Handed text old new before after written written' h → StandsAt job start old first before n written None → EndsAt job start new first after written' h
 trailer_handed job start old new first before after n written written' text None all is (more, appended, steady) (small, count, so_far, kept) =
-    let whole : front_text job n ++ text ≡ output_of job = whole_output job n text all is in
-    (
+    let whole : front_text job n ++ text ≡ output_of job = whole_output job n text all is in (
       more ∙ ap (λ k. k + length text) count ∙ sym (length-append (front_text job n) text) ∙ ap (λ t. length t) whole,
       subst (Appends start new) whole (Appends-trans start old new (front_text job n) text so_far appended),
       steady ∙ kept,
     )
 trailer_handed job start old new first before after n written written' text (Some Failed) all is (k, few, more, appended, raised) (small, count, so_far, kept) =
-    let whole : (front_text job n ++ text) ++ [] ≡ output_of job = append-nil _ ∙ whole_output job n text all is in
-    (
+    let whole : (front_text job n ++ text) ++ [] ≡ output_of job = append-nil _ ∙ whole_output job n text all is in (
       subst (WroteFirst job start new) (sym (more ∙ ap (λ x. x + k) count)) (wrote_behind job start old new (front_text job n) text [] k whole few so_far appended),
       raised ∙ ap (λ x. x + 1) kept,
     )

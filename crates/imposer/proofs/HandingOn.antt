@@ -48,6 +48,8 @@ pub one_more : (queue : QueueView) (sheets : List ℕ) (k d : ℕ) (old mid new 
     → ((back : List ℕ) × HandedOn queue (take k sheets) back old mid) → ((back : List ℕ) × HandedOn queue (get_or sheets k d ∷ []) back mid new)
     → (back : List ℕ) × HandedOn queue (take (k + 1) sheets) back old new
 one_more queue sheets k d old mid new below before next =
-    let up : suc k ≡ k + 1 = omega arith in
-    (before.0 ++ next.0, subst (λ xs. HandedOn queue xs (before.0 ++ next.0) old new) (sym (take-suc sheets k d below) ∙ ap (λ n. take n sheets) up)
-    (handed-append queue (take k sheets) (get_or sheets k d ∷ []) before.0 next.0 old mid new before.1 next.1))
+    let up : suc k ≡ k + 1 = omega arith in (
+      before.0 ++ next.0,
+      subst (λ xs. HandedOn queue xs (before.0 ++ next.0) old new) (sym (take-suc sheets k d below) ∙ ap (λ n. take n sheets) up)
+          (handed-append queue (take k sheets) (get_or sheets k d ∷ []) before.0 next.0 old mid new before.1 next.1),
+    )

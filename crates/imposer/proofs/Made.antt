@@ -1,6 +1,8 @@
 -- What the parts of a run make together.
-use Rattle.std.proofs.Common.{ℕ, ◌≤◌, ◌≡◌, ◌∙◌, ap, subst, List, [], ◌∷◌, Bool, true, false, length, arith}
-use Rattle.std.specs.Prelude.{Ok, filter, if◌then◌else◌}
+use Rattle.std.proofs.Common.{ℕ, ◌+◌, ◌≤◌, ◌≡◌, ◌∙◌, inl, inr, refl, ap, sym, subst, List, [], ◌∷◌, Bool, true, false, length, take, Option, arith}
+use Rattle.std.specs.Prelude.{Result, Ok, Err, IfOk, IfErr, OnOk, filter, if◌then◌else◌}
+use Rattle.std.specs.Io.KnownBytes.{Appends}
+use Rattle.std.proofs.KnownBytes.{Keeps-refl}
 use Rattle.std.specs.List.{range_with_len}
 use Rattle.std.proofs.lemmas.List.{length-map}
 use Rattle.std.proofs.lemmas.List.FromFn.{length-range_with_len}
@@ -14,31 +16,18 @@ use Rattle.sheet_plan.specs.Plans.{planned}
 use Rattle.sheet_plan.specs.Places.{born_complete, is_blank}
 use Rattle.imposer.specs.Jobs.{JobView, output_of}
 use Rattle.imposer.specs.Workers.{AreOptions}
-use Rattle.imposer.specs.Runs.{Request, frame_of, IsAccepted, Accepted, Reports}
+use Rattle.imposer.specs.Collecting.{WroteFirst}
+use Rattle.imposer.specs.Gathering.{Answers}
+use Rattle.imposer.specs.Runs.{Request, frame_of, IsAccepted, Accepted, Reports, IsRefusal, IsUnwritten, HasWritten, WrotePart, FailedIn, IsGiven, AnswersRequest}
+use Rattle.imposer.specs.declared.options.Options.{Options}
+use Rattle.imposer.specs.declared.runs.Given.{Given}
+use Rattle.imposer.specs.declared.outcome.RunError.{RunError}
+use Rattle.imposer.specs.declared.outcome.RunError.TheVariants as error
 use Rattle.imposer.specs.declared.outcome.Report.{Report}
 
 pub accepted_of : (r : Request) (s : Spec) (us : List NestedUnit) (n : ℕ) → AreOptions r.options → Takes 64 r.spec s → document_of r.input ≡ Ok us → n ≡ length (pages us)
     → plan_of s n ≡ Ok (sheets s n) → IsAccepted r s us
 accepted_of r s us n options takes document count plan = record { options = options; takes = takes; document = document; plan = rw (← count) plan }
-
--- the output of a job that was made of an accepted request is the defined one
-pub output_is_defined : (frame : Frame) (s : Spec) (us : List NestedUnit) (plan : Plan) (n : ℕ) (text : List ℕ) → n ≡ length (pages us) → plan ≡ planned s n
-    → text ≡ output_of (record { plan = plan; units = us; frame = frame }) → text ≡ output frame s us
-output_is_defined frame s us plan n text count plan_is text_is =
-    text_is ∙ ap (λ p. output_of (record { plan = p; units = us; frame = frame })) (plan_is ∙ ap (λ k. planned s k) count)
-
-pub reports_of : (frame : Frame) (s : Spec) (us : List NestedUnit) (plan : Plan) (report : Report) (n : ℕ) (text : List ℕ) → n ≡ length (pages us) → plan ≡ planned s n
-    → report.pages ≡ plan.pages → report.sheets ≡ length plan.sheets → report.born ≡ length (born_complete (layout plan)) → report.swept ≡ 0
-    → report.bytes ≡ length text → text ≡ output frame s us → Reports frame s us report
-reports_of frame s us plan report n text count plan_is pages_are sheets_are born_are none bytes_are text_is =
-    let planned_is = plan_is ∙ ap (λ k. planned s k) count in
-    record {
-      page_count = pages_are ∙ ap (λ p. p.pages) planned_is;
-      sheet_count = sheets_are ∙ ap (λ p. length p.sheets) planned_is;
-      born_blank = born_are ∙ ap (λ p. length (born_complete (layout p))) planned_is;
-      swept_within = omega (arith, none);
-      byte_count = bytes_are ∙ ap (λ t. length t) text_is;
-    }
 
 -- a row that keeps some of n entries has at most n
 kept_few : {X : Type 0} (p : X → Bool) (xs : List X) → length (filter p xs) ≤ length xs
@@ -55,25 +44,96 @@ born_few plan =
     let all : length (range_with_len 0 (length (layout plan).sheets)) ≡ length plan.sheets = length-range_with_len 0 (length (layout plan).sheets) ∙ length-map _ _ in
     omega (arith, all, kept_few (is_blank (layout plan)) (range_with_len 0 (length (layout plan).sheets)))
 
--- all of it: what the calls of a run gave, each value under the name by which its call knew it
-pub made_is : (r : Request) (spec spec' : Spec) (us us' : List NestedUnit) (plan plan' : Plan) (n : ℕ) (job : JobView) (text : List ℕ) (report : Report)
-    → spec' ≡ spec → us' ≡ us → plan' ≡ plan → AreOptions r.options → Takes 64 r.spec spec → document_of r.input ≡ Ok us → n ≡ length (pages us') → plan ≡ planned spec' n
-    → plan_of spec' n ≡ Ok (sheets spec' n) → job ≡ record { plan = plan'; units = us'; frame = frame_of r.options } → text ≡ output_of job
-    → report.pages ≡ plan'.pages → report.sheets ≡ length plan'.sheets → report.born ≡ length (born_complete (layout plan')) → report.swept ≡ 0 → report.bytes ≡ length text
-    → Accepted r (λ s u. (text ≡ output (frame_of r.options) s u) × Reports (frame_of r.options) s u report)
-made_is r spec spec' us us' plan plan' n job text report spec_is us_is plan_is options takes document count planned_is accepted job_is text_is pages_are sheets_are born_are none bytes_are =
-    let counted : n ≡ length (pages us) = count ∙ ap (λ u. length (pages u)) us_is in
-    let plan_here : plan ≡ planned spec n = planned_is ∙ ap (λ s. planned s n) spec_is in
-    let accepted_here : plan_of spec n ≡ Ok (sheets spec n) = subst (λ s. plan_of s n ≡ Ok (sheets s n)) spec_is accepted in
-    let text_here : text ≡ output_of (record { plan = plan; units = us; frame = frame_of r.options }) =
-    text_is ∙ ap output_of (job_is ∙ ap (λ p. record { plan = p; units = us'; frame = frame_of r.options }) plan_is ∙ ap (λ u. record { plan = plan; units = u; frame = frame_of r.options }) us_is) in
-    let defined : text ≡ output (frame_of r.options) spec us = output_is_defined (frame_of r.options) spec us plan n text counted plan_here text_here in (
-      spec,
-      us,
-      accepted_of r spec us n options takes document counted accepted_here,
+-- nothing was written, and the sink is as it was
+pub unwritten_kept : (r : Request) (told : Option (List ℕ)) (e : RunError) → IsUnwritten e → HasWritten r told told e
+unwritten_kept r told error.Options none = Keeps-refl told
+unwritten_kept r told (error.Spec e) none = Keeps-refl told
+unwritten_kept r told (error.Document e) none = Keeps-refl told
+unwritten_kept r told (error.Plan e) none = Keeps-refl told
+unwritten_kept r told (error.NoMemory written) none = inl (none, Keeps-refl told)
+unwritten_kept r told (error.Write written) none = absurd none
+
+pub unwritten_steady : (e : RunError) (n : ℕ) → IsUnwritten e → FailedIn e n n
+unwritten_steady error.Options n none = refl
+unwritten_steady (error.Spec e) n none = refl
+unwritten_steady (error.Document e) n none = refl
+unwritten_steady (error.Plan e) n none = refl
+unwritten_steady (error.NoMemory written) n none = inl refl
+unwritten_steady (error.Write written) n none = absurd none
+
+-- a refusal before anything was written
+pub refused_answers : (r : Request) (told : Option (List ℕ)) (n : ℕ) (e : RunError) → IsRefusal r e → IsUnwritten e → AnswersRequest r told told n n (Err e)
+refused_answers r told n e refusal none = (refusal, unwritten_kept r told e none, unwritten_steady e n none)
+
+-- what a job that was made of an accepted request answers is the request's answer
+pub job_answers : (r : Request) (chosen : Options) (given : Given) (plan : Plan) (n : ℕ) (job : JobView) (old new : Option (List ℕ)) (before after : ℕ) (result : Result Report RunError)
+    → IsGiven r chosen given → n ≡ length (pages given.document) → plan ≡ planned given.spec n → plan_of given.spec n ≡ Ok (sheets given.spec n)
+    → job ≡ record { plan = plan; units = given.document; frame = frame_of chosen }
+    → Answers job old new before after result → AnswersRequest r old new before after result
+job_answers r chosen given plan n job old new before after result is count plan_is accepted job_is = by_result result
+  where
+    us : List NestedUnit
+    us = given.document
+
+    frame : Frame
+    frame = frame_of r.options
+
+    here : job ≡ record { plan = planned given.spec (length (pages us)); units = us; frame = frame }
+    here = job_is ∙ ap (λ p. record { plan = p; units = us; frame = frame_of chosen }) (plan_is ∙ ap (λ k. planned given.spec k) count) ∙ ap (λ o. record { plan = planned given.spec (length (pages us)); units = us; frame = frame_of o }) (sym is.same_options)
+
+    whole : output_of job ≡ output frame given.spec us
+    whole = ap output_of here
+
+    taken : IsAccepted r given.spec us
+    taken = accepted_of r given.spec us n is.options is.takes is.document count accepted
+
+    part : (w : ℕ) → WroteFirst job old new w → WrotePart r old new w
+    part w wrote = (given.spec, us, taken, subst (λ t. (w ≤ length t) × Appends old new (take w t)) whole wrote)
+
+    by_result : (result : Result Report RunError) → Answers job old new before after result → AnswersRequest r old new before after result
+    by_result (Ok report) answers = (
       (
-        defined,
-        reports_of (frame_of r.options) spec us plan report n text counted plan_here (pages_are ∙ ap (λ p. p.pages) plan_is) (sheets_are ∙ ap (λ p. length p.sheets) plan_is)
-            (born_are ∙ ap (λ p. length (born_complete (layout p))) plan_is) none bytes_are defined,
+        given.spec,
+        us,
+        taken,
+        (
+          subst (Appends old new) whole answers.0,
+          record {
+            page_count = answers.2.page_count ∙ ap (λ j. j.plan.pages) here;
+            sheet_count = answers.2.sheet_count ∙ ap (λ j. length j.plan.sheets) here;
+            born_blank = answers.2.born_blank ∙ ap (λ j. length (born_complete (layout j.plan))) here;
+            swept_within = answers.2.swept_within;
+            byte_count = answers.2.byte_count ∙ ap (λ t. length t) whole;
+          },
+        ),
       ),
+      answers.1,
     )
+    by_result (Err error.Options) answers = absurd answers.0
+    by_result (Err (error.Spec e)) answers = absurd answers.0
+    by_result (Err (error.Document e)) answers = absurd answers.0
+    by_result (Err (error.Plan e)) answers = absurd answers.0
+    by_result (Err (error.NoMemory w)) answers = ((is.options, is.takes.0), inr (part w answers.0), answers.1)
+    by_result (Err (error.Write w)) answers = ((given.spec, us, taken, tt), part w answers.0, answers.1)
+
+-- the clauses of a run, one by one
+pub says_finished : (r : Request) (old new : Option (List ℕ)) (before after : ℕ) (result : Result Report RunError) → AnswersRequest r old new before after result
+    → IfOk result (λ report. Accepted r (λ spec us. Appends old new (output (frame_of r.options) spec us) × Reports (frame_of r.options) spec us report))
+says_finished r old new before after (Ok report) answers = answers.0
+says_finished r old new before after (Err e) answers = tt
+
+pub says_refused : (r : Request) (old new : Option (List ℕ)) (before after : ℕ) (result : Result Report RunError) → AnswersRequest r old new before after result → IfErr result (λ e. IsRefusal r e)
+says_refused r old new before after (Ok report) answers = tt
+says_refused r old new before after (Err e) answers = answers.0
+
+pub says_written : (r : Request) (old new : Option (List ℕ)) (before after : ℕ) (result : Result Report RunError) → AnswersRequest r old new before after result → IfErr result (λ e. HasWritten r old new e)
+says_written r old new before after (Ok report) answers = tt
+says_written r old new before after (Err e) answers = answers.1
+
+pub says_steady : (r : Request) (old new : Option (List ℕ)) (before after : ℕ) (result : Result Report RunError) → AnswersRequest r old new before after result → OnOk result (after ≡ before)
+says_steady r old new before after (Ok report) answers = answers.1
+says_steady r old new before after (Err e) answers = tt
+
+pub says_failed : (r : Request) (old new : Option (List ℕ)) (before after : ℕ) (result : Result Report RunError) → AnswersRequest r old new before after result → IfErr result (λ e. FailedIn e before after)
+says_failed r old new before after (Ok report) answers = tt
+says_failed r old new before after (Err e) answers = answers.2

@@ -99,8 +99,8 @@ IsUnwritten (error.NoMemory written) = written ≡ 0
 IsUnwritten (error.Write written) = ⊥
 
 -- the request was read: its options are taken, its specification is this one, and its input is cut into these units
-pub record IsGiven (r : Request) (options : Options) (given : Given) : Type 0 where
-  pub same_options : r.options ≡ options
+pub record IsGiven (r : Request) (chosen : Options) (given : Given) : Type 0 where
+  pub same_options : r.options ≡ chosen
   pub options : AreOptions r.options
   pub takes : Takes 64 r.spec given.spec
   pub document : document_of r.input ≡ Ok given.document

@@ -20,13 +20,13 @@ use crate::channel::Texts;
 use crate::collecting::{Halt, Progress, Rest, write_rest};
 use crate::crew::Ended;
 use crate::gate::Gate;
-use crate::threads::gather_by;
 use crate::hall::Hall;
 use crate::job::Job;
 use crate::options::Workers;
 use crate::outcome::{Report, RunError};
 use crate::shop::{Desk, Intake, Shop};
 use crate::sink::Sink;
+use crate::threads::gather_by;
 use crate::tokens::Tokens;
 use gather_table::{GatherTable, Seat};
 use handover::{Overflow, Pass, Ready, Shelf};
@@ -246,14 +246,7 @@ fn conclude<'d, S: Sink>(
     ensures same_sink { desk.new.sink.ghost_name ≡ desk.old.sink.ghost_name }
     ensures ended { Concludes job.now (S.told desk.old.sink.now) (S.told desk.new.sink.now) (S.failures desk.old.sink.now) (S.failures desk.new.sink.now) desk.old.progress ended.entry result }
 {
-    let rest = write_rest(
-        alloc,
-        job,
-        desk.sink,
-        desk.progress,
-        desk.early,
-        trailer,
-    );
+    let rest = write_rest(alloc, job, desk.sink, desk.progress, desk.early, trailer);
     let Ended { tokens, unshelved } = ended;
     let Tokens { seat, pass } = tokens;
     let written = rest.progress.written;

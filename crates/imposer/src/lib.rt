@@ -20,10 +20,10 @@ mod sheet;
 mod shop;
 mod sink;
 mod start;
-mod threads;
-mod tokens;
 #[cfg(test)]
 mod tests;
+mod threads;
+mod tokens;
 
 pub use delivery::{DeliverError, Delivered, deliver};
 pub use gate::{Gate, Open, Step};

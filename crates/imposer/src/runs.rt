@@ -3,7 +3,7 @@ ghost use Rattle.std.specs.Prelude.{◌≡◌, ℕ, ◌+◌, ◌<◌, IfOk, IfEr
 ghost use Rattle.std.specs.Io.KnownBytes.{Appends};
 ghost use Rattle.profile.specs.Output.{output};
 ghost use Rattle.imposer.specs.Gathering.{Answers};
-ghost use Rattle.imposer.specs.Workers.{AreWorkers};
+ghost use Rattle.imposer.specs.Workers.{AreOptions, AreWorkers};
 ghost use Rattle.imposer.specs.Runs.{Request, request, frame_of, Accepted, IsRefusal, HasWritten, Reports, FailedIn, IsUnwritten, IsGiven, AnswersRequest};
 
 use crate::gate::Gate;
@@ -92,6 +92,7 @@ fn run_read<R: Threads + Wait + Sync, G: Gate + Sync, S: Sink>(
     gate: &G,
     sink: &mut S,
 ) -> Result<Report, RunError>
+    requires options { AreOptions options.now }
     requires countable { S.failures sink.old < u64.MAX }
     ensures { (r : Request) → IsGiven r options.now given.now → AnswersRequest r (S.told sink.old) (S.told sink.new) (S.failures sink.old) (S.failures sink.new) result }
 {

@@ -32,8 +32,8 @@ returns-clause-outcome g c =
     let told : g.S.Sink.told c.sink-1.given.0 ≡ g.S.Sink.told last.sink.now = search rules in
     let failed : g.S.Sink.failures c.sink-1.given.0 ≡ g.S.Sink.failures last.sink.now = search rules in
     let answers = gathered_answers job (g.S.Sink.told c.args.sink.now) (g.S.Sink.told laid.sink.now) (g.S.Sink.told last.sink.now) (g.S.Sink.failures c.args.sink.now) (g.S.Sink.failures laid.sink.now) (g.S.Sink.failures last.sink.now)
-        laid.progress c.gather_by-desk.new.ended c.finish-gathered.result
-        (search rules) (search rules) c.finish-gathered.ensures.ended c.finish-gathered.ensures.missing in
+    laid.progress c.gather_by-desk.new.ended c.finish-gathered.result
+    (search rules) (search rules) c.finish-gathered.ensures.ended c.finish-gathered.ensures.missing in
     subst (λ t. Answers job (g.S.Sink.told c.args.sink.now) t (g.S.Sink.failures c.args.sink.now) (g.S.Sink.failures c.sink-1.given.0) c.finish-gathered.result.outcome) (sym told)
     (subst (λ n. Answers job (g.S.Sink.told c.args.sink.now) (g.S.Sink.told last.sink.now) (g.S.Sink.failures c.args.sink.now) n c.finish-gathered.result.outcome) (sym failed) answers)
 

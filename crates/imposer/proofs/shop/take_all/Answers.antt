@@ -17,10 +17,10 @@ loop-preserved g c = record {
 
 pub returns-clause-goes_on : goal.returns-clause-goes_on
 returns-clause-goes_on g c = elim c.match-next.branch [
-  in-None w ↦
-    subst (λ d. GoesOn c.args.intake.now.job.now (g.S.Sink.told c.args.desk.now.sink.now) (g.S.Sink.told d.sink.now) (g.S.Sink.failures c.args.desk.now.sink.now) (g.S.Sink.failures d.sink.now) c.args.desk.now.progress d.progress)
-    (sym w.desk-is) c.loop.invariant.goes_on
+  | in-None w ↦
+      subst (λ d. GoesOn c.args.intake.now.job.now (g.S.Sink.told c.args.desk.now.sink.now) (g.S.Sink.told d.sink.now) (g.S.Sink.failures c.args.desk.now.sink.now) (g.S.Sink.failures d.sink.now) c.args.desk.now.progress d.progress)
+      (sym w.desk-is) c.loop.invariant.goes_on
   | in-Some+then-not-take_turn w ↦
-    subst (λ d. GoesOn c.args.intake.now.job.now (g.S.Sink.told c.args.desk.now.sink.now) (g.S.Sink.told d.sink.now) (g.S.Sink.failures c.args.desk.now.sink.now) (g.S.Sink.failures d.sink.now) c.args.desk.now.progress d.progress)
-    (sym w.desk-is) (λ start first stands. w.take_turn.ensures.goes_on start first (c.loop.invariant.goes_on start first stands))
+      subst (λ d. GoesOn c.args.intake.now.job.now (g.S.Sink.told c.args.desk.now.sink.now) (g.S.Sink.told d.sink.now) (g.S.Sink.failures c.args.desk.now.sink.now) (g.S.Sink.failures d.sink.now) c.args.desk.now.progress d.progress)
+      (sym w.desk-is) (λ start first stands. w.take_turn.ensures.goes_on start first (c.loop.invariant.goes_on start first stands))
 ]
