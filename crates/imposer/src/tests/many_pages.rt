@@ -7,7 +7,7 @@ use crate::{Gathered, Job, MemorySink, Open, Report, RunError, Workers, gather, 
 use dsc::Document;
 use gather_table::GatherTable;
 use handover::{Ready, Shelf};
-use pagespec::{SpecError, read_spec};
+use pagespec::read_spec;
 use sheet_plan::Plan;
 use std::alloc::Global;
 use std::process::Abort;
@@ -64,32 +64,6 @@ fn no_byte_depends_on_the_workers(rt: HostRuntime) -> Result<(), Fail> {
             }
         );
     }
-    Ok(())
-}
-
-/// Why a run of no input is refused.
-fn refuse<R: Threads + Wait + Abort + Sync>(
-    rt: &R,
-    alloc: Global,
-    spec: &str,
-    preparers: u32,
-    imposers: u32,
-) -> Result<RunError, Fail> {
-    let options = workers(rt, preparers, imposers);
-    let mut sink = MemorySink::new(alloc, 0, 1, 1)?;
-    match run(rt, alloc, b"", spec, &options, &Open {}, &mut sink) {
-        Ok(_) => panic!(rt; "no document is a document"),
-        Err(error) => Ok(error),
-    }
-}
-
-#[test]
-fn the_workers_are_checked_before_the_specification(rt: HostRuntime) -> Result<(), Fail> {
-    assert!(rt; matches!(refuse(&rt, rt.alloc(), TWO_UP, 0, 1)?, RunError::Options));
-    assert!(rt; matches!(refuse(&rt, rt.alloc(), TWO_UP, 1, 17)?, RunError::Options));
-    assert!(rt; matches!(refuse(&rt, rt.alloc(), "x", 0, 1)?, RunError::Options));
-    let error = refuse(&rt, rt.alloc(), "x", 1, 1)?;
-    assert!(rt; matches!(error, RunError::Spec(SpecError::Syntax(0))));
     Ok(())
 }
 
