@@ -1,8 +1,8 @@
 -- How a gathering ends.
-use Rattle.std.proofs.Common.{ℕ, zero, ◌+◌, ◌<◌, ◌≤◌, ◌≡◌, ◌∙◌, ◌⊎◌, inl, inr, ⊎_elim, refl, sym, ap, subst, arith, Bool, List, [], ◌∷◌, length, take, Option, Some, None, if◌then◌else◌, ◌==◌, eq-eqb}
-use Rattle.std.specs.Prelude.{Ok, Err, IfSome, IsNone}
+use Rattle.std.proofs.Common.{ℕ, ◌+◌, ◌<◌, ◌≤◌, ◌≡◌, ◌⊎◌, inl, inr, ⊎_elim, refl, sym, ap, subst, arith, Bool, List, [], ◌∷◌, length, take, Option, Some, None, if◌then◌else◌, ◌==◌, eq-eqb}
+use Rattle.std.specs.Prelude.{Err, IfSome, IsNone}
 use Rattle.std.specs.Io.KnownBytes.{Appends}
-use Rattle.std.proofs.KnownBytes.{Appends-nil, Keeps-refl}
+use Rattle.std.proofs.KnownBytes.{Appends-nil}
 use Rattle.histories.specs.Seats.{whole_share, times}
 use Rattle.sheet_plan.specs.Places.{born_complete}
 use Rattle.gather_table.specs.History.{Entry}

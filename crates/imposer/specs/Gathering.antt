@@ -1,7 +1,7 @@
 -- What the answers of a gathering mean.
-use Rattle.std.specs.Prelude.{◌≡◌, ◌⊎◌, ℕ, ◌+◌, ◌≤◌, List, [], length, Option, Result, Ok, Err, MatchResult, IfSome, IsSomeAnd, IsNone, ⊤}
+use Rattle.std.specs.Prelude.{◌≡◌, ℕ, ◌≤◌, List, [], length, Option, Result, Ok, Err, MatchResult, IfSome, IsSomeAnd, IsNone, ⊤}
 use Rattle.std.specs.Io.KnownBytes.{Appends}
-use Rattle.profile.specs.Sheets.{Layout, layout}
+use Rattle.profile.specs.Sheets.{layout}
 use Rattle.histories.specs.Seats.{whole_share}
 use Rattle.sheet_plan.specs.Places.{born_complete}
 use Rattle.gather_table.specs.Shared.{TableView, SeatView, IsSeat, IsSeatOf}

@@ -1,4 +1,4 @@
-use Rattle.std.proofs.Common.{rules, arith, sym, subst, ap, ◌∙◌, ◌≡◌, None, Some, Option, List, ℕ, length}
+use Rattle.std.proofs.Common.{rules, sym, subst, None}
 use Rattle.imposer.specs.Collecting.{StandsAt, EndsAt}
 use Rattle.imposer.proofs.Fronts.{stopped, halted_ends, trailer_handed}
 use Rattle.imposer.proofs.collecting.write_rest.Goals as goal

@@ -1,4 +1,4 @@
-use Rattle.std.proofs.Common.{◌≡◌, None, ◌≤◌, length}
+use Rattle.std.proofs.Common.{◌≡◌, None, ◌≤◌}
 use Rattle.imposer.specs.Collecting.{GoesOn, AreEarly}
 use Rattle.imposer.proofs.collecting.write_rest.Given as goal
 

@@ -1,4 +1,4 @@
-use Rattle.std.proofs.Common.{sym, subst, Some, None, ◌≡◌, ◌+◌}
+use Rattle.std.proofs.Common.{sym, subst, None, ◌+◌}
 use Rattle.imposer.specs.Collecting.{StandsAt}
 use Rattle.imposer.proofs.Fronts.{sheet_handed}
 use Rattle.imposer.proofs.collecting.write_sheet.Goals as goal

@@ -1,4 +1,3 @@
-use Rattle.std.proofs.Common.{rules}
 use Rattle.imposer.proofs.Ends.{fresh_tokens}
 use Rattle.imposer.proofs.gathering.gather.Goals as goal
 

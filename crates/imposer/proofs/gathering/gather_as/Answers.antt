@@ -1,15 +1,14 @@
-use Rattle.std.proofs.Common.{rules, ◌≡◌, ◌≤◌, ◌∙◌, ℕ, sym, subst, ap, refl, inl, inr, ⊎_elim, IfSome}
+use Rattle.std.proofs.Common.{rules, ◌≡◌, ◌≤◌, ◌∙◌, sym, subst, ap}
 use Rattle.histories.specs.Seats.{whole_share, times}
 use Rattle.profile.specs.Sheets.{layout}
 use Rattle.handover.specs.Shelves.{IsOn}
 use Rattle.sheet_plan.specs.Plans.{IsSound}
 use Rattle.sheet_plan.specs.Places.{born_complete}
-use Rattle.imposer.specs.Collecting.{Stands}
 use Rattle.imposer.specs.Tokens as tokens
 use Rattle.imposer.specs.Gathering.{Answers}
 use Rattle.imposer.specs.declared.tokens.Tokens.{Tokens}
 use Rattle.imposer.proofs.Counts.{table_has_pages}
-use Rattle.imposer.proofs.Ends.{WasUsed, gathered_answers, gathered_unshelved, gathered_whole}
+use Rattle.imposer.proofs.Ends.{gathered_answers, gathered_unshelved, gathered_whole}
 use Rattle.imposer.proofs.HandedOn.{started_puts}
 use Rattle.imposer.proofs.Held.{are_tokens, seat_of, pass_of, pass_handed_on}
 use Rattle.imposer.proofs.gathering.gather_as.Goals as goal

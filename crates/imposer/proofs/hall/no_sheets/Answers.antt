@@ -1,5 +1,5 @@
-use Rattle.std.proofs.Common.{rules, arith, ap, ◌∙◌, ◌≡◌, length, subst, sym}
-use Rattle.imposer.proofs.Fronts.{AreNone, none_pushed, none_early}
+use Rattle.std.proofs.Common.{rules}
+use Rattle.imposer.proofs.Fronts.{none_pushed, none_early}
 use Rattle.imposer.proofs.hall.no_sheets.Goals as goal
 
 pub loop-preserved : goal.loop-preserved

@@ -1,4 +1,4 @@
-use Rattle.std.proofs.Common.{rules, arith, suc, ◌∙◌}
+use Rattle.std.proofs.Common.{arith, suc, ◌∙◌}
 use Rattle.imposer.proofs.Fronts.{early_filled}
 use Rattle.imposer.proofs.shop.take_one.Goals as goal
 

@@ -1,4 +1,4 @@
-use Rattle.std.proofs.Common.{◌≡◌, ℕ, ◌<◌, ◌≤◌, ◌+◌, ◌-◌, get_or, vec_len, vec_items, vec_capacity}
+use Rattle.std.proofs.Common.{◌≡◌, ℕ, ◌<◌, ◌≤◌, ◌-◌, get_or, vec_len, vec_items, vec_capacity}
 use Rattle.imposer.specs.Tokens.{AreTokens}
 use Rattle.imposer.specs.Joining.{KeepsOwn}
 use Rattle.imposer.proofs.start.start_imposers.Given as goal

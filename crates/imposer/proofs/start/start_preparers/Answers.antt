@@ -1,4 +1,4 @@
-use Rattle.std.proofs.Common.{rules, ◌≡◌, ℕ, ◌+◌, ◌<◌, vec_items}
+use Rattle.std.proofs.Common.{rules, ◌≡◌, vec_items}
 use Rattle.imposer.proofs.Pushed.{pushed}
 use Rattle.imposer.proofs.start.start_preparers.Goals as goal
 

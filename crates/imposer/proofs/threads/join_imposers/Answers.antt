@@ -1,7 +1,6 @@
-use Rattle.std.proofs.Common.{rules, arith, ◌≡◌, ℕ, suc, ◌+◌, ◌-◌, ◌<◌, ◌∙◌, subst}
+use Rattle.std.proofs.Common.{rules, arith, ◌≡◌, suc, ◌+◌, ◌-◌, ◌∙◌, subst}
 use Rattle.std.specs.Vec.Iter.{into_iter_len}
 use Rattle.imposer.specs.Tokens.{AreTokens}
-use Rattle.imposer.specs.Joining.{AddsNoWork}
 use Rattle.imposer.proofs.Merged.{merged, also, first_of}
 use Rattle.imposer.proofs.threads.join_imposers.Goals as goal
 

@@ -1,4 +1,4 @@
-use Rattle.std.proofs.Common.{rules, arith, ◌≡◌, ℕ, suc, ◌+◌, ◌-◌, ◌<◌, ap, ◌∙◌, subst, IfSome}
+use Rattle.std.proofs.Common.{rules, arith, ◌≡◌, suc, ◌+◌, ◌-◌, ap, ◌∙◌, subst, IfSome}
 use Rattle.std.specs.Vec.Iter.{into_iter_len}
 use Rattle.imposer.specs.Duty.{share_below, shares}
 use Rattle.imposer.specs.Tokens.{AreTokens, done}

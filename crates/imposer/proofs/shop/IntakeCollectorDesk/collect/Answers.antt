@@ -1,4 +1,4 @@
-use Rattle.std.proofs.Common.{rules, ◌≡◌, ◌∙◌, subst, sym, ap}
+use Rattle.std.proofs.Common.{◌≡◌, ◌∙◌, subst, sym, ap}
 use Rattle.imposer.specs.Collecting.{Stands, StandsAt, Handed}
 use Rattle.imposer.proofs.Fronts.{header_handed}
 use Rattle.imposer.proofs.shop.IntakeCollectorDesk.collect.Goals as goal
