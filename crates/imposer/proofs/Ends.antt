@@ -93,6 +93,15 @@ gathered_whole job mid last more after p table queue first (Some e) g pages star
 gathered_whole job mid last more after p table queue first None g pages start whole weighs puts concluded missing =
     subst (IsWhole table queue) (sym (missing refl).0) tt
 
+-- what holds of a token that the workers handed back holds of the one that comes back
+pub gathered_unshelved : (P : Overflow → Type 0) (job : JobView) (mid last : Option (List ℕ)) (more after : ℕ) (p : Progress) (ended : Option (Ended Overflow)) (g : Gathered)
+    → IfSome ended (λ e. IfSome e.unshelved P)
+    → IfSome ended (λ e. Concludes job mid last more after p e g)
+    → (IsNone ended → AnswersNoMemory p.written g × (last ≡ mid) × (after ≡ more))
+    → IfSome g.unshelved P
+gathered_unshelved P job mid last more after p (Some e) g lost concluded missing = subst (λ u. IfSome u P) (sym concluded.unshelved) lost
+gathered_unshelved P job mid last more after p None g lost concluded missing = subst (λ x. IfSome x.unshelved P) (sym (missing refl).0) tt
+
 -- tokens of which nothing was used have no calls and no moves
 none_inside : (own : List ℕ) → ((x : ℕ) → 0 < times x own → x < 0) → own ≡ []
 none_inside [] inside = refl

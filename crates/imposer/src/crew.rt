@@ -1,5 +1,5 @@
 //! What the threads of a run need, behind a type parameter, and what each of them promises.
-ghost use Rattle.std.specs.Prelude.{◌≡◌, ℕ, ◌+◌, ◌-◌, ◌<◌, [], IfOk, IsNone, ◌⊎◌};
+ghost use Rattle.std.specs.Prelude.{◌≡◌, ℕ, ◌+◌, ◌-◌, ◌<◌, [], IfOk, IfSome, IsNone, ◌⊎◌};
 ghost use Rattle.crossbeam_channel.specs.Claims.{Pass};
 ghost use Rattle.gather_table.specs.Shared.{TableView};
 ghost use Rattle.handover.specs.Passes.{QueueView};
@@ -30,6 +30,9 @@ pub(crate) trait Crew<L> {
     // The ticket is one for sending finished sheets.
     ghost sends: { Self → Pass Imposed (Unit {0}) → Type 0 };
 
+    // What stands for a page without a receipt is a token of the crew's shelf.
+    ghost is_lost: { Self → L → Type 0 };
+
     /// The work of the preparer with this number, of so many.
     fn prepare<R: Wait>(
         &self,
@@ -42,7 +45,8 @@ pub(crate) trait Crew<L> {
         requires tokens { AreTokens (table self.now) (queue self.now) 1 tokens × AreUnused tokens }
         ensures tokens { IfOk result (λ e. AreTokens (table self.now) (queue self.now) 1 e.tokens) }
         ensures done { IfOk result (λ e. IsNone e.unshelved → (h : Duty → ℕ) → done h e.tokens ≡ share_below h (table self.now).layout count number (table self.now).layout.pages) }
-        ensures put { IfOk result (λ e. PutsCompleted e.tokens) };
+        ensures put { IfOk result (λ e. PutsCompleted e.tokens) }
+        ensures lost { IfOk result (λ e. IfSome e.unshelved (is_lost self.now)) };
 
     /// The work of an imposer.
     fn impose<R: Wait>(
@@ -109,7 +113,8 @@ pub(crate) struct Prepares<'a, C> {
 impl<'a, L, C: Crew<L>> Promise<Result<Ended<L>, AllocError>> for Prepares<'a, C> {
     ghost kept_by = { λ p r. IfOk r (λ e. AreTokens (C.table p.crew.now) (C.queue p.crew.now) 1 e.tokens
         × (IsNone e.unshelved → (h : Duty → ℕ) → done h e.tokens ≡ share_below h (C.table p.crew.now).layout p.count p.number (C.table p.crew.now).layout.pages)
-        × PutsCompleted e.tokens) };
+        × PutsCompleted e.tokens
+        × IfSome e.unshelved (C.is_lost p.crew.now)) };
 }
 
 /// What an imposer promises.

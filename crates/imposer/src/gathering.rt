@@ -87,6 +87,9 @@ pub fn gather<'j, 'd, R: Threads + Wait + Sync, G: Gate + Sync, S: Sink>(
     // One publish for each page, one mark for each needed slot, and exactly one completing mark for each sheet that has pages.
     ensures gathered { OnOk result.outcome (IsNone result.unshelved → IfSome result.tokens (λ t. IsGathered table.now.layout t.0.front)) }
 
+    // A token that comes back is that of an entry of this shelf.
+    ensures unshelved { IfSome result.unshelved (IsOn shelf.now) }
+
     // No sheet was put on the queue twice, and what was taken and what is left is what was put.
     ensures handed_on { IfSome result.tokens (λ t. IsHandedOn t.1.front) }
 {
@@ -119,6 +122,7 @@ fn gather_as<'s, 'j, 'd, T: Texts + Send + Sync, R: Threads + Wait + Sync, G: Ga
     ensures outcome { Answers job.now (S.told sink.old) (S.told sink.new) (S.failures sink.old) (S.failures sink.new) result.outcome }
     ensures tokens { MatchResult result.outcome (λ _. IsSomeAnd result.tokens (λ t. ⊤)) (λ e. HandsBackTokens e result.tokens) }
     ensures whole { IfSome result.tokens (λ t. AreWhole table.now ready.now t.0 t.1 × IsHandedOn t.1.front × (IsNone result.unshelved → IsGathered table.now.layout t.0.front)) }
+    ensures unshelved { IfSome result.unshelved (IsOn shelf.now) }
 {
     let mut tokens = tokens;
     put_blank_sheets(rt, ready, job.plan.born_complete(), &mut tokens.pass);

@@ -1,7 +1,8 @@
 //! What a preparer does.
-ghost use Rattle.std.specs.Prelude.{◌≡◌, ℕ, ◌+◌, ◌<◌, ◌%◌, ◌==◌, if◌then◌else◌, IfOk, IsNone};
+ghost use Rattle.std.specs.Prelude.{◌≡◌, ℕ, ◌+◌, ◌<◌, ◌%◌, ◌==◌, if◌then◌else◌, IfOk, IfSome, IsNone};
 ghost use Rattle.profile.specs.Sheets.{layout};
 ghost use Rattle.histories.specs.Seats.{total};
+ghost use Rattle.handover.specs.Shelves.{IsOn};
 ghost use Rattle.imposer.specs.Duty.{Duty, duties, share_below};
 ghost use Rattle.imposer.specs.Tokens.{AreTokens, AreUnused, PutsCompleted, done};
 
@@ -38,6 +39,7 @@ pub(crate) fn prepare<'d, G: Gate, R: Wait>(
     ensures tokens { IfOk result (λ e. AreTokens table.now ready.now 1 e.tokens) }
     ensures done { IfOk result (λ e. IsNone e.unshelved → (h : Duty → ℕ) → done h e.tokens ≡ share_below h table.now.layout count number table.now.layout.pages) }
     ensures put { IfOk result (λ e. PutsCompleted e.tokens) }
+    ensures lost { IfOk result (λ e. IfSome e.unshelved (IsOn shelf.now)) }
 {
     let ended = prepare_all(
         rt, alloc, tokens, job, table, shelf, ready, gate, number, count,
@@ -65,6 +67,7 @@ fn prepare_all<'d, G: Gate, R: Wait>(
     ensures tokens { IfOk result (λ e. AreTokens table.now ready.now 1 e.tokens) }
     ensures done { IfOk result (λ e. IsNone e.unshelved → (h : Duty → ℕ) → done h e.tokens ≡ share_below h table.now.layout count number table.now.layout.pages) }
     ensures put { IfOk result (λ e. PutsCompleted e.tokens) }
+    ensures lost { IfOk result (λ e. IfSome e.unshelved (IsOn shelf.now)) }
 {
     let mut tokens = tokens;
     let mut unshelved = None;
@@ -106,10 +109,12 @@ fn take_turn<'d, G: Gate, R: Wait>(
     requires plan { table.now.layout ≡ layout job.now.plan }
     requires page { page < job.now.plan.pages }
     requires tokens { AreTokens table.now ready.now 1 tokens.old }
+    requires unshelved { IfSome unshelved (IsOn shelf.now) }
     ensures tokens { AreTokens table.now ready.now 1 tokens.new }
     ensures done { IfOk result (λ lost. IsNone lost → IsNone unshelved.entry × ((h : Duty → ℕ) →
         done h tokens.new ≡ done h tokens.old + (if page % count == number then total h (duties table.now.layout page) else 0))) }
     ensures put { PutsCompleted tokens.old → PutsCompleted tokens.new }
+    ensures lost { IfOk result (λ lost. IfSome lost (IsOn shelf.now)) }
 {
     if page % count != number {
         return Ok(unshelved);
@@ -138,6 +143,7 @@ fn prepare_page<'d, G: Gate, R: Wait>(
     ensures tokens { AreTokens table.now ready.now 1 tokens.new }
     ensures done { IfOk result (λ lost. IsNone lost → (h : Duty → ℕ) → done h tokens.new ≡ done h tokens.old + total h (duties table.now.layout page)) }
     ensures put { PutsCompleted tokens.old → PutsCompleted tokens.new }
+    ensures lost { IfOk result (λ lost. IfSome lost (IsOn shelf.now)) }
 {
     let prepared = match Prepared::new(alloc, page, job.document.page(page)) {
         Ok(prepared) => prepared,

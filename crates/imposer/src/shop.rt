@@ -3,6 +3,7 @@ ghost use Rattle.std.specs.Prelude.{◌≡◌, ℕ, ◌+◌, ◌<◌, ◌≤◌,
 ghost use Rattle.crossbeam_channel.specs.Claims.{IsSeatAt};
 ghost use Rattle.crossbeam_channel.specs.Ends.{sends_on, receives_on};
 ghost use Rattle.profile.specs.Sheets.{layout};
+ghost use Rattle.handover.specs.Shelves.{IsOn};
 ghost use Rattle.profile.specs.Filters.{preamble_text};
 ghost use Rattle.imposer.specs.Jobs.{text_of};
 ghost use Rattle.imposer.specs.Collecting.{Stands, GoesOn, AreEarly};
@@ -45,6 +46,8 @@ impl<'s, 'j, 'd, T: Texts, G: Gate> Crew<Overflow<'d>> for Shop<'s, 'j, 'd, T, G
     ghost queue = { λ s. s.ready.now };
 
     ghost sends = { λ s t. ((k : ℕ) → T.text k ≡ text_of s.intake.job.now k) × IsSeatAt (sends_on s.outlet.now) t };
+
+    ghost is_lost = { λ s l. IsOn s.shelf.now l };
 
     fn prepare<R: Wait>(
         &self,

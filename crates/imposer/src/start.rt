@@ -1,5 +1,5 @@
 //! Starts the threads of a run.
-ghost use Rattle.std.specs.Prelude.{◌≡◌, ℕ, ◌+◌, ◌-◌, ◌<◌, ◌≤◌, IfOk, IsNone, slice_index_or, vec_len};
+ghost use Rattle.std.specs.Prelude.{◌≡◌, ℕ, ◌+◌, ◌-◌, ◌<◌, ◌≤◌, IfOk, IfSome, IsNone, slice_index_or, vec_len};
 ghost use Rattle.imposer.specs.Duty.{Duty, share_below};
 ghost use Rattle.imposer.specs.Joining.{KeepsOwn};
 ghost use Rattle.imposer.specs.Tokens.{AreTokens, AreUnused, PutsCompleted, done};
@@ -67,6 +67,7 @@ fn start_preparer<'s, E, R: Wait + Sync, L: Send + Drop + 's, C: Crew<L> + Sync>
         ensures tokens { IfOk result (λ e. AreTokens (C.table crew.entry.now) (C.queue crew.entry.now) 1 e.tokens) }
         ensures done { IfOk result (λ e. IsNone e.unshelved → (h : Duty → ℕ) → done h e.tokens ≡ share_below h (C.table crew.entry.now).layout count number (C.table crew.entry.now).layout.pages) }
         ensures put { IfOk result (λ e. PutsCompleted e.tokens) }
+        ensures lost { IfOk result (λ e. IfSome e.unshelved (C.is_lost crew.entry.now)) }
     { crew.prepare(rt, tokens, number, count) };
     let Ok(handle) = scope.spawn_with(promise, work) else {
         return Err(AllocError);

@@ -1,8 +1,11 @@
-//! Runs on small documents, sinks that fail, deliveries and impositions.
+//! Runs on small documents and on many pages, sinks, gates, deliveries and impositions.
 mod deliveries;
+mod gates;
 mod impositions;
+mod many_pages;
+mod sinks;
 
-use crate::{Job, MemorySink, Open, Options, Report, RunError, Sink, Workers, run, sheet_text};
+use crate::{Job, MemorySink, Open, Options, Report, RunError, Workers, run, sheet_text};
 use dsc::Document;
 use lengths::{Grains, Paper, paper_by_name};
 use pagespec::{SpecError, read_spec};
@@ -262,47 +265,6 @@ fn five_pages_in_blocks_of_four(rt: HostRuntime) -> Result<(), Fail> {
     let last =
         "%%Page: 6 6\nshowpage\n%%Page: 7 7\nshowpage\n%%Page: 8 8\nshowpage\n%%Trailer\n%%EOF\n";
     assert!(rt; sink.bytes().ends_with(last.as_bytes()));
-    Ok(())
-}
-
-#[test]
-fn a_sink_that_fails_has_the_first_bytes(rt: HostRuntime) -> Result<(), Fail> {
-    for room in 0..273usize {
-        let mut sink = MemorySink::new(rt.alloc(), room, 1_000, 1_000)?;
-        let answer = run(
-            &rt,
-            rt.alloc(),
-            ONE_PAGE.as_bytes(),
-            "0",
-            &workers(&rt, 1, 1),
-            &Open {},
-            &mut sink,
-        );
-        let Err(RunError::Write { written }) = answer else {
-            panic!(rt; "room for {room} bytes is enough");
-        };
-        assert_eq!(rt; written, room as u64);
-        let (first, _) = ONE_SHEET.as_bytes().split_at(room);
-        assert_eq!(rt; sink.bytes(), first);
-    }
-    Ok(())
-}
-
-#[test]
-fn a_sink_that_takes_one_byte_a_call(rt: HostRuntime) -> Result<(), Fail> {
-    let mut sink = MemorySink::new(rt.alloc(), 273, 1, 273)?;
-    let report = run(
-        &rt,
-        rt.alloc(),
-        ONE_PAGE.as_bytes(),
-        "0",
-        &workers(&rt, 1, 1),
-        &Open {},
-        &mut sink,
-    )?;
-    assert_eq!(rt; report.bytes, 273);
-    assert_eq!(rt; sink.bytes(), ONE_SHEET.as_bytes());
-    assert!(rt; sink.accept(b"x").is_err());
     Ok(())
 }
 

@@ -24,7 +24,7 @@ fn merge<L: Drop, C: Crew<L>>(
 ) -> Option<Ended<L>>
     requires all { IfSome all (λ a. AreTokens (C.table crew.now) (C.queue crew.now) a.tokens.seat.share a.tokens) }
     requires theirs { IfOk theirs (λ t. AreTokens (C.table crew.now) (C.queue crew.now) 1 t.tokens) }
-    ensures both { IfSome result (λ e. IsSomeAnd all (λ a. IsOkAnd theirs (λ t. AreTokens (C.table crew.now) (C.queue crew.now) (a.tokens.seat.share + 1) e.tokens × AreOfBoth a.tokens t.tokens e.tokens × (IsNone e.unshelved → IsNone a.unshelved × IsNone t.unshelved)))) }
+    ensures both { IfSome result (λ e. IsSomeAnd all (λ a. IsOkAnd theirs (λ t. AreTokens (C.table crew.now) (C.queue crew.now) (a.tokens.seat.share + 1) e.tokens × AreOfBoth a.tokens t.tokens e.tokens × (IsNone e.unshelved → IsNone a.unshelved × IsNone t.unshelved) × ((e.unshelved ≡ a.unshelved) ⊎ (e.unshelved ≡ t.unshelved))))) }
 {
     let Some(all) = all else {
         return None;
@@ -41,6 +41,7 @@ fn join_two<L: Drop, C: Crew<L>>(crew: &C, all: Ended<L>, theirs: Ended<L>) -> E
     ensures tokens { AreTokens (C.table crew.now) (C.queue crew.now) (all.tokens.seat.share + 1) result.tokens }
     ensures both { AreOfBoth all.tokens theirs.tokens result.tokens }
     ensures unshelved { IsNone result.unshelved → IsNone all.unshelved × IsNone theirs.unshelved }
+    ensures either { (result.unshelved ≡ all.unshelved) ⊎ (result.unshelved ≡ theirs.unshelved) }
 {
     let Ended { tokens, unshelved } = all;
     let Ended {
@@ -70,6 +71,7 @@ fn join_preparers<'s, R: Threads, L: Drop, C: Crew<L>>(
     ensures tokens { IfSome result (λ e. AreTokens (C.table crew.now) (C.queue crew.now) (tokens.seat.share + count) e.tokens) }
     ensures done { IfSome result (λ e. IsNone e.unshelved → (h : Duty → ℕ) → done h e.tokens ≡ owed h (C.table crew.now).layout (C.table crew.now).layout.pages) }
     ensures put { IfSome result (λ e. PutsCompletedSince tokens e.tokens) }
+    ensures lost { IfSome result (λ e. IfSome e.unshelved (C.is_lost crew.now)) }
 {
     let mut all = Some(Ended {
         tokens,
@@ -93,7 +95,7 @@ fn join_imposers<'s, R: Threads, L: Drop, C: Crew<L>>(
     requires tokens { IfSome prepared (λ a. AreTokens (C.table crew.now) (C.queue crew.now) a.tokens.seat.share a.tokens) }
     requires len { vec_len handles ≡ count }
     requires each { (k : ℕ) (d : _) → k < vec_len handles → (slice_index_or handles.items k d).promise.crew.now ≡ crew.now }
-    ensures all { IfSome result (λ e. IsSomeAnd prepared (λ a. AreTokens (C.table crew.now) (C.queue crew.now) (a.tokens.seat.share + count) e.tokens × AddsNoWork a.tokens e.tokens × (IsNone e.unshelved → IsNone a.unshelved))) }
+    ensures all { IfSome result (λ e. IsSomeAnd prepared (λ a. AreTokens (C.table crew.now) (C.queue crew.now) (a.tokens.seat.share + count) e.tokens × AddsNoWork a.tokens e.tokens × (e.unshelved ≡ a.unshelved))) }
 {
     let mut all = prepared;
     for handle in handles {
@@ -158,6 +160,7 @@ fn run<'s, E, R: Threads + Wait + Sync, L: Send + Drop + 's, D, C: Crew<L> + Syn
     ensures tokens { IfSome result (λ e. AreTokens (C.table crew.now) (C.queue crew.now) whole_share e.tokens) }
     ensures done { IfSome result (λ e. IsNone e.unshelved → (h : Duty → ℕ) → done h e.tokens ≡ owed h (C.table crew.now).layout (C.table crew.now).layout.pages) }
     ensures put { IfSome result (λ e. PutsCompletedSince tokens e.tokens) }
+    ensures lost { IfSome result (λ e. IfSome e.unshelved (C.is_lost crew.now)) }
 {
     let mut tokens = tokens;
     let Some((preparers, imposers)) = start(rt, scope, alloc, crew, &mut tokens, ticket, workers)
@@ -197,6 +200,7 @@ fn run_in_scope<
     ensures tokens { IfSome result.1 (λ e. AreTokens (C.table crew.now) (C.queue crew.now) whole_share e.tokens) }
     ensures done { IfSome result.1 (λ e. IsNone e.unshelved → (h : Duty → ℕ) → done h e.tokens ≡ owed h (C.table crew.now).layout (C.table crew.now).layout.pages) }
     ensures put { IfSome result.1 (λ e. PutsCompletedSince tokens e.tokens) }
+    ensures lost { IfSome result.1 (λ e. IfSome e.unshelved (C.is_lost crew.now)) }
 {
     thread::scope(
         thread::scope_env(),
@@ -213,6 +217,7 @@ fn run_in_scope<
             ensures tokens { IfSome result.1 (λ e. AreTokens (C.table crew.entry.now) (C.queue crew.entry.now) whole_share e.tokens) }
             ensures done { IfSome result.1 (λ e. IsNone e.unshelved → (h : Duty → ℕ) → done h e.tokens ≡ owed h (C.table crew.entry.now).layout (C.table crew.entry.now).layout.pages) }
             ensures put { IfSome result.1 (λ e. PutsCompletedSince tokens e.tokens) }
+            ensures lost { IfSome result.1 (λ e. IfSome e.unshelved (C.is_lost crew.entry.now)) }
         {
             let mut desk = desk;
             let all = run(
@@ -256,6 +261,7 @@ pub(crate) fn gather_by<
     ensures tokens { IfSome ended.new (λ e. AreTokens (C.table crew.now) (C.queue crew.now) whole_share e.tokens) }
     ensures done { IfSome ended.new (λ e. IsNone e.unshelved → (h : Duty → ℕ) → done h e.tokens ≡ owed h (C.table crew.now).layout (C.table crew.now).layout.pages) }
     ensures put { IfSome ended.new (λ e. PutsCompletedSince tokens e.tokens) }
+    ensures lost { IfSome ended.new (λ e. IfSome e.unshelved (C.is_lost crew.now)) }
 {
     let (desk, all) = run_in_scope(rt, alloc, crew, collector, desk, tokens, ticket, workers);
     *ended = all;

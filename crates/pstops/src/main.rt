@@ -11,7 +11,7 @@ use std::alloc::Global;
 use std::env;
 use std::env::Env;
 use std::fs::File;
-use std::io::{ErrorKind, Read, Write};
+use std::io::{BufWriter, ErrorKind, Read, Write};
 use std::process::ExitCode;
 use std::sync::Wait;
 use std::thread::Threads;
@@ -80,14 +80,20 @@ fn read_from(alloc: Global, reader: impl Read + Drop) -> Result<Vec<u8>, ReadFau
     read_input(alloc, &mut source)
 }
 
+// How much of the output is written at once, in bytes, where sheets are smaller.
+const WRITTEN_AT_ONCE: usize = 65_536;
+
 // Runs the request and flushes what it wrote.
 fn run_into<R: Threads + Wait + Sync>(
     threads: &R,
     alloc: Global,
     request: &Request,
     input: &[u8],
-    mut output: impl Write + Drop,
+    output: impl Write + Drop,
 ) -> Result<(u8, Vec<u8>), Fault> {
+    let Ok(mut output) = BufWriter::with_capacity(alloc, WRITTEN_AT_ONCE, output) else {
+        return Err(Fault::Run(RunError::NoMemory { written: 0 }));
+    };
     let mut sink = WriteSink::new(&mut output);
     let (status, line) = run_request(threads, alloc, request, input, &mut sink);
     if status == 0 && output.flush().is_err() {

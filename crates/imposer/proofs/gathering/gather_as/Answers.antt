@@ -1,6 +1,7 @@
 use Rattle.std.proofs.Common.{rules, ◌≡◌, ◌≤◌, ◌∙◌, ℕ, sym, subst, ap, refl, inl, inr, ⊎_elim, IfSome}
 use Rattle.histories.specs.Seats.{whole_share, times}
 use Rattle.profile.specs.Sheets.{layout}
+use Rattle.handover.specs.Shelves.{IsOn}
 use Rattle.sheet_plan.specs.Plans.{IsSound}
 use Rattle.sheet_plan.specs.Places.{born_complete}
 use Rattle.imposer.specs.Collecting.{Stands}
@@ -8,7 +9,7 @@ use Rattle.imposer.specs.Tokens as tokens
 use Rattle.imposer.specs.Gathering.{Answers}
 use Rattle.imposer.specs.declared.tokens.Tokens.{Tokens}
 use Rattle.imposer.proofs.Counts.{table_has_pages}
-use Rattle.imposer.proofs.Ends.{WasUsed, gathered_answers, gathered_whole}
+use Rattle.imposer.proofs.Ends.{WasUsed, gathered_answers, gathered_unshelved, gathered_whole}
 use Rattle.imposer.proofs.HandedOn.{started_puts}
 use Rattle.imposer.proofs.Held.{are_tokens, seat_of, pass_of, pass_handed_on}
 use Rattle.imposer.proofs.gathering.gather_as.Goals as goal
@@ -50,3 +51,10 @@ returns-clause-whole g c =
     (table_has_pages job.plan table (subst (λ j. IsSound j.plan) c.job.view_is c.job.invariant.2) c.requires.table)
     (λ s. subst (λ xs. tokens.put s first ≤ times s xs) born (started_puts s c.args.ready.now c.born_complete.result.now put.0 c.args.tokens first c.requires.tokens.1 put.1))
     c.gather_by-desk.ensures.tokens c.gather_by-desk.ensures.done c.gather_by-desk.ensures.put c.finish-gathered.ensures.ended c.finish-gathered.ensures.missing
+
+pub returns-clause-unshelved : goal.returns-clause-unshelved
+returns-clause-unshelved g c =
+    let laid = c.gather_by-desk.result in
+    let last = c.finish-gathered.new.desk in
+    gathered_unshelved (IsOn c.args.shelf.now) c.args.job.now (g.S.Sink.told laid.sink.now) (g.S.Sink.told last.sink.now) (g.S.Sink.failures laid.sink.now) (g.S.Sink.failures last.sink.now) laid.progress c.gather_by-desk.new.ended c.finish-gathered.result
+    c.gather_by-desk.ensures.lost c.finish-gathered.ensures.ended c.finish-gathered.ensures.missing

@@ -1,8 +1,8 @@
-use Rattle.std.proofs.Common.{rules, arith, ◌≡◌, ℕ, suc, ◌+◌, ◌-◌, ◌<◌, subst}
+use Rattle.std.proofs.Common.{rules, arith, ◌≡◌, ℕ, suc, ◌+◌, ◌-◌, ◌<◌, ◌∙◌, subst}
 use Rattle.std.specs.Vec.Iter.{into_iter_len}
 use Rattle.imposer.specs.Tokens.{AreTokens}
 use Rattle.imposer.specs.Joining.{AddsNoWork}
-use Rattle.imposer.proofs.Merged.{merged, also}
+use Rattle.imposer.proofs.Merged.{merged, also, first_of}
 use Rattle.imposer.proofs.threads.join_imposers.Goals as goal
 
 pub loop-handle-preserved : goal.loop-handle-preserved
@@ -26,6 +26,6 @@ loop-handle-preserved g c =
               nothing = λ h. let x = b.1.calls h in let y = r.1.nothing h in let z = q.2 h in omega arith;
               puts = λ s. let one = r.1.puts s in let two = q.3 s in let puts = b.1.puts s in let completions = b.1.completions s in omega arith;
             },
-            λ is. r.2 (b.2 is).0,
+            first_of a.unshelved t.unshelved e.unshelved q.1 b.2 b.3 ∙ r.2,
           ))),
     )

@@ -1,4 +1,4 @@
-use Rattle.std.proofs.Common.{◌≡◌, ℕ, ◌<◌, ◌≤◌, ◌+◌, ◌-◌, get_or, IfSome, IsSomeAnd, IsNone}
+use Rattle.std.proofs.Common.{◌≡◌, ℕ, ◌<◌, ◌≤◌, ◌+◌, ◌-◌, get_or, IfSome, IsSomeAnd}
 use Rattle.std.specs.Vec.Iter.{into_iter_items, into_iter_len}
 use Rattle.imposer.specs.Tokens.{AreTokens}
 use Rattle.imposer.specs.Joining.{AddsNoWork}
@@ -10,4 +10,4 @@ invariant-loop-handle g l =
     let joined = l.count - into_iter_len rest in
     (into_iter_len rest ≤ l.count)
     × ((k : ℕ) (d : _) → k < into_iter_len rest → (get_or (into_iter_items rest) k d).promise.crew.now ≡ l.crew)
-    × IfSome l.all (λ e. IsSomeAnd l.fn.prepared (λ a. AreTokens (g.C.Crew.table l.crew) (g.C.Crew.queue l.crew) (a.tokens.seat.share + joined) e.tokens × AddsNoWork a.tokens e.tokens × (IsNone e.unshelved → IsNone a.unshelved)))
+    × IfSome l.all (λ e. IsSomeAnd l.fn.prepared (λ a. AreTokens (g.C.Crew.table l.crew) (g.C.Crew.queue l.crew) (a.tokens.seat.share + joined) e.tokens × AddsNoWork a.tokens e.tokens × (e.unshelved ≡ a.unshelved)))

@@ -1,9 +1,9 @@
-use Rattle.std.proofs.Common.{rules, arith, ◌≡◌, ℕ, suc, ◌+◌, ◌-◌, ◌<◌, ap, ◌∙◌, subst}
+use Rattle.std.proofs.Common.{rules, arith, ◌≡◌, ℕ, suc, ◌+◌, ◌-◌, ◌<◌, ap, ◌∙◌, subst, IfSome}
 use Rattle.std.specs.Vec.Iter.{into_iter_len}
 use Rattle.imposer.specs.Duty.{share_below, shares}
 use Rattle.imposer.specs.Tokens.{AreTokens, done}
 use Rattle.imposer.proofs.Shares.{together}
-use Rattle.imposer.proofs.Merged.{merged, mapped}
+use Rattle.imposer.proofs.Merged.{merged, mapped, one_of}
 use Rattle.imposer.proofs.threads.join_preparers.Goals as goal
 
 pub loop-handle-preserved : goal.loop-handle-preserved
@@ -32,6 +32,7 @@ loop-handle-preserved g c =
                 two ∙ (λ i. share_below h (g.C.Crew.table (crew i)).layout (count i) (number i) (g.C.Crew.table (crew i)).layout.pages) in
                 let both = b.1.calls h in rw grown (omega arith)),
             (λ s. let one = p.2 s in let two = q.2 s in let puts = b.1.puts s in let completions = b.1.completions s in omega arith),
+            one_of (g.C.Crew.is_lost c.args.crew.now) a.unshelved t.unshelved e.unshelved p.3 (subst (λ w. IfSome t.unshelved (g.C.Crew.is_lost w)) crew q.3) b.3,
           )),
     )
 

@@ -12,4 +12,4 @@ invariant-loop-handle g l =
     let layout = (g.C.Crew.table l.crew).layout in
     (into_iter_len rest ≤ l.count)
     × ((k : ℕ) (d : _) → k < into_iter_len rest → ((get_or (into_iter_items rest) k d).promise.number ≡ joined + k) × ((get_or (into_iter_items rest) k d).promise.count ≡ l.count) × ((get_or (into_iter_items rest) k d).promise.crew.now ≡ l.crew))
-    × IfSome l.all (λ e. AreTokens (g.C.Crew.table l.crew) (g.C.Crew.queue l.crew) (l.fn.tokens.seat.share + joined) e.tokens × (IsNone e.unshelved → (h : Duty → ℕ) → done h e.tokens ≡ shares h layout l.count layout.pages joined) × PutsCompletedSince l.fn.tokens e.tokens)
+    × IfSome l.all (λ e. AreTokens (g.C.Crew.table l.crew) (g.C.Crew.queue l.crew) (l.fn.tokens.seat.share + joined) e.tokens × (IsNone e.unshelved → (h : Duty → ℕ) → done h e.tokens ≡ shares h layout l.count layout.pages joined) × PutsCompletedSince l.fn.tokens e.tokens × IfSome e.unshelved (g.C.Crew.is_lost l.crew))
