@@ -11,7 +11,7 @@ ghost use Rattle.imposer.specs.Jobs.{slots_of, slots_text, text_of};
 ghost use Rattle.imposer.specs.LookUps.{pages_of, LooksUp, LooksAt, HasIndex};
 
 use crate::job::Job;
-use crate::sheet::{append_page_line, append_placed};
+use crate::sheet::{append_page_line, append_placed, likely_len};
 use gather_table::{GatherTable, Seat};
 use handover::{Prepared, Shelf};
 use std::alloc::Global;
@@ -54,7 +54,9 @@ pub fn impose<'d>(
         (λ m. LooksUp (pages_of table.now.layout sheet) (length (pages_of table.now.layout sheet)) seat.old seat.new)
         (λ e. (n : ℕ) × LooksUp (pages_of table.now.layout sheet) n seat.old seat.new) }
 {
-    let mut text = Vec::new(alloc);
+    let Ok(mut text) = Vec::with_capacity(alloc, likely_len(job, sheet)) else {
+        return Err(ImposeError::NoMemory);
+    };
     let Ok(()) = append_page_line(&mut text, sheet) else {
         return Err(ImposeError::NoMemory);
     };

@@ -20,9 +20,25 @@ pub fn sheet_text(alloc: Global, job: &Job<'_, '_>, sheet: u32) -> Result<Vec<u8
     requires { sheet < length job.now.plan.sheets }
     ensures { IfOk result (λ text. text.items ≡ text_of job.now sheet) }
 {
-    let mut text = Vec::new(alloc);
+    let mut text = Vec::with_capacity(alloc, likely_len(job, sheet))?;
     append_sheet(alloc, &mut text, job, sheet)?;
     Ok(text)
+}
+
+/// About how many bytes the text of a sheet has, and seldom fewer than that, so that it isn't moved while it is made.
+pub(crate) fn likely_len(job: &Job<'_, '_>, sheet: u32) -> usize
+    requires { sheet < length job.now.plan.sheets }
+{
+    let mut len = 64usize;
+    for slot in 0..job.plan.slots(sheet) {
+        if let Some(page) = job.plan.page_of(sheet, slot) {
+            // The texts round a placed page have a few hundred bytes.
+            len = len
+                .saturating_add(job.document.page(page).len())
+                .saturating_add(512);
+        }
+    }
+    len
 }
 
 /// Appends the text of a sheet.

@@ -1,14 +1,15 @@
-//! Runs on small documents and on many pages, sinks, gates, deliveries and impositions.
+//! Runs on small documents and on many pages, refusals, sinks, gates, deliveries and impositions.
 mod deliveries;
 mod gates;
 mod impositions;
 mod many_pages;
+mod refusals;
 mod sinks;
 
 use crate::{Job, MemorySink, Open, Options, Report, RunError, Workers, run, sheet_text};
 use dsc::Document;
 use lengths::{Grains, Paper, paper_by_name};
-use pagespec::{SpecError, read_spec};
+use pagespec::read_spec;
 use sheet_plan::Plan;
 use std::process::Abort;
 use std::test::Fail;
@@ -265,32 +266,5 @@ fn five_pages_in_blocks_of_four(rt: HostRuntime) -> Result<(), Fail> {
     let last =
         "%%Page: 6 6\nshowpage\n%%Page: 7 7\nshowpage\n%%Page: 8 8\nshowpage\n%%Trailer\n%%EOF\n";
     assert!(rt; sink.bytes().ends_with(last.as_bytes()));
-    Ok(())
-}
-
-#[test]
-fn options_are_checked_first_and_then_the_specification(rt: HostRuntime) -> Result<(), Fail> {
-    for options in [
-        workers(&rt, 0, 1),
-        workers(&rt, 1, 0),
-        workers(&rt, 1, 17),
-        workers(&rt, 17, 1),
-    ] {
-        let mut sink = MemorySink::new(rt.alloc(), 1_000, 1_000, 100)?;
-        let answer = run(&rt, rt.alloc(), b"", "x", &options, &Open {}, &mut sink);
-        assert!(rt; matches!(answer, Err(RunError::Options)));
-        assert!(rt; sink.bytes().is_empty());
-    }
-    let mut sink = MemorySink::new(rt.alloc(), 1_000, 1_000, 100)?;
-    let answer = run(
-        &rt,
-        rt.alloc(),
-        b"",
-        "x",
-        &workers(&rt, 1, 1),
-        &Open {},
-        &mut sink,
-    );
-    assert!(rt; matches!(answer, Err(RunError::Spec(SpecError::Syntax(_)))));
     Ok(())
 }

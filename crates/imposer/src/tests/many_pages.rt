@@ -3,11 +3,11 @@ ghost use Rattle.std.specs.Prelude.{◌<◌};
 ghost use Rattle.imposer.specs.Workers.{AreWorkers};
 
 use super::{TWO_UP, a4, workers};
-use crate::{Job, MemorySink, Open, Report, RunError, Workers, gather, run};
+use crate::{Gathered, Job, MemorySink, Open, Report, RunError, Workers, gather, run};
 use dsc::Document;
 use gather_table::GatherTable;
 use handover::{Ready, Shelf};
-use pagespec::{SpecError, read_spec};
+use pagespec::read_spec;
 use sheet_plan::Plan;
 use std::alloc::Global;
 use std::process::Abort;
@@ -30,7 +30,7 @@ fn document_of(alloc: Global, pages: u32) -> Result<String, Fail> {
     Ok(text)
 }
 
-/// Two hundred pages, two a sheet: the output, and the report without its bytes.
+/// Two hundred pages, two a sheet: the sink with the output, and the report.
 fn impose_pairs<R: Threads + Wait + Abort + Sync>(
     rt: &R,
     alloc: Global,
@@ -67,47 +67,25 @@ fn no_byte_depends_on_the_workers(rt: HostRuntime) -> Result<(), Fail> {
     Ok(())
 }
 
-/// What `run` answers to these numbers of workers, the specification `x` and no input.
-fn refuse<R: Threads + Wait + Abort + Sync>(
-    rt: &R,
-    alloc: Global,
-    spec: &str,
-    preparers: u32,
-    imposers: u32,
-) -> Result<RunError, Fail> {
-    let options = workers(rt, preparers, imposers);
-    let mut sink = MemorySink::new(alloc, 0, 1, 1)?;
-    match run(rt, alloc, b"", spec, &options, &Open {}, &mut sink) {
-        Ok(_) => panic!(rt; "no document is a document"),
-        Err(error) => Ok(error),
-    }
-}
-
-#[test]
-fn the_workers_are_checked_before_the_specification(rt: HostRuntime) -> Result<(), Fail> {
-    assert!(rt; matches!(refuse(&rt, rt.alloc(), TWO_UP, 0, 1)?, RunError::Options));
-    assert!(rt; matches!(refuse(&rt, rt.alloc(), TWO_UP, 1, 17)?, RunError::Options));
-    assert!(rt; matches!(refuse(&rt, rt.alloc(), "x", 0, 1)?, RunError::Options));
-    let error = refuse(&rt, rt.alloc(), "x", 1, 1)?;
-    assert!(rt; matches!(error, RunError::Spec(SpecError::Syntax(0))));
-    Ok(())
-}
-
-/// Gathers the job, and answers whether a page was left without a receipt, and the shares that came back.
+/// Gathers the job: the report, whether a page was left without a receipt, and the shares of the seat and of the pass.
 fn gather_job<R: Threads + Wait + Abort + Sync>(
     rt: &R,
     alloc: Global,
     job: &Job<'_, '_>,
     workers: Workers,
     sink: &mut MemorySink,
-) -> Result<(Report, bool, Option<(u64, u64)>), Fail>
+) -> Result<(Report, bool, (u64, u64)), Fail>
     requires workers { AreWorkers workers }
     requires countable { sink.old.failures < 10 }
 {
     let (table, seat) = GatherTable::new(alloc, job.plan)?;
     let shelf = Shelf::new(alloc)?;
     let (ready, pass) = Ready::new(alloc, job.sheets.max(1))?;
-    let gathered = gather(
+    let Gathered {
+        outcome,
+        unshelved,
+        tokens,
+    } = gather(
         rt,
         alloc,
         job,
@@ -120,11 +98,10 @@ fn gather_job<R: Threads + Wait + Abort + Sync>(
         &Open {},
         sink,
     );
-    let shares = match gathered.tokens {
-        Some((seat, pass)) => Some((seat.share(), pass.share())),
-        None => None,
+    let Some((seat, pass)) = tokens else {
+        panic!(rt; "the tokens are missing");
     };
-    Ok((gathered.outcome?, gathered.unshelved.is_some(), shares))
+    Ok((outcome?, unshelved.is_some(), (seat.share(), pass.share())))
 }
 
 /// Gathers two hundred pages, two a sheet.
@@ -132,7 +109,7 @@ fn gather_pairs<R: Threads + Wait + Abort + Sync>(
     rt: &R,
     alloc: Global,
     sink: &mut MemorySink,
-) -> Result<(Report, bool, Option<(u64, u64)>), Fail>
+) -> Result<(Report, bool, (u64, u64)), Fail>
     requires countable { sink.old.failures < 10 }
 {
     let text = document_of(alloc, 200)?;
@@ -152,7 +129,7 @@ fn a_gathering_hands_back_its_tokens(rt: HostRuntime) -> Result<(), Fail> {
     let mut sink = MemorySink::new(rt.alloc(), ROOM, ROOM, 1_000)?;
     let (report, is_unshelved, shares) = gather_pairs(&rt, rt.alloc(), &mut sink)?;
     let whole = 4_294_967_296;
-    assert_eq!(rt; (is_unshelved, shares), (false, Some((whole, whole))));
+    assert_eq!(rt; (is_unshelved, shares), (false, (whole, whole)));
     assert_eq!(rt;
         (report.pages, report.sheets, report.born, report.swept),
         (200, 100, 0, 0)

@@ -3,3 +3,6 @@ use Rattle.imposer.proofs.LookUps.{looks_none}
 
 pub returns-in_default-clause-looked_up : goal.returns-in_default-clause-looked_up
 returns-in_default-clause-looked_up c = (0, looks_none _ _)
+
+pub returns-in_default-append_page_line-clause-looked_up : goal.returns-in_default-append_page_line-clause-looked_up
+returns-in_default-append_page_line-clause-looked_up c = (0, looks_none _ _)

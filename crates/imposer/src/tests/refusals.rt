@@ -1,0 +1,53 @@
+//! What is refused first.
+use super::{ONE_PAGE, TWO_UP, workers};
+use crate::{MemorySink, Open, RunError, run};
+use pagespec::SpecError;
+use std::alloc::Global;
+use std::process::Abort;
+use std::sync::Wait;
+use std::test::Fail;
+use std::thread::Threads;
+
+/// Why a run is refused.
+fn refuse<R: Threads + Wait + Abort + Sync>(
+    rt: &R,
+    alloc: Global,
+    input: &str,
+    spec: &str,
+    crew: (u32, u32),
+) -> Result<RunError, Fail> {
+    let options = workers(rt, crew.0, crew.1);
+    let mut sink = MemorySink::new(alloc, 1_000, 1_000, 100)?;
+    let answer = run(
+        rt,
+        alloc,
+        input.as_bytes(),
+        spec,
+        &options,
+        &Open {},
+        &mut sink,
+    );
+    assert!(rt; sink.bytes().is_empty());
+    match answer {
+        Ok(_) => panic!(rt; "nothing is refused"),
+        Err(error) => Ok(error),
+    }
+}
+
+#[test]
+fn workers_are_checked_first(rt: HostRuntime) -> Result<(), Fail> {
+    for crew in [(0, 1), (1, 0), (1, 17), (17, 1)] {
+        let error = refuse(&rt, rt.alloc(), ONE_PAGE, TWO_UP, crew)?;
+        assert!(rt; matches!(error, RunError::Options));
+        let error = refuse(&rt, rt.alloc(), "", "x", crew)?;
+        assert!(rt; matches!(error, RunError::Options));
+    }
+    Ok(())
+}
+
+#[test]
+fn the_specification_is_read_before_the_input(rt: HostRuntime) -> Result<(), Fail> {
+    let error = refuse(&rt, rt.alloc(), "", "x", (1, 1))?;
+    assert!(rt; matches!(error, RunError::Spec(SpecError::Syntax(0))));
+    Ok(())
+}
