@@ -52,7 +52,7 @@ used_wrote job old new before after p used = ⊎_elim
     (λ stands. stands_wrote job old new before after p.next p.written p.halted stands)
     used
 
-pub gathered_answers : (job : JobView) (start mid last : Option (List ℕ)) (first more after : ℕ) (p : Progress) (ended : Option (Ended Overflow)) (g : Gathered)
+gathered_answers : (job : JobView) (start mid last : Option (List ℕ)) (first more after : ℕ) (p : Progress) (ended : Option (Ended Overflow)) (g : Gathered)
     → WasUsed job start mid first more p
     → IfSome ended (λ e. Stands job start mid first more p)
     → IfSome ended (λ e. Concludes job mid last more after p e g)
@@ -63,6 +63,17 @@ gathered_answers job start mid last first more after p None g used stood conclud
     let m = missing refl in
     subst (λ x. Answers job start last first after x.outcome) (sym m.0)
     (subst (λ t. Answers job start t first after (Err (NoMemory p.written))) (sym m.1) (subst (λ n. Answers job start mid first n (Err (NoMemory p.written))) (sym m.2) (used_wrote job start mid first more p used)))
+
+-- the same, of a sink that is left as the collector's is
+pub sink_answers : (job : JobView) (start mid last end : Option (List ℕ)) (first more after final : ℕ) (p : Progress) (ended : Option (Ended Overflow)) (g : Gathered) → end ≡ last → final ≡ after
+    → WasUsed job start mid first more p
+    → IfSome ended (λ e. Stands job start mid first more p)
+    → IfSome ended (λ e. Concludes job mid last more after p e g)
+    → (IsNone ended → AnswersNoMemory p.written g × (last ≡ mid) × (after ≡ more))
+    → Answers job start end first final g.outcome
+sink_answers job start mid last end first more after final p ended g same steady used stood concluded missing =
+    subst (λ t. Answers job start t first final g.outcome) (sym same)
+    (subst (λ n. Answers job start last first n g.outcome) (sym steady) (gathered_answers job start mid last first more after p ended g used stood concluded missing))
 
 -- what comes back is whole, and has gathered all
 abbrev pub IsWhole : TableView → QueueView → Gathered → Type 0

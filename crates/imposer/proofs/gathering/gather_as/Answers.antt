@@ -8,7 +8,7 @@ use Rattle.imposer.specs.Tokens as tokens
 use Rattle.imposer.specs.Gathering.{Answers}
 use Rattle.imposer.specs.declared.tokens.Tokens.{Tokens}
 use Rattle.imposer.proofs.Counts.{table_has_pages}
-use Rattle.imposer.proofs.Ends.{gathered_answers, gathered_unshelved, gathered_whole}
+use Rattle.imposer.proofs.Ends.{sink_answers, gathered_unshelved, gathered_whole}
 use Rattle.imposer.proofs.HandedOn.{started_puts}
 use Rattle.imposer.proofs.Held.{are_tokens, seat_of, pass_of, pass_handed_on}
 use Rattle.imposer.proofs.gathering.gather_as.Goals as goal
@@ -26,16 +26,11 @@ gather_by-desk-requires-clause-unused g c κs within = c.requires.tokens.1.no_ca
 
 pub returns-clause-outcome : goal.returns-clause-outcome
 returns-clause-outcome g c =
-    let job = c.args.job.now in
     let laid = c.gather_by-desk.result in
     let last = c.finish-gathered.new.desk in
-    let told : g.S.Sink.told c.sink-1.given.0 ≡ g.S.Sink.told last.sink.now = search rules in
-    let failed : g.S.Sink.failures c.sink-1.given.0 ≡ g.S.Sink.failures last.sink.now = search rules in
-    let answers = gathered_answers job (g.S.Sink.told c.args.sink.now) (g.S.Sink.told laid.sink.now) (g.S.Sink.told last.sink.now) (g.S.Sink.failures c.args.sink.now) (g.S.Sink.failures laid.sink.now) (g.S.Sink.failures last.sink.now)
+    sink_answers c.args.job.now (g.S.Sink.told c.args.sink.now) (g.S.Sink.told laid.sink.now) (g.S.Sink.told last.sink.now) _ (g.S.Sink.failures c.args.sink.now) (g.S.Sink.failures laid.sink.now) (g.S.Sink.failures last.sink.now) _
     laid.progress c.gather_by-desk.new.ended c.finish-gathered.result
-    (search rules) (search rules) c.finish-gathered.ensures.ended c.finish-gathered.ensures.missing in
-    subst (λ t. Answers job (g.S.Sink.told c.args.sink.now) t (g.S.Sink.failures c.args.sink.now) (g.S.Sink.failures c.sink-1.given.0) c.finish-gathered.result.outcome) (sym told)
-    (subst (λ n. Answers job (g.S.Sink.told c.args.sink.now) (g.S.Sink.told last.sink.now) (g.S.Sink.failures c.args.sink.now) n c.finish-gathered.result.outcome) (sym failed) answers)
+    (search rules) (search rules) (search rules) (search rules) c.finish-gathered.ensures.ended c.finish-gathered.ensures.missing
 
 pub returns-clause-whole : goal.returns-clause-whole
 returns-clause-whole g c =
