@@ -2,8 +2,8 @@
 use Rattle.std.proofs.Common.{inl, inr, rules, ℕ, List, [], ◌∷◌, true, false, Bool, refl}
 use Rattle.std.specs.Prelude.{codes, ℤ, pos, neg_ℤ}
 use Rattle.profile.specs.Numbers.{IsNumber}
-use Rattle.profile.specs.Papers.{LengthUnit, Pt, Cm}
-use Rattle.profile.specs.Specification.{IsMeasure, IsItem, IsSpec, Modifier, Quarters, Scaled, Moved, Measure, WrittenItem, WrittenSpec}
+use Rattle.profile.specs.Papers.{LengthUnit, Pt, Cm, Mm, In, Width, Height}
+use Rattle.profile.specs.Specification.{IsTurn, IsMeasure, IsItem, IsSpec, Modifier, Quarters, Scaled, Moved, Measure, WrittenItem, WrittenSpec}
 
 abbrev item : Bool → ℕ → List Modifier → WrittenItem
 item from_end page modifiers = record { from_end = from_end; page = page; modifiers = modifiers }
@@ -29,6 +29,47 @@ minus_zero = (true, codes "-", codes "0", codes ".0", codes "0", refl, (refl, re
 -- the tenth decimal has no effect
 ten_decimals : IsNumber (codes "+00.1234567899") (pos 123_456_789)
 ten_decimals = (false, codes "+", codes "00", codes ".1234567899", codes "1234567899", refl, (refl, refl), search rules, (refl, refl), search rules, (λ e. cc), refl)
+
+-- a turn to the left, half a turn, a turn to the right, in capitals and small letters
+left : IsTurn (codes "L") 1
+left = inl (refl, inl refl)
+
+small_left : IsTurn (codes "l") 1
+small_left = inl (refl, inr refl)
+
+half : IsTurn (codes "U") 2
+half = inr (inl (refl, inl refl))
+
+small_half : IsTurn (codes "u") 2
+small_half = inr (inl (refl, inr refl))
+
+right : IsTurn (codes "R") 3
+right = inr (inr (refl, inl refl))
+
+small_right : IsTurn (codes "r") 3
+small_right = inr (inr (refl, inr refl))
+
+-- two of each unit
+two : IsNumber (codes "2") (pos 2_000_000_000)
+two = (false, [], codes "2", [], [], refl, refl, search rules, refl, search rules, (λ e. cc), refl)
+
+two_points : IsMeasure (codes "2pt") (measure (pos 2_000_000_000) Pt)
+two_points = (codes "2", codes "pt", refl, two, inl refl)
+
+two_centimetres : IsMeasure (codes "2cm") (measure (pos 2_000_000_000) Cm)
+two_centimetres = (codes "2", codes "cm", refl, two, inl refl)
+
+two_millimetres : IsMeasure (codes "2mm") (measure (pos 2_000_000_000) Mm)
+two_millimetres = (codes "2", codes "mm", refl, two, inl refl)
+
+two_inches : IsMeasure (codes "2in") (measure (pos 2_000_000_000) In)
+two_inches = (codes "2", codes "in", refl, two, inl refl)
+
+two_widths : IsMeasure (codes "2w") (measure (pos 2_000_000_000) Width)
+two_widths = (codes "2", codes "w", refl, two, inl refl)
+
+two_heights : IsMeasure (codes "2h") (measure (pos 2_000_000_000) Height)
+two_heights = (codes "2", codes "h", refl, two, inl refl)
 
 -- `2:-0`: every other page, last one first
 every_other_page_backwards : IsSpec (codes "2:-0") (written 2 ((item true 0 ([]) ∷ []) ∷ []))

@@ -1,0 +1,74 @@
+-- The limits: what just fits is taken, and one more is refused. A plan's sheets are counted and not computed.
+use Rattle.std.proofs.Common.{arith, rules, ℕ, List, refl, sym, ◌≡◌, Bool, true, false, length, ap, subst, ◌∙◌}
+use Rattle.std.specs.Prelude.{◌<◌, ◌≤◌, ◌*◌, ◌==◌, nat_lt, not, nat_eq, codes, sum_by, Result, Ok, Err}
+use Rattle.std.specs.List.{starts_with}
+use Rattle.profile.specs.Specification.{Spec, canonical}
+use Rattle.profile.specs.Sheets.{blocks, sheets}
+use Rattle.profile.specs.Admissible.{Refuses, Takes, TooLong, Syntax, TooLarge, IsAdmissible}
+use Rattle.profile.specs.Units.{cut, ◌>>=◌}
+use Rattle.profile.specs.Parts.{NestedUnit, nested, pages}
+use Rattle.profile.specs.Run.{refuse_if, of_block, document_of, InputTooLong, NotPostScript, with_pages, InputTooManyPages, NoPages, plan_of, PlanTooManyPages, TooManySheets, TooManyPlaces}
+use Rattle.profile.proofs.Counts.{sheet_count, place_count}
+
+small : (m n : ℕ) → n ≤ m → nat_lt m n ≡ false
+small m n h = search rules
+
+large : (m n : ℕ) → m < n → nat_lt m n ≡ true
+large m n h = search rules
+
+refused : {A E : Type 0} (b : Bool) (e : E) (next : Result A E) → b ≡ true → refuse_if b e next ≡ Err e
+refused b e next h = rw h refl
+
+passed : {A E : Type 0} (b : Bool) (e : E) (next : Result A E) → b ≡ false → refuse_if b e next ≡ next
+passed b e next h = rw h refl
+
+-- a specification of 65,537 bytes
+long_specification : (text : List ℕ) → length text ≡ 65_537 → Refuses 64 text TooLong
+long_specification text h = omega (arith, h)
+
+-- one of 65,536 isn't too long
+longest_specification : (text : List ℕ) → length text ≡ 65_536 → Refuses 64 text TooLong → ⊥
+longest_specification text h long = omega (arith, h, long)
+
+-- a document of 1,073,741,825 bytes, whatever it begins with
+long_document : (input : List ℕ) → length input ≡ 1_073_741_825 → document_of input ≡ Err InputTooLong
+long_document input h = refused _ InputTooLong _ (large 1_073_741_824 (length input) (omega (arith, h)))
+
+-- one of 1,073,741,824 bytes is looked at
+longest_document : (input : List ℕ) → length input ≡ 1_073_741_824
+    → document_of input ≡ refuse_if (not (starts_with nat_eq input (codes "%!"))) NotPostScript (of_block (cut input) >>= λ us. with_pages (nested us))
+longest_document input h = passed _ InputTooLong _ (small 1_073_741_824 (length input) (omega (arith, h)))
+
+-- 1,000,001 pages
+too_many_pages_in_document : (us : List NestedUnit) → length (pages us) ≡ 1_000_001 → with_pages us ≡ Err InputTooManyPages
+too_many_pages_in_document us h = refused _ InputTooManyPages _ (large 1_000_000 (length (pages us)) (omega (arith, h)))
+
+-- 1,000,000 pages
+most_pages_in_document : (us : List NestedUnit) → length (pages us) ≡ 1_000_000 → with_pages us ≡ Ok us
+most_pages_in_document us h = passed _ InputTooManyPages _ (small 1_000_000 (length (pages us)) (omega (arith, h))) ∙ ap (λ k. refuse_if (k == 0) NoPages (Ok us)) h
+
+-- at most 1,000,000 pages and sheets, and 4,000,000 places
+most_places : (spec : Spec) (n : ℕ) → n ≤ 1_000_000 → blocks spec.modulo n * length spec.groups ≤ 1_000_000
+    → blocks spec.modulo n * sum_by length spec.groups ≤ 4_000_000 → plan_of spec n ≡ Ok (sheets spec n)
+most_places spec n few sheets_few places_few =
+    passed _ PlanTooManyPages _ (small 1_000_000 n few)
+    ∙ (passed _ TooManySheets _ (ap (nat_lt 1_000_000) (sheet_count spec n) ∙ small 1_000_000 (blocks spec.modulo n * length spec.groups) sheets_few)
+    ∙ passed _ TooManyPlaces _ (ap (nat_lt 4_000_000) (place_count spec n) ∙ small 4_000_000 (blocks spec.modulo n * sum_by length spec.groups) places_few))
+
+-- pages are counted first
+too_many_pages : (spec : Spec) (n : ℕ) → 1_000_000 < n → plan_of spec n ≡ Err PlanTooManyPages
+too_many_pages spec n many = refused _ PlanTooManyPages _ (large 1_000_000 n many)
+
+-- then sheets
+too_many_sheets : (spec : Spec) (n : ℕ) → n ≤ 1_000_000 → 1_000_000 < blocks spec.modulo n * length spec.groups → plan_of spec n ≡ Err TooManySheets
+too_many_sheets spec n few many =
+    passed _ PlanTooManyPages _ (small 1_000_000 n few)
+    ∙ refused _ TooManySheets _ (ap (nat_lt 1_000_000) (sheet_count spec n) ∙ large 1_000_000 (blocks spec.modulo n * length spec.groups) many)
+
+-- then places, blank ones among them
+too_many_places : (spec : Spec) (n : ℕ) → n ≤ 1_000_000 → blocks spec.modulo n * length spec.groups ≤ 1_000_000
+    → 4_000_000 < blocks spec.modulo n * sum_by length spec.groups → plan_of spec n ≡ Err TooManyPlaces
+too_many_places spec n few sheets_few many =
+    passed _ PlanTooManyPages _ (small 1_000_000 n few)
+    ∙ (passed _ TooManySheets _ (ap (nat_lt 1_000_000) (sheet_count spec n) ∙ small 1_000_000 (blocks spec.modulo n * length spec.groups) sheets_few)
+    ∙ refused _ TooManyPlaces _ (ap (nat_lt 4_000_000) (place_count spec n) ∙ large 4_000_000 (blocks spec.modulo n * sum_by length spec.groups) many))
