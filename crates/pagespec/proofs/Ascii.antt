@@ -16,7 +16,7 @@ use Rattle.profile.proofs.Digits.{IsDigit}
 use Rattle.profile.proofs.Printed.{number_text_is_number}
 use Rattle.pagespec.specs.Items.{group_text, groups_text}
 use Rattle.pagespec.proofs.Faults.{no_fault, neither}
-use Rattle.pagespec.proofs.Decimals.{small_abs}
+use Rattle.pagespec.proofs.NumberLengths.{small_abs}
 use Rattle.pagespec.proofs.Short.{either, large_item, scale_small, offset_small, any_row, page_small}
 
 ascii_nil : IsAscii []

@@ -1,4 +1,4 @@
--- What a canonical text stands for: the items with the fewest modifiers.
+-- A canonical text is read again: it stands for the items with the fewest modifiers.
 use Rattle.std.proofs.Common.{arith, rules, ◌≡◌, ◌≢◌, ◌⊎◌, inl, inr, ℕ, suc, ◌+◌, ◌^◌, ◌<◌, List, [], ◌∷◌, ◌++◌, Bool, true, false, Option, Some, None, refl, sym, ap, subst, ◌∙◌, length, append_assoc, append-nil, cond}
 use Rattle.std.specs.Prelude.{ℤ, pos, negsuc, nat_abs, int_le, nat_lt, nat_le, ◌||◌, ◌&&◌, ◌==◌, map, flat_map, position, decimal, if◌then◌else◌}
 use Rattle.std.specs.List.{list_any, position_or_len}
@@ -15,7 +15,7 @@ use Rattle.pagespec.specs.Items.{group_text, groups_text}
 use Rattle.pagespec.proofs.Texts.{IsGroup}
 use Rattle.pagespec.proofs.Faults.{no_fault, neither}
 use Rattle.pagespec.proofs.Settling.{same_item, map_row}
-use Rattle.pagespec.proofs.Decimals.{small_abs}
+use Rattle.pagespec.proofs.NumberLengths.{small_abs}
 use Rattle.pagespec.proofs.Short.{either, large_item, scale_small, offset_small, any_row, page_small, short_enough}
 
 abbrev turn_modifiers : Turn → List Modifier
@@ -244,10 +244,6 @@ else_none (Some f) b e = absurd (cc (e))
 
 none_else : (a b : Option Fault) → a ≡ None → b ≡ None → else_first a b ≡ None
 none_else a b e f = rw e f
-
-if_none : (b : Bool) (f : Fault) → only_if b f ≡ None → b ≡ false
-if_none true f e = absurd (cc (e))
-if_none false f e = refl
 
 none_if : (b : Bool) (f : Fault) → b ≡ false → only_if b f ≡ None
 none_if b f e = rw e refl

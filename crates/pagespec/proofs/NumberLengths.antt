@@ -1,4 +1,4 @@
--- Digits of a number, and how many are printed of it at most.
+-- How many bytes a printed number has: no more than the text that was read, and 16 at most.
 use Rattle.std.proofs.Common.{arith, rules, ◌≡◌, ◌≢◌, ℕ, zero, suc, ◌+◌, ◌-◌, ◌*◌, ◌/◌, ◌%◌, ◌^◌, ◌<◌, ◌≤◌, List, [], ◌∷◌, ◌++◌, Bool, true, false, refl, sym, ap, subst, ◌∙◌, length, take, drop}
 use Rattle.std.specs.Prelude.{ℤ, pos, negsuc, nat_abs, nat_lt, decimal, fold, if◌then◌else◌, replicate, ◌==◌}
 use Rattle.std.specs.List.{AllPass}
@@ -48,9 +48,6 @@ decimals_short decimals pass = subst (λ xs. length xs ≤ length decimals) (sym
     by_few false e =
         let many : 9 ≤ length decimals = search (rules, e) in
         omega (arith, stripped_length (nine decimals), nine_long decimals)
-
-pub decimals_nine : (decimals : List ℕ) → AllPass is_ascii_digit decimals → length (decimals_of 9 (decimals_value 9 decimals)) ≤ 9
-decimals_nine decimals pass = omega (arith, ap length (decimals_printed decimals pass), stripped_length (nine decimals), nine_long decimals)
 
 -- digits are no fewer than those of the decimal that is printed
 pub digits_short : (ds : List ℕ) → AllPass is_ascii_digit ds → ds ≢ [] → number_of ds < 10 ^ 64 → length (decimal (number_of ds)) ≤ length ds
