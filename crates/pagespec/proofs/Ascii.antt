@@ -12,10 +12,11 @@ use Rattle.profile.specs.Numbers.{is_large, number_text, IsNumber, IsSign, IsFra
 use Rattle.profile.specs.Papers.{LengthUnit, Pt, Cm, Mm, In, Width, Height}
 use Rattle.profile.specs.Specification.{Measure, WrittenItem, WrittenSpec, Spec, Turn, Upright, Left, Half, Right, minus_text, unit_text, measure_text, turn_text, turn_of, quarters, scale, offset_x, offset_y, scale_part, is_one, offset_part, is_zero_points, item_text, joined_by, modulo_text, settled_item, settled, canonical}
 use Rattle.profile.specs.Admissible.{IsAdmissible, fault_of, has_large, items}
-use Rattle.profile.proofs.Printed.{IsDigit, number_text_is_number}
+use Rattle.profile.proofs.Digits.{IsDigit}
+use Rattle.profile.proofs.Printed.{number_text_is_number}
 use Rattle.pagespec.specs.Items.{group_text, groups_text}
 use Rattle.pagespec.proofs.Faults.{no_fault, neither}
-use Rattle.pagespec.proofs.Decimals.{small_abs}
+use Rattle.pagespec.proofs.NumberLengths.{small_abs}
 use Rattle.pagespec.proofs.Short.{either, large_item, scale_small, offset_small, any_row, page_small}
 
 ascii_nil : IsAscii []

@@ -13,7 +13,7 @@ use Rattle.pagespec.specs.declared.groups.Kept.{Kept}
 use Rattle.pagespec.specs.declared.groups.Stop.{Stop}
 use Rattle.pagespec.specs.declared.groups.Stop.TheVariants.{Stuck, NoMemory}
 use Rattle.lengths.proofs.Numbers.{same_byte}
-use Rattle.pagespec.proofs.Rows.{ReadsParts, parts_first, parts_more, parts_last, parts_stuck, parts_out, zip_append, zip_one}
+use Rattle.pagespec.proofs.JoinedLoop.{ReadsParts, parts_first, parts_more, parts_last, parts_stuck, parts_out, zip_append, zip_one}
 
 abbrev Shows : KeptItem → WrittenItem → Type 0
 Shows k i = ItemShows i k
@@ -68,9 +68,6 @@ pub record GroupsOn (fuel : ℕ) (bytes rest : List ℕ) (items : List KeptItem)
   pub reads : ReadsParts 44 group_at fuel bytes rest front
   pub shows : AreKept items (flat_map (λ g. g) front)
   pub counted : lengths ≡ map length front
-
-pub groups_first : (n : ℕ) (bytes : List ℕ) → n ≡ suc (length bytes) → GroupsOn n bytes bytes [] []
-groups_first n bytes e = record { front = []; reads = parts_first 44 group_at n bytes e; shows = tt; counted = refl }
 
 items-one : (gs : List (List WrittenItem)) (g : List WrittenItem) → flat_map (λ x. x) (gs ++ g ∷ []) ≡ flat_map (λ x. x) gs ++ g
 items-one [] g = append-nil g

@@ -7,7 +7,7 @@ use Rattle.profile.specs.Specification.{IsJoined}
 use Rattle.lengths.proofs.Digits.{by_test}
 use Rattle.lengths.proofs.Numbers.{some_same}
 use Rattle.pagespec.specs.Reading.{byte_at, joined_at, more_at, with_part}
-use Rattle.pagespec.proofs.Parts.{bind_some, byte_found}
+use Rattle.pagespec.proofs.Measures.{bind_some, byte_found}
 use Rattle.pagespec.proofs.Modifiers.{Stood}
 
 pub cons_joined : {X : Type 0} (c : ℕ) (R : List ℕ → X → Type 0) (front rest : List ℕ) (x : X) (xs : List X) → R front x → IsJoined c R rest xs → IsJoined c R (front ++ c ∷ rest) (x ∷ xs)

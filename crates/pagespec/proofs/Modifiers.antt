@@ -11,7 +11,7 @@ use Rattle.lengths.proofs.Digits.{by_test}
 use Rattle.lengths.proofs.Numbers.{number_found, number_read, some_same, same_byte}
 use Rattle.pagespec.proofs.Letters.{letter_turn, turn_letter}
 use Rattle.pagespec.specs.Reading.{quarters_of, byte_at, measure_at, offset_at, scale_at, modifier_at, modifiers_at, modifiers_or, with_modifier}
-use Rattle.pagespec.proofs.Parts.{bind_some, byte_found, measure_found, measure_read, NoUnit}
+use Rattle.pagespec.proofs.Measures.{bind_some, byte_found, measure_found, measure_read, NoUnit}
 
 -- a value was read, and its text is the front
 abbrev pub Stood : {X : Type 0} → (List ℕ → X → Type 0) → List ℕ → X × List ℕ → Type 0

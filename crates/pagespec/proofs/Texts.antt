@@ -1,4 +1,4 @@
--- Whole texts.
+-- Whole texts: what is read is a text of the grammar, and each text of the grammar is read.
 use Rattle.std.proofs.Common.{inl, inr, arith, ◌≡◌, ◌≢◌, ℕ, suc, List, [], ◌∷◌, ◌++◌, Bool, true, false, Option, Some, None, refl, sym, ap, subst, ◌∙◌, length}
 use Rattle.std.specs.Prelude.{if◌then◌else◌}
 use Rattle.std.specs.List.{AllPass}
@@ -10,7 +10,7 @@ use Rattle.lengths.specs.Reading.{digits, past_digits, is_empty}
 use Rattle.lengths.proofs.Digits.{digits_whole, digits_pass, digits-append, past_digits-append}
 use Rattle.lengths.proofs.Numbers.{some_same, not_empty, ends_digits}
 use Rattle.pagespec.specs.Reading.{◌>>=◌, byte_at, modifier_at, modifiers_at, is_minus, past_minus, item_of, item_from, item_at, bare_at, whole, joined_at, group_at, groups_at, or_bare, all_groups_at, tree_of, past_modulo, tree_from, spec_at}
-use Rattle.pagespec.proofs.Parts.{bind_some, byte_found}
+use Rattle.pagespec.proofs.Measures.{bind_some, byte_found}
 use Rattle.pagespec.proofs.Modifiers.{Stood, modifiers_found, modifiers_read, modifiers_end, few_modifiers}
 use Rattle.pagespec.proofs.Joined.{joined_found, joined_read, few_parts}
 use Rattle.pagespec.proofs.Items.{Closed, minus_whole, item_found, item_read, minus_taken, modifiers_unsigned}
@@ -190,10 +190,6 @@ spec_read t tree (inr (ds, rest, e, (pass, some, is), are)) =
     let p : past_digits t ≡ 58 ∷ rest = ap past_digits e ∙ here.1 in
     let m : past_modulo t ≡ Some rest = bare_taken (digits t) _ (λ n. some (sym d ∙ n)) ∙ ap (byte_at 58) p in
     ap (tree_from t) m ∙ (ap (λ x. x >>= tree_of (number_of (digits t))) (all_groups_read rest tree.groups are) ∙ ap (λ n. Some (record tree { modulo = n })) (ap number_of d ∙ sym is))
-
--- one text stands for one tree at most
-pub one_tree : (t : List ℕ) (a b : WrittenSpec) → IsSpec t a → IsSpec t b → a ≡ b
-one_tree t a b is_a is_b = some_same a b (sym (spec_read t a is_a) ∙ spec_read t b is_b)
 
 -- a text that isn't read is no text of the grammar
 pub no_tree : (t : List ℕ) → spec_at t ≡ None → (tree : WrittenSpec) → IsSpec t tree → ⊥

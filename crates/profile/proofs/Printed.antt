@@ -1,70 +1,17 @@
 -- Printed decimals: they are of the printed form, and are read again as what was printed.
-use Rattle.std.proofs.Common.{arith, ◌≡◌, ◌≢◌, ℕ, zero, suc, ◌+◌, ◌-◌, ◌*◌, ◌/◌, ◌%◌, ◌^◌, ◌<◌, ◌≤◌, List, [], ◌∷◌, ◌++◌, Bool, true, false, refl, sym, ap, subst, ◌∙◌, length, take, drop, get_or}
-use Rattle.std.specs.Prelude.{ℤ, pos, negsuc, nat_abs, decimal, if◌then◌else◌, replicate, ◌==◌, ◌&&◌}
+use Rattle.std.proofs.Common.{arith, ◌≡◌, ◌≢◌, ℕ, zero, suc, ◌+◌, ◌*◌, ◌/◌, ◌%◌, ◌^◌, ◌<◌, ◌≤◌, List, [], ◌∷◌, ◌++◌, Bool, true, false, refl, sym, ap, subst, ◌∙◌, length, take, drop, get_or}
+use Rattle.std.specs.Prelude.{ℤ, pos, negsuc, nat_abs, decimal, if◌then◌else◌, replicate, ◌==◌}
 use Rattle.std.specs.List.{AllPass}
 use Rattle.std.specs.Char.{is_ascii_digit}
 use Rattle.std.proofs.lemmas.Grind.{common_steps}
-use Rattle.std.proofs.lemmas.Fmt.{decimal_by_steps_wide, decimal_step_wide, decimal_digit}
-use Rattle.std.proofs.lemmas.List.{length-append, nil_from_length, get_or-take}
+use Rattle.std.proofs.lemmas.Fmt.{decimal_step_wide, decimal_digit}
+use Rattle.std.proofs.lemmas.List.{length-append, get_or-take}
 use Rattle.std.proofs.Math.Nat.{pow-succ', one-le-pow, pow-le-pow_right, mod-lt}
 use Rattle.std.proofs.lemmas.Nat.{div-add-mod'}
-use Rattle.std.proofs.lemmas.List.Sums.{fold-append}
-use Rattle.std.proofs.lemmas.List.Elements.{All-nil, All-cons, All-append, All-head, All-tail}
+use Rattle.std.proofs.lemmas.List.Elements.{All-nil, All-cons, All-append}
 use Rattle.profile.specs.Numbers.{number_of, decimals_value, printed, decimals_of, without_last_zeros, fraction_text, whole_text, number_text, sign_text, signed, is_negative, IsNumber, IsSign, IsFraction, IsPrinted}
-
-abbrev pub IsDigit : ℕ → Type 0
-IsDigit b = is_ascii_digit b ≡ true
-
--- a row of digits that stands for this number
-pub record Writes (n : ℕ) (ds : List ℕ) : Type 0 where
-  pub pass : AllPass is_ascii_digit ds
-  pub value : number_of ds ≡ n
-  pub some : 0 < length ds
-  pub no_lead : 0 < n → 48 < get_or ds 0 0
-
-is_digit : (n : ℕ) → n < 10 → is_ascii_digit (48 + n) ≡ true
-is_digit n h = grind (arith, common_steps)
-
-pub number_of-last : (ds : List ℕ) (d : ℕ) → number_of (ds ++ d ∷ []) ≡ number_of ds * 10 + (d - 48)
-number_of-last ds d = fold-append (λ n d. n * 10 + (d - 48)) 0 ds (d ∷ [])
-
-one_digit : (n : ℕ) → n < 10 → Writes n ((48 + n) ∷ [])
-one_digit n h = record {
-  pass = All-cons IsDigit (48 + n) [] (is_digit n h) (All-nil IsDigit);
-  value = omega arith;
-  some = omega arith;
-  no_lead = λ some. omega arith;
-}
-
-first_stays : (ds : List ℕ) (d : ℕ) → 0 < length ds → get_or (ds ++ d ∷ []) 0 0 ≡ get_or ds 0 0
-first_stays [] d h = absurd (omega arith)
-first_stays (x ∷ ds) d h = refl
-
-more_digits : (n : ℕ) (ds : List ℕ) → 10 ≤ n → Writes (n / 10) ds → Writes n (ds ++ ((48 + n % 10) ∷ []))
-more_digits n ds h w = record {
-  pass = All-append IsDigit ds ((48 + n % 10) ∷ []) w.pass (All-cons IsDigit (48 + n % 10) [] (is_digit (n % 10) (omega arith)) (All-nil IsDigit));
-  value = number_of-last ds (48 + n % 10) ∙ omega (arith, w.value);
-  some = omega (arith, length-append ds ((48 + n % 10) ∷ []));
-  no_lead = λ some. omega (arith, w.no_lead (omega arith), first_stays ds (48 + n % 10) w.some);
-}
-
--- a decimal is read as its number
-pub decimal_writes : (n : ℕ) → n < 10 ^ 64 → Writes n (decimal n)
-decimal_writes n h = decimal_by_steps_wide Writes one_digit more_digits n h
-
--- zeros that were left out at the end are filled in again
-pub padded : (ds : List ℕ) (k : ℕ) → length ds ≤ k → take (length ds) (without_last_zeros ds ++ replicate k 48) ≡ ds
-padded [] k h = refl
-padded (d ∷ ds) zero h = absurd (omega arith)
-padded (d ∷ ds) (suc k) h = by_case ((length (without_last_zeros ds) == 0) && (d == 48)) refl (padded ds k (omega arith)) (padded ds (suc k) (omega arith))
-  where
-    by_case : (b : Bool) → ((length (without_last_zeros ds) == 0) && (d == 48)) ≡ b → take (length ds) (without_last_zeros ds ++ replicate k 48) ≡ ds → take (length ds) (without_last_zeros ds ++ replicate (suc k) 48) ≡ ds
-        → take (suc (length ds)) ((if b then [] else d ∷ without_last_zeros ds) ++ replicate (suc k) 48) ≡ d ∷ ds
-    by_case true e short long =
-        let zero_now : d ≡ 48 = grind (arith, common_steps) in
-        let none : without_last_zeros ds ≡ [] = nil_from_length _ (grind (arith, common_steps)) in
-        ap (λ x. x ∷ take (length ds) (replicate k 48)) (sym zero_now) ∙ ap (λ x. d ∷ x) (ap (λ w. take (length ds) (w ++ replicate k 48)) (sym none) ∙ short)
-    by_case false e short long = ap (λ x. d ∷ x) long
+use Rattle.profile.proofs.Digits.{IsDigit, Writes, is_digit, number_of-last, decimal_writes}
+use Rattle.profile.proofs.LastZeros.{padded, stripped_pass, stripped_length, stripped_again}
 
 -- the row of decimals behind the one that was put before them
 pub record IsRow (e part : ℕ) (ds : List ℕ) : Type 0 where
@@ -107,33 +54,6 @@ decimals_read e part h small =
     let same : drop 1 (decimal (10 ^ e + part)) ≡ ds = ap (drop 1) r.text in
     ap (λ xs. number_of (take e (without_last_zeros xs ++ replicate e 48))) same
     ∙ (ap (λ k. number_of (take k (without_last_zeros ds ++ replicate e 48))) (sym r.long) ∙ (ap number_of (padded ds e (omega (arith, r.long))) ∙ r.value))
-
--- what is left after zeros at the end are left out are digits
-stripped_pass : (ds : List ℕ) → AllPass is_ascii_digit ds → AllPass is_ascii_digit (without_last_zeros ds)
-stripped_pass [] h = All-nil IsDigit
-stripped_pass (d ∷ ds) h = by_case ((length (without_last_zeros ds) == 0) && (d == 48)) (stripped_pass ds (All-tail IsDigit d ds h))
-  where
-    by_case : (b : Bool) → AllPass is_ascii_digit (without_last_zeros ds) → AllPass is_ascii_digit (if b then [] else d ∷ without_last_zeros ds)
-    by_case true rest = All-nil IsDigit
-    by_case false rest = All-cons IsDigit d (without_last_zeros ds) (All-head IsDigit d ds h) rest
-
-stripped_length : (ds : List ℕ) → length (without_last_zeros ds) ≤ length ds
-stripped_length [] = omega arith
-stripped_length (d ∷ ds) = by_case ((length (without_last_zeros ds) == 0) && (d == 48)) (stripped_length ds)
-  where
-    by_case : (b : Bool) → length (without_last_zeros ds) ≤ length ds → length (if b then [] else d ∷ without_last_zeros ds) ≤ suc (length ds)
-    by_case true h = omega arith
-    by_case false h = omega arith
-
-stripped_again : (ds : List ℕ) → without_last_zeros (without_last_zeros ds) ≡ without_last_zeros ds
-stripped_again [] = refl
-stripped_again (d ∷ ds) = by_case ((length (without_last_zeros ds) == 0) && (d == 48)) refl (stripped_again ds)
-  where
-    by_case : (b : Bool) → ((length (without_last_zeros ds) == 0) && (d == 48)) ≡ b → without_last_zeros (without_last_zeros ds) ≡ without_last_zeros ds
-        → without_last_zeros (if b then [] else d ∷ without_last_zeros ds) ≡ (if b then [] else d ∷ without_last_zeros ds)
-    by_case true e h = refl
-    by_case false e h =
-        ap (λ w. if (length w == 0) && (d == 48) then [] else d ∷ w) h ∙ ap (λ b. if b then [] else d ∷ without_last_zeros ds) e
 
 -- the decimals that are printed are digits, no more than there is room for
 decimals_pass : (e part : ℕ) → part < 10 ^ e → e < 64 → AllPass is_ascii_digit (decimals_of e part)

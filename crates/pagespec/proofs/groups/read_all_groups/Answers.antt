@@ -1,4 +1,4 @@
-use Rattle.pagespec.proofs.Wholes.{all_there, all_stuck, bare_outcome, stuck_none}
+use Rattle.pagespec.proofs.AllGroups.{all_there, all_stuck, bare_outcome, stuck_none}
 use Rattle.pagespec.specs.Reading.{whole_groups_at}
 use Rattle.pagespec.proofs.groups.read_all_groups.Goals as goal
 

@@ -1,6 +1,6 @@
 use Rattle.pagespec.specs.Reading.{groups_at, whole_groups_at}
 use Rattle.pagespec.proofs.GroupLoops.{stop_same, nil_told, some_told}
-use Rattle.pagespec.proofs.Wholes.{whole_there, whole_stuck, whole_none}
+use Rattle.pagespec.proofs.AllGroups.{whole_there, whole_stuck, whole_none}
 use Rattle.pagespec.proofs.groups.read_groups_to_end.Goals as goal
 
 pub returns-then-is_empty : goal.returns-then-is_empty

@@ -1,4 +1,4 @@
-use Rattle.pagespec.proofs.Numbered.{no_item, item_there}
+use Rattle.pagespec.proofs.KeptItems.{no_item, item_there}
 use Rattle.pagespec.proofs.kept.read_item.Goals as goal
 
 pub returns-in-Some : goal.returns-in-Some

@@ -1,6 +1,6 @@
 use Rattle.std.proofs.Common.{arith, ◌≡◌, ◌-◌, ◌+◌, length, ap, ◌∙◌}
 use Rattle.pagespec.specs.Reading.{modifiers_at}
-use Rattle.pagespec.proofs.Loops.{reads_more, reads_all, step_none, no_fuel}
+use Rattle.pagespec.proofs.ModifierLoop.{reads_more, reads_all, step_none, no_fuel}
 use Rattle.pagespec.proofs.kept.read_modifiers.Goals as goal
 
 pub returns-in-Err : goal.returns-in-Err

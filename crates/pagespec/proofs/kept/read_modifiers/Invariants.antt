@@ -1,5 +1,5 @@
 use Rattle.std.proofs.Common.{◌-◌}
-use Rattle.pagespec.proofs.Loops.{ReadsOn}
+use Rattle.pagespec.proofs.ModifierLoop.{ReadsOn}
 use Rattle.pagespec.proofs.kept.read_modifiers.Given as goal
 
 abbrev pub invariant-loop : goal.invariant-loop

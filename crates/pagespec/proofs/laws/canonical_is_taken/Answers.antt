@@ -1,4 +1,4 @@
-use Rattle.pagespec.proofs.Normal.{canonical_taken}
+use Rattle.pagespec.proofs.Canonical.{canonical_taken}
 use Rattle.pagespec.proofs.laws.canonical_is_taken.Goals as goal
 
 pub returns : goal.returns

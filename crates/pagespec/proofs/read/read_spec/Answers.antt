@@ -1,6 +1,6 @@
 use Rattle.std.proofs.Common.{◌∙◌}
 use Rattle.pagespec.specs.Reading.{spec_at}
-use Rattle.pagespec.proofs.Wholes.{stuck_none}
+use Rattle.pagespec.proofs.AllGroups.{stuck_none}
 use Rattle.pagespec.proofs.Outcomes.{all_read, syntax_refused, few_kept, few_lengths, fault_refused, lengths_right, admitted, taken, split_same}
 use Rattle.pagespec.proofs.read.read_spec.Goals as goal
 

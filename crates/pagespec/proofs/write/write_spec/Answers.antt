@@ -1,6 +1,6 @@
 use Rattle.std.proofs.Common.{subst, sym, ◌∙◌}
 use Rattle.profile.specs.Admissible.{Takes}
-use Rattle.pagespec.proofs.Normal.{canonical_taken}
+use Rattle.pagespec.proofs.Canonical.{canonical_taken}
 use Rattle.std.specs.Str.{IsAscii}
 use Rattle.pagespec.proofs.Ascii.{canonical_ascii}
 use Rattle.pagespec.proofs.Joining.{canonical_is}

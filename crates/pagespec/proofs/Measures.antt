@@ -1,4 +1,4 @@
--- Units, amounts and modifiers at the front of a text.
+-- Units and measures at the front of a text.
 use Rattle.std.proofs.Common.{inl, inr, ◌⊎◌, arith, ◌≡◌, ℕ, List, [], ◌∷◌, ◌++◌, Bool, true, false, Option, Some, None, refl, sym, ap, subst, ◌∙◌, append_assoc}
 use Rattle.std.specs.Prelude.{◌==◌, ◌&&◌, if◌then◌else◌, codes}
 use Rattle.std.proofs.lemmas.Grind.{common_steps}
@@ -61,7 +61,7 @@ pub unit_found : (t : List ℕ) → Unit_found t (unit_at t)
 unit_found [] = ([], refl, inr (refl, refl))
 unit_found (a ∷ t) = one_letter a t _ _ refl refl
 
--- what is read is an amount, and the front of the text
+-- what is read is a measure, and the front of the text
 pub measure_found : (t rest : List ℕ) (a : Measure) → measure_at t ≡ Some (a, rest) → (front : List ℕ) × (t ≡ front ++ rest) × IsMeasure front a
 unfolding measure_at
 measure_found t rest a e =

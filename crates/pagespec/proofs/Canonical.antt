@@ -1,4 +1,4 @@
--- What a canonical text stands for: the items with the fewest modifiers.
+-- A canonical text is read again: it stands for the items with the fewest modifiers.
 use Rattle.std.proofs.Common.{arith, rules, ◌≡◌, ◌≢◌, ◌⊎◌, inl, inr, ℕ, suc, ◌+◌, ◌^◌, ◌<◌, List, [], ◌∷◌, ◌++◌, Bool, true, false, Option, Some, None, refl, sym, ap, subst, ◌∙◌, length, append_assoc, append-nil, cond}
 use Rattle.std.specs.Prelude.{ℤ, pos, negsuc, nat_abs, int_le, nat_lt, nat_le, ◌||◌, ◌&&◌, ◌==◌, map, flat_map, position, decimal, if◌then◌else◌}
 use Rattle.std.specs.List.{list_any, position_or_len}
@@ -9,12 +9,13 @@ use Rattle.profile.specs.Numbers.{is_large, number_text, IsNumber}
 use Rattle.profile.specs.Papers.{LengthUnit, Pt, Cm, Mm, In, Width, Height}
 use Rattle.profile.specs.Specification.{Measure, Modifier, Quarters, Scaled, Moved, WrittenItem, WrittenSpec, Spec, Turn, Upright, Left, Half, Right, IsJoined, IsDigits, IsMeasure, IsModifier, AreModifiers, IsItem, AreGroups, IsSpec, minus_text, unit_name, unit_text, measure_text, turn_text, turn_of, quarters, scale, offset_x, offset_y, zero_points, scale_part, is_one, offset_part, is_points, is_zero_points, item_text, joined_by, settled_item, settled, canonical}
 use Rattle.profile.specs.Admissible.{Fault, TooLarge, ModuloZero, PageOutOfBlock, ScaleZero, Repeated, TooManySlots, TooManyGroups, items, fault_of, else_first, only_if, at_lowest, any_too_large, has_large, is_flat, repeats, Takes}
-use Rattle.profile.proofs.Printed.{Writes, decimal_writes, number_text_is_number}
+use Rattle.profile.proofs.Digits.{Writes, decimal_writes}
+use Rattle.profile.proofs.Printed.{number_text_is_number}
 use Rattle.pagespec.specs.Items.{group_text, groups_text}
 use Rattle.pagespec.proofs.Texts.{IsGroup}
 use Rattle.pagespec.proofs.Faults.{no_fault, neither}
 use Rattle.pagespec.proofs.Settling.{same_item, map_row}
-use Rattle.pagespec.proofs.Decimals.{small_abs}
+use Rattle.pagespec.proofs.NumberLengths.{small_abs}
 use Rattle.pagespec.proofs.Short.{either, large_item, scale_small, offset_small, any_row, page_small, short_enough}
 
 abbrev turn_modifiers : Turn → List Modifier
@@ -243,10 +244,6 @@ else_none (Some f) b e = absurd (cc (e))
 
 none_else : (a b : Option Fault) → a ≡ None → b ≡ None → else_first a b ≡ None
 none_else a b e f = rw e f
-
-if_none : (b : Bool) (f : Fault) → only_if b f ≡ None → b ≡ false
-if_none true f e = absurd (cc (e))
-if_none false f e = refl
 
 none_if : (b : Bool) (f : Fault) → b ≡ false → only_if b f ≡ None
 none_if b f e = rw e refl

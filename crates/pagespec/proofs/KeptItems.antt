@@ -1,4 +1,4 @@
--- An item, as its reader found it.
+-- An item, as it is kept by its reader.
 use Rattle.std.proofs.Common.{◌≡◌, ◌≢◌, ℕ, List, [], Bool, Some, None, sym, ap, ◌∙◌, length, min}
 use Rattle.std.specs.Prelude.{if◌then◌else◌}
 use Rattle.profile.specs.Numbers.{number_of}
