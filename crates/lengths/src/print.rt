@@ -14,6 +14,7 @@ pub fn print_points(grains: Grains, out: &mut Vec<u8>) -> Result<(), AllocError>
     ensures appended { OnOk result (out.new.items ≡ out.old.items ++ points_text grains) }
     ensures unchanged { OnErr result (out.new.items ≡ out.old.items) }
     ensures full { OnErr result (vec_capacity out.old < vec_len out.old + length (points_text grains)) }
+    ensures capacity { vec_capacity out.old ≤ vec_capacity out.new }
 {
     append_decimal(rounded(grains.get(), 1_270_000) as i64, 5, out)
 }
@@ -23,6 +24,7 @@ pub fn print_scale(number: Number, out: &mut Vec<u8>) -> Result<(), AllocError>
     ensures appended { OnOk result (out.new.items ≡ out.old.items ++ scale_text number) }
     ensures unchanged { OnErr result (out.new.items ≡ out.old.items) }
     ensures full { OnErr result (vec_capacity out.old < vec_len out.old + length (scale_text number)) }
+    ensures capacity { vec_capacity out.old ≤ vec_capacity out.new }
 {
     append_decimal(number.billionths(), 9, out)
 }
@@ -33,6 +35,7 @@ pub fn print_number(number: Number, out: &mut Vec<u8>) -> Result<(), AllocError>
     ensures appended { OnOk result (out.new.items ≡ out.old.items ++ number_text number) }
     ensures unchanged { OnErr result (out.new.items ≡ out.old.items) }
     ensures full { OnErr result (vec_capacity out.old < vec_len out.old + length (number_text number)) }
+    ensures capacity { vec_capacity out.old ≤ vec_capacity out.new }
 {
     let size = number.billionths().unsigned_abs();
     let whole = size / 1_000_000_000;
@@ -57,6 +60,7 @@ fn append_decimal(value: i64, places: u32, out: &mut Vec<u8>) -> Result<(), Allo
     ensures appended { OnOk result (out.new.items ≡ out.old.items ++ printed places value) }
     ensures unchanged { OnErr result (out.new.items ≡ out.old.items) }
     ensures full { OnErr result (vec_capacity out.old < vec_len out.old + length (printed places value)) }
+    ensures capacity { vec_capacity out.old ≤ vec_capacity out.new }
 {
     let one = 10u64.pow(places);
     let size = value.unsigned_abs();
@@ -133,6 +137,7 @@ fn append(
     ensures unchanged { OnErr result (out.new.items ≡ out.old.items) }
     ensures full { OnErr result (vec_capacity out.old < vec_len out.old +
         length ((if negative then minus_sign ∷ [] else []) ++ whole.now ++ fraction_text decimals.now)) }
+    ensures capacity { vec_capacity out.old ≤ vec_capacity out.new }
 {
     let sign: &[u8] = if negative { b"-" } else { b"" };
     let point: &[u8] = if decimals.is_empty() { b"" } else { b"." };

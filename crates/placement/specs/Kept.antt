@@ -1,7 +1,10 @@
 -- What an append leaves that was refused part of the way.
-use Rattle.std.specs.Prelude.{◌≡◌, ℕ, List, ◌++◌}
+use Rattle.std.specs.Prelude.{◌≡◌, ◌≤◌, ℕ, List, ◌++◌, vec_capacity}
+use Rattle.std.specs.declared.vec.Vec.{Vec}
+use Rattle.std.specs.declared.alloc.Global.{Global}
 
--- the new bytes begin with the old ones
-pub record Keeps (old new : List ℕ) : Type 0 where
+-- the new bytes begin with the old ones, and the vector has no less room
+pub record Keeps (old new : Vec ℕ Global) : Type 0 where
   pub behind : List ℕ
-  pub parts : new ≡ old ++ behind
+  pub parts : new.items ≡ old.items ++ behind
+  pub room : vec_capacity old ≤ vec_capacity new

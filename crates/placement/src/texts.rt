@@ -1,5 +1,5 @@
 //! The texts round a placed page. Each is appended whole or not at all.
-ghost use Rattle.std.specs.Prelude.{◌≡◌, ◌++◌, OnOk, OnErr, vec_len, take};
+ghost use Rattle.std.specs.Prelude.{◌≡◌, ◌+◌, ◌<◌, ◌≤◌, ◌++◌, length, OnOk, OnErr, vec_len, vec_capacity, take};
 ghost use Rattle.profile.specs.Numbers.{scale_text, points_text};
 ghost use Rattle.profile.specs.Placement.{matrix_text as text_of};
 ghost use Rattle.profile.specs.Output.{Frame, edge_text, border_text, opening_text as opening, closing_text as closing};
@@ -18,6 +18,8 @@ use std::alloc::AllocError;
 pub fn matrix_text(matrix: &Matrix, out: &mut Vec<u8>) -> Result<(), AllocError>
     ensures appended { OnOk result (out.new.items ≡ out.old.items ++ text_of (numbers_of matrix.now)) }
     ensures unchanged { OnErr result (out.new.items ≡ out.old.items) }
+    ensures full { OnErr result (vec_capacity out.old < vec_len out.old + length (text_of (numbers_of matrix.now))) }
+    ensures capacity { vec_capacity out.old ≤ vec_capacity out.new }
 {
     let len = out.len();
     let appended = append_matrix(matrix, out);
@@ -36,6 +38,9 @@ pub fn opening_text(
     ensures appended { let frame : Frame = record { paper = paper.now; border = border } in
         OnOk result (out.new.items ≡ out.old.items ++ opening frame (item_of item.now)) }
     ensures unchanged { OnErr result (out.new.items ≡ out.old.items) }
+    ensures full { let frame : Frame = record { paper = paper.now; border = border } in
+        OnErr result (vec_capacity out.old < vec_len out.old + length (opening frame (item_of item.now))) }
+    ensures capacity { vec_capacity out.old ≤ vec_capacity out.new }
 {
     let len = out.len();
     let appended = append_opening(item, paper, border, out);
@@ -46,6 +51,8 @@ pub fn opening_text(
 pub fn closing_text(out: &mut Vec<u8>) -> Result<(), AllocError>
     ensures appended { OnOk result (out.new.items ≡ out.old.items ++ closing) }
     ensures unchanged { OnErr result (out.new.items ≡ out.old.items) }
+    ensures full { OnErr result (vec_capacity out.old < vec_len out.old + length closing) }
+    ensures capacity { vec_capacity out.old ≤ vec_capacity out.new }
 {
     out.extend_from_slice(b"ImposeSave restore\n")
 }
@@ -59,6 +66,7 @@ fn undo_if_refused(
     ensures same { result ≡ appended }
     ensures stays { OnOk result (out.new.items ≡ out.old.items) }
     ensures undone { OnErr result (out.new.items ≡ take len out.old.items) }
+    ensures capacity { vec_capacity out.new ≡ vec_capacity out.old }
 {
     if appended.is_err() {
         out.truncate(len);
@@ -75,7 +83,9 @@ fn append_opening(
 ) -> Result<(), AllocError>
     ensures appended { let frame : Frame = record { paper = paper.now; border = border } in
         OnOk result (out.new.items ≡ out.old.items ++ opening frame (item_of item.now)) }
-    ensures kept { Keeps out.old.items out.new.items }
+    ensures full { let frame : Frame = record { paper = paper.now; border = border } in
+        OnErr result (vec_capacity out.old < vec_len out.old + length (opening frame (item_of item.now))) }
+    ensures kept { Keeps out.old out.new }
 {
     append_text(
         b"userdict /ImposeSave save put\nuserdict /showpage {} put\n",
@@ -91,7 +101,8 @@ fn append_opening(
 #[tactic(auto, using(crate::proofs::Keeping::keeps_more))]
 fn append_matrix(matrix: &Matrix, out: &mut Vec<u8>) -> Result<(), AllocError>
     ensures appended { OnOk result (out.new.items ≡ out.old.items ++ text_of (numbers_of matrix.now)) }
-    ensures kept { Keeps out.old.items out.new.items }
+    ensures full { OnErr result (vec_capacity out.old < vec_len out.old + length (text_of (numbers_of matrix.now))) }
+    ensures kept { Keeps out.old out.new }
 {
     append_scale(b"[", matrix.a, out)?;
     append_scale(b" ", matrix.b, out)?;
@@ -106,7 +117,8 @@ fn append_matrix(matrix: &Matrix, out: &mut Vec<u8>) -> Result<(), AllocError>
 #[tactic(auto, using(crate::proofs::Keeping::keeps_more))]
 fn append_border(paper: &Paper, border: Option<Grains>, out: &mut Vec<u8>) -> Result<(), AllocError>
     ensures appended { OnOk result (out.new.items ≡ out.old.items ++ border_text paper.now border) }
-    ensures kept { Keeps out.old.items out.new.items }
+    ensures full { OnErr result (vec_capacity out.old < vec_len out.old + length (border_text paper.now border)) }
+    ensures kept { Keeps out.old out.new }
 {
     let Some(width) = border else {
         return Ok(());
@@ -121,7 +133,8 @@ fn append_border(paper: &Paper, border: Option<Grains>, out: &mut Vec<u8>) -> Re
 #[tactic(auto, using(crate::proofs::Keeping::keeps_more))]
 fn append_edge(paper: &Paper, out: &mut Vec<u8>) -> Result<(), AllocError>
     ensures appended { OnOk result (out.new.items ≡ out.old.items ++ edge_text paper.now) }
-    ensures kept { Keeps out.old.items out.new.items }
+    ensures full { OnErr result (vec_capacity out.old < vec_len out.old + length (edge_text paper.now)) }
+    ensures kept { Keeps out.old out.new }
 {
     let (width, height) = (paper.width(), paper.height());
     append_points(b"newpath 0 0 moveto ", width, out)?;
@@ -135,7 +148,8 @@ fn append_edge(paper: &Paper, out: &mut Vec<u8>) -> Result<(), AllocError>
 #[tactic(auto, using(crate::proofs::Keeping::keeps_more))]
 fn append_scale(text: &[u8], scale: Number, out: &mut Vec<u8>) -> Result<(), AllocError>
     ensures appended { OnOk result (out.new.items ≡ out.old.items ++ (text.now ++ scale_text scale)) }
-    ensures kept { Keeps out.old.items out.new.items }
+    ensures full { OnErr result (vec_capacity out.old < vec_len out.old + length (text.now ++ scale_text scale)) }
+    ensures kept { Keeps out.old out.new }
 {
     out.extend_from_slice(text)?;
     print_scale(scale, out)
@@ -143,18 +157,20 @@ fn append_scale(text: &[u8], scale: Number, out: &mut Vec<u8>) -> Result<(), All
 
 /// A text and a length in points behind it.
 #[tactic(auto, using(crate::proofs::Keeping::keeps_more))]
-fn append_points(text: &[u8], length: Grains, out: &mut Vec<u8>) -> Result<(), AllocError>
-    ensures appended { OnOk result (out.new.items ≡ out.old.items ++ (text.now ++ points_text length)) }
-    ensures kept { Keeps out.old.items out.new.items }
+fn append_points(text: &[u8], grains: Grains, out: &mut Vec<u8>) -> Result<(), AllocError>
+    ensures appended { OnOk result (out.new.items ≡ out.old.items ++ (text.now ++ points_text grains)) }
+    ensures full { OnErr result (vec_capacity out.old < vec_len out.old + length (text.now ++ points_text grains)) }
+    ensures kept { Keeps out.old out.new }
 {
     out.extend_from_slice(text)?;
-    print_points(length, out)
+    print_points(grains, out)
 }
 
 /// A text.
 fn append_text(text: &[u8], out: &mut Vec<u8>) -> Result<(), AllocError>
     ensures appended { OnOk result (out.new.items ≡ out.old.items ++ text.now) }
-    ensures kept { Keeps out.old.items out.new.items }
+    ensures full { OnErr result (vec_capacity out.old < vec_len out.old + length text.now) }
+    ensures kept { Keeps out.old out.new }
 {
     out.extend_from_slice(text)
 }
