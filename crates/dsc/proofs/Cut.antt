@@ -2,29 +2,13 @@
 use Rattle.std.specs.Prelude.{Result, Ok, Err}
 use Rattle.std.proofs.Common.{Bool, true, false, cond, ◌≡◌, ℕ, zero, suc, ◌+◌, ◌<◌, ◌≤◌, List, [], ◌∷◌, length, take, drop, refl, ap, arith, length-drop, length-take, sym, ◌∙◌}
 use Rattle.profile.specs.Units.{TextUnit, BlockFault, content_of, line_len, begins_block, fields, data_len, block, first_unit, FaultyBlock, at_byte, cut_from, ◌>>=◌}
+use Rattle.profile.proofs.CutUnits.{unit_some}
 use Rattle.dsc.specs.Units.{faulty_block}
 use Rattle.dsc.specs.Filters.{of_units}
-use Rattle.dsc.proofs.LineLengths.{line_len-pos}
 
 abbrev bytes_or : Result TextUnit BlockFault → List ℕ
 bytes_or (Ok p) = p.bytes
 bytes_or (Err e) = []
-
-pub block-pos : (text : List ℕ) (n : ℕ) (r : Result ℕ BlockFault) (p : TextUnit) → 0 < n → 0 < length text → block text n r ≡ Ok p → 0 < length p.bytes
-block-pos text n (Err e) p h g w = cc
-block-pos text n (Ok k) p h g w =
-    let same : p.bytes ≡ take (n + k) text = sym (ap bytes_or w) in
-    rw same (rw length-take (omega arith))
-
-pub chosen-pos : (c : Bool) (text content : List ℕ) (n : ℕ) (r : Result ℕ BlockFault) (p : TextUnit) → 0 < n → 0 < length text
-    → cond c (block text n r) (Ok (record { content = content; bytes = take n text; is_block = false })) ≡ Ok p → 0 < length p.bytes
-chosen-pos true text content n r p h g w = block-pos text n r p h g w
-chosen-pos false text content n r p h g w =
-    let same : p.bytes ≡ take n text = sym (ap bytes_or w) in
-    rw same (rw length-take (omega arith))
-
-pub unit_len-pos : (b : ℕ) (bs : List ℕ) (p : TextUnit) → first_unit (b ∷ bs) ≡ Ok p → 0 < length p.bytes
-unit_len-pos b bs p w = chosen-pos (begins_block (content_of (b ∷ bs))) (b ∷ bs) (content_of (b ∷ bs)) (line_len (b ∷ bs)) (data_len (content_of (b ∷ bs)) (drop (line_len (b ∷ bs)) (b ∷ bs)) (fields (content_of (b ∷ bs)))) p (line_len-pos b bs) (omega arith) w
 
 chosen-le : (c : Bool) (text content : List ℕ) (n : ℕ) (r : Result ℕ BlockFault) (p : TextUnit)
     → cond c (block text n r) (Ok (record { content = content; bytes = take n text; is_block = false })) ≡ Ok p → length p.bytes ≤ length text
@@ -47,7 +31,7 @@ enough_cut (suc k) (suc m) at (b ∷ bs) h g =
     (at_byte at r >>= λ p. cut_from k (at + length p.bytes) (drop (length p.bytes) (b ∷ bs)) >>= λ ps. Ok (p ∷ ps))
     ≡ (at_byte at r >>= λ p. cut_from m (at + length p.bytes) (drop (length p.bytes) (b ∷ bs)) >>= λ ps. Ok (p ∷ ps))) [
       | Ok p ↦ λ w.
-          let moves : 0 < length p.bytes = unit_len-pos b bs p w in
+          let moves : 0 < length p.bytes = unit_some b bs p w in
           let shorter : length (drop (length p.bytes) (b ∷ bs)) ≤ length bs = omega (arith, moves, length-drop (length p.bytes) (b ∷ bs)) in
           ap (λ r. r >>= λ ps. Ok (p ∷ ps)) (enough_cut k m (at + length p.bytes) (drop (length p.bytes) (b ∷ bs)) (omega (arith, shorter)) (omega (arith, shorter)))
       | Err e ↦ λ w. refl
@@ -60,7 +44,7 @@ cut_at at text = cut_from (length text) at text
 pub cut_step : (at b : ℕ) (bs : List ℕ) (p : TextUnit) → first_unit (b ∷ bs) ≡ Ok p
     → cut_at at (b ∷ bs) ≡ (cut_at (at + length p.bytes) (drop (length p.bytes) (b ∷ bs)) >>= λ ps. Ok (p ∷ ps))
 cut_step at b bs p w =
-    let moves : 0 < length p.bytes = unit_len-pos b bs p w in
+    let moves : 0 < length p.bytes = unit_some b bs p w in
     let shorter : length (drop (length p.bytes) (b ∷ bs)) ≤ length bs = omega (arith, moves, length-drop (length p.bytes) (b ∷ bs)) in
     ap (λ r. at_byte at r >>= λ q. cut_from (length bs) (at + length q.bytes) (drop (length q.bytes) (b ∷ bs)) >>= λ ps. Ok (q ∷ ps)) w
     ∙ ap (λ r. r >>= λ ps. Ok (p ∷ ps)) (enough_cut (length bs) _ (at + length p.bytes) (drop (length p.bytes) (b ∷ bs)) shorter (omega arith))

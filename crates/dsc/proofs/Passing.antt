@@ -23,7 +23,7 @@ use Rattle.dsc.proofs.Headings.{unbegun, unheaded}
 use Rattle.dsc.proofs.Filtering.{run_grows, filter_more}
 use Rattle.dsc.proofs.Cut.{cut_fault}
 use Rattle.dsc.specs.Units.{faulty_block}
-use Rattle.dsc.proofs.Scans.{scan_more}
+use Rattle.dsc.proofs.Scans.{scan_more, scan_ends}
 
 -- a line that begins with no two percent signs
 abbrev IsPlain : List ℕ → Type 0
@@ -125,6 +125,12 @@ pub scan_done : (most : ℕ) (starts : List ℕ) (stop : Option ℕ) (depth at l
 scan_done most starts stop depth at len [] whole none e i = sym i ∙ ap (λ k. Ok (marks_on most starts stop k [])) e
 scan_done most starts stop depth at len (b ∷ bs) whole none e i = absurd (omega (arith, none))
 
+-- a faulty block stands behind the lines
+pub scan_refused : (most : ℕ) → 0 < most → (starts : List ℕ) (stop : Option ℕ) (depth at n : ℕ) (rest comment : List ℕ) (bad : BlockFault) (whole : Result Marks FaultyBlock) → length starts ≤ most
+    → BeginsPlain n rest → comment ≡ drop n rest → 0 < length comment → first_unit comment ≡ Err bad → scan_on most starts stop depth at rest ≡ whole → whole ≡ Err (faulty_block (at + n) bad)
+scan_refused most z starts stop depth at n rest comment bad whole fits p e some w i =
+    scan_ends most z starts stop depth (at + n) comment bad whole some w (plain_scanned most z starts stop depth at n rest comment whole fits p e i)
+
 -- the same of a filter
 pub lines_filtered : (lines : ℕ) (drops : Drops) (front : List ℕ) (was still : Bool) (depth at n : ℕ) (rest : List ℕ) (whole : Result (List ℕ) FaultyBlock)
     → (n ≡ 0 → still ≡ was) → (0 < n → still ≡ false) → ArePlain lines n rest
@@ -179,26 +185,42 @@ all_taken (suc n) [] h = refl
 all_taken (suc n) (b ∷ bs) h = ap (λ t. b ∷ t) (all_taken n bs h)
 
 -- nothing is left behind the run
-pub filter_done : (front : List ℕ) (drops : Drops) (was : Bool) (depth at run_len : ℕ) (run : List ℕ) (whole : Result (List ℕ) FaultyBlock) → length (drop run_len run) ≡ 0
+filter_done : (front : List ℕ) (drops : Drops) (was : Bool) (depth at run_len : ℕ) (run : List ℕ) (whole : Result (List ℕ) FaultyBlock) → length (drop run_len run) ≡ 0
     → filter_on drops (front ++ take run_len run) was depth at (drop run_len run) ≡ whole → whole ≡ Ok (front ++ run)
 filter_done front drops was depth at run_len run whole none i =
     filtered (front ++ take run_len run) drops was depth at (drop run_len run) whole none i ∙ ap (λ t. Ok (front ++ t)) (all_taken run_len run none)
 
 -- a faulty block
-pub filter_ends : (front : List ℕ) (drops : Drops) (was : Bool) (depth at : ℕ) (rest comment : List ℕ) (bad : BlockFault) (whole : Result (List ℕ) FaultyBlock) → comment ≡ rest → 0 < length comment
+filter_ends : (front : List ℕ) (drops : Drops) (was : Bool) (depth at : ℕ) (rest comment : List ℕ) (bad : BlockFault) (whole : Result (List ℕ) FaultyBlock) → comment ≡ rest → 0 < length comment
     → first_unit comment ≡ Err bad → filter_on drops front was depth at rest ≡ whole → whole ≡ Err (faulty_block at bad)
 filter_ends front drops was depth at rest [] bad whole e some w i = absurd (omega (arith, some))
 filter_ends front drops was depth at rest (b ∷ bs) bad whole e some w i =
     sym i ∙ ap (filter_on drops front was depth at) (sym e) ∙ ap (of_units (λ us. front ++ bytes_of (kept_after was (drops_of drops) (nested_from depth us)))) (cut_fault at b bs bad w)
 
 -- whether it is still said of the unit before
-abbrev pub next_said : Bool → ℕ → Bool
+abbrev next_said : Bool → ℕ → Bool
 next_said said zero = said
 next_said said (suc n) = false
 
-pub said_none : (said : Bool) (n : ℕ) → n ≡ 0 → next_said said n ≡ said
+said_none : (said : Bool) (n : ℕ) → n ≡ 0 → next_said said n ≡ said
 said_none said n e = ap (next_said said) e
 
-pub said_some : (said : Bool) (n : ℕ) → 0 < n → next_said said n ≡ false
+said_some : (said : Bool) (n : ℕ) → 0 < n → next_said said n ≡ false
 said_some said zero h = absurd (omega (arith, h))
 said_some said (suc n) h = refl
+
+-- as a loop has it: nothing is left behind the lines
+pub filter_finished : (drops : Drops) (front : List ℕ) (was : Bool) (depth at n run_len : ℕ) (run rest comment : List ℕ) (whole : Result (List ℕ) FaultyBlock)
+    → rest ≡ drop run_len run → comment ≡ drop n rest → BeginsPlain n rest → length comment ≡ 0
+    → filter_on drops (front ++ take run_len run) was depth at (drop run_len run) ≡ whole → whole ≡ Ok (front ++ run)
+filter_finished drops front was depth at n run_len run rest comment whole r e p none i =
+    filter_done front drops (next_said was n) depth (at + n) (run_len + n) run whole (ap length (sym (e ∙ ap (drop n) r ∙ drop-drop n run_len run)) ∙ none)
+    (plain_filtered drops front was (next_said was n) depth at n run_len run rest whole (said_none was n) (said_some was n) r p i)
+
+-- as a loop has it: a faulty block stands behind the lines
+pub filter_refused : (drops : Drops) (front : List ℕ) (was : Bool) (depth at n run_len : ℕ) (run rest comment : List ℕ) (bad : BlockFault) (whole : Result (List ℕ) FaultyBlock)
+    → rest ≡ drop run_len run → comment ≡ drop n rest → BeginsPlain n rest → 0 < length comment → first_unit comment ≡ Err bad
+    → filter_on drops (front ++ take run_len run) was depth at (drop run_len run) ≡ whole → whole ≡ Err (faulty_block (at + n) bad)
+filter_refused drops front was depth at n run_len run rest comment bad whole r e p some w i =
+    filter_ends (front ++ take (run_len + n) run) drops (next_said was n) depth (at + n) (drop (run_len + n) run) comment bad whole (e ∙ ap (drop n) r ∙ drop-drop n run_len run) some w
+    (plain_filtered drops front was (next_said was n) depth at n run_len run rest whole (said_none was n) (said_some was n) r p i)

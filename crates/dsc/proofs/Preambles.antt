@@ -8,14 +8,16 @@ use Rattle.std.proofs.lemmas.List.Sums.{take_while-cons}
 use Rattle.std.proofs.lemmas.Slice.Eq.{bytes_eq-Decides}
 use Rattle.std.proofs.Math.Seq.{take-append_seam}
 use Rattle.profile.specs.Bytes.{line}
-use Rattle.profile.specs.Units.{TextUnit, BlockFault, is_end, is_blank, content_of, line_len, key, begins_block, fields, data_len, block, first_unit, cut}
+use Rattle.profile.specs.Units.{TextUnit, BlockFault, is_end, is_blank, content_of, line_len, key, begins_block, fields, data_len, block, first_unit, cut, BeginsWith}
 use Rattle.profile.specs.Parts.{NestedUnit, depth_after, nested_from, nested, begins_page, up_to, preamble, bytes_of}
 use Rattle.profile.specs.Filters.{kept_after, kept, drops_in_header, ended, with_count, preamble_text, continues}
-use Rattle.dsc.specs.Units.{or_none, units_of, BeginsWith}
-use Rattle.dsc.specs.Marks.{starts_of, end_of}
+use Rattle.dsc.specs.Units.{or_none, units_of}
+use Rattle.dsc.specs.Inside.{HasItsParts}
+use Rattle.dsc.specs.Marks.{end_of}
 use Rattle.dsc.proofs.LineLengths.{line_len-within}
-use Rattle.dsc.proofs.Rows.{joined, units-whole, units-alone, units-cut}
-use Rattle.dsc.proofs.Alone.{cut-begins, nested-take, nested-bytes, begins-take}
+use Rattle.dsc.proofs.Rows.{joined, units-whole, units-alone, units-cut, cut-begins}
+use Rattle.dsc.proofs.Alone.{nested-take, nested-bytes, begins-take}
+use Rattle.dsc.proofs.Reading.{accepted_opening}
 use Rattle.dsc.proofs.PartMarks.{before-cons}
 use Rattle.dsc.proofs.Slices.{preamble_start}
 
@@ -73,7 +75,7 @@ Opened text ps =
     × BeginsWith qs (drop (line_len text) text) []
 
 opened_by : (text : List ℕ) (ps : List TextUnit) → starts_with nat_eq text (codes "%!") ≡ true → BeginsWith ps text [] → Opened text ps
-opened_by text [] s h = absurd (let size : length text ≡ suc (suc (length (drop 2 text))) = ap length (two_on text s) in let none : length text ≡ 0 = ap length h in omega (arith, size, none))
+opened_by text [] s h = absurd (let size : length text ≡ suc (suc (length (drop 2 text))) = ap length (two_on text s) in let none : length text ≡ 0 = ap length (sym h) in omega (arith, size, none))
 opened_by text (q ∷ qs) s h =
     let n : ℕ = line_len text in
     let w : Opening (content_of text) = opening text s in
@@ -89,16 +91,15 @@ opened_by text (q ∷ qs) s h =
       subst (λ k. BeginsWith qs (drop k text) []) long h.2,
     )
 
--- what the code finds of a preamble whose first page begins at this byte
-abbrev pub PreambleFound : List ℕ → ℕ → ℕ → Type 0
-PreambleFound text start sheets =
-    let n = line_len text in
+-- what the code finds of a preamble whose first line has n bytes, and whose first page begins at this byte
+abbrev pub PreambleFound : List ℕ → (n start sheets : ℕ) → Type 0
+PreambleFound text n start sheets =
     let rest = take (start - n) (drop n text) in
     (n ≤ start) × (start - n ≤ length (drop n text)) × (cut rest ≡ Ok (or_none (cut rest)))
     × (ended ((take n text ++ line (codes "%%Pages: " ++ decimal sheets)) ++ bytes_of (kept drops_in_header (units_of rest))) ≡ preamble_text sheets (units_of text))
 
-pub preamble_found : (text : List ℕ) (start sheets : ℕ) → starts_with nat_eq text (codes "%!") ≡ true → cut text ≡ Ok (or_none (cut text))
-    → start ≡ length (bytes_of (preamble (units_of text))) → PreambleFound text start sheets
+preamble_found : (text : List ℕ) (start sheets : ℕ) → starts_with nat_eq text (codes "%!") ≡ true → cut text ≡ Ok (or_none (cut text))
+    → start ≡ length (bytes_of (preamble (units_of text))) → PreambleFound text (line_len text) start sheets
 preamble_found text start sheets s c e =
     let us : List NestedUnit = units_of text in
     let n : ℕ = line_len text in
@@ -125,7 +126,7 @@ preamble_found text start sheets s c e =
     let more = ap length whole ∙ length-append (joined hs) b.0 in
     let left : start - n ≡ length (joined hs) = omega (arith, size) in
     let rest : take (start - n) (drop n text) ≡ joined hs = ap (λ j. take j (drop n text)) left ∙ ap (take (length (joined hs))) whole ∙ take-append_seam (joined hs) b.0 in
-    let found : cut (take (start - n) (drop n text)) ≡ Ok hs = ap cut rest ∙ units-cut hs 0 (joined hs) (units-alone hs (drop n text) b.0 b.1) in
+    let found : cut (take (start - n) (drop n text)) ≡ Ok hs = ap cut rest ∙ units-cut hs (joined hs) (units-alone hs (drop n text) b.0 b.1) in
     let units : units_of (take (start - n) (drop n text)) ≡ nested hs = ap (λ r. nested (or_none r)) found in (
       omega (arith, size),
       omega (arith, left, more),
@@ -135,10 +136,13 @@ preamble_found text start sheets s c e =
           ∙ ap (λ vs. ended (with_count sheets (kept drops_in_header vs))) (sym head),
     )
 
-pub preamble_taken : (text starts : List ℕ) (sheets : ℕ) → starts_with nat_eq text (codes "%!") ≡ true → cut text ≡ Ok (or_none (cut text)) → starts ≡ starts_of (units_of text)
-    → 0 < length starts → PreambleFound text (get_or starts 0 0) sheets
-preamble_taken text starts sheets s c e some =
-    preamble_found text (get_or starts 0 0) sheets s c (any_default starts 0 (end_of (units_of text)) some ∙ ap (λ xs. get_or xs 0 (end_of (units_of text))) e ∙ preamble_start (units_of text))
+-- the same from what a document keeps true
+pub preamble_at : (text starts row : List ℕ) (stop n start sheets : ℕ) → HasItsParts text starts stop → n ≡ line_len text → row ≡ starts → start ≡ get_or row 0 0 → PreambleFound text n start sheets
+preamble_at text starts row stop n start sheets i e r s =
+    let us : List NestedUnit = units_of text in
+    let first : start ≡ length (bytes_of (preamble us)) =
+    s ∙ ap (λ xs. get_or xs 0 0) r ∙ any_default starts 0 (end_of us) i.some ∙ ap (λ xs. get_or xs 0 (end_of us)) i.starts_are ∙ preamble_start us in
+    subst (λ k. PreambleFound text k start sheets) (sym e) (preamble_found text start sheets (accepted_opening text _ i.accepted) i.is_cut first)
   where
     any_default : (xs : List ℕ) (a b : ℕ) → 0 < length xs → get_or xs 0 a ≡ get_or xs 0 b
     any_default [] a b h = absurd (omega (arith, h))

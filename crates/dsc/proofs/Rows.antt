@@ -3,10 +3,9 @@ use Rattle.std.specs.Prelude.{Result, Ok, Err, flat_map, drop}
 use Rattle.std.proofs.Common.{append_assoc, Bool, true, false, cond, ◌≡◌, ℕ, zero, suc, ◌+◌, ◌<◌, ◌≤◌, List, [], ◌∷◌, ◌++◌, length, take, refl, ap, arith, length-append, sym, ◌∙◌, subst}
 use Rattle.std.proofs.lemmas.List.{take-append-drop}
 use Rattle.std.proofs.Math.Seq.{take-append_seam, drop-append_seam}
-use Rattle.profile.specs.Units.{TextUnit, BlockFault, content_of, line_len, begins_block, fields, data_len, block, first_unit, ◌>>=◌}
-use Rattle.dsc.specs.Units.{BeginsWith, faulty_block}
+use Rattle.profile.specs.Units.{TextUnit, BlockFault, content_of, line_len, begins_block, fields, data_len, block, first_unit, cut, AreUnits, BeginsWith}
+use Rattle.profile.proofs.CutUnits.{cut_is_units, unit_some}
 use Rattle.dsc.proofs.Fronts.{first_unit-take}
-use Rattle.dsc.proofs.Cut.{cut_at, cut_step, cut_fault, unit_len-pos}
 
 abbrev pub joined : List TextUnit → List ℕ
 joined ps = flat_map (λ p. p.bytes) ps
@@ -39,7 +38,7 @@ unit-front text p w = chosen-front (begins_block (content_of text)) text (conten
 
 -- units are the text, in order
 pub units-whole : (ps : List TextUnit) (text rest : List ℕ) → BeginsWith ps text rest → text ≡ joined ps ++ rest
-units-whole [] text rest h = h
+units-whole [] text rest h = sym h
 units-whole (p ∷ ps) text rest h =
     sym (take-append-drop (length p.bytes) text) ∙ ap (λ t. t ++ drop (length p.bytes) text) (sym (unit-front text p h.1))
     ∙ ap (λ t. p.bytes ++ t) (units-whole ps (drop (length p.bytes) text) rest h.2) ∙ sym (append_assoc p.bytes (joined ps) rest)
@@ -58,20 +57,20 @@ units-alone (p ∷ ps) text rest h =
   where
     pos : (text : List ℕ) (p : TextUnit) {n : ℕ} → 0 < length text → first_unit text ≡ Ok p → length p.bytes ≤ n → 0 < n
     pos [] p s w f = absurd (omega (arith, s))
-    pos (b ∷ bs) p s w f = omega (arith, unit_len-pos b bs p w, f)
+    pos (b ∷ bs) p s w f = omega (arith, unit_some b bs p w, f)
 
--- The cut and the relation agree.
+-- The cut and the relation agree: units up to nothing are all units.
 
-pub units-cut : (ps : List TextUnit) (at : ℕ) (text : List ℕ) → BeginsWith ps text [] → cut_at at text ≡ Ok ps
-units-cut [] at text h = rw h refl
-units-cut (p ∷ ps) at [] h = absurd (omega (arith, h.0))
-units-cut (p ∷ ps) at (b ∷ bs) h = cut_step at b bs p h.1 ∙ ap (λ r. r >>= λ qs. Ok (p ∷ qs)) (units-cut ps (at + length p.bytes) (drop (length p.bytes) (b ∷ bs)) h.2)
+all-units : (ps : List TextUnit) (text : List ℕ) → BeginsWith ps text [] → AreUnits text ps
+all-units [] text h = sym h
+all-units (p ∷ ps) text h = (h.0, h.1, all-units ps (drop (length p.bytes) text) h.2)
 
-pub units-fault : (ps : List TextUnit) (at : ℕ) (text rest : List ℕ) (bad : BlockFault) → BeginsWith ps text rest → 0 < length rest → first_unit rest ≡ Err bad
-    → cut_at at text ≡ Err (faulty_block (at + length (joined ps)) bad)
-units-fault [] at [] rest bad h some w = absurd (let some = (rw (← h) at some) in omega (arith, some))
-units-fault [] at (b ∷ bs) rest bad h some w = cut_fault at b bs bad (ap first_unit h ∙ w) ∙ ap (λ k. Err (faulty_block k bad)) (omega arith)
-units-fault (p ∷ ps) at [] rest bad h some w = absurd (omega (arith, h.0))
-units-fault (p ∷ ps) at (b ∷ bs) rest bad h some w =
-    cut_step at b bs p h.1 ∙ ap (λ r. r >>= λ qs. Ok (p ∷ qs)) (units-fault ps (at + length p.bytes) (drop (length p.bytes) (b ∷ bs)) rest bad h.2 some w)
-    ∙ ap (λ k. Err (faulty_block k bad)) (rw length-append (omega arith))
+units-all : (ps : List TextUnit) (text : List ℕ) → AreUnits text ps → BeginsWith ps text []
+units-all [] text h = sym h
+units-all (p ∷ ps) text h = (h.0, h.1, units-all ps (drop (length p.bytes) text) h.2)
+
+pub units-cut : (ps : List TextUnit) (text : List ℕ) → BeginsWith ps text [] → cut text ≡ Ok ps
+units-cut ps text h = (cut_is_units text ps).1 (all-units ps text h)
+
+pub cut-begins : (text : List ℕ) (ps : List TextUnit) → cut text ≡ Ok ps → BeginsWith ps text []
+cut-begins text ps e = units-all ps text ((cut_is_units text ps).0 e)

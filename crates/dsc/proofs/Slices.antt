@@ -1,5 +1,5 @@
 -- A page is a slice of the text.
-use Rattle.std.specs.Prelude.{not, map}
+use Rattle.std.specs.Prelude.{Ok, not, map}
 use Rattle.std.specs.List.{prefix_len}
 use Rattle.std.proofs.Common.{append_assoc, Bool, true, false, cond, ◌≡◌, ℕ, zero, suc, ◌+◌, ◌-◌, ◌<◌, ◌≤◌, List, [], ◌∷◌, ◌++◌, length, take, drop, get_or, refl, ap, arith, length-append, if◌then◌else◌, sym, ◌∙◌, subst}
 use Rattle.std.proofs.lemmas.List.{drop-drop, take-append-drop}
@@ -10,10 +10,9 @@ use Rattle.profile.specs.Parts.{NestedUnit, begins_page, begins_trailer, up_to, 
 use Rattle.dsc.specs.Units.{or_none, units_of}
 use Rattle.dsc.specs.Marks.{page_starts, starts_of, end_of}
 use Rattle.dsc.proofs.Cases.{by_test}
-use Rattle.std.specs.Prelude.{Ok}
-use Rattle.std.proofs.Common.{append-nil}
-use Rattle.dsc.proofs.Rows.{joined, units-whole}
-use Rattle.dsc.proofs.Alone.{cut-begins, nested-bytes}
+use Rattle.profile.proofs.Whole.{units_make_text}
+use Rattle.dsc.specs.Inside.{HasItsParts}
+use Rattle.dsc.proofs.Alone.{nested-bytes}
 use Rattle.dsc.proofs.PartMarks.{before-cons, from-cons, page_count}
 
 -- where the next page begins, or all end
@@ -143,7 +142,7 @@ parts_whole us =
 
 pub text_whole : (text : List ℕ) → cut text ≡ Ok (or_none (cut text)) → text ≡ bytes_of (units_of text)
 text_whole text e =
-    units-whole (or_none (cut text)) text [] (cut-begins text (or_none (cut text)) e) ∙ append-nil (joined (or_none (cut text))) ∙ sym (nested-bytes 0 (or_none (cut text)))
+    sym (nested-bytes 0 (or_none (cut text)) ∙ units_make_text text (or_none (cut text)) e)
 
 -- the pages begin with a page's line
 from_page : (p q : NestedUnit → Bool) (us : List NestedUnit) → up_to p (up_to q (starting_at p us)) ≡ []
@@ -195,3 +194,18 @@ page_found text starts stop p c s t h =
     get_or-map f [] p = refl
     get_or-map f (x ∷ xs) zero = refl
     get_or-map f (x ∷ xs) (suc p) = get_or-map f xs p
+
+-- the same from what a document keeps true: the page stands between its start and its end
+pub page_at : (text starts row : List ℕ) (stop p start end : ℕ) (us : List NestedUnit) → HasItsParts text starts stop → units_of text ≡ us → p < length (pages us)
+    → row ≡ starts → start ≡ get_or row p 0 → end ≡ get_or row (p + 1) stop
+    → (p < length row) × (start ≤ end) × (end ≤ length text) × (take (end - start) (drop start text) ≡ get_or (pages us) p [])
+page_at text starts row stop p start end us i v h r s e =
+    let below : p < length (pages (units_of text)) = subst (λ vs. p < length (pages vs)) (sym v) h in
+    let found = page_found text starts stop p i.is_cut i.starts_are i.stop_is below in
+    let first : start ≡ get_or starts p 0 = s ∙ ap (λ xs. get_or xs p 0) r in
+    let last : end ≡ get_or starts (p + 1) stop = e ∙ ap (λ xs. get_or xs (p + 1) stop) r in (
+      omega (arith, found.0, ap length r),
+      omega (arith, found.1, first, last),
+      omega (arith, found.2, last),
+      ap (λ k. take (k - start) (drop start text)) last ∙ ap (λ k. take (get_or starts (p + 1) stop - k) (drop k text)) first ∙ found.3 ∙ ap (λ vs. get_or (pages vs) p []) v,
+    )

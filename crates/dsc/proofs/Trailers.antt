@@ -5,15 +5,16 @@ use Rattle.std.proofs.Common.{Bool, true, false, cond, ◌&&◌, ◌==◌, ◌�
 use Rattle.std.proofs.lemmas.List.{drop-drop}
 use Rattle.std.proofs.lemmas.Bool.{eqb-true}
 use Rattle.std.proofs.Math.Seq.{drop-append_seam}
-use Rattle.profile.specs.Units.{TextUnit, cut}
+use Rattle.profile.specs.Units.{TextUnit, cut, BeginsWith}
 use Rattle.profile.specs.Parts.{NestedUnit, depth_after, nested_from, nested, begins_page, begins_trailer, starting_at, preamble, page_run, trailer, bytes_of}
-use Rattle.dsc.specs.Units.{or_none, units_of, BeginsWith}
+use Rattle.dsc.specs.Units.{or_none, units_of}
 use Rattle.dsc.specs.Marks.{end_of}
 use Rattle.dsc.specs.Laws.{StandAlone}
 use Rattle.dsc.proofs.Cases.{by_test}
 use Rattle.dsc.proofs.PartMarks.{from-cons}
 use Rattle.dsc.proofs.Slices.{text_whole, parts_whole}
-use Rattle.dsc.proofs.Alone.{depth_behind, nested-drop, begins-drop, stands, cut-begins}
+use Rattle.dsc.proofs.Rows.{cut-begins}
+use Rattle.dsc.proofs.Alone.{depth_behind, nested-drop, begins-drop, stands}
 
 and-first : (a b c : Bool) → ((a && b) && c) ≡ true → a ≡ true
 and-first true b c e = refl

@@ -122,6 +122,18 @@ fn a_body_is_what_prepare_copies(rt: HostRuntime) -> Result<(), Fail> {
 }
 
 #[test]
+fn a_faulty_page_has_no_body(rt: HostRuntime) -> Result<(), Fail> {
+    let alloc = rt.alloc();
+    let short = b"%%Page: 1 1\nx\n%%BeginData: 3\nab".as_slice();
+    assert!(rt; matches!(prepare(alloc, short), Err(DscError::ShortData(14))));
+    assert!(rt; matches!(Body::prepare(alloc, short), Err(DscError::ShortData(14))));
+    let bad = b"x\n%%BeginData: q\n%%BeginData: 9\n".as_slice();
+    assert!(rt; matches!(prepare(alloc, bad), Err(DscError::BadCount(2))));
+    assert!(rt; matches!(Body::prepare(alloc, bad), Err(DscError::BadCount(2))));
+    Ok(())
+}
+
+#[test]
 fn header_comments_of_the_whole_document_are_dropped(rt: HostRuntime) -> Result<(), Fail> {
     let text =
         b"%!PS\n%%DocumentMedia: a 1 2 3 () ()\n%%+ b 1 2 3 () ()\n%%BoundingBox: 0 0 9 9\n/x 1 def\n%%Page: 1 1\nshowpage\n%%Trailer\n%%Pages: 1\n%%EOF\n".as_slice();
@@ -177,6 +189,5 @@ fn each_refusal_has_its_message(rt: HostRuntime) -> Result<(), Fail> {
 fn the_laws_can_be_called(_rt: HostRuntime) -> Result<(), Fail> {
     laws::pages_stand_alone();
     laws::pages_have_bodies();
-    laws::cut_finds_faults();
     Ok(())
 }

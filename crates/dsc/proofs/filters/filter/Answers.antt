@@ -2,7 +2,7 @@ use Rattle.std.proofs.Common.{rules, arith, refl, ◌<◌, ◌≡◌, ◌+◌, �
 use Rattle.std.proofs.lemmas.List.{drop-drop}
 use Rattle.profile.specs.Units.{BadCount, ShortData, first_unit}
 use Rattle.dsc.proofs.Filtering.{filter_more}
-use Rattle.dsc.proofs.Passing.{next_said, said_none, said_some, plain_filtered, filter_done, filter_ends}
+use Rattle.dsc.proofs.Passing.{plain_filtered, filter_finished, filter_refused}
 use Rattle.dsc.proofs.Scans.{depth_after-within}
 use Rattle.dsc.proofs.Rows.{unit-front}
 use Rattle.dsc.specs.Views.{unit_of}
@@ -43,42 +43,18 @@ loop-run_len-preserved c =
 
 pub returns-then-is_empty : goal.returns-then-is_empty
 returns-then-is_empty c =
-    let f : List ℕ = c.loop-run_len.copied.items ++ c.loop-run_len.held.now in
-    let n : ℕ = c.loop-run_len.run_len + c.plain_len-plain.result in
-    let run : List ℕ = c.loop-run_len.run.now in
-    let rest : List ℕ = drop n run in
-    let comment : c.split_at-in-loop-run_len.result.1.now ≡ rest =
-    c.split_at-in-loop-run_len.ensures.back ∙ ap (drop c.plain_len-plain.result) c.split_at.ensures.back ∙ drop-drop c.plain_len-plain.result c.loop-run_len.run_len run in
-    let passed =
-    plain_filtered c.args.drops f c.loop-run_len.was (next_said c.loop-run_len.was c.plain_len-plain.result) c.loop-run_len.depth c.loop-run_len.at c.plain_len-plain.result c.loop-run_len.run_len run c.split_at.result.1.now _
-    (said_none c.loop-run_len.was c.plain_len-plain.result) (said_some c.loop-run_len.was c.plain_len-plain.result) c.split_at.ensures.back c.plain_len-plain.ensures.plain c.loop-run_len.invariant.so_far in
     let none : length c.split_at-in-loop-run_len.result.1.now ≡ 0 = search rules in
-    filter_done f c.args.drops _ c.loop-run_len.depth _ n run _ (ap length (sym comment) ∙ none) passed
+    filter_finished c.args.drops (c.loop-run_len.copied.items ++ c.loop-run_len.held.now) c.loop-run_len.was c.loop-run_len.depth c.loop-run_len.at c.plain_len-plain.result c.loop-run_len.run_len c.loop-run_len.run.now _ _ _
+    c.split_at.ensures.back c.split_at-in-loop-run_len.ensures.back c.plain_len-plain.ensures.plain none c.loop-run_len.invariant.so_far
 
 pub returns-in-Err-BadCount : goal.returns-in-Err-BadCount
 returns-in-Err-BadCount c =
-    let f : List ℕ = c.loop-run_len.copied.items ++ c.loop-run_len.held.now in
-    let n : ℕ = c.loop-run_len.run_len + c.plain_len-plain.result in
-    let run : List ℕ = c.loop-run_len.run.now in
-    let rest : List ℕ = drop n run in
-    let comment : c.split_at-in-loop-run_len.result.1.now ≡ rest =
-    c.split_at-in-loop-run_len.ensures.back ∙ ap (drop c.plain_len-plain.result) c.split_at.ensures.back ∙ drop-drop c.plain_len-plain.result c.loop-run_len.run_len run in
-    let passed =
-    plain_filtered c.args.drops f c.loop-run_len.was (next_said c.loop-run_len.was c.plain_len-plain.result) c.loop-run_len.depth c.loop-run_len.at c.plain_len-plain.result c.loop-run_len.run_len run c.split_at.result.1.now _
-    (said_none c.loop-run_len.was c.plain_len-plain.result) (said_some c.loop-run_len.was c.plain_len-plain.result) c.split_at.ensures.back c.plain_len-plain.ensures.plain c.loop-run_len.invariant.so_far in
     let some : 0 < length c.split_at-in-loop-run_len.result.1.now = search rules in
-    filter_ends (f ++ take n run) c.args.drops _ c.loop-run_len.depth _ rest c.split_at-in-loop-run_len.result.1.now BadCount _ comment some (rw c.in-Err-BadCount.field-0-is at c.in-Err-BadCount.ensures).unit passed
+    filter_refused c.args.drops (c.loop-run_len.copied.items ++ c.loop-run_len.held.now) c.loop-run_len.was c.loop-run_len.depth c.loop-run_len.at c.plain_len-plain.result c.loop-run_len.run_len c.loop-run_len.run.now _ _ BadCount _
+    c.split_at.ensures.back c.split_at-in-loop-run_len.ensures.back c.plain_len-plain.ensures.plain some (rw c.in-Err-BadCount.field-0-is at c.in-Err-BadCount.ensures).unit c.loop-run_len.invariant.so_far
 
 pub returns-in-Err-ShortData : goal.returns-in-Err-ShortData
 returns-in-Err-ShortData c =
-    let f : List ℕ = c.loop-run_len.copied.items ++ c.loop-run_len.held.now in
-    let n : ℕ = c.loop-run_len.run_len + c.plain_len-plain.result in
-    let run : List ℕ = c.loop-run_len.run.now in
-    let rest : List ℕ = drop n run in
-    let comment : c.split_at-in-loop-run_len.result.1.now ≡ rest =
-    c.split_at-in-loop-run_len.ensures.back ∙ ap (drop c.plain_len-plain.result) c.split_at.ensures.back ∙ drop-drop c.plain_len-plain.result c.loop-run_len.run_len run in
-    let passed =
-    plain_filtered c.args.drops f c.loop-run_len.was (next_said c.loop-run_len.was c.plain_len-plain.result) c.loop-run_len.depth c.loop-run_len.at c.plain_len-plain.result c.loop-run_len.run_len run c.split_at.result.1.now _
-    (said_none c.loop-run_len.was c.plain_len-plain.result) (said_some c.loop-run_len.was c.plain_len-plain.result) c.split_at.ensures.back c.plain_len-plain.ensures.plain c.loop-run_len.invariant.so_far in
     let some : 0 < length c.split_at-in-loop-run_len.result.1.now = search rules in
-    filter_ends (f ++ take n run) c.args.drops _ c.loop-run_len.depth _ rest c.split_at-in-loop-run_len.result.1.now ShortData _ comment some (rw c.in-Err-ShortData.field-0-is at c.in-Err-ShortData.ensures).unit passed
+    filter_refused c.args.drops (c.loop-run_len.copied.items ++ c.loop-run_len.held.now) c.loop-run_len.was c.loop-run_len.depth c.loop-run_len.at c.plain_len-plain.result c.loop-run_len.run_len c.loop-run_len.run.now _ _ ShortData _
+    c.split_at.ensures.back c.split_at-in-loop-run_len.ensures.back c.plain_len-plain.ensures.plain some (rw c.in-Err-ShortData.field-0-is at c.in-Err-ShortData.ensures).unit c.loop-run_len.invariant.so_far

@@ -1,7 +1,7 @@
 use Rattle.std.proofs.Common.{rules, arith, refl, ◌≡◌, ◌+◌, ◌<◌, ◌≤◌, length, subst, sym}
 use Rattle.profile.specs.Units.{BadCount, ShortData}
-use Rattle.dsc.proofs.Scans.{scan_more, scan_ends, noted-within, depth_after-within}
-use Rattle.dsc.proofs.Passing.{plain_scanned, scan_done}
+use Rattle.dsc.proofs.Scans.{scan_more, noted-within, depth_after-within}
+use Rattle.dsc.proofs.Passing.{plain_scanned, scan_done, scan_refused}
 use Rattle.dsc.specs.Views.{unit_of}
 use Rattle.dsc.proofs.scan.scan.Goals as goal
 
@@ -35,16 +35,12 @@ returns-then-is_empty c =
 
 pub returns-in-Err-BadCount : goal.returns-in-Err-BadCount
 returns-in-Err-BadCount c =
-    let passed =
-    plain_scanned 1_000_001 (omega arith) c.loop-rest.seen.starts.items c.loop-rest.seen.stop c.loop-rest.depth c.loop-rest.at c.plain_len-plain.result c.loop-rest.rest.now c.split_at.result.1.now _
-    c.loop-rest.invariant.within c.plain_len-plain.ensures.plain c.split_at.ensures.back c.loop-rest.invariant.so_far in
     let some : 0 < length c.split_at.result.1.now = search rules in
-    scan_ends 1_000_001 (omega arith) c.loop-rest.seen.starts.items c.loop-rest.seen.stop c.loop-rest.depth _ c.split_at.result.1.now BadCount _ some (rw c.in-Err-BadCount.field-0-is at c.in-Err-BadCount.ensures).unit passed
+    scan_refused 1_000_001 (omega arith) c.loop-rest.seen.starts.items c.loop-rest.seen.stop c.loop-rest.depth c.loop-rest.at c.plain_len-plain.result c.loop-rest.rest.now c.split_at.result.1.now BadCount _
+    c.loop-rest.invariant.within c.plain_len-plain.ensures.plain c.split_at.ensures.back some (rw c.in-Err-BadCount.field-0-is at c.in-Err-BadCount.ensures).unit c.loop-rest.invariant.so_far
 
 pub returns-in-Err-ShortData : goal.returns-in-Err-ShortData
 returns-in-Err-ShortData c =
-    let passed =
-    plain_scanned 1_000_001 (omega arith) c.loop-rest.seen.starts.items c.loop-rest.seen.stop c.loop-rest.depth c.loop-rest.at c.plain_len-plain.result c.loop-rest.rest.now c.split_at.result.1.now _
-    c.loop-rest.invariant.within c.plain_len-plain.ensures.plain c.split_at.ensures.back c.loop-rest.invariant.so_far in
     let some : 0 < length c.split_at.result.1.now = search rules in
-    scan_ends 1_000_001 (omega arith) c.loop-rest.seen.starts.items c.loop-rest.seen.stop c.loop-rest.depth _ c.split_at.result.1.now ShortData _ some (rw c.in-Err-ShortData.field-0-is at c.in-Err-ShortData.ensures).unit passed
+    scan_refused 1_000_001 (omega arith) c.loop-rest.seen.starts.items c.loop-rest.seen.stop c.loop-rest.depth c.loop-rest.at c.plain_len-plain.result c.loop-rest.rest.now c.split_at.result.1.now ShortData _
+    c.loop-rest.invariant.within c.plain_len-plain.ensures.plain c.split_at.ensures.back some (rw c.in-Err-ShortData.field-0-is at c.in-Err-ShortData.ensures).unit c.loop-rest.invariant.so_far
