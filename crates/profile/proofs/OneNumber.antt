@@ -4,7 +4,7 @@ use Rattle.std.specs.Prelude.{ℤ, ◌==◌}
 use Rattle.std.specs.List.{AllPass}
 use Rattle.std.specs.Char.{is_ascii_digit}
 use Rattle.profile.specs.Numbers.{IsNumber, IsFraction}
-use Rattle.profile.proofs.OneValue.{ends_digits, same_digits, same_sign, begins_unsigned, rest_begins, same_value, same_tail}
+use Rattle.profile.proofs.OneValue.{ends_digits, same_digits, same_sign, begins_unsigned, rest_begins, same_value, same_tail, same_cons}
 
 -- the list begins with neither a digit nor a dot
 abbrev pub ends_number : List ℕ → Bool
@@ -14,9 +14,6 @@ ends_number (b ∷ bs) = not (is_ascii_digit b) && not (b == 46)
 both_first : (a b : Bool) → a && b ≡ true → a ≡ true
 both_first true b e = refl
 both_first false b e = e
-
-both_cons : (b c : ℕ) (xs ys : List ℕ) → b ≡ c → xs ≡ ys → b ∷ xs ≡ c ∷ ys
-both_cons b c xs ys e f = cc
 
 pub number_ends_digits : (r : List ℕ) → ends_number r ≡ true → ends_digits r ≡ true
 number_ends_digits [] e = refl
@@ -38,7 +35,7 @@ same_tail_fraction [] (y ∷ q) d f r s a (b, b') da fa u v e = absurd (no_dot y
 same_tail_fraction (x ∷ p) [] d f r s (a, a') b da fa u v e = absurd (no_dot x (p ++ r) s a (sym e) v)
 same_tail_fraction (x ∷ p) (y ∷ q) d f r s (a, a') (b, b') da fa u v e =
     let h = same_digits d f r s da fa (number_ends_digits r u) (number_ends_digits s v) (subst (λ z. z ++ r ≡ f ++ s) a' (subst (λ z. p ++ r ≡ z ++ s) b' (same_tail x y (p ++ r) (q ++ s) e))) in
-    (both_cons x y p q (a ∙ sym b) (a' ∙ (h.0 ∙ sym b')), h.0, h.1)
+    (same_cons x y p q (a ∙ sym b) (a' ∙ (h.0 ∙ sym b')), h.0, h.1)
 
 front_begins : (r t : List ℕ) → begins_unsigned r ≡ true → begins_unsigned (r ++ t) ≡ true
 front_begins [] t e = absurd (true≢false (sym e))

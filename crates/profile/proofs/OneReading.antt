@@ -46,9 +46,6 @@ unit_told : (text : List ℕ) (u : LengthUnit) (r : List ℕ) → IsUnit text u 
 unit_told text u r (inl e) f = subst (λ z. UnitTold z u r) (sym e) (unit_named u r)
 unit_told text u r (inr (e, g)) f = subst (λ z. UnitTold z u r) (sym e) (subst (λ z. UnitTold [] z r) (sym g) (unit_left_out r f))
 
-same_cons : (b c : ℕ) (xs ys : List ℕ) → b ≡ c → xs ≡ ys → b ∷ xs ≡ c ∷ ys
-same_cons b c xs ys e f = cc
-
 nothing_long : (n : ℕ) → 0 ≡ suc n → ⊥
 nothing_long n e = omega (arith, e)
 

@@ -145,7 +145,7 @@ group_front t text tail (i ∷ []) h f u = item_front t text tail i h f u
 group_front t text tail (i ∷ k ∷ g) (front, rest, e, h, m) f u =
     item_front front text (43 ∷ (rest ++ tail)) i h (f ∙ (ap (λ z. z ++ tail) e ∙ append_assoc front (43 ∷ rest) tail)) refl
 
-groups_front : (text : List ℕ) (gs : List (List WrittenItem)) → IsJoined 44 (IsJoined 43 IsItem) text gs → BeginsWithItem text
+pub groups_front : (text : List ℕ) (gs : List (List WrittenItem)) → IsJoined 44 (IsJoined 43 IsItem) text gs → BeginsWithItem text
 groups_front text [] h = absurd h
 groups_front text (g ∷ []) h = group_front text text [] g h (sym (append-nil text)) refl
 groups_front text (g ∷ k ∷ gs) (front, rest, e, h, m) = group_front front text (44 ∷ rest) g h e refl
@@ -211,7 +211,7 @@ no_colon_bare text true m rest d' more ms g k e f = digits_no_minus d' more rest
 no_colon_bare text false m rest d' more ms g k e f = numbered_no_row d' more rest m ms k g (sym e ∙ f)
 
 -- a text with a modulo isn't one without
-no_modulo_apart : (text digits rest : List ℕ) (m : ℕ) (gs : List (List WrittenItem)) → AreGroups text gs → IsDigits digits m → text ≡ digits ++ (58 ∷ rest) → ⊥
+pub no_modulo_apart : (text digits rest : List ℕ) (m : ℕ) (gs : List (List WrittenItem)) → AreGroups text gs → IsDigits digits m → text ≡ digits ++ (58 ∷ rest) → ⊥
 no_modulo_apart text digits rest m gs (inl h) k e =
     let a = groups_front text gs h in
     colon_ahead text a.from_end a.page m a.digits a.rest a.tail digits rest a.modifiers a.number a.behind a.ends k a.parts e

@@ -1,8 +1,7 @@
 -- Which pages stand on which sheets. Pages, sheets, items and slots are counted from 0.
--- Blocks, and pages counted from the end of the document by a minus, are of pstops(1), DESCRIPTION and EXAMPLES;
--- signatures are of psbook(1), DESCRIPTION. That the last block is filled with blanks before pages are counted from the
--- end is this project's own profile.
-use Rattle.std.specs.Prelude.{◌≡◌, ℕ, ◌+◌, ◌-◌, ◌*◌, ◌/◌, nat_lt, if◌then◌else◌, List, [], ◌∷◌, map, flat_map, Option, Some, None, slice_index_or, length}
+-- Blocks, and pages counted from the end of the document by a minus, are of pstops(1), DESCRIPTION and EXAMPLES. That the
+-- last block is filled with blanks before pages are counted from the end is this project's own profile.
+use Rattle.std.specs.Prelude.{◌≡◌, ℕ, ◌+◌, ◌-◌, ◌*◌, ◌/◌, nat_lt, if◌then◌else◌, List, map, flat_map, Option, Some, None, length}
 use Rattle.std.specs.List.{range_with_len}
 use Rattle.profile.specs.Specification.{Item, Spec}
 
@@ -24,15 +23,11 @@ pub record Slot : Type 0 where
   pub page : Option ℕ
   pub item : Item
 
--- a sheet for each group of each block, block by block, over n places with these pages
-abbrev pub sheets_over : Spec → ℕ → (ℕ → Option ℕ) → List (List Slot)
-sheets_over spec n page_of =
-    flat_map (λ b. map (λ g. map (λ i. record { page = page_of (place spec.modulo n b i); item = i }) g) spec.groups)
-    (range_with_len 0 (blocks spec.modulo n))
-
--- the sheets of a specification on n pages
+-- the sheets of a specification on n pages: one for each group of each block, block by block
 abbrev pub sheets : Spec → ℕ → List (List Slot)
-sheets spec n = sheets_over spec n (page_at n)
+sheets spec n =
+    flat_map (λ b. map (λ g. map (λ i. record { page = page_at n (place spec.modulo n b i); item = i }) g) spec.groups)
+    (range_with_len 0 (blocks spec.modulo n))
 
 -- there is a sheet for each group in each block: a law
 abbrev pub SheetCount : Type 0
@@ -50,16 +45,3 @@ pub record Layout : Type 0 where
 
 abbrev pub layout : Plan → Layout
 layout plan = record { pages = plan.pages; sheets = map (λ slots. map (λ slot. slot.page) slots) plan.sheets }
-
--- the order of a signature of s sides that begins at page f, four sides for each leaf, from the outermost one inward: on
--- its front the last page not yet placed and the first one, on its back the next one and the one before that last
-abbrev pub signature : (f s : ℕ) → List ℕ
-signature f s = flat_map (λ j. (f + s - 1 - 2 * j) ∷ (f + 2 * j) ∷ (f + 2 * j + 1) ∷ (f + s - 2 - 2 * j) ∷ []) (range_with_len 0 (s / 4))
-
--- the row of n pages in signatures of s sides, filled with blanks
-abbrev pub signature_row : (s n : ℕ) → List (Option ℕ)
-signature_row s n = map (page_at n) (flat_map (λ b. signature (b * s) s) (range_with_len 0 (blocks s n)))
-
--- the sheets of a specification whose places are those of such a row
-abbrev pub sheets_in_signatures : Spec → (s n : ℕ) → List (List Slot)
-sheets_in_signatures spec s n = let row = signature_row s n in sheets_over spec (length row) (λ k. slice_index_or row k None)

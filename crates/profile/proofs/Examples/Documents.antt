@@ -1,14 +1,15 @@
 -- A document of n pages, and what is written for it: whole outputs, and their numbers of bytes.
-use Rattle.std.proofs.Common.{ℕ, ◌+◌, List, [], ◌∷◌, ◌++◌, refl, ◌≡◌, true, false, Some, None, Bool, length}
+use Rattle.std.proofs.Common.{ℕ, ◌+◌, List, [], ◌∷◌, ◌++◌, refl, ◌≡◌, true, false, Some, None, length}
 use Rattle.std.specs.Prelude.{codes, decimal, flat_map, Result, Ok, ℤ, pos}
 use Rattle.std.specs.List.{range_with_len}
 use Rattle.std.specs.Fmt.{digits}
 use Rattle.profile.specs.Bytes.{line}
 use Rattle.profile.specs.Papers.{Pt, Cm, points}
-use Rattle.profile.specs.Specification.{Modifier, Quarters, Scaled, Moved, Measure, WrittenItem, Spec, settled}
+use Rattle.profile.specs.Specification.{Quarters, Scaled, Moved, Measure, WrittenItem, Spec, settled}
 use Rattle.profile.specs.Units.{◌>>=◌}
 use Rattle.profile.specs.Run.{document_of, DocumentFault}
 use Rattle.profile.specs.Output.{Frame, output}
+use Rattle.profile.proofs.Examples.Written.{item, measure, written}
 
 abbrev lines : List (List ℕ) → List ℕ
 lines texts = flat_map line texts
@@ -24,17 +25,14 @@ document_of_pages n =
     ++ lines (flat_map page_lines (range_with_len 0 n))
     ++ lines (codes "%%Trailer" ∷ codes "%%EOF" ∷ [])
 
-abbrev item : Bool → ℕ → List Modifier → WrittenItem
-item from_end page modifiers = record { from_end = from_end; page = page; modifiers = modifiers }
-
-abbrev written : ℕ → List (List WrittenItem) → Spec
-written modulo groups = settled (record { modulo = modulo; groups = groups })
+abbrev read : ℕ → List (List WrittenItem) → Spec
+read modulo groups = settled (written modulo groups)
 
 abbrev plain : ℕ → WrittenItem
 plain page = item false page []
 
 abbrev centimetres : ℤ → Measure
-centimetres number = record { number = number; unit = Cm }
+centimetres number = measure number Cm
 
 abbrev a4 : Frame
 a4 = record { paper = points 595 842; border = None }
@@ -73,7 +71,7 @@ copy = lines (
     ∷ codes "%%EOF"
     ∷ [])
 
-copy_of_one_page : output_in a4 (written 1 ((plain 0 ∷ []) ∷ [])) (document_of_pages 1) ≡ Ok copy
+copy_of_one_page : output_in a4 (read 1 ((plain 0 ∷ []) ∷ [])) (document_of_pages 1) ≡ Ok copy
 unfolding digits
 copy_of_one_page = refl
 
@@ -83,8 +81,8 @@ copy_has_273_bytes = refl
 -- `2:0L@.7(21cm,0)+1L@.7(21cm,14.85cm)`: two pages on a sheet, turned to the left, in full
 abbrev two_up : Spec
 two_up =
-    written 2
-    ((item false 0 (Quarters 1 ∷ Scaled (pos 700_000_000) ∷ Moved (centimetres (pos 21_000_000_000)) (record { number = pos 0; unit = Pt }) ∷ [])
+    read 2
+    ((item false 0 (Quarters 1 ∷ Scaled (pos 700_000_000) ∷ Moved (centimetres (pos 21_000_000_000)) (measure (pos 0) Pt) ∷ [])
     ∷ item false 1 (Quarters 1 ∷ Scaled (pos 700_000_000) ∷ Moved (centimetres (pos 21_000_000_000)) (centimetres (pos 14_850_000_000)) ∷ [])
     ∷ []) ∷ [])
 
@@ -132,7 +130,7 @@ blank_sheet = lines (
     ∷ codes "%%EOF"
     ∷ [])
 
-sheet_born_blank : output_in a4 (written 2 ((plain 1 ∷ []) ∷ [])) (document_of_pages 1) ≡ Ok blank_sheet
+sheet_born_blank : output_in a4 (read 2 ((plain 1 ∷ []) ∷ [])) (document_of_pages 1) ≡ Ok blank_sheet
 unfolding digits
 sheet_born_blank = refl
 
@@ -140,26 +138,26 @@ blank_sheet_has_77_bytes : length blank_sheet ≡ 77
 blank_sheet_has_77_bytes = refl
 
 -- `4:0,1,2,3` on 5 pages: 8 sheets, the last three of them blank
-one_page_a_sheet_in_blocks_of_four : bytes_in a4 (written 4 ((plain 0 ∷ []) ∷ (plain 1 ∷ []) ∷ (plain 2 ∷ []) ∷ (plain 3 ∷ []) ∷ [])) (document_of_pages 5) ≡ Ok 1_204
+one_page_a_sheet_in_blocks_of_four : bytes_in a4 (read 4 ((plain 0 ∷ []) ∷ (plain 1 ∷ []) ∷ (plain 2 ∷ []) ∷ (plain 3 ∷ []) ∷ [])) (document_of_pages 5) ≡ Ok 1_204
 unfolding digits
 one_page_a_sheet_in_blocks_of_four = refl
 
 -- `2:-0` on 5 pages: pages 4, 2 and 0
-every_other_page_backwards : bytes_in a4 (written 2 ((item true 0 [] ∷ []) ∷ [])) (document_of_pages 5) ≡ Ok 707
+every_other_page_backwards : bytes_in a4 (read 2 ((item true 0 [] ∷ []) ∷ [])) (document_of_pages 5) ≡ Ok 707
 unfolding digits
 every_other_page_backwards = refl
 
 -- `0+0`: the page twice on one sheet
-page_twice_on_a_sheet : bytes_in a4 (written 1 ((plain 0 ∷ plain 0 ∷ []) ∷ [])) (document_of_pages 1) ≡ Ok 469
+page_twice_on_a_sheet : bytes_in a4 (read 1 ((plain 0 ∷ plain 0 ∷ []) ∷ [])) (document_of_pages 1) ≡ Ok 469
 unfolding digits
 page_twice_on_a_sheet = refl
 
 -- `0` with a border of 1 pt: the copy of 273 bytes, and a line of 107
-border_of_one_point : bytes_in (record { paper = points 595 842; border = Some (pos 127_000_000_000) }) (written 1 ((plain 0 ∷ []) ∷ [])) (document_of_pages 1) ≡ Ok 380
+border_of_one_point : bytes_in (record { paper = points 595 842; border = Some (pos 127_000_000_000) }) (read 1 ((plain 0 ∷ []) ∷ [])) (document_of_pages 1) ≡ Ok 380
 unfolding digits
 border_of_one_point = refl
 
 -- `0`: a document in a document, whose page line is none of ours
-page_line_in_embedded_document : bytes_in a4 (written 1 ((plain 0 ∷ []) ∷ [])) (codes "%!PS\n%%Page: 1 1\n%%BeginDocument: a\n%%Page: 9 9\n%%EndDocument\nx\n") ≡ Ok 263
+page_line_in_embedded_document : bytes_in a4 (read 1 ((plain 0 ∷ []) ∷ [])) (codes "%!PS\n%%Page: 1 1\n%%BeginDocument: a\n%%Page: 9 9\n%%EndDocument\nx\n") ≡ Ok 263
 unfolding digits
 page_line_in_embedded_document = refl

@@ -1,10 +1,10 @@
 -- The limits: what just fits is taken, and one more is refused. A plan's sheets are counted and not computed.
-use Rattle.std.proofs.Common.{arith, rules, ℕ, List, refl, sym, ◌≡◌, Bool, true, false, length, ap, subst, ◌∙◌}
+use Rattle.std.proofs.Common.{arith, rules, ℕ, List, refl, ◌≡◌, Bool, true, false, length, ap, ◌∙◌}
 use Rattle.std.specs.Prelude.{◌<◌, ◌≤◌, ◌*◌, ◌==◌, nat_lt, not, nat_eq, codes, sum_by, Result, Ok, Err}
 use Rattle.std.specs.List.{starts_with}
-use Rattle.profile.specs.Specification.{Spec, canonical}
+use Rattle.profile.specs.Specification.{Spec}
 use Rattle.profile.specs.Sheets.{blocks, sheets}
-use Rattle.profile.specs.Admissible.{Refuses, Takes, TooLong, Syntax, TooLarge, IsAdmissible}
+use Rattle.profile.specs.Admissible.{Refuses, TooLong}
 use Rattle.profile.specs.Units.{cut, ◌>>=◌}
 use Rattle.profile.specs.Parts.{NestedUnit, nested, pages}
 use Rattle.profile.specs.Run.{refuse_if, of_block, document_of, InputTooLong, NotPostScript, with_pages, InputTooManyPages, NoPages, plan_of, PlanTooManyPages, TooManySheets, TooManyPlaces}

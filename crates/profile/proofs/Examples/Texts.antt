@@ -1,18 +1,10 @@
 -- Texts of numbers and specifications, and what they stand for: how each text is taken apart.
-use Rattle.std.proofs.Common.{inl, inr, rules, ℕ, List, [], ◌∷◌, true, false, Bool, refl}
-use Rattle.std.specs.Prelude.{codes, ℤ, pos, neg_ℤ}
+use Rattle.std.proofs.Common.{inl, inr, rules, [], ◌∷◌, true, false, refl}
+use Rattle.std.specs.Prelude.{codes, pos, neg_ℤ}
 use Rattle.profile.specs.Numbers.{IsNumber}
-use Rattle.profile.specs.Papers.{LengthUnit, Pt, Cm, Mm, In, Width, Height}
-use Rattle.profile.specs.Specification.{IsTurn, IsMeasure, IsItem, IsSpec, Modifier, Quarters, Scaled, Moved, Measure, WrittenItem, WrittenSpec}
-
-abbrev item : Bool → ℕ → List Modifier → WrittenItem
-item from_end page modifiers = record { from_end = from_end; page = page; modifiers = modifiers }
-
-abbrev written : ℕ → List (List WrittenItem) → WrittenSpec
-written modulo groups = record { modulo = modulo; groups = groups }
-
-abbrev measure : ℤ → LengthUnit → Measure
-measure number unit = record { number = number; unit = unit }
+use Rattle.profile.specs.Papers.{Pt, Cm, Mm, In, Width, Height}
+use Rattle.profile.specs.Specification.{IsTurn, IsMeasure, IsItem, IsSpec, Quarters, Scaled, Moved}
+use Rattle.profile.proofs.Examples.Written.{item, measure, written}
 
 -- a dot needs no decimals
 dot_at_the_end : IsNumber (codes "5.") (pos 5_000_000_000)
