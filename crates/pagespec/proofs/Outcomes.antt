@@ -11,11 +11,12 @@ use Rattle.pagespec.specs.Groups.{AreKept}
 use Rattle.pagespec.specs.Faults.{fault_named, first_fault_of}
 use Rattle.pagespec.specs.Settled.{settled_kept, split_by, AreLengths}
 use Rattle.pagespec.specs.Written.{WrittenRead}
-use Rattle.pagespec.specs.Refusals.{NamesFault, IsRefusal}
+use Rattle.pagespec.specs.Refusals.{NamesFault, IsRefusal, IsPlaced}
 use Rattle.pagespec.specs.Kept.{ItemShows}
 use Rattle.pagespec.specs.declared.kept.KeptItem.{KeptItem}
 use Rattle.pagespec.specs.declared.groups.Kept.{Kept}
 use Rattle.pagespec.specs.declared.error.SpecError.{SpecError}
+use Rattle.pagespec.specs.declared.error.SpecError.TheVariants as error
 use Rattle.lengths.proofs.Numbers.{some_same}
 use Rattle.pagespec.proofs.Joined.{few_parts}
 use Rattle.pagespec.proofs.Texts.{IsGroup, spec_found, no_tree}
@@ -127,6 +128,22 @@ pub fault_refused : (t : List ℕ) (modulo : ℕ) (ks : List KeptItem) (ns : Lis
 fault_refused t modulo ks ns e read h told =
     named_refused t read.spec (fault_named e) (fault_of 64 read.spec) h read.stands refl
     (ap (option_map fault_named) told ∙ told_fault read.spec modulo ks ns read.shows read.counted read.modulo_is)
+
+-- a text that was read has no syntax fault
+no_syntax_fault : (t : List ℕ) (modulo : ℕ) (ks : List KeptItem) (ns : List ℕ) (e : SpecError) → Read t modulo ks ns → IsRefusal t e → IsPlaced t e
+no_syntax_fault t modulo ks ns error.TooLong read refused = tt
+no_syntax_fault t modulo ks ns (error.Syntax at) read refused = absurd (refused.1 read.spec read.stands)
+no_syntax_fault t modulo ks ns error.TooLarge read refused = tt
+no_syntax_fault t modulo ks ns error.ModuloZero read refused = tt
+no_syntax_fault t modulo ks ns (error.PageOutOfBlock i) read refused = tt
+no_syntax_fault t modulo ks ns (error.ScaleZero i) read refused = tt
+no_syntax_fault t modulo ks ns (error.Repeated i) read refused = tt
+no_syntax_fault t modulo ks ns (error.TooManySlots g) read refused = tt
+no_syntax_fault t modulo ks ns error.TooManyGroups read refused = tt
+no_syntax_fault t modulo ks ns error.NoMemory read refused = tt
+
+pub fault_placed : (t : List ℕ) (modulo : ℕ) (ks : List KeptItem) (ns : List ℕ) (e : SpecError) → Read t modulo ks ns → length t ≤ 65_536 → Some e ≡ first_fault_of modulo ks ns → IsPlaced t e
+fault_placed t modulo ks ns e read h told = no_syntax_fault t modulo ks ns e read (fault_refused t modulo ks ns e read h told)
 
 none_told : (f : Option Fault) (o : Option SpecError) → None ≡ o → option_map fault_named o ≡ option_map (λ x. Some x) f → f ≡ None
 none_told None o e told = refl
