@@ -3,6 +3,7 @@ use Rattle.std.proofs.Common.{arith, ◌≡◌, ◌≤◌, ◌<◌, ◌^◌, ℕ
 use Rattle.std.specs.Prelude.{flat_map, option_map, ◌==◌, nat_lt, nat_le, position}
 use Rattle.std.specs.List.{list_any}
 use Rattle.std.proofs.lemmas.List.{length-append, length-map, append-nil}
+use Rattle.std.proofs.lemmas.Slice.Zip.{AllZip-long}
 use Rattle.profile.specs.Specification.{WrittenItem, WrittenSpec, Item, Spec, IsSpec, IsItem, IsJoined, AreGroups, settled, canonical}
 use Rattle.profile.specs.Admissible.{Fault, TooLong, Syntax, TooLarge, ModuloZero, PageOutOfBlock, ScaleZero, Repeated, TooManySlots, TooManyGroups, items, fault_of, else_first, only_if, at_lowest, any_too_large, is_flat, repeats, Refuses, Takes}
 use Rattle.pagespec.specs.Admitted.{IsAdmitted}
@@ -21,7 +22,7 @@ use Rattle.lengths.proofs.Numbers.{some_same}
 use Rattle.pagespec.proofs.Joined.{few_parts}
 use Rattle.pagespec.proofs.Texts.{IsGroup, spec_found, no_tree}
 use Rattle.pagespec.proofs.Faults.{told_fault, no_fault, neither, small_items, capped_small}
-use Rattle.pagespec.proofs.Settling.{groups_settle, kept_fit, lengths_zip}
+use Rattle.pagespec.proofs.Settling.{groups_settle, kept_fit}
 use Rattle.pagespec.proofs.Short.{short_enough}
 
 pub syntax_refused : (t bytes : List ℕ) → length t ≤ 65_536 → bytes ≡ t → spec_at bytes ≡ None → Refuses 64 t Syntax
@@ -68,7 +69,7 @@ few_groups_in t spec (inl (m, are)) = few_groups t spec.groups are
 few_groups_in t spec (inr (ds, rest, e, is, are)) = omega (arith, few_groups rest spec.groups are, ap length e, length-append ds (58 ∷ rest))
 
 pub few_kept : (t : List ℕ) (modulo : ℕ) (ks : List KeptItem) (ns : List ℕ) → Read t modulo ks ns → length t ≤ 65_536 → length ks < 2 ^ 32
-few_kept t modulo ks ns read h = omega (arith, h, lengths_zip (λ k i. ItemShows i k) ks (items read.spec) read.shows, few_items_in t read.spec read.stands)
+few_kept t modulo ks ns read h = omega (arith, h, AllZip-long (λ k i. ItemShows i k) ks (items read.spec) read.shows, few_items_in t read.spec read.stands)
 
 pub few_lengths : (t : List ℕ) (modulo : ℕ) (ks : List KeptItem) (ns : List ℕ) → Read t modulo ks ns → length t ≤ 65_536 → length ns < 2 ^ 32
 few_lengths t modulo ks ns read h = omega (arith, h, ap length read.counted, length-map read.spec.groups length, few_groups_in t read.spec read.stands)
