@@ -3,7 +3,7 @@ use Rattle.std.proofs.Common.{arith, ◌≡◌, ◌≢◌, ℕ, suc, ◌+◌, Li
 use Rattle.std.specs.Prelude.{map, flat_map, if◌then◌else◌, ◌==◌}
 use Rattle.std.proofs.lemmas.List.{length-append, map-append, nil_from_length}
 use Rattle.profile.specs.Specification.{WrittenItem}
-use Rattle.pagespec.specs.Reading.{byte_at, item_at, group_at, groups_at, bare_at, whole, item_of, is_minus, past_minus, modifiers_at}
+use Rattle.pagespec.specs.Reading.{byte_at, item_at, group_at, groups_at, bare_at, whole, item_with, is_minus, past_minus, modifiers_at}
 use Rattle.lengths.specs.Reading.{is_empty}
 use Rattle.pagespec.specs.Kept.{ItemShows, ModifiersRead}
 use Rattle.pagespec.specs.Groups.{AreKept, ItemKept, GroupRead, GroupsRead, BareRead, IsStop}
@@ -15,8 +15,8 @@ use Rattle.pagespec.specs.declared.groups.Stop.TheVariants.{Stuck, NoMemory}
 use Rattle.lengths.proofs.Numbers.{same_byte}
 use Rattle.pagespec.proofs.JoinedLoop.{ReadsParts, parts_first, parts_more, parts_last, parts_stuck, parts_out, zip_append, zip_one}
 
-abbrev Shows : KeptItem → WrittenItem → Type 0
-Shows k i = ItemShows i k
+abbrev IsKept : KeptItem → WrittenItem → Type 0
+IsKept k i = ItemShows i k
 
 -- so far these items of the group were kept
 pub record KeepsOn (fuel : ℕ) (bytes rest : List ℕ) (old new : List KeptItem) (count : ℕ) : Type 0 where
@@ -41,7 +41,7 @@ keeps_more k n count bytes rest behind next old new newer is on item b = record 
   kept = on.kept ++ item.kept ∷ [];
   reads = parts_more 43 item_at k n bytes rest behind next on.front item.item is item.found b on.reads;
   added = item.added ∙ (ap (λ xs. xs ++ item.kept ∷ []) on.added ∙ append_assoc old on.kept (item.kept ∷ []));
-  shows = zip_append Shows on.kept (item.kept ∷ []) on.front (item.item ∷ []) on.shows (zip_one Shows item.kept item.item item.shows);
+  shows = zip_append IsKept on.kept (item.kept ∷ []) on.front (item.item ∷ []) on.shows (zip_one IsKept item.kept item.item item.shows);
   counted = length-one on.front item.item count on.counted;
 }
 
@@ -52,7 +52,7 @@ keeps_last k n count bytes rest behind old new newer is on item b = record {
   kept = on.kept ++ item.kept ∷ [];
   found = parts_last 43 item_at k n bytes rest behind on.front item.item is item.found b on.reads;
   added = item.added ∙ (ap (λ xs. xs ++ item.kept ∷ []) on.added ∙ append_assoc old on.kept (item.kept ∷ []));
-  shows = zip_append Shows on.kept (item.kept ∷ []) on.front (item.item ∷ []) on.shows (zip_one Shows item.kept item.item item.shows);
+  shows = zip_append IsKept on.kept (item.kept ∷ []) on.front (item.item ∷ []) on.shows (zip_one IsKept item.kept item.item item.shows);
   counted = length-one on.front item.item count on.counted;
 }
 
@@ -77,7 +77,7 @@ items_kept : (items newer kept : List KeptItem) (front : List (List WrittenItem)
     → AreKept newer (flat_map (λ g. g) (front ++ group ∷ []))
 items_kept items newer kept front group shows added more =
     subst (λ is. AreKept newer is) (sym (items-one front group))
-    (subst (λ ks. AreKept ks (flat_map (λ g. g) front ++ group)) (sym added) (zip_append Shows items kept (flat_map (λ g. g) front) group shows more))
+    (subst (λ ks. AreKept ks (flat_map (λ g. g) front ++ group)) (sym added) (zip_append IsKept items kept (flat_map (λ g. g) front) group shows more))
 
 lengths_kept : (lengths : List ℕ) (count : ℕ) (front : List (List WrittenItem)) (group : List WrittenItem) → lengths ≡ map length front → count ≡ length group → lengths ++ count ∷ [] ≡ map length (front ++ group ∷ [])
 lengths_kept lengths count front group e n = ap (λ ns. ns ++ count ∷ []) e ∙ (ap (λ x. map length front ++ x ∷ []) n ∙ sym (map-append length front (group ∷ [])))
@@ -113,10 +113,10 @@ is_some_text : {A : Type 0} (t : List ℕ) (o : Option A) → t ≢ [] → (if i
 is_some_text [] o n = absurd (n refl)
 is_some_text (b ∷ t) o n = refl
 
-bare_is : (t body rest : List ℕ) (kept : Modifiers) → body ≡ past_minus t → t ≢ [] → (read : ModifiersRead body kept rest) → bare_at t ≡ whole (item_of (is_minus t) 0 (read.0, rest))
+bare_is : (t body rest : List ℕ) (kept : Modifiers) → body ≡ past_minus t → t ≢ [] → (read : ModifiersRead body kept rest) → bare_at t ≡ whole (item_with (is_minus t) 0 (read.0, rest))
 unfolding bare_at
 bare_is t body rest kept b some (ms, found, shows) =
-    is_some_text t _ some ∙ (ap (λ x. whole (item_of (is_minus t) 0 (modifiers_at (length x) x))) (sym b) ∙ ap (λ x. whole (item_of (is_minus t) 0 x)) found)
+    is_some_text t _ some ∙ (ap (λ x. whole (item_with (is_minus t) 0 (modifiers_at (length x) x))) (sym b) ∙ ap (λ x. whole (item_with (is_minus t) 0 x)) found)
 
 pub bare_empty : (t : List ℕ) → t ≡ [] → bare_at t ≡ None
 unfolding bare_at
@@ -130,7 +130,7 @@ pub bare_there : (t body rest : List ℕ) (from_end : Bool) (kept : Modifiers) �
     → BareRead t (record { from_end = from_end; page = 0; modifiers = kept })
 bare_there t body rest from_end kept m b some (ms, found, shows) e = (
   record { from_end = is_minus t; page = 0; modifiers = ms },
-  bare_is t body rest kept b some (ms, found, shows) ∙ ap (λ r. whole (item_of (is_minus t) 0 (ms, r))) e,
+  bare_is t body rest kept b some (ms, found, shows) ∙ ap (λ r. whole (item_with (is_minus t) 0 (ms, r))) e,
   record { end = m; page = refl; modifiers = shows },
 )
 

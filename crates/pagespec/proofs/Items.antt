@@ -12,7 +12,7 @@ use Rattle.lengths.specs.Reading.{Ends, digits, past_digits, is_empty}
 use Rattle.lengths.proofs.Digits.{IsDigit, by_test, digits_whole, digits_pass, digits-append, past_digits-append}
 use Rattle.lengths.proofs.Numbers.{same_byte, chosen_some, not_empty, ends_digits, taken, no_minus}
 use Rattle.pagespec.proofs.Letters.{turn_letter}
-use Rattle.pagespec.specs.Reading.{modifier_at, modifiers_at, is_minus, past_minus, item_of, item_from, item_at}
+use Rattle.pagespec.specs.Reading.{modifier_at, modifiers_at, is_minus, past_minus, item_with, item_from, item_at}
 use Rattle.pagespec.proofs.Modifiers.{Stood, modifiers_found, modifiers_read, modifiers_end, few_modifiers}
 
 -- no modifier and no number goes on
@@ -29,7 +29,7 @@ pub item_found : (t : List ℕ) (x : WrittenItem × List ℕ) → item_at t ≡ 
 unfolding item_at
 item_found t x e =
     let u = past_minus t in
-    let (some, same) = chosen_some (is_empty (digits u)) (item_of (is_minus t) (number_of (digits u)) (modifiers_at (length (past_digits u)) (past_digits u))) x e in
+    let (some, same) = chosen_some (is_empty (digits u)) (item_with (is_minus t) (number_of (digits u)) (modifiers_at (length (past_digits u)) (past_digits u))) x e in
     let (front, m_is, are) = modifiers_found (length (past_digits u)) (past_digits u) in
     let rest : List ℕ = (modifiers_at (length (past_digits u)) (past_digits u)).1 in
     let m : List ℕ = minus_text (is_minus t) in
@@ -72,10 +72,10 @@ body_read i ds ms rest (pass, some, page) are closed =
     let past : past_digits (ds ++ (ms ++ rest)) ≡ ms ++ rest = past_digits-append ds (ms ++ rest) pass ∙ ends.1 in
     let many : length i.modifiers ≤ length (ms ++ rest) = omega (arith, few_modifiers i.modifiers ms are, length-append ms rest) in
     taken (digits (ds ++ (ms ++ rest))) _ (λ e. some (sym first ∙ e))
-    ∙ (ap (λ x. Some (item_of i.from_end (number_of x) (modifiers_at (length (past_digits (ds ++ (ms ++ rest)))) (past_digits (ds ++ (ms ++ rest)))))) first
-    ∙ (ap (λ x. Some (item_of i.from_end (number_of ds) (modifiers_at (length x) x))) past
-    ∙ (ap (λ x. Some (item_of i.from_end (number_of ds) x)) (modifiers_read (length (ms ++ rest)) i.modifiers ms rest are closed.ends closed.none many)
-    ∙ ap (λ n. Some (item_of i.from_end n (i.modifiers, rest))) (sym page))))
+    ∙ (ap (λ x. Some (item_with i.from_end (number_of x) (modifiers_at (length (past_digits (ds ++ (ms ++ rest)))) (past_digits (ds ++ (ms ++ rest)))))) first
+    ∙ (ap (λ x. Some (item_with i.from_end (number_of ds) (modifiers_at (length x) x))) past
+    ∙ (ap (λ x. Some (item_with i.from_end (number_of ds) x)) (modifiers_read (length (ms ++ rest)) i.modifiers ms rest are closed.ends closed.none many)
+    ∙ ap (λ n. Some (item_with i.from_end n (i.modifiers, rest))) (sym page))))
 
 pub item_read : (text rest : List ℕ) (i : WrittenItem) → IsItem text i → Closed rest → item_at (text ++ rest) ≡ Some (i, rest)
 unfolding item_at

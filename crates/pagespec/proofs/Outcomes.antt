@@ -3,6 +3,7 @@ use Rattle.std.proofs.Common.{arith, ◌≡◌, ◌≤◌, ◌<◌, ◌^◌, ℕ
 use Rattle.std.specs.Prelude.{flat_map, option_map, ◌==◌, nat_lt, nat_le, position}
 use Rattle.std.specs.List.{list_any}
 use Rattle.std.proofs.lemmas.List.{length-append, length-map, append-nil}
+use Rattle.std.proofs.lemmas.Slice.Zip.{AllZip-long}
 use Rattle.profile.specs.Specification.{WrittenItem, WrittenSpec, Item, Spec, IsSpec, IsItem, IsJoined, AreGroups, settled, canonical}
 use Rattle.profile.specs.Admissible.{Fault, TooLong, Syntax, TooLarge, ModuloZero, PageOutOfBlock, ScaleZero, Repeated, TooManySlots, TooManyGroups, items, fault_of, else_first, only_if, at_lowest, any_too_large, is_flat, repeats, Refuses, Takes}
 use Rattle.pagespec.specs.Admitted.{IsAdmitted}
@@ -11,16 +12,17 @@ use Rattle.pagespec.specs.Groups.{AreKept}
 use Rattle.pagespec.specs.Faults.{fault_named, first_fault_of}
 use Rattle.pagespec.specs.Settled.{settled_kept, split_by, AreLengths}
 use Rattle.pagespec.specs.Written.{WrittenRead}
-use Rattle.pagespec.specs.Refusals.{NamesFault, IsRefusal}
+use Rattle.pagespec.specs.Refusals.{NamesFault, IsRefusal, IsPlaced}
 use Rattle.pagespec.specs.Kept.{ItemShows}
 use Rattle.pagespec.specs.declared.kept.KeptItem.{KeptItem}
 use Rattle.pagespec.specs.declared.groups.Kept.{Kept}
 use Rattle.pagespec.specs.declared.error.SpecError.{SpecError}
+use Rattle.pagespec.specs.declared.error.SpecError.TheVariants as error
 use Rattle.lengths.proofs.Numbers.{some_same}
 use Rattle.pagespec.proofs.Joined.{few_parts}
 use Rattle.pagespec.proofs.Texts.{IsGroup, spec_found, no_tree}
 use Rattle.pagespec.proofs.Faults.{told_fault, no_fault, neither, small_items, capped_small}
-use Rattle.pagespec.proofs.Settling.{groups_settle, kept_fit, lengths_zip}
+use Rattle.pagespec.proofs.Settling.{groups_settle, kept_fit}
 use Rattle.pagespec.proofs.Short.{short_enough}
 
 pub syntax_refused : (t bytes : List ℕ) → length t ≤ 65_536 → bytes ≡ t → spec_at bytes ≡ None → Refuses 64 t Syntax
@@ -67,7 +69,7 @@ few_groups_in t spec (inl (m, are)) = few_groups t spec.groups are
 few_groups_in t spec (inr (ds, rest, e, is, are)) = omega (arith, few_groups rest spec.groups are, ap length e, length-append ds (58 ∷ rest))
 
 pub few_kept : (t : List ℕ) (modulo : ℕ) (ks : List KeptItem) (ns : List ℕ) → Read t modulo ks ns → length t ≤ 65_536 → length ks < 2 ^ 32
-few_kept t modulo ks ns read h = omega (arith, h, lengths_zip (λ k i. ItemShows i k) ks (items read.spec) read.shows, few_items_in t read.spec read.stands)
+few_kept t modulo ks ns read h = omega (arith, h, AllZip-long (λ k i. ItemShows i k) ks (items read.spec) read.shows, few_items_in t read.spec read.stands)
 
 pub few_lengths : (t : List ℕ) (modulo : ℕ) (ks : List KeptItem) (ns : List ℕ) → Read t modulo ks ns → length t ≤ 65_536 → length ns < 2 ^ 32
 few_lengths t modulo ks ns read h = omega (arith, h, ap length read.counted, length-map read.spec.groups length, few_groups_in t read.spec read.stands)
@@ -127,6 +129,22 @@ pub fault_refused : (t : List ℕ) (modulo : ℕ) (ks : List KeptItem) (ns : Lis
 fault_refused t modulo ks ns e read h told =
     named_refused t read.spec (fault_named e) (fault_of 64 read.spec) h read.stands refl
     (ap (option_map fault_named) told ∙ told_fault read.spec modulo ks ns read.shows read.counted read.modulo_is)
+
+-- a text that was read has no syntax fault
+no_syntax_fault : (t : List ℕ) (modulo : ℕ) (ks : List KeptItem) (ns : List ℕ) (e : SpecError) → Read t modulo ks ns → IsRefusal t e → IsPlaced t e
+no_syntax_fault t modulo ks ns error.TooLong read refused = tt
+no_syntax_fault t modulo ks ns (error.Syntax at) read refused = absurd (refused.1 read.spec read.stands)
+no_syntax_fault t modulo ks ns error.TooLarge read refused = tt
+no_syntax_fault t modulo ks ns error.ModuloZero read refused = tt
+no_syntax_fault t modulo ks ns (error.PageOutOfBlock i) read refused = tt
+no_syntax_fault t modulo ks ns (error.ScaleZero i) read refused = tt
+no_syntax_fault t modulo ks ns (error.Repeated i) read refused = tt
+no_syntax_fault t modulo ks ns (error.TooManySlots g) read refused = tt
+no_syntax_fault t modulo ks ns error.TooManyGroups read refused = tt
+no_syntax_fault t modulo ks ns error.NoMemory read refused = tt
+
+pub fault_placed : (t : List ℕ) (modulo : ℕ) (ks : List KeptItem) (ns : List ℕ) (e : SpecError) → Read t modulo ks ns → length t ≤ 65_536 → Some e ≡ first_fault_of modulo ks ns → IsPlaced t e
+fault_placed t modulo ks ns e read h told = no_syntax_fault t modulo ks ns e read (fault_refused t modulo ks ns e read h told)
 
 none_told : (f : Option Fault) (o : Option SpecError) → None ≡ o → option_map fault_named o ≡ option_map (λ x. Some x) f → f ≡ None
 none_told None o e told = refl

@@ -1,8 +1,9 @@
 -- What the kept items come to, against what the written ones do.
-use Rattle.std.proofs.Common.{arith, ◌≡◌, ◌%◌, ℕ, suc, List, [], ◌∷◌, ◌++◌, Bool, Option, Some, None, refl, sym, ap, subst, ◌∙◌, length, take, drop}
+use Rattle.std.proofs.Common.{arith, ◌≡◌, ◌%◌, ℕ, List, [], ◌∷◌, ◌++◌, Bool, Option, Some, None, refl, sym, ap, subst, ◌∙◌, length, take, drop}
 use Rattle.std.specs.Prelude.{map, flat_map, unwrap_or, option_map, pos, ℤ}
 use Rattle.std.specs.List.{AllZip}
 use Rattle.std.proofs.lemmas.List.{length-append, length-map, length-drop, map-append}
+use Rattle.std.proofs.lemmas.Slice.Zip.{AllZip-long}
 use Rattle.profile.specs.Specification.{Measure, Modifier, Quarters, Scaled, Moved, Turn, WrittenItem, Item, settled_item, quarters, turn_of, scale, offset_x, offset_y, zero_points}
 use Rattle.pagespec.specs.Items.{measure_of}
 use Rattle.pagespec.specs.Kept.{Known, first_scale, first_offset}
@@ -95,12 +96,6 @@ groups_settle ks gs lengths zip e =
     ∙ (ap (split_by (map length (map (λ g. map settled_item g) gs))) (settles ks (flat_map (λ g. g) gs) zip ∙ map_row settled_item gs)
     ∙ split_groups (map (λ g. map settled_item g) gs))
 
-pub lengths_zip : {X Y : Type 0} (R : X → Y → Type 0) (xs : List X) (ys : List Y) → AllZip R xs ys → length xs ≡ length ys
-lengths_zip R [] [] h = refl
-lengths_zip R [] (y ∷ ys) h = absurd h
-lengths_zip R (x ∷ xs) [] h = absurd h
-lengths_zip R (x ∷ xs) (y ∷ ys) h = ap suc (lengths_zip R xs ys h.1)
-
 lengths_same : {X Y : Type 0} (ns : List ℕ) (xs : List X) (ys : List Y) → length xs ≡ length ys → AreLengths ns ys → AreLengths ns xs
 lengths_same [] xs ys e h = tt
 lengths_same (n ∷ ns) xs ys e h = (omega (arith, e, h.0), lengths_same ns (drop n xs) (drop n ys) (omega (arith, e, length-drop n xs, length-drop n ys)) h.1)
@@ -108,7 +103,7 @@ lengths_same (n ∷ ns) xs ys e h = (omega (arith, e, h.0), lengths_same ns (dro
 -- the lengths of the groups fit the kept items
 pub kept_fit : {X Y : Type 0} (R : X → Y → Type 0) (xs : List X) (gs : List (List Y)) (lengths : List ℕ) → AllZip R xs (flat_map (λ g. g) gs) → lengths ≡ map length gs → AreLengths lengths xs
 kept_fit R xs gs lengths zip e =
-    subst (λ ns. AreLengths ns xs) (sym e) (lengths_same (map length gs) xs (flat_map (λ g. g) gs) (lengths_zip R xs (flat_map (λ g. g) gs) zip) (lengths_fit gs))
+    subst (λ ns. AreLengths ns xs) (sym e) (lengths_same (map length gs) xs (flat_map (λ g. g) gs) (sym (AllZip-long R xs (flat_map (λ g. g) gs) zip)) (lengths_fit gs))
 
 -- the loop over groups: these came of it, and what is left is split further
 pub record SettlesOn (all left : List ℕ) (kept rest : List KeptItem) (groups : List (List Item)) : Type 0 where

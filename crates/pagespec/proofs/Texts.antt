@@ -9,7 +9,7 @@ use Rattle.profile.specs.Specification.{WrittenItem, WrittenSpec, IsJoined, IsIt
 use Rattle.lengths.specs.Reading.{digits, past_digits, is_empty}
 use Rattle.lengths.proofs.Digits.{digits_whole, digits_pass, digits-append, past_digits-append}
 use Rattle.lengths.proofs.Numbers.{some_same, not_empty, ends_digits}
-use Rattle.pagespec.specs.Reading.{◌>>=◌, byte_at, modifier_at, modifiers_at, is_minus, past_minus, item_of, item_from, item_at, bare_at, whole, joined_at, group_at, groups_at, or_bare, all_groups_at, tree_of, past_modulo, tree_from, spec_at}
+use Rattle.pagespec.specs.Reading.{◌>>=◌, byte_at, modifier_at, modifiers_at, is_minus, past_minus, item_with, item_from, item_at, bare_at, whole, joined_at, group_at, groups_at, or_bare, all_groups_at, tree_of, past_modulo, tree_from, spec_at}
 use Rattle.pagespec.proofs.Measures.{bind_some, byte_found}
 use Rattle.pagespec.proofs.Modifiers.{Stood, modifiers_found, modifiers_read, modifiers_end, few_modifiers}
 use Rattle.pagespec.proofs.Joined.{joined_found, joined_read, few_parts}
@@ -68,7 +68,7 @@ bare_found t i e =
     let u = past_minus t in
     let (some, read) = bare_of (is_empty t) _ i e in
     let (front, m_is, are) = modifiers_found (length u) u in
-    let (rest, same) = whole_found (item_of (is_minus t) 0 (modifiers_at (length u) u)) i read in
+    let (rest, same) = whole_found (item_with (is_minus t) 0 (modifiers_at (length u) u)) i read in
     let u_is : u ≡ front = m_is ∙ (ap (λ x. front ++ x) rest ∙ append-nil front) in
     subst (IsBareItem t) same (u, minus_whole t, refl, not_empty t some, subst (λ x. AreModifiers x (modifiers_at (length u) u).0) (sym u_is) are)
 
@@ -84,9 +84,9 @@ bare_read t i (ms, e, page, some, are) =
     let past : past_minus t ≡ ms = ap past_minus e ∙ minus.1 in
     let read : modifiers_at (length ms) ms ≡ (i.modifiers, []) = ap (modifiers_at (length ms)) (sym (append-nil ms)) ∙ modifiers_read (length ms) i.modifiers ms [] are nil_closed.0.ends nil_closed.0.none (few_modifiers i.modifiers ms are) in
     bare_taken t _ some
-    ∙ (ap (λ x. whole (item_of x 0 (modifiers_at (length (past_minus t)) (past_minus t)))) is_m
-    ∙ (ap (λ x. whole (item_of i.from_end 0 (modifiers_at (length x) x))) past
-    ∙ (ap (λ x. whole (item_of i.from_end 0 x)) read ∙ ap (λ n. Some (record i { page = n })) (sym page))))
+    ∙ (ap (λ x. whole (item_with x 0 (modifiers_at (length (past_minus t)) (past_minus t)))) is_m
+    ∙ (ap (λ x. whole (item_with i.from_end 0 (modifiers_at (length x) x))) past
+    ∙ (ap (λ x. whole (item_with i.from_end 0 x)) read ∙ ap (λ n. Some (record i { page = n })) (sym page))))
 
 -- an item without its number is none with one
 bare_is_none : (t : List ℕ) (i : WrittenItem) → IsBareItem t i → item_at t ≡ None
@@ -96,7 +96,7 @@ bare_is_none t i (ms, e, page, some, are) =
     let past : past_minus t ≡ ms = ap past_minus e ∙ minus.1 in
     let ends = ends_digits (ms ++ []) (modifiers_end i.modifiers ms [] are tt) in
     let no : digits ms ≡ [] = ap digits (sym (append-nil ms)) ∙ ends.0 in
-    ap (λ x. item_from (is_minus t) x) past ∙ ap (λ x. if is_empty x then None else Some (item_of (is_minus t) (number_of x) (modifiers_at (length (past_digits ms)) (past_digits ms)))) no
+    ap (λ x. item_from (is_minus t) x) past ∙ ap (λ x. if is_empty x then None else Some (item_with (is_minus t) (number_of x) (modifiers_at (length (past_digits ms)) (past_digits ms)))) no
 
 no_groups : (t : List ℕ) → item_at t ≡ None → groups_at t ≡ None
 unfolding joined_at

@@ -70,13 +70,13 @@ abbrev pub past_minus : List ℕ → List ℕ
 past_minus [] = []
 past_minus (b ∷ text) = if b == 45 then text else b ∷ text
 
-abbrev pub item_of : Bool → ℕ → List Modifier × List ℕ → WrittenItem × List ℕ
-item_of from_end page ms = (record { from_end = from_end; page = page; modifiers = ms.0 }, ms.1)
+abbrev pub item_with : Bool → ℕ → List Modifier × List ℕ → WrittenItem × List ℕ
+item_with from_end page ms = (record { from_end = from_end; page = page; modifiers = ms.0 }, ms.1)
 
 -- an item behind its minus
 abbrev pub item_from : Bool → List ℕ → Option (WrittenItem × List ℕ)
 item_from from_end text =
-    if is_empty (digits text) then None else Some (item_of from_end (number_of (digits text)) (modifiers_at (length (past_digits text)) (past_digits text)))
+    if is_empty (digits text) then None else Some (item_with from_end (number_of (digits text)) (modifiers_at (length (past_digits text)) (past_digits text)))
 
 -- an item with its page number
 unfoldable pub item_at : List ℕ → Option (WrittenItem × List ℕ)
@@ -110,7 +110,7 @@ whole_groups_at text = groups_at text >>= whole
 
 -- the one item that may leave its page number out
 unfoldable pub bare_at : List ℕ → Option WrittenItem
-bare_at text = if is_empty text then None else whole (item_of (is_minus text) 0 (modifiers_at (length (past_minus text)) (past_minus text)))
+bare_at text = if is_empty text then None else whole (item_with (is_minus text) 0 (modifiers_at (length (past_minus text)) (past_minus text)))
 
 abbrev pub or_bare : List ℕ → Option (List (List WrittenItem)) → Option (List (List WrittenItem))
 or_bare text None = bare_at text >>= λ i. Some ((i ∷ []) ∷ [])

@@ -2,6 +2,7 @@
 use Rattle.std.specs.Prelude.{◌≤◌, ℕ, List, length, Option, Some, None}
 use Rattle.profile.specs.Admissible.{Refuses, Fault}
 use Rattle.pagespec.specs.declared.error.SpecError.{SpecError}
+use Rattle.pagespec.specs.declared.error.SpecError.TheVariants.{Syntax}
 use Rattle.pagespec.specs.Faults.{fault_named}
 
 -- this fault is the text's first; want of memory says only that the text isn't too long
@@ -11,3 +12,8 @@ NamesFault text (Some fault) = Refuses 64 text fault
 
 abbrev pub IsRefusal : List ℕ → SpecError → Type 0
 IsRefusal text e = NamesFault text (fault_named e)
+
+-- the place of a syntax fault is a byte of the text, or the end behind its last one
+abbrev pub IsPlaced : List ℕ → SpecError → Type 0
+IsPlaced text (Syntax at) = at ≤ length text
+IsPlaced text e = Unit {0}

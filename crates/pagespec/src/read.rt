@@ -4,7 +4,7 @@ ghost use Rattle.profile.specs.Admissible.{Takes};
 ghost use Rattle.pagespec.specs.Reading.{spec_at, past_modulo};
 ghost use Rattle.pagespec.specs.Groups.{IsStop};
 ghost use Rattle.pagespec.specs.Written.{WrittenRead, ModuloRead};
-ghost use Rattle.pagespec.specs.Refusals.{IsRefusal};
+ghost use Rattle.pagespec.specs.Refusals.{IsRefusal, IsPlaced};
 
 use crate::check::first_fault;
 use crate::error::SpecError;
@@ -26,6 +26,7 @@ const MOST_BYTES: usize = 65_536;
 pub fn read_spec(alloc: Global, text: &str) -> Result<Spec, SpecError>
     ensures taken { IfOk result (λ spec. Takes 64 text.now spec) }
     ensures refused { IfErr result (IsRefusal text.now) }
+    ensures placed { IfErr result (IsPlaced text.now) }
 {
     if MOST_BYTES < text.len() {
         return Err(SpecError::TooLong);

@@ -1,13 +1,16 @@
-use Rattle.std.proofs.Common.{◌∙◌}
+use Rattle.std.proofs.Common.{arith, ap, length, ◌∙◌}
 use Rattle.pagespec.specs.Reading.{spec_at}
 use Rattle.pagespec.proofs.AllGroups.{stuck_none}
-use Rattle.pagespec.proofs.Outcomes.{all_read, syntax_refused, few_kept, few_lengths, fault_refused, lengths_right, admitted, taken, split_same}
+use Rattle.pagespec.proofs.Outcomes.{all_read, syntax_refused, few_kept, few_lengths, fault_refused, fault_placed, lengths_right, admitted, taken, split_same}
 use Rattle.pagespec.proofs.read.read_spec.Goals as goal
 
 pub returns-in-Err-Stuck-clause-refused : goal.returns-in-Err-Stuck-clause-refused
 returns-in-Err-Stuck-clause-refused c =
     syntax_refused c.args.text.now _ c.if-text-gt-MOST_BYTES.false c.as_bytes-bytes.ensures.value
     (stuck_none (spec_at c.as_bytes-bytes.result.now) c.in-Err-Stuck.field-0 c.in-Err-Stuck.left c.in-Err-Stuck.field-0-is c.in-Err-Stuck.ensures)
+
+pub returns-in-Err-Stuck-clause-placed : goal.returns-in-Err-Stuck-clause-placed
+returns-in-Err-Stuck-clause-placed c = omega (arith, c.saturating_sub.ensures, ap length c.as_bytes-bytes.ensures.value)
 
 pub first_fault-requires-clause-items : goal.first_fault-requires-clause-items
 first_fault-requires-clause-items c =
@@ -20,6 +23,11 @@ first_fault-requires-clause-groups c =
 pub returns-in-Some-clause-refused : goal.returns-in-Some-clause-refused
 returns-in-Some-clause-refused c =
     fault_refused _ _ _ _ c.in-Some.fault (all_read _ _ _ _ _ _ c.as_bytes-bytes.ensures.value c.in-Ok.ensures c.deref.ensures.value c.deref-2.ensures.value) c.if-text-gt-MOST_BYTES.false
+    c.in-Some.ensures
+
+pub returns-in-Some-clause-placed : goal.returns-in-Some-clause-placed
+returns-in-Some-clause-placed c =
+    fault_placed _ _ _ _ c.in-Some.fault (all_read _ _ _ _ _ _ c.as_bytes-bytes.ensures.value c.in-Ok.ensures c.deref.ensures.value c.deref-2.ensures.value) c.if-text-gt-MOST_BYTES.false
     c.in-Some.ensures
 
 pub settled_groups-requires : goal.settled_groups-requires
