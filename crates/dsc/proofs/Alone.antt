@@ -50,7 +50,7 @@ begins-drop zero (p ∷ ps) text rest h = (text, h)
 begins-drop (suc n) [] text rest h = (text, h)
 begins-drop (suc n) (p ∷ ps) text rest h = begins-drop n ps (drop (length p.bytes) text) rest h.2
 
-and-first : (a b c : Bool) → ((a && b) && c) ≡ true → a ≡ true
+pub and-first : (a b c : Bool) → ((a && b) && c) ≡ true → a ≡ true
 and-first true b c e = refl
 and-first false b c e = e
 

@@ -1,25 +1,10 @@
 -- Laws of the cut of a text into units.
 use Rattle.std.specs.Prelude.{Result, Ok, Err}
-use Rattle.std.proofs.Common.{Bool, true, false, cond, ◌≡◌, ℕ, zero, suc, ◌+◌, ◌<◌, ◌≤◌, List, [], ◌∷◌, length, take, drop, refl, ap, arith, length-drop, length-take, sym, ◌∙◌}
-use Rattle.profile.specs.Units.{TextUnit, BlockFault, content_of, line_len, begins_block, fields, data_len, block, first_unit, FaultyBlock, at_byte, cut_from, ◌>>=◌}
+use Rattle.std.proofs.Common.{◌≡◌, ℕ, zero, suc, ◌+◌, ◌<◌, ◌≤◌, List, [], ◌∷◌, length, drop, refl, ap, arith, length-drop, ◌∙◌}
+use Rattle.profile.specs.Units.{TextUnit, BlockFault, first_unit, FaultyBlock, at_byte, cut_from, ◌>>=◌}
 use Rattle.profile.proofs.CutUnits.{unit_some}
 use Rattle.dsc.specs.Units.{faulty_block}
 use Rattle.dsc.specs.Filters.{of_units}
-
-abbrev bytes_or : Result TextUnit BlockFault → List ℕ
-bytes_or (Ok p) = p.bytes
-bytes_or (Err e) = []
-
-chosen-le : (c : Bool) (text content : List ℕ) (n : ℕ) (r : Result ℕ BlockFault) (p : TextUnit)
-    → cond c (block text n r) (Ok (record { content = content; bytes = take n text; is_block = false })) ≡ Ok p → length p.bytes ≤ length text
-chosen-le true text content n (Err e) p w = cc
-chosen-le true text content n (Ok k) p w =
-    let same : p.bytes ≡ take (n + k) text = sym (ap bytes_or w) in rw same (rw length-take (omega arith))
-chosen-le false text content n r p w =
-    let same : p.bytes ≡ take n text = sym (ap bytes_or w) in rw same (rw length-take (omega arith))
-
-pub unit_len-le : (text : List ℕ) (p : TextUnit) → first_unit text ≡ Ok p → length p.bytes ≤ length text
-unit_len-le text p w = chosen-le (begins_block (content_of text)) text (content_of text) (line_len text) (data_len (content_of text) (drop (line_len text) text) (fields (content_of text))) p w
 
 -- more fuel than bytes makes no difference
 pub enough_cut : (k m at : ℕ) (text : List ℕ) → length text ≤ k → length text ≤ m → cut_from k at text ≡ cut_from m at text

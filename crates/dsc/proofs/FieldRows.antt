@@ -1,13 +1,10 @@
 -- Laws of the fields of a line.
 use Rattle.std.specs.Prelude.{filter, not, nat_lt}
-use Rattle.std.specs.List.{prefix_len, slice_split, onto_first, list_all}
-use Rattle.std.proofs.Common.{true, false, ◌≡◌, ℕ, suc, ◌+◌, ◌-◌, ◌<◌, ◌≤◌, List, [], ◌∷◌, length, take, drop, refl, ap, arith, length-take, sym, ◌∙◌, subst, min, get_or, ◌*◌}
+use Rattle.std.specs.List.{prefix_len, slice_split, onto_first}
+use Rattle.std.proofs.Common.{true, false, ◌≡◌, ℕ, suc, ◌+◌, ◌<◌, ◌≤◌, List, [], ◌∷◌, length, take, drop, refl, ap, arith, length-take, sym, ◌∙◌, subst}
 use Rattle.std.proofs.lemmas.Bool.{lt-ltb}
-use Rattle.std.proofs.lemmas.List.Sums.{prefix_len-le-length, fold_more}
-use Rattle.std.proofs.lemmas.List.Folds.{list_all_more}
-use Rattle.std.specs.Char.{is_ascii_digit}
+use Rattle.std.proofs.lemmas.List.Sums.{prefix_len-le-length}
 use Rattle.std.proofs.lemmas.List.Splits.{slice_split-cons_yes, slice_split-cons_no}
-use Rattle.profile.specs.Numbers.{number_of}
 use Rattle.profile.specs.Units.{is_blank}
 use Rattle.dsc.specs.Fields.{fields_in}
 use Rattle.dsc.proofs.Cases.{by_test}
@@ -91,11 +88,3 @@ pub a_field : (text from front rest : List ℕ) (n : ℕ) → from ≡ drop (pre
 a_field text from front rest n e l some f r =
     skip_blanks text ∙ ap fields_in (sym e) ∙ field_first from (omega (arith, l, some))
     ∙ ap (λ k. take k from ∷ fields_in (drop k from)) (sym l) ∙ ap (λ t. t ∷ fields_in (drop n from)) (sym f) ∙ ap (λ t. front ∷ fields_in t) (sym r)
-
--- what is read of a row of digits, as a loop has it
-pub count_more : (field : List ℕ) (i n m d most : ℕ) → i < length field → n ≡ min (number_of (take i field)) most → list_all is_ascii_digit (take i field) ≡ true
-    → is_ascii_digit (get_or field i 0) ≡ true → m ≡ min (min (n * 10) most + (get_or field i 0 - 48)) most
-    → (m ≡ min (number_of (take (i + 1) field)) most) × (list_all is_ascii_digit (take (i + 1) field) ≡ true)
-count_more field i n m d most w e all is s =
-    let step : number_of (take (i + 1) field) ≡ number_of (take i field) * 10 + (get_or field i 0 - 48) = fold_more _ 0 field i 0 w in
-    (omega (arith, e, s, step), list_all_more is_ascii_digit field i 0 w ∙ (rw all is))

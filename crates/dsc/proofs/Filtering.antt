@@ -4,11 +4,11 @@ use Rattle.std.proofs.Common.{append_assoc, append-nil, Bool, true, false, if◌
 use Rattle.std.proofs.Math.Seq.{take-add}
 use Rattle.profile.specs.Units.{TextUnit, is_end, first_unit, FaultyBlock, cut}
 use Rattle.profile.specs.Parts.{NestedUnit, depth_after, nested_from, nested, bytes_of}
-use Rattle.profile.specs.Filters.{kept_after, kept, drops_in_header, ended, prepared}
+use Rattle.profile.specs.Filters.{kept_after, kept, drops_in_header, ended}
 use Rattle.dsc.specs.Units.{or_none, units_of}
 use Rattle.dsc.specs.Filters.{drops_of, is_dropped, of_units, filter_on}
 use Rattle.dsc.specs.declared.filters.Drops.{Drops}
-use Rattle.dsc.specs.declared.filters.Drops.TheVariants.{PageSetup, DocumentSetup}
+use Rattle.dsc.specs.declared.filters.Drops.TheVariants.{DocumentSetup}
 use Rattle.dsc.proofs.Cut.{cut_at, cut_step, of_units-more}
 
 pub run_grows : (kept run : List ℕ) (n m : ℕ) → kept ++ take (n + m) run ≡ (kept ++ take n run) ++ take m (drop n run)
@@ -65,20 +65,6 @@ ended_at (b ∷ c ∷ bs) d false h e = ap (λ t. b ∷ t) (ended_at (c ∷ bs) 
 pub end_wanted : (xs : List ℕ) (byte : ℕ) (d : ℕ) (t : Bool) → 0 < length xs → byte ≡ get_or xs (length xs - 1) d → t ≡ is_end byte → ended xs ≡ (if not t then xs ++ 10 ∷ [] else xs)
 end_wanted xs byte d true h e w = ended_at xs d true h (ap is_end (sym e) ∙ sym w)
 end_wanted xs byte d false h e w = ended_at xs d false h (ap is_end (sym e) ∙ sym w)
-
-ended_units : (f : List TextUnit → List ℕ) (r : Result (List TextUnit) FaultyBlock) (v : List ℕ) → of_units (λ ps. [] ++ f ps) r ≡ Ok v → of_units (λ ps. ended (f ps)) r ≡ Ok (ended v)
-ended_units f (Err e) v h = cc
-ended_units f (Ok ps) v h = let same : f ps ≡ v = cc in ap (λ t. Ok (ended t)) same
-
-fault_units : (f : List TextUnit → List ℕ) (r : Result (List TextUnit) FaultyBlock) (e : FaultyBlock) → of_units (λ ps. [] ++ f ps) r ≡ Err e → of_units (λ ps. ended (f ps)) r ≡ Err e
-fault_units f (Err d) e h = let same : d ≡ e = cc in ap Err same
-fault_units f (Ok ps) e h = cc
-
-pub body_found : (page v front : List ℕ) → front ≡ [] → filter_on PageSetup front false 0 0 page ≡ Ok v → prepared page ≡ Ok (ended v)
-body_found page v front e h = ended_units (λ ps. bytes_of (kept_after false (drops_of PageSetup) (nested_from 0 ps))) (cut page) v (ap (λ t. filter_on PageSetup t false 0 0 page) (sym e) ∙ h)
-
-pub body_fault : (page front : List ℕ) (e : FaultyBlock) → front ≡ [] → filter_on PageSetup front false 0 0 page ≡ Err e → prepared page ≡ Err e
-body_fault page front d e h = fault_units (λ ps. bytes_of (kept_after false (drops_of PageSetup) (nested_from 0 ps))) (cut page) d (ap (λ t. filter_on PageSetup t false 0 0 page) (sym e) ∙ h)
 
 -- a header's part that is cut without a fault
 pub header_found : (front text : List ℕ) → cut text ≡ Ok (or_none (cut text)) → filter_on DocumentSetup front false 0 0 text ≡ Ok (front ++ bytes_of (kept drops_in_header (units_of text)))

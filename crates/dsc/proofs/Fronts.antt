@@ -43,7 +43,7 @@ data_len-take content rest (f ∷ fs) m k e h = by_test (list_all is_ascii_digit
     (λ is. rw is (data-take (counts_lines content (f ∷ fs)) (number_of f) rest m k (rw is at e) h))
     (λ not. let e = (rw not at e) in cc)
 
-abbrev bytes_or : Result TextUnit BlockFault → List ℕ
+abbrev pub bytes_or : Result TextUnit BlockFault → List ℕ
 bytes_or (Ok p) = p.bytes
 bytes_or (Err e) = []
 
@@ -63,22 +63,31 @@ block-ok : (text content : List ℕ) (n : ℕ) (r : Result ℕ BlockFault) (p : 
 block-ok text content n (Err e) p w = cc
 block-ok text content n (Ok m) p w = (m, refl, cc)
 
-pub unit_at-take : (text content : List ℕ) (n : ℕ) (p : TextUnit) (k : ℕ) → n ≤ length text → unit_at text content n ≡ Ok p → length p.bytes ≤ k → (n ≤ k) × (unit_at (take k text) content n ≡ Ok p)
-unit_at-take text content n p k fits e h = by_test (begins_block content)
-    (λ is.
-    let w = block-ok text content n (data_len content (drop n text) (fields content)) p (rw is at e) in
-    let m : ℕ = w.0 in
-    let whole : p.bytes ≡ take (n + m) text = ap (λ q. q.bytes) w.2 in
-    let small : m ≤ length (drop n text) = data_len-within content (drop n text) (fields content) m w.1 in
-    let sum : n + m ≤ k = (let h = (rw whole at h) in let h = (rw length-take at h) in omega (arith, h, small, fits, length-drop n text)) in
-    let found : data_len content (drop n (take k text)) (fields content) ≡ Ok m =
-    ap (λ t. data_len content t (fields content)) (behind n k text (omega (arith, sum))) ∙ data_len-take content (drop n text) (fields content) m (k - n) w.1 (omega (arith, sum)) in
-    (omega (arith, sum), rw is (ap (block_with (take k text) content n) found ∙ ap (λ bs. Ok (record { content = content; bytes = bs; is_block = true })) (take-take (n + m) k text sum) ∙ ap Ok (sym w.2))))
-    (λ not.
-    let e = (rw not at e) in
-    let whole : p.bytes ≡ take n text = sym (ap bytes_or e) in
-    let less : n ≤ k = (let h = (rw whole at h) in let h = (rw length-take at h) in omega (arith, h, fits)) in
-    (less, rw not (ap (λ bs. Ok (record { content = content; bytes = bs; is_block = false })) (take-take n k text less) ∙ e)))
+-- a block is the same where the text ends behind it
+block-take : (text content : List ℕ) (n m k : ℕ) (fs : List (List ℕ)) (p : TextUnit) → n ≤ length text → data_len content (drop n text) fs ≡ Ok m
+    → p ≡ record { content = content; bytes = take (n + m) text; is_block = true } → length p.bytes ≤ k → (n ≤ k) × (block_with (take k text) content n (data_len content (drop n (take k text)) fs) ≡ Ok p)
+block-take text content n m k fs p fits d e h =
+    let size : length p.bytes ≡ length (take (n + m) text) = ap (λ q. length q.bytes) e in
+    let small : m ≤ length (drop n text) = data_len-within content (drop n text) fs m d in
+    let sum : n + m ≤ k = omega (arith, h, size, length-take (n + m) text, small, fits, length-drop n text) in
+    let found : data_len content (drop n (take k text)) fs ≡ Ok m =
+    ap (λ rest. data_len content rest fs) (behind n k text (omega (arith, sum))) ∙ data_len-take content (drop n text) fs m (k - n) d (omega (arith, sum)) in
+    (omega (arith, sum), ap (block_with (take k text) content n) found ∙ ap (λ bs. Ok (record { content = content; bytes = bs; is_block = true })) (take-take (n + m) k text sum) ∙ ap Ok (sym e))
+
+-- what is chosen by a test is too
+chosen-take : (t : Bool) (text content : List ℕ) (n : ℕ) (fs : List (List ℕ)) (p : TextUnit) (k : ℕ) → n ≤ length text
+    → (if t then block_with text content n (data_len content (drop n text) fs) else Ok (record { content = content; bytes = take n text; is_block = false })) ≡ Ok p → length p.bytes ≤ k
+    → (n ≤ k) × ((if t then block_with (take k text) content n (data_len content (drop n (take k text)) fs) else Ok (record { content = content; bytes = take n (take k text); is_block = false })) ≡ Ok p)
+chosen-take true text content n fs p k fits e h =
+    let w = block-ok text content n (data_len content (drop n text) fs) p e in
+    block-take text content n w.0 k fs p fits w.1 w.2 h
+chosen-take false text content n fs p k fits e h =
+    let size : length p.bytes ≡ length (take n text) = sym (ap (λ r. length (bytes_or r)) e) in
+    let less : n ≤ k = omega (arith, h, size, length-take n text, fits) in
+    (less, ap (λ bs. Ok (record { content = content; bytes = bs; is_block = false })) (take-take n k text less) ∙ e)
+
+unit_at-take : (text content : List ℕ) (n : ℕ) (p : TextUnit) (k : ℕ) → n ≤ length text → unit_at text content n ≡ Ok p → length p.bytes ≤ k → (n ≤ k) × (unit_at (take k text) content n ≡ Ok p)
+unit_at-take text content n p k fits e h = chosen-take (begins_block content) text content n (fields content) p k fits e h
 
 unit-at : (text : List ℕ) → first_unit text ≡ unit_at text (content_of text) (line_len text)
 unit-at text =

@@ -10,7 +10,7 @@ use Rattle.std.proofs.Math.Seq.{take-append_seam}
 use Rattle.std.proofs.lemmas.List.Sums.{take_while-cons}
 use Rattle.profile.specs.Units.{is_blank, key, has_key, is_comment, begins_block, fields}
 use Rattle.dsc.specs.Fields.{fields_in}
-use Rattle.dsc.proofs.Cases.{by_test}
+use Rattle.dsc.proofs.Cases.{by_test, and_false}
 
 is_same : (xs : List ℕ) → bytes_eq xs xs ≡ true
 is_same xs = (bytes_eq-Decides xs xs).1 refl
@@ -40,15 +40,11 @@ begun content name h =
 pub key_is : (content name : List ℕ) → list_all in_key name ≡ true → starts_with nat_eq content (name ++ 58 ∷ []) ≡ true → key content ≡ name
 key_is content name free h = ap key (begun content name h) ∙ key_before name (drop (length (name ++ 58 ∷ [])) content) free
 
-and_not : (t : Bool) → (t && false) ≡ false
-and_not true = refl
-and_not false = refl
-
 pub comment_is : (content name : List ℕ) (t : Bool) → list_all in_key name ≡ true → starts_with nat_eq content (name ++ 58 ∷ []) ≡ t → is_comment name content ≡ t
 comment_is content name true free h =
     ap (λ k. (bytes_eq k name || false) && starts_with nat_eq content (name ++ 58 ∷ [])) (key_is content name free h)
     ∙ ap (λ t. (t || false) && starts_with nat_eq content (name ++ 58 ∷ [])) (is_same name) ∙ h
-comment_is content name false free h = ap (λ t. has_key (name ∷ []) content && t) h ∙ and_not (has_key (name ∷ []) content)
+comment_is content name false free h = ap (λ t. has_key (name ∷ []) content && t) h ∙ and_false (has_key (name ∷ []) content)
 
 pub fields_behind : (content name : List ℕ) → list_all in_key name ≡ true → starts_with nat_eq content (name ++ 58 ∷ []) ≡ true → fields content ≡ fields_in (drop (length name + 1) content)
 fields_behind content name free h = ap (λ k. fields_in (drop (length k + 1) content)) (key_is content name free h)

@@ -17,7 +17,7 @@ use Rattle.dsc.specs.Marks.{Marks, marks_on, noted_starts, noted_end, scan_on}
 use Rattle.dsc.specs.Filters.{drops_of, is_dropped, of_units, filter_on}
 use Rattle.dsc.specs.declared.filters.Drops.{Drops}
 use Rattle.dsc.specs.declared.filters.Drops.TheVariants.{PageSetup, DocumentSetup}
-use Rattle.dsc.proofs.Cases.{by_test}
+use Rattle.dsc.proofs.Cases.{by_test, and_false}
 use Rattle.dsc.proofs.LineLengths.{line_len-within, line_len-pos}
 use Rattle.dsc.proofs.Headings.{unbegun, unheaded}
 use Rattle.dsc.proofs.Filtering.{run_grows, filter_more}
@@ -61,10 +61,6 @@ plain_depth : (d : ℕ) (text : List ℕ) → IsPlain (content_of text) → dept
 plain_depth d text h =
     ap (λ t. if t then d + 1 else (if has_key (codes "%%EndDocument" ∷ []) (content_of text) then d - 1 else d)) (no_keys (codes "BeginDocument" ∷ []) (content_of text) h)
     ∙ ap (λ t. if t then d - 1 else d) (no_keys (codes "EndDocument" ∷ []) (content_of text) h)
-
-and_false : (t : Bool) → (t && false) ≡ false
-and_false true = refl
-and_false false = refl
 
 plain_page : (d : ℕ) (text : List ℕ) → IsPlain (content_of text) → begins_page (at_depth d (line_unit text)) ≡ false
 plain_page d text h = search (rules, h)

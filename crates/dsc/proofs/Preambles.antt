@@ -12,7 +12,7 @@ use Rattle.profile.specs.Units.{TextUnit, BlockFault, is_end, is_blank, content_
 use Rattle.profile.specs.Parts.{NestedUnit, depth_after, nested_from, nested, begins_page, up_to, preamble, bytes_of}
 use Rattle.profile.specs.Filters.{kept_after, kept, drops_in_header, ended, with_count, preamble_text, continues}
 use Rattle.dsc.specs.Units.{or_none, units_of}
-use Rattle.dsc.specs.Inside.{HasItsParts}
+use Rattle.dsc.specs.Documents.{HasItsParts}
 use Rattle.dsc.specs.Marks.{end_of}
 use Rattle.dsc.proofs.LineLengths.{line_len-within}
 use Rattle.dsc.proofs.Rows.{joined, units-whole, units-alone, units-cut, cut-begins}

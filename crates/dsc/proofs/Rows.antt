@@ -5,14 +5,10 @@ use Rattle.std.proofs.lemmas.List.{take-append-drop}
 use Rattle.std.proofs.Math.Seq.{take-append_seam, drop-append_seam}
 use Rattle.profile.specs.Units.{TextUnit, BlockFault, content_of, line_len, begins_block, fields, data_len, block, first_unit, cut, AreUnits, BeginsWith}
 use Rattle.profile.proofs.CutUnits.{cut_is_units, unit_some}
-use Rattle.dsc.proofs.Fronts.{first_unit-take}
+use Rattle.dsc.proofs.Fronts.{bytes_or, first_unit-take}
 
 abbrev pub joined : List TextUnit → List ℕ
 joined ps = flat_map (λ p. p.bytes) ps
-
-abbrev bytes_or : Result TextUnit BlockFault → List ℕ
-bytes_or (Ok p) = p.bytes
-bytes_or (Err e) = []
 
 pub taken : (n : ℕ) (text : List ℕ) → take (length (take n text)) text ≡ take n text
 taken zero [] = refl
@@ -43,7 +39,7 @@ units-whole (p ∷ ps) text rest h =
     sym (take-append-drop (length p.bytes) text) ∙ ap (λ t. t ++ drop (length p.bytes) text) (sym (unit-front text p h.1))
     ∙ ap (λ t. p.bytes ++ t) (units-whole ps (drop (length p.bytes) text) rest h.2) ∙ sym (append_assoc p.bytes (joined ps) rest)
 
--- THE LAW of units: a row of units, put together, is cut into the same units again
+-- a row of units, put together, is cut into the same units again
 pub units-alone : (ps : List TextUnit) (text rest : List ℕ) → BeginsWith ps text rest → BeginsWith ps (joined ps) []
 units-alone [] text rest h = refl
 units-alone (p ∷ ps) text rest h =

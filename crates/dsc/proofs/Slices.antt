@@ -11,7 +11,7 @@ use Rattle.dsc.specs.Units.{or_none, units_of}
 use Rattle.dsc.specs.Marks.{page_starts, starts_of, end_of}
 use Rattle.dsc.proofs.Cases.{by_test}
 use Rattle.profile.proofs.Whole.{units_make_text}
-use Rattle.dsc.specs.Inside.{HasItsParts}
+use Rattle.dsc.specs.Documents.{HasItsParts}
 use Rattle.dsc.proofs.Alone.{nested-bytes}
 use Rattle.dsc.proofs.PartMarks.{before-cons, from-cons, page_count}
 

@@ -1,7 +1,7 @@
 -- The trailer, cut anew, has the document's units.
 use Rattle.std.specs.Prelude.{Ok, not}
 use Rattle.std.specs.List.{prefix_len}
-use Rattle.std.proofs.Common.{Bool, true, false, cond, ◌&&◌, ◌==◌, ◌≡◌, ℕ, ◌≤◌, List, [], ◌∷◌, ◌++◌, length, take, drop, refl, ap, arith, length-append, sym, ◌∙◌, subst}
+use Rattle.std.proofs.Common.{Bool, true, cond, ◌==◌, ◌≡◌, ℕ, ◌≤◌, List, [], ◌∷◌, ◌++◌, length, take, drop, refl, ap, arith, length-append, sym, ◌∙◌, subst}
 use Rattle.std.proofs.lemmas.List.{drop-drop}
 use Rattle.std.proofs.lemmas.Bool.{eqb-true}
 use Rattle.std.proofs.Math.Seq.{drop-append_seam}
@@ -14,11 +14,7 @@ use Rattle.dsc.proofs.Cases.{by_test}
 use Rattle.dsc.proofs.PartMarks.{from-cons}
 use Rattle.dsc.proofs.Slices.{text_whole, parts_whole}
 use Rattle.dsc.proofs.Rows.{cut-begins}
-use Rattle.dsc.proofs.Alone.{depth_behind, nested-drop, begins-drop, stands}
-
-and-first : (a b c : Bool) → ((a && b) && c) ≡ true → a ≡ true
-and-first true b c e = refl
-and-first false b c e = e
+use Rattle.dsc.proofs.Alone.{and-first, depth_behind, nested-drop, begins-drop, stands}
 
 -- the rest starting_at a unit on at which the test passes: it stands alone, where that unit stands at depth 0
 from-stands : (d : ℕ) (ps : List TextUnit) (text rest : List ℕ) (q : NestedUnit → Bool) → ((u : NestedUnit) → q u ≡ true → u.depth ≡ 0) → BeginsWith ps text rest → StandAlone (starting_at q (nested_from d ps))

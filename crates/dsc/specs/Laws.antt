@@ -1,4 +1,4 @@
--- What the laws of the cut say.
+-- What the laws of pages say.
 use Rattle.std.specs.Prelude.{◌≡◌, ℕ, List, map, All, Ok}
 use Rattle.profile.specs.Units.{TextUnit, cut}
 use Rattle.profile.specs.Parts.{NestedUnit, nested, split_pages, page_run, bytes_of, pages}

@@ -6,5 +6,5 @@ pub mod Laws
 pub mod Marks
 pub mod Faults
 pub mod Units
-pub mod Inside
+pub mod Documents
 pub mod Filters

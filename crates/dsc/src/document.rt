@@ -26,7 +26,7 @@ impl<'d> Model for Document<'d> {
     ghost use Rattle.std.specs.Prelude.{List};
     ghost use Rattle.profile.specs.Parts.{NestedUnit};
     ghost use Rattle.dsc.specs.Units.{units_of};
-    ghost use Rattle.dsc.specs.Inside.{HasItsParts};
+    ghost use Rattle.dsc.specs.Documents.{HasItsParts};
 
     ghost Value = { List NestedUnit };
 

@@ -1,4 +1,4 @@
-//! Laws of the cut. The functions do nothing.
+//! Laws of pages. The functions do nothing.
 ghost use Rattle.dsc.specs.Laws.{PagesStandAlone, PagesHaveBodies};
 
 /// Each page of a text that is cut, cut anew as a text of its own, has the same units at the same depths.
