@@ -1,19 +1,13 @@
 -- What holds of the seats of a table, by the contracts of their calls alone.
-use Rattle.std.specs.Prelude.{◌≡◌, ℕ, suc, ◌≤◌, List, [], ◌∷◌, ◌++◌, length, take, Option, Some, slice_get}
+use Rattle.std.specs.Prelude.{◌≡◌, ℕ, List, ◌++◌, length, take, Option, Some, slice_get}
 use mathlib.Core.List.{IsPrefix}
 use Rattle.profile.specs.Sheets.{Layout}
 use Rattle.histories.specs.Seats.{whole_share, total}
+use Rattle.histories.specs.Own.{StandAt}
 use Rattle.gather_table.specs.Table.{slots, IsMarkable}
 use Rattle.gather_table.specs.declared.answers.Published.{Published}
 use Rattle.gather_table.specs.History.{Entry, Publish, Look, PageAt, Fits, IsLegal, IsComplete, after_history}
 use Rattle.gather_table.specs.Shared.{SeatView, IsSeat, Made, Makes, Joined, own_calls}
-
--- these calls stand in the history at these places, in this order, and none before place n
-abbrev pub StandAt : List Entry → (n : ℕ) → List ℕ → List Entry → Type 0
-StandAt log n [] [] = Unit {0}
-StandAt log n [] (e ∷ es) = ⊥
-StandAt log n (x ∷ xs) [] = ⊥
-StandAt log n (x ∷ xs) (e ∷ es) = (n ≤ x) × (slice_get log x ≡ Some e) × StandAt log (suc x) xs es
 
 -- the calls es of a seat, made one after the other with whatever others did beside them, stand in one legal history, which
 -- begins with all that the caller had seen: each at one place of its own, in the order in which they were made. Each call of

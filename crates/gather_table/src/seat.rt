@@ -14,17 +14,15 @@ pub struct Seat {
 }
 
 impl Model for Seat {
-    ghost use Rattle.std.specs.Prelude.{◌≡◌, ◌<◌, ◌≤◌, []};
-    ghost use Rattle.histories.specs.Seats.{nothing};
-    ghost use Rattle.gather_table.specs.Shared.{SeatView, IsSeat};
+    ghost use Rattle.std.specs.Prelude.{◌≡◌, []};
+    ghost use Rattle.gather_table.specs.Shared.{SeatView};
+    ghost use Rattle.gather_table.specs.Sight.{StandsAlone};
 
     ghost Value = { SeatView };
 
     ghost view = { λ s. record { table = s.seat.table_id; layout = s.seat.me.0.key; front = s.seat.me.0.mine.front; own = s.seat.me.0.mine.own; share = s.seat.me.0.mine.share } };
 
-    ghost use Rattle.gather_table.specs.Sight.{StandsAlone};
-
-    ghost invariant = { λ s. StandsAlone s.seat.me s.share };
+    ghost invariant = { λ s. (s.seat.me.1 ≡ []) × StandsAlone s.seat.me.0 s.share };
 }
 
 impl Seat {

@@ -1,25 +1,18 @@
 -- The moves of a pass, one after the other.
-use Rattle.std.proofs.Common.{◌≡◌, ℕ, suc, ◌+◌, List, [], ◌∷◌, ◌++◌, length, refl, sym, ap, ◌∙◌, subst, arith, append_assoc, append-nil, length-append}
-use Rattle.std.specs.Prelude.{Some, slice_get}
-use mathlib.Core.List.{IsPrefix}
-use Rattle.histories.specs.Seats.{whole_share, total, times}
-use Rattle.histories.proofs.Own.{entries_added, entries_joined, whole_weight}
+use Rattle.std.proofs.Common.{◌≡◌, ℕ, ◌+◌, List, [], ◌∷◌, ◌++◌, refl, ap, ◌∙◌, subst, arith}
+use Rattle.histories.specs.Seats.{total, times}
+use Rattle.histories.proofs.Own.{entries_joined, whole_weight}
+use Rattle.histories.proofs.Runs.{Runs, run_begins, run_places, run_owns, run_stands, run_alone, run_entries}
 use Rattle.histories.proofs.Totals.{total-append}
 use Rattle.handover.specs.Queue.{Move, Put, Take, content, IsQueueHistory, sheets_put, sheets_taken}
-use Rattle.handover.specs.Passes.{PassView, IsPass, Made, Makes, own_moves}
-use Rattle.handover.specs.Laws.{StandAt, MovesStandInOneHistory, OwnMovesAreKept, WholePassMadeAll, WholePassLosesNone}
+use Rattle.handover.specs.Passes.{PassView, IsPass, Makes, own_moves}
+use Rattle.handover.specs.Laws.{MovesStandInOneHistory, OwnMovesAreKept, WholePassMadeAll, WholePassLosesNone}
 use Rattle.handover.proofs.Histories.{first_put_is_first_taken}
 
--- what was seen is still seen after the moves
-begins_made : (old new : PassView) (m : Move) → Made old m new → IsPrefix old.front new.front
-begins_made old new m d = (d.between ++ m ∷ [], sym (append_assoc old.front d.between (m ∷ [])) ∙ sym (ap (λ (z : PassView). z.front) d.grown))
-
-begins_both : (xs ys zs : List Move) → IsPrefix xs ys → IsPrefix ys zs → IsPrefix xs zs
-begins_both xs ys zs a b = (a.0 ++ b.0, sym (append_assoc xs a.0 b.0) ∙ ap (λ l. l ++ b.0) a.1 ∙ b.1)
-
-begins_makes : (old new : PassView) (ms : List Move) → Makes old ms new → IsPrefix old.front new.front
-begins_makes old new [] d = ([], append-nil old.front ∙ ap (λ (z : PassView). z.front) d)
-begins_makes old new (m ∷ ms) d = begins_both old.front d.0.front new.front (begins_made old d.0 m d.1) (begins_makes d.0 new ms d.2)
+-- the moves as entries of the front
+runs : (old new : PassView) (ms : List Move) → Makes old ms new → Runs old.share old.front old.own ms new.front new.own
+runs old new [] d = (ap (λ (z : PassView). z.front) d, ap (λ (z : PassView). z.own) d)
+runs old new (m ∷ ms) d = (d.1.between, d.1.alone, d.1.before.inside, subst (λ (z : PassView). Runs z.share z.front z.own ms new.front new.own) d.1.grown (runs d.0 new ms d.2))
 
 pass_makes : (old new : PassView) (ms : List Move) → IsPass old → Makes old ms new → IsPass new
 pass_makes old new [] k d = subst IsPass d k
@@ -32,64 +25,22 @@ same_makes old new (m ∷ ms) d =
     let g = d.1.grown in
     same_makes d.0 new ms d.2 ∙ (λ i. record { queue = (g i).queue; capacity = (g i).capacity; front = new.front; own = new.own; share = (g i).share })
 
--- where the moves stand
-last_there : (log more : List Move) (m : Move) → slice_get ((log ++ m ∷ []) ++ more) (length log) ≡ Some m
-last_there [] more m = refl
-last_there (x ∷ log) more m = last_there log more m
-
-made_there : (old mid : PassView) (m : Move) (front : List Move) (d : Made old m mid) → IsPrefix mid.front front → slice_get front (length (old.front ++ d.between)) ≡ Some m
-made_there old mid m front d p =
-    ap (λ (l : List Move). slice_get l (length (old.front ++ d.between))) (sym p.1 ∙ ap (λ (z : PassView). z.front ++ p.0) d.grown)
-    ∙ last_there (old.front ++ d.between) p.0 m
-
-abbrev places_of : (old new : PassView) (ms : List Move) → Makes old ms new → List ℕ
-places_of old new [] d = []
-places_of old new (m ∷ ms) d = length (old.front ++ d.1.between) ∷ places_of d.0 new ms d.2
-
-stand : (old new : PassView) (ms : List Move) (d : Makes old ms new) → StandAt new.front (length old.front) (places_of old new ms d) ms
-stand old new [] d = tt
-stand old new (m ∷ ms) d =
-    let log : List Move = old.front ++ d.1.between in
-    let here : d.0.front ≡ log ++ m ∷ [] = ap (λ (z : PassView). z.front) d.1.grown in
-    let len : length d.0.front ≡ suc (length log) = ap length here ∙ omega (arith, length-append log (m ∷ [])) in
-    (omega (arith, length-append old.front d.1.between), made_there old d.0 m new.front d.1 (begins_makes d.0 new ms d.2), subst (λ (n : ℕ). StandAt new.front n (places_of d.0 new ms d.2) ms) len (stand d.0 new ms d.2))
-
-owns : (old new : PassView) (ms : List Move) (d : Makes old ms new) → new.own ≡ old.own ++ places_of old new ms d
-owns old new [] d = ap (λ (z : PassView). z.own) (sym d) ∙ sym (append-nil old.own)
-owns old new (m ∷ ms) d =
-    owns d.0 new ms d.2 ∙ ap (λ (z : PassView). z.own ++ places_of d.0 new ms d.2) d.1.grown
-    ∙ append_assoc old.own (length (old.front ++ d.1.between) ∷ []) (places_of d.0 new ms d.2)
-
-alone : (old new : PassView) (ms : List Move) → Makes old ms new → old.share ≡ whole_share → new.front ≡ old.front ++ ms
-alone old new [] d whole = ap (λ (z : PassView). z.front) (sym d) ∙ sym (append-nil old.front)
-alone old new (m ∷ ms) d whole =
-    let here : d.0.front ≡ old.front ++ m ∷ [] = ap (λ (z : PassView). z.front) d.1.grown ∙ ap (λ (b : List Move). (old.front ++ b) ++ m ∷ []) (d.1.alone whole) ∙ ap (λ (l : List Move). l ++ m ∷ []) (append-nil old.front) in
-    alone d.0 new ms d.2 (ap (λ (z : PassView). z.share) d.1.grown ∙ whole) ∙ ap (λ (l : List Move). l ++ ms) here ∙ append_assoc old.front (m ∷ []) ms
-
 pub moves_stand_in_one_history : MovesStandInOneHistory
 moves_stand_in_one_history old new ms k d =
     let same = same_makes old new ms d in
+    let r = runs old new ms d in
     record {
       legal = subst (λ (c : ℕ). IsQueueHistory c new.front) (ap (λ (z : PassView). z.capacity) same) (pass_makes old new ms k d).legal;
-      begins = begins_makes old new ms d;
-      places = places_of old new ms d;
-      own = owns old new ms d;
-      moves = stand old new ms d;
-      others = alone old new ms d;
+      begins = run_begins old.share old.front old.own ms new.front new.own r;
+      places = run_places old.share old.front old.own ms new.front new.own r;
+      own = run_owns old.share old.front old.own ms new.front new.own r;
+      moves = run_stands old.share old.front old.own ms new.front new.own r;
+      others = run_alone old.share old.front old.own ms new.front new.own r;
       same = same;
     }
 
--- own moves
-own_moves_made : (old new : PassView) (m : Move) → Made old m new → own_moves new ≡ own_moves old ++ m ∷ []
-own_moves_made old new m d = ap own_moves d.grown ∙ entries_added old.front d.between old.own m d.before.inside
-
-own_moves_makes : (old new : PassView) (ms : List Move) → Makes old ms new → own_moves new ≡ own_moves old ++ ms
-own_moves_makes old new [] d = ap own_moves (sym d) ∙ sym (append-nil (own_moves old))
-own_moves_makes old new (m ∷ ms) d =
-    own_moves_makes d.0 new ms d.2 ∙ ap (λ l. l ++ ms) (own_moves_made old d.0 m d.1) ∙ append_assoc (own_moves old) (m ∷ []) ms
-
 pub own_moves_are_kept : OwnMovesAreKept
-own_moves_are_kept = (own_moves_makes, λ a b new ka kb j. ap own_moves j.joined ∙ entries_joined a.front b.front a.own b.own j.agree.one j.agree.two ka.inside kb.inside)
+own_moves_are_kept = (λ old new ms d. run_entries old.share old.front old.own ms new.front new.own (runs old new ms d), λ a b new ka kb j. ap own_moves j.joined ∙ entries_joined a.front b.front a.own b.own j.agree.one j.agree.two ka.inside kb.inside)
 
 pub whole_pass_made_all : WholePassMadeAll
 whole_pass_made_all pass weight k whole = whole_weight weight (IsQueueHistory pass.capacity) pass.front pass.own pass.share k whole

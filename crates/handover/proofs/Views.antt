@@ -1,11 +1,12 @@
 -- What a step tells, as clauses see it.
-use Rattle.std.proofs.Common.{◌≡◌, ℕ, ◌+◌, ◌-◌, ◌<◌, ◌++◌, refl, sym, ap, ◌∙◌, subst, arith, ◌==◌, if◌then◌else◌}
+use Rattle.std.proofs.Common.{◌≡◌, ℕ, ◌+◌, ◌++◌, refl, sym, ap, ◌∙◌, subst, arith, ◌==◌, if◌then◌else◌}
 use Rattle.std.specs.Prelude.{Option, Some, None, Result, Ok, Err, IfSome, MatchOption, MatchResult}
 use Rattle.atomic_table.specs.Seated.{TableId}
-use Rattle.histories.specs.Seats.{keeps_back, given, absorbed, opening_sight, times}
+use Rattle.histories.specs.Seats.{absorbed, opening_sight, times}
 use Rattle.histories.specs.Own.{IsHeld}
 use Rattle.histories.proofs.Fronts.{both_begin}
-use Rattle.histories.proofs.Own.{held_added, held_joined, held_keeps, held_given, held_opens}
+use Rattle.histories.proofs.Own.{held_joined}
+use Rattle.histories.proofs.Alone.{held_after, stands_after}
 use Rattle.histories.proofs.Totals.{total-append}
 use Rattle.handover.specs.Queue.{Move, Take, IsQueueHistory}
 use Rattle.handover.specs.Passes.{PassView, Made, Joined, Agree, opening_pass}
@@ -15,39 +16,13 @@ abbrev pub pass_view : TableId → Sight → PassView
 pass_view t v = record { queue = t; capacity = v.key; front = v.mine.front; own = v.mine.own; share = v.mine.share }
 
 abbrev pub Held : Sight → Type 0
-Held v = IsHeld (IsQueueHistory v.key) v.mine.front v.mine.own v.mine.share
+Held = Rattle.histories.proofs.Alone.Held IsQueueHistory
 
 -- a move
-held_after : (v w : Sight) (m : Move) → Adds v m w → Held v → Held w
-held_after v w m a h = subst Held (sym a.grown)
-    (held_added (IsQueueHistory v.key) v.mine.front a.between v.mine.own v.mine.share m h (subst (λ (u : Sight). IsQueueHistory v.key u.mine.front) a.grown a.legal) a.alone)
-
-pub stands_after : (v w : Sight) (share : ℕ) (m : Move) → Adds v m w → StandsAlone v share → StandsAlone w share
-stands_after v w share m a s = record {
-  one_part = ap (λ (u : Sight). u.other) a.grown ∙ s.one_part;
-  share = s.share ∙ sym (ap (λ (u : Sight). u.mine.share) a.grown);
-  held = held_after v w m a s.held;
-}
-
 pub made : (t t' : TableId) (v w : Sight) (m : Move) (old : PassView) → Adds v m w → Held v → t' ≡ t → pass_view t v ≡ old → Made old m (pass_view t' w)
 made t t' v w m old a h same is =
     subst (λ (z : TableId × PassView). Made z.1 m (pass_view z.0 w)) (λ i. (sym same i, is i))
-    (record { between = a.between; grown = ap (pass_view t) a.grown; alone = a.alone; before = h; after = held_after v w m a h })
-
--- a split
-pub stands_kept : (v w : Sight) (share rest give : ℕ) → w ≡ keeps_back give v → 0 < give → give < v.mine.share → rest ≡ share - give → StandsAlone v share → StandsAlone w rest
-stands_kept v w share rest give is some less is_rest s = record {
-  one_part = ap (λ (u : Sight). u.other) is ∙ s.one_part;
-  share = is_rest ∙ ap (λ (n : ℕ). n - give) s.share ∙ sym (ap (λ (u : Sight). u.mine.share) is);
-  held = subst Held (sym is) (held_keeps (IsQueueHistory v.key) v.mine.front v.mine.own v.mine.share give s.held some less);
-}
-
-pub stands_given : (v w : Sight) (share give : ℕ) → w ≡ given give v → 0 < give → give < v.mine.share → StandsAlone v share → StandsAlone w give
-stands_given v w share give is some less s = record {
-  one_part = ap (λ (u : Sight). u.other) is;
-  share = sym (ap (λ (u : Sight). u.mine.share) is);
-  held = subst Held (sym is) (held_given (IsQueueHistory v.key) v.mine.front v.mine.own v.mine.share give s.held some less);
-}
+    (record { between = a.between; grown = ap (pass_view t) a.grown; alone = a.alone; before = h; after = held_after IsQueueHistory v w m a h })
 
 -- a join
 agree : (t u : TableId) (v w : Sight) → Learned (absorbed v w) → Agree (pass_view t v) (pass_view u w)
@@ -87,25 +62,18 @@ joined t tw t' v w u a b is_a is_b is l same key hv hw =
     (joined_base t tw v w (subst Learned is l) key hv hw)
 
 -- the pass that a queue is made with
-pub stands_open : (w : Sight) (capacity share : ℕ) → w ≡ opening_sight capacity → share ≡ 4_294_967_296 → StandsAlone w share
-stands_open w capacity share is all = record {
-  one_part = ap (λ (u : Sight). u.other) is;
-  share = all ∙ sym (ap (λ (u : Sight). u.mine.share) is);
-  held = subst Held (sym is) (held_opens (IsQueueHistory capacity) tt);
-}
-
 pub view_opens : (t t' : TableId) (v : Sight) (capacity cap : ℕ) → t ≡ t' → v ≡ opening_sight capacity → capacity ≡ cap → pass_view t v ≡ opening_pass (record { queue = t'; capacity = cap })
 view_opens t t' v capacity cap same is told = (λ i. pass_view (same i) (is i)) ∙ ap (λ (n : ℕ). opening_pass (record { queue = t'; capacity = n })) told
 
 -- after a put the pass stands alone, whether it was accepted or not
 pub put_stands : {A B : Type 0} (r : Result A B) (v w : Sight) (share : ℕ) (m : Move) (P Q : B → Type 0) → MatchResult r (λ _. Adds v m w) (λ y. P y × (w ≡ v) × Q y) → StandsAlone v share → StandsAlone w share
-put_stands (Ok a) v w share m P Q is s = stands_after v w share m is s
+put_stands (Ok a) v w share m P Q is s = stands_after IsQueueHistory v w share m is s
 put_stands (Err e) v w share m P Q is s = subst (λ (u : Sight). StandsAlone u share) (sym is.1) s
 
 -- and after a take
 pub take_stands : (r : Option ℕ) (v w : Sight) (share : ℕ) (P : Type 0) → MatchOption r ((w ≡ v) × P) (λ x. Adds v (Take x) w) → StandsAlone v share → StandsAlone w share
 take_stands None v w share P is s = subst (λ (u : Sight). StandsAlone u share) (sym is.0) s
-take_stands (Some x) v w share P is s = stands_after v w share (Take x) is s
+take_stands (Some x) v w share P is s = stands_after IsQueueHistory v w share (Take x) is s
 
 -- a sheet that was taken is a move
 pub take_made : (r : Option ℕ) (t t' : TableId) (v w : Sight) (old : PassView) (P : Type 0) → MatchOption r ((w ≡ v) × P) (λ x. Adds v (Take x) w) → Held v → t' ≡ t → pass_view t v ≡ old → IfSome r (λ x. Made old (Take x) (pass_view t' w))

@@ -1,7 +1,8 @@
 -- What holds of every history of the queue, and of every pass by the contracts of its calls.
-use Rattle.std.specs.Prelude.{◌≡◌, ℕ, suc, ◌+◌, ◌≤◌, List, [], ◌∷◌, ◌++◌, length, Some, slice_get}
+use Rattle.std.specs.Prelude.{◌≡◌, ℕ, ◌+◌, ◌≤◌, List, ◌++◌, length}
 use mathlib.Core.List.{IsPrefix}
 use Rattle.histories.specs.Seats.{whole_share, total, times}
+use Rattle.histories.specs.Own.{StandAt}
 use Rattle.handover.specs.Queue.{Move, content, IsQueueHistory, sheets_put, sheets_taken}
 use Rattle.handover.specs.Passes.{PassView, IsPass, Makes, Joined, own_moves}
 
@@ -26,13 +27,6 @@ WholePassLosesNone = (pass : PassView) (s : ℕ) → IsPass pass → pass.share 
 abbrev pub OwnMovesAreKept : Type 0
 OwnMovesAreKept = ((old new : PassView) (ms : List Move) → Makes old ms new → own_moves new ≡ own_moves old ++ ms)
     × ((a b new : PassView) → IsPass a → IsPass b → Joined a b new → own_moves new ≡ own_moves a ++ own_moves b)
-
--- these moves stand in the history at these places, in this order, and none before place n
-abbrev pub StandAt : List Move → (n : ℕ) → List ℕ → List Move → Type 0
-StandAt log n [] [] = Unit {0}
-StandAt log n [] (m ∷ ms) = ⊥
-StandAt log n (x ∷ xs) [] = ⊥
-StandAt log n (x ∷ xs) (m ∷ ms) = (n ≤ x) × (slice_get log x ≡ Some m) × StandAt log (suc x) xs ms
 
 -- the moves ms of a pass, made one after the other with whatever others did beside them, stand in one history of the queue,
 -- which begins with all that the caller had seen: each at one place of its own, in the order in which they were made

@@ -1,7 +1,6 @@
 -- The rule of the ready queue, and what a step tells.
 use Rattle.std.specs.Prelude.{◌≡◌, ℕ, ◌<◌, ◌≤◌, List, length}
-use Rattle.histories.specs.Seats.{AreSeats, AllBegin, nothing, nobody, times, whole_share}
-use Rattle.histories.specs.Own.{IsHeld}
+use Rattle.histories.specs.Seats.{AreSeats, AllBegin, nobody, times, whole_share}
 use Rattle.handover.specs.Queue.{Move, content, IsQueueHistory}
 
 -- what a pass knows: its seat of the queue's history, whose capacity is the key
@@ -41,8 +40,6 @@ pub record Learned (v : Sight) : Type 0 where
 abbrev pub Knows : Sight → List ℕ → Type 0
 Knows v items = Learned v
 
--- a pass between two calls: it has no slot of the queue and no second part, it has this share, and it keeps what every pass keeps
-pub record StandsAlone (v : Sight) (its_share : ℕ) : Type 0 where
-  pub one_part : v.other ≡ nothing
-  pub share : its_share ≡ v.mine.share
-  pub held : IsHeld (IsQueueHistory v.key) v.mine.front v.mine.own v.mine.share
+-- a pass between two calls: it has no second part, it has this share, and it keeps what every pass keeps
+abbrev pub StandsAlone : Sight → ℕ → Type 0
+StandsAlone = Rattle.histories.specs.Own.StandsAlone IsQueueHistory

@@ -2,3 +2,5 @@ pub mod Totals
 pub mod Fronts
 pub mod Shares
 pub mod Own
+pub mod Runs
+pub mod Alone

@@ -6,7 +6,7 @@ use mathlib.Core.Logic.{dite}
 use native.Mathlib.Decide.{ℕ_discrete}
 use Rattle.histories.specs.Seats.{whole_share, longer, total, times}
 use Rattle.histories.specs.Own.{entry_at, entries_at, IsHeld}
-use Rattle.histories.proofs.Totals.{total-append, times_push, times_same, times_else}
+use Rattle.histories.proofs.Totals.{total-append, times-append, times_push, times_same, times_else, not_pos, pos_or}
 use Rattle.histories.proofs.Fronts.{length_begins}
 
 -- what stands before the end stays where the list grows
@@ -54,14 +54,6 @@ module _ {E : Type 0} where
   pub entries_joined : (a b : List E) (own mine : List ℕ) → IsPrefix a (longer a b) → IsPrefix b (longer a b) → ((x : ℕ) → 0 < times x own → x < length a) → ((x : ℕ) → 0 < times x mine → x < length b)
       → entries_at (longer a b) (own ++ mine) ≡ entries_at a own ++ entries_at b mine
   entries_joined a b own mine p q h k = entries_at-append (longer a b) own mine ∙ (λ i. entries_longer a (longer a b) own p h i ++ entries_longer b (longer a b) mine q k i)
-
-pos_or : (m n : ℕ) → 0 < m + n → (0 < m) ⊎ (0 < n)
-pos_or zero n h = inr (omega arith)
-pos_or (suc m) n h = inl (omega arith)
-
-not_pos : (a : ℕ) → (0 < a → ⊥) → a ≡ 0
-not_pos zero h = refl
-not_pos (suc a) h = absurd (h (omega arith))
 
 module _ {E : Type 0} (Legal : List E → Type 0) where
   -- a seat that made an entry
@@ -116,11 +108,11 @@ module _ {E : Type 0} (Legal : List E → Type 0) where
       → IsHeld Legal (longer a b) (own ++ mine) (share + part)
   held_joined a b own mine share part ka kb p q apart small every = record {
     legal = longer_legal a b ka.legal kb.legal;
-    inside = λ x has. within x has (total-append _ own mine);
-    once = λ x. let t : times x (own ++ mine) ≡ times x own + times x mine = total-append _ own mine in let one = apart x in omega arith;
+    inside = λ x has. within x has (times-append x own mine);
+    once = λ x. let t : times x (own ++ mine) ≡ times x own + times x mine = times-append x own mine in let one = apart x in omega arith;
     some_share = let s = ka.some_share in omega arith;
     most_share = small;
-    every = λ whole x lt. let t : times x (own ++ mine) ≡ times x own + times x mine = total-append _ own mine in let e = every whole x lt in omega arith;
+    every = λ whole x lt. let t : times x (own ++ mine) ≡ times x own + times x mine = times-append x own mine in let e = every whole x lt in omega arith;
   }
     where
       within : (x : ℕ) → 0 < times x (own ++ mine) → times x (own ++ mine) ≡ times x own + times x mine → x < length (longer a b)

@@ -1,6 +1,6 @@
 -- What every seat keeps to, and its own entries.
-use Rattle.std.specs.Prelude.{ℕ, ◌≡◌, ◌<◌, ◌≤◌, List, length, take, drop, flat_map}
-use Rattle.histories.specs.Seats.{times, whole_share}
+use Rattle.std.specs.Prelude.{ℕ, suc, ◌≡◌, ◌<◌, ◌≤◌, List, [], ◌∷◌, length, take, drop, flat_map, Some, slice_get}
+use Rattle.histories.specs.Seats.{Sight, nothing, times, whole_share}
 
 module _ {E : Type 0} where
   -- the entry at a place, as a list of one
@@ -11,6 +11,13 @@ module _ {E : Type 0} where
   abbrev pub entries_at : List E → List ℕ → List E
   entries_at log places = flat_map (entry_at log) places
 
+  -- these entries stand in the history at these places, in this order, and none before place n
+  abbrev pub StandAt : List E → (n : ℕ) → List ℕ → List E → Type 0
+  StandAt log n [] [] = Unit {0}
+  StandAt log n [] (e ∷ es) = ⊥
+  StandAt log n (x ∷ xs) [] = ⊥
+  StandAt log n (x ∷ xs) (e ∷ es) = (n ≤ x) × (slice_get log x ≡ Some e) × StandAt log (suc x) xs es
+
   -- the front is legal, the own places lie in it, each once, and with all shares they are all places of it
   pub record IsHeld (Legal : List E → Type 0) (front : List E) (own : List ℕ) (share : ℕ) : Type 0 where
     pub legal : Legal front
@@ -19,3 +26,9 @@ module _ {E : Type 0} where
     pub some_share : 0 < share
     pub most_share : share ≤ whole_share
     pub every : share ≡ whole_share → (x : ℕ) → x < length front → 0 < times x own
+
+-- a seat between two calls: it has no second part, it has this share, and it keeps what every seat keeps
+pub record StandsAlone {K E : Type 0} (Legal : K → List E → Type 0) (v : Sight K E) (its_share : ℕ) : Type 0 where
+  pub one_part : v.other ≡ nothing
+  pub share : its_share ≡ v.mine.share
+  pub held : IsHeld (Legal v.key) v.mine.front v.mine.own v.mine.share

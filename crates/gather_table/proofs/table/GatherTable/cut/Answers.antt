@@ -1,7 +1,9 @@
 use Rattle.std.proofs.Common.{refl, arith, sym, ap, ◌∙◌}
 use Rattle.gather_table.proofs.Laying.{some_word}
 use Rattle.gather_table.proofs.Seats.{splits}
-use Rattle.gather_table.proofs.Views.{stands_kept, stands_given}
+use Rattle.histories.specs.Seats.{keeps_back, given}
+use Rattle.histories.proofs.Alone.{stands_kept, stands_given}
+use Rattle.gather_table.specs.History.{IsLegal}
 use Rattle.gather_table.proofs.table.GatherTable.cut.Goals as goal
 
 pub split_seat-new-requires : goal.split_seat-new-requires
@@ -17,10 +19,14 @@ pub invariant_of-seat : goal.invariant_of-seat
 invariant_of-seat g c =
     let share = ap (λ t. t.share) c.seat.view_is in
     let all = c.requires.share in
-    stands_kept c.seat.inside.seat.me _ _ _ c.args.give _ c.split_seat-new.ensures.2 c.requires.give all.0 (omega arith) refl c.seat.invariant
+    let me = c.seat.inside.seat.me in
+    let kept = ap (λ p. p.0) c.split_seat-new.ensures.2 ∙ ap (λ n. keeps_back n me.0) (sym c.requires.give) in
+    (ap (λ p. p.1) c.split_seat-new.ensures.2 ∙ c.seat.invariant.0, stands_kept IsLegal me.0 _ _ _ c.args.give kept all.0 (omega arith) refl c.seat.invariant.1)
 
 pub invariant_of-result : goal.invariant_of-result
 invariant_of-result g c =
     let share = ap (λ t. t.share) c.seat.view_is in
     let all = c.requires.share in
-    stands_given c.seat.inside.seat.me _ _ c.args.give _ c.split_seat-new.ensures.4 c.requires.give all.0 (omega arith) c.seat.invariant
+    let me = c.seat.inside.seat.me in
+    let got = ap (λ p. p.0) c.split_seat-new.ensures.4 ∙ ap (λ n. given n me.0) (sym c.requires.give) in
+    (ap (λ p. p.1) c.split_seat-new.ensures.4, stands_given IsLegal me.0 _ _ c.args.give got all.0 (omega arith) c.seat.invariant.1)

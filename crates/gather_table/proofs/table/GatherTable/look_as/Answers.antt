@@ -1,11 +1,13 @@
 use Rattle.std.proofs.Common.{arith, sym, ap, ◌∙◌, subst, ◌≡◌, ◌<◌, length}
 use Rattle.profile.specs.Sheets.{Layout, layout as layout_of}
 use Rattle.gather_table.specs.declared.lane.Lane.{Lane}
+use Rattle.gather_table.specs.History.{IsLegal}
 use Rattle.gather_table.specs.Lanes.{lane}
 use Rattle.gather_table.specs.Plays.{look_of}
 use Rattle.gather_table.proofs.Lanes.{within}
 use Rattle.gather_table.proofs.Sheets.{look_moves_at, any_default, look_told}
-use Rattle.gather_table.proofs.Views.{made, stands_after}
+use Rattle.histories.proofs.Alone.{stands_after}
+use Rattle.gather_table.proofs.Views.{made}
 use Rattle.gather_table.proofs.table.GatherTable.look_as.Goals as goal
 
 pub load-found-requires : goal.load-found-requires
@@ -19,7 +21,7 @@ load-found-requires g c =
     let pages = c.self.invariant.pages in
     let is : c.index-lane.result.now ≡ lane layout c.args.sheet = c.index-lane.ensures ∙ c.self.invariant.lanes c.args.sheet _ below in
     let word = ap (λ (l : Lane). l.word) is in
-    (ours, omega arith, look_moves_at _ _ _ _ _ _ _ below c.seat.invariant.held.some_share (omega arith) (c.requires.entry ∙ ap (λ (p : Layout). look_of p c.args.sheet) (sym same)))
+    (ours, omega arith, look_moves_at _ _ _ _ _ _ _ below c.seat.invariant.1.held.some_share (omega arith) (c.requires.entry ∙ ap (λ (p : Layout). look_of p c.args.sheet) (sym same)))
 
 pub returns : goal.returns
 returns g c =
@@ -29,10 +31,10 @@ returns g c =
     let sheets = c.self.invariant.count_full in
     let is : c.index-lane.result.now ≡ lane layout c.args.sheet = c.index-lane.ensures ∙ c.self.invariant.lanes c.args.sheet _ below in
     let full = c.index-full.ensures ∙ any_default c.self.inside.full.items c.args.sheet c.index-full.result.now 0 (omega arith) ∙ c.self.invariant.full c.args.sheet below in
-    made _ _ _ _ _ _ _ c.load-found.ensures.2.1 c.seat.invariant.held c.load-found.ensures.0
+    made _ _ _ _ _ _ _ c.load-found.ensures.2.1 c.seat.invariant.1.held c.load-found.ensures.0
     (ap (λ (f : _). f c.load-found.result) (c.requires.entry ∙ ap (λ (p : Layout). look_of p c.args.sheet) (sym same))
     ∙ look_told layout c.args.sheet c.load-found.result c.index-full.result.now c.index-lane.result.now.first (ap (λ (l : Lane). l.first) is) full)
     c.seat.view_is
 
 pub invariant_of-seat : goal.invariant_of-seat
-invariant_of-seat g c = stands_after _ _ _ _ c.load-found.ensures.2.0 c.load-found.ensures.2.1 c.seat.invariant
+invariant_of-seat g c = (c.load-found.ensures.2.0 ∙ c.seat.invariant.0, stands_after IsLegal _ _ _ _ c.load-found.ensures.2.1 c.seat.invariant.1)

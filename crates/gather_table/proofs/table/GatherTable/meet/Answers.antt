@@ -10,7 +10,7 @@ join_seat-requires c =
     let table = sym (ap (λ t. t.table) c.self.view_is) in
     let one = ap (λ t. t.table) c.one.view_is ∙ c.requires.one.0 ∙ table in
     let two = ap (λ t. t.table) c.two.view_is ∙ c.requires.two.0 ∙ table in
-    (one, two, c.two.invariant.no_slots, (some_word c.self.invariant), joins _ _ _ _ _ c.one.invariant.one_part c.two.invariant.one_part c.one.invariant.held.some_share)
+    (one, two, c.two.invariant.0, (some_word c.self.invariant), joins _ _ _ _ _ c.one.invariant.1.one_part c.two.invariant.1.one_part c.one.invariant.1.held.some_share)
 
 pub load-requires : goal.load-requires
 load-requires c =
@@ -25,7 +25,7 @@ split_seat-other-requires c =
     let one = ap (λ t. t.table) c.one.view_is ∙ c.requires.one.0 ∙ table in
     let j = c.join_seat.ensures in
     let l = c.load.ensures in
-    let pos = subst (λ (v : Sight). 0 < v.mine.share) (sym (ap (λ p. p.0) j.2)) c.one.invariant.held.some_share in
+    let pos = subst (λ (v : Sight). 0 < v.mine.share) (sym (ap (λ p. p.0) j.2)) c.one.invariant.1.held.some_share in
     let pos' = subst (λ (v : Sight). 0 < v.mine.share) (sym l.2.1) pos in
     (l.0 ∙ j.0 ∙ one, (some_word c.self.invariant), parts _ _ _ pos')
 
@@ -35,8 +35,8 @@ invariant_of-result c =
     let l = c.load.ensures in
     let s = c.split_seat-other.ensures in
     let key = ap (λ t. t.layout) c.two.view_is ∙ c.requires.two.1 ∙ sym (ap (λ t. t.layout) c.one.view_is ∙ c.requires.one.1) in
-    let slots = ap (λ p. p.1) s.2 ∙ l.2.0 ∙ ap (λ p. p.1) j.2 ∙ c.one.invariant.no_slots in
-    stands_first c.one.inside.seat.me c.two.inside.seat.me _ _ _ _ (ap (λ p. p.0) j.2) l.2.1 (ap (λ p. p.0) s.2) slots l.2.2 key c.one.invariant c.two.invariant.held
+    let slots = ap (λ p. p.1) s.2 ∙ l.2.0 ∙ ap (λ p. p.1) j.2 ∙ c.one.invariant.0 in
+    (slots, stands_first c.one.inside.seat.me.0 c.two.inside.seat.me.0 _ _ _ _ (ap (λ p. p.0) j.2) l.2.1 (ap (λ p. p.0) s.2) l.2.2 key c.one.invariant.1 c.two.invariant.1.held)
 
 pub invariant_of-result-2 : goal.invariant_of-result-2
 invariant_of-result-2 c =
@@ -44,7 +44,7 @@ invariant_of-result-2 c =
     let l = c.load.ensures in
     let s = c.split_seat-other.ensures in
     let key = ap (λ t. t.layout) c.two.view_is ∙ c.requires.two.1 ∙ sym (ap (λ t. t.layout) c.one.view_is ∙ c.requires.one.1) in
-    stands_second c.one.inside.seat.me c.two.inside.seat.me _ _ _ _ (ap (λ p. p.0) j.2) l.2.1 (ap (λ p. p.0) s.4) (ap (λ p. p.1) s.4) l.2.2 key c.one.invariant.held c.two.invariant
+    (ap (λ p. p.1) s.4, stands_second c.one.inside.seat.me.0 c.two.inside.seat.me.0 _ _ _ _ (ap (λ p. p.0) j.2) l.2.1 (ap (λ p. p.0) s.4) l.2.2 key c.one.invariant.1.held c.two.invariant.1)
 
 pub returns : goal.returns
 returns c =
@@ -53,4 +53,4 @@ returns c =
     let s = c.split_seat-other.ensures in
     let key = ap (λ t. t.layout) c.two.view_is ∙ c.requires.two.1 ∙ sym (ap (λ t. t.layout) c.one.view_is ∙ c.requires.one.1) in
     let table = ap (λ t. t.table) c.one.view_is ∙ c.requires.one.0 ∙ sym (ap (λ t. t.table) c.two.view_is ∙ c.requires.two.0) in
-    met _ _ _ _ c.one.inside.seat.me.0 c.two.inside.seat.me.0 _ _ _ _ _ _ c.one.view_is c.two.view_is (ap (λ p. p.0) j.2) l.2.1 (ap (λ p. p.0) s.2) (ap (λ p. p.0) s.4) l.2.2 (s.0 ∙ l.0 ∙ j.0) (s.3 ∙ l.0 ∙ j.0 ∙ table) key c.one.invariant.held c.two.invariant.held
+    met _ _ _ _ c.one.inside.seat.me.0 c.two.inside.seat.me.0 _ _ _ _ _ _ c.one.view_is c.two.view_is (ap (λ p. p.0) j.2) l.2.1 (ap (λ p. p.0) s.2) (ap (λ p. p.0) s.4) l.2.2 (s.0 ∙ l.0 ∙ j.0) (s.3 ∙ l.0 ∙ j.0 ∙ table) key c.one.invariant.1.held c.two.invariant.1.held

@@ -10,7 +10,9 @@ use Rattle.gather_table.proofs.Bits.{bits_lt}
 use Rattle.gather_table.proofs.Lanes.{inside, free_inside}
 use Rattle.gather_table.proofs.Laying.{Laid, laid_fitted, laid_more, opens, all_laid, counts_kept, word_below, sum_fits}
 use Rattle.gather_table.proofs.Sheets.{any_default}
-use Rattle.gather_table.proofs.Views.{stands_open, view_opens}
+use Rattle.histories.proofs.Alone.{stands_open}
+use Rattle.gather_table.specs.History.{IsLegal}
+use Rattle.gather_table.proofs.Views.{view_opens}
 use Rattle.gather_table.proofs.table.GatherTable.new.Goals as goal
 
 pub fit-requires : goal.fit-requires
@@ -90,7 +92,7 @@ invariant_of-result c =
     (counts_kept _ _ _ _ _ (sound_of c.args.plan.now c.pages-pages.ensures.sound) laid.0 laid.1 _ _ (h.0 ∙ ap length c.as_slice.ensures.value) c.pages-pages.ensures.value)
 
 pub invariant_of-result-2 : goal.invariant_of-result-2
-invariant_of-result-2 c = let h = c.in_ok-table.ensures in stands_open _ (layout_of c.args.plan.now) 4294967296 (ap (λ p. p.1) h.4) (ap (λ p. p.0) h.4) refl
+invariant_of-result-2 c = let h = c.in_ok-table.ensures in (ap (λ p. p.1) h.4, stands_open IsLegal _ (layout_of c.args.plan.now) 4294967296 tt (ap (λ p. p.0) h.4) refl)
 
 pub returns-clause-seat : goal.returns-clause-seat
 returns-clause-seat c = let h = c.in_ok-table.ensures in view_opens _ _ _ (layout_of c.args.plan.now) _ h.2 (ap (λ p. p.0) h.4) (ap layout_of h.5)

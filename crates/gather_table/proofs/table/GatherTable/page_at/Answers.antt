@@ -1,6 +1,7 @@
 use Rattle.std.proofs.Common.{arith, sym, ap, ◌∙◌, subst, ◌<◌}
-use Rattle.gather_table.specs.History.{PageAt}
-use Rattle.gather_table.proofs.Views.{made, stands_after}
+use Rattle.gather_table.specs.History.{PageAt, IsLegal}
+use Rattle.histories.proofs.Alone.{stands_after}
+use Rattle.gather_table.proofs.Views.{made}
 use Rattle.gather_table.proofs.Pages.{find_moves}
 use Rattle.gather_table.proofs.table.GatherTable.page_at.Goals as goal
 
@@ -10,10 +11,10 @@ load-found-requires c =
     let same = ap (λ t. t.layout) c.self.view_is in
     let below : c.args.page < c.self.inside.table.shared.key.pages = subst (λ p. c.args.page < p.pages) (sym same) c.requires.page in
     let room = c.self.invariant.room in
-    (ours, omega arith, find_moves _ _ _ _ _ below c.seat.invariant.held.some_share)
+    (ours, omega arith, find_moves _ _ _ _ _ below c.seat.invariant.1.held.some_share)
 
 pub invariant_of-seat : goal.invariant_of-seat
-invariant_of-seat c = stands_after _ _ _ _ c.load-found.ensures.2.0 c.load-found.ensures.2.2 c.seat.invariant
+invariant_of-seat c = (c.load-found.ensures.2.0 ∙ c.seat.invariant.0, stands_after IsLegal _ _ _ _ c.load-found.ensures.2.2 c.seat.invariant.1)
 
 pub returns : goal.returns
-returns c = made _ _ _ _ _ _ _ c.load-found.ensures.2.2 c.seat.invariant.held c.load-found.ensures.0 (ap (λ o. PageAt c.args.page o) (sym c.index_by.ensures)) c.seat.view_is
+returns c = made _ _ _ _ _ _ _ c.load-found.ensures.2.2 c.seat.invariant.1.held c.load-found.ensures.0 (ap (λ o. PageAt c.args.page o) (sym c.index_by.ensures)) c.seat.view_is

@@ -1,6 +1,7 @@
 use Rattle.std.proofs.Common.{arith, sym, ap, ◌∙◌, subst, ◌≡◌, ◌<◌, ◌+◌, ◌-◌}
-use Rattle.gather_table.specs.History.{Publish}
-use Rattle.gather_table.proofs.Views.{made, stands_after}
+use Rattle.gather_table.specs.History.{Publish, IsLegal}
+use Rattle.histories.proofs.Alone.{stands_after}
+use Rattle.gather_table.proofs.Views.{made}
 use Rattle.gather_table.proofs.Pages.{publish_moves}
 use Rattle.gather_table.proofs.table.GatherTable.publish.Goals as goal
 
@@ -10,13 +11,13 @@ compare_exchange-found-requires c =
     let same = ap (λ t. t.layout) c.self.view_is in
     let below : c.args.page < c.self.inside.table.shared.key.pages = subst (λ p. c.args.page < p.pages) (sym same) c.requires.page in
     let room = c.self.invariant.room in
-    (ours, omega arith, publish_moves _ _ _ _ _ _ below (omega arith) c.seat.invariant.held.some_share)
+    (ours, omega arith, publish_moves _ _ _ _ _ _ below (omega arith) c.seat.invariant.1.held.some_share)
 
 pub invariant_of-seat : goal.invariant_of-seat
-invariant_of-seat c = stands_after _ _ _ _ c.compare_exchange-found.ensures.2.0 c.compare_exchange-found.ensures.2.2 c.seat.invariant
+invariant_of-seat c = (c.compare_exchange-found.ensures.2.0 ∙ c.seat.invariant.0, stands_after IsLegal _ _ _ _ c.compare_exchange-found.ensures.2.2 c.seat.invariant.1)
 
 pub returns : goal.returns
 returns c =
     let from = c.from-word.ensures in
     let e : c.from-word.result + 1 - 1 ≡ c.args.index = omega arith in
-    made _ _ _ _ _ _ _ c.compare_exchange-found.ensures.2.2 c.seat.invariant.held c.compare_exchange-found.ensures.0 (λ i. Publish c.args.page (e i) (sym c.published_by.ensures i)) c.seat.view_is
+    made _ _ _ _ _ _ _ c.compare_exchange-found.ensures.2.2 c.seat.invariant.1.held c.compare_exchange-found.ensures.0 (λ i. Publish c.args.page (e i) (sym c.published_by.ensures i)) c.seat.view_is
