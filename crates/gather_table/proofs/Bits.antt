@@ -51,10 +51,6 @@ or_digit : (b : Bool) → bit_or (digit b) 1 ≡ 1
 or_digit true = refl
 or_digit false = refl
 
-and_digit : (b : Bool) → bit_and (digit b) 1 ≡ digit b
-and_digit true = refl
-and_digit false = refl
-
 pub or_bits : (f : ℕ → Bool) (n k : ℕ) → k < n → bit_or (bits f n) (2 ^ k) ≡ bits (with_mark f k) n
 or_bits f zero k lt = absurd (omega arith)
 or_bits f (suc n) k lt = dite (ℕ_discrete n k) top (below (λ less. or_bits f n k less))

@@ -1,12 +1,12 @@
 -- The one-thread table as it is stored: lists, and the state that they stand for.
-use Rattle.std.proofs.Common.{◌≡◌, ℕ, zero, suc, ◌+◌, ◌-◌, ◌*◌, ◌/◌, ◌%◌, ◌<◌, ◌≤◌, ◌^◌, Bool, false, List, [], ◌∷◌, ◌++◌, length, set, get_or, refl, sym, ap, ◌∙◌, subst, arith, eq-eqb, ne_eqb, get_or-set_same, get_or-set_other}
+use Rattle.std.proofs.Common.{◌≡◌, ℕ, zero, suc, ◌+◌, ◌-◌, ◌*◌, ◌/◌, ◌%◌, ◌<◌, ◌≤◌, ◌^◌, Bool, false, List, [], ◌∷◌, length, set, get_or, refl, sym, ap, ◌∙◌, subst, arith, eq-eqb, ne_eqb, get_or-set_same, get_or-set_other}
 use Rattle.std.specs.Prelude.{Some, None, Option, slice_index, slice_index_or, replicate, if◌then◌else◌, ◌==◌, bit_or}
 use Rattle.profile.specs.Sheets.{Layout}
 use mathlib.Core.Logic.{dite}
 use native.Mathlib.Decide.{ℕ_discrete, dec_le}
 use Rattle.std.proofs.Math.Nat.{div-eq_of_lt}
 use Rattle.std.proofs.Math.ListN.{length-set}
-use Rattle.std.proofs.lemmas.List.{get_or_default, get_or-replicate, get_or_append_left, get_or_past, get_or_push, length-append, length-replicate}
+use Rattle.std.proofs.lemmas.List.{get_or_default, get_or-replicate, get_or_past, length-replicate}
 use Rattle.std.proofs.lemmas.Nat.{pow_below, mod_low}
 use Rattle.gather_table.specs.declared.answers.Reply.{Reply}
 use Rattle.gather_table.specs.Table.{slots, slot_count, start, is_blank, bits, missing, with_mark, with_marked, mark_reply, IsSound, IsMarkable}
@@ -68,14 +68,6 @@ words_marked words s n k lt small in_n r j = dite (ℕ_discrete r s)
 pub record AreBlanks (layout : Layout) (n : ℕ) (words : List ℕ) : Type 0 where
   pub count : length words ≡ n
   pub blanks : (s : ℕ) → s < n → slice_index words s ≡ bits (is_blank (slots layout s)) (slot_count layout s)
-
-pub more_blanks : (layout : Layout) (n w : ℕ) (words : List ℕ) → AreBlanks layout n words → w ≡ bits (is_blank (slots layout n)) (slot_count layout n) → AreBlanks layout (n + 1) (words ++ w ∷ [])
-more_blanks layout n w words b e = record {
-  count = let c = b.count in omega (arith, length-append words (w ∷ []));
-  blanks = λ s lt. let c = b.count in dite (ℕ_discrete s n)
-      (λ is. get_or_push words w 0 s (omega arith) ∙ e ∙ ap (λ (r : ℕ). bits (is_blank (slots layout r)) (slot_count layout r)) (sym is))
-      (λ other. get_or_append_left words (w ∷ []) 0 s (omega arith) ∙ b.blanks s (omega arith));
-}
 
 abbrev no_page : Option ℕ
 no_page = None

@@ -33,6 +33,31 @@ fn a_page_is_read_back(rt: HostRuntime) -> Result<(), Fail> {
 }
 
 #[test]
+fn each_page_is_found_at_its_index(rt: HostRuntime) -> Result<(), Fail> {
+    let shelf = Shelf::new(rt.alloc())?;
+    assert!(rt; shelf.at(0).is_none());
+    let one = Prepared::new(rt.alloc(), 8, b"%%Page: 9 9\none\n".as_slice())?;
+    let two = Prepared::new(rt.alloc(), 4, b"%%Page: 5 5\ntwo\n".as_slice())?;
+    let (Ok(first), Ok(second)) = (shelf.put(&rt, one), shelf.put(&rt, two)) else {
+        return Err(AllocError)?;
+    };
+    let (Some(low), Some(high)) = (shelf.at(first.index()), shelf.at(second.index())) else {
+        return Err(AllocError)?;
+    };
+    assert_eq!(rt; (low.page(), high.page()), (8, 4));
+    assert_eq!(rt; low.body(), b"one\n".as_slice());
+    assert_eq!(rt; high.body(), b"two\n".as_slice());
+    Ok(())
+}
+
+#[test]
+fn a_page_of_comments_has_an_empty_body(rt: HostRuntime) -> Result<(), Fail> {
+    let page = Prepared::new(rt.alloc(), 0, b"%%Page: 1 1\n".as_slice())?;
+    assert_eq!(rt; page.body(), b"".as_slice());
+    Ok(())
+}
+
+#[test]
 fn sheets_leave_in_order(rt: HostRuntime) -> Result<(), Fail> {
     let (ready, mut pass) = Ready::new(rt.alloc(), 2)?;
     assert_eq!(rt; ready.put(&rt, &mut pass, 7), Ok(()));
@@ -43,6 +68,17 @@ fn sheets_leave_in_order(rt: HostRuntime) -> Result<(), Fail> {
     assert_eq!(rt; ready.take(&rt, &mut pass), Some(8));
     assert_eq!(rt; ready.take(&rt, &mut pass), Some(9));
     assert_eq!(rt; ready.take(&rt, &mut pass), None);
+    Ok(())
+}
+
+#[test]
+fn passes_with_a_part_of_the_shares_put_and_take(rt: HostRuntime) -> Result<(), Fail> {
+    let (ready, mut pass) = Ready::new(rt.alloc(), 1)?;
+    let mut other = ready.split(&mut pass, 1);
+    assert_eq!(rt; ready.take(&rt, &mut other), None);
+    assert_eq!(rt; ready.put(&rt, &mut other, 7), Ok(()));
+    assert_eq!(rt; ready.put(&rt, &mut pass, 8), Err(Full(8)));
+    assert_eq!(rt; ready.take(&rt, &mut pass), Some(7));
     Ok(())
 }
 
