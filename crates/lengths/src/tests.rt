@@ -48,6 +48,17 @@ fn texts_without_a_number_and_large_numbers_are_refused(rt: HostRuntime) {
 }
 
 #[test]
+fn refusals_are_told(rt: HostRuntime) -> Result<(), Fail> {
+    for (error, line) in [
+        (NumberError::NotANumber, "not a number"),
+        (NumberError::TooLarge(6), "number over 99,999"),
+    ] {
+        assert_eq!(rt; format!(in rt.alloc(); "{error}")?.as_str(), line);
+    }
+    Ok(())
+}
+
+#[test]
 fn digits_are_read_by_value(rt: HostRuntime) {
     for (text, value, left) in [
         ("12:0", 12, 2),
@@ -188,6 +199,13 @@ fn papers_have_names(rt: HostRuntime) {
     for name in ["", "a", "a44", "b4", "letter "] {
         assert!(rt; paper_by_name(name).is_none(), "at {name}");
     }
+}
+
+#[test]
+fn numbers_are_counted_in_billionths(rt: HostRuntime) {
+    assert_eq!(rt; Number::ZERO.billionths(), 0);
+    assert_eq!(rt; Number::ONE.billionths(), 1_000_000_000);
+    assert_eq!(rt; (-Number::ONE).billionths(), -1_000_000_000);
 }
 
 #[test]
