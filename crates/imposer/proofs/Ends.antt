@@ -20,7 +20,7 @@ use Rattle.imposer.specs.Gathering.{Answers, AreWhole, Concludes, IsFreshSeat, I
 use Rattle.imposer.specs.declared.collecting.Halt.{Halt}
 use Rattle.imposer.specs.declared.collecting.Halt.TheVariants as halt
 use Rattle.imposer.specs.declared.collecting.Progress.{Progress}
-use Rattle.imposer.specs.declared.crew.Ended.{Ended}
+use Rattle.imposer.specs.declared.work.Ended.{Ended}
 use Rattle.imposer.specs.declared.gathering.Gathered.{Gathered}
 use Rattle.imposer.specs.declared.outcome.RunError.TheVariants.{NoMemory}
 use Rattle.imposer.specs.declared.tokens.Tokens.{Tokens}
@@ -35,7 +35,7 @@ stands_wrote job old new before after next written None stands = let ended = sto
 stands_wrote job old new before after next written (Some halt.Failed) stands = (stands.0, inr stands.1)
 stands_wrote job old new before after next written (Some halt.NoMemory) stands = (stands.0, inl stands.1)
 
--- the desk is as it was laid, or was used
+-- nothing was collected, or the collector stands right
 abbrev pub WasUsed : JobView → (old new : Option (List ℕ)) → (before after : ℕ) → Progress → Type 0
 WasUsed job old new before after p = ((new ≡ old) × (after ≡ before) × (p.written ≡ 0)) ⊎ Stands job old new before after p
 

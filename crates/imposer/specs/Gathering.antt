@@ -11,7 +11,7 @@ use Rattle.imposer.specs.Collecting.{WroteFirst, Stands}
 use Rattle.imposer.specs.Runs.{FailedIn}
 use Rattle.imposer.specs.declared.collecting.Progress.{Progress}
 use Rattle.handover.specs.declared.receipts.Overflow.{Overflow}
-use Rattle.imposer.specs.declared.crew.Ended.{Ended}
+use Rattle.imposer.specs.declared.work.Ended.{Ended}
 use Rattle.imposer.specs.declared.gathering.Gathered.{Gathered}
 use Rattle.imposer.specs.declared.outcome.Report.{Report}
 use Rattle.imposer.specs.declared.outcome.RunError.{RunError}

@@ -16,25 +16,25 @@ impl Texts for Brand {
 }
 
 /// The channel's rule: each message's text is its sheet's.
-pub(crate) struct Right<T: Texts> {
+pub(crate) struct SheetRule<T: Texts> {
     of: PhantomData<T>,
 }
 
-impl<T: Texts> Protocol<Imposed, ()> for Right<T> {
+impl<T: Texts> Protocol<Imposed, ()> for SheetRule<T> {
     ghost holds = { λ items views. All (λ m. m.text.items ≡ T.text m.sheet) items };
 
     ghost first = { tt };
 }
 
-impl<T: Texts> Outcome<Imposed, ()> for Right<T> {
+impl<T: Texts> Outcome<Imposed, ()> for SheetRule<T> {
     ghost then = { λ v m w. m.text.items ≡ T.text m.sheet };
 }
 
-impl<T: Texts> Lesson<Imposed, ()> for Right<T> {
+impl<T: Texts> Lesson<Imposed, ()> for SheetRule<T> {
     ghost fact = { λ v items. ⊤ };
 }
 
-impl<T: Texts> Split<()> for Right<T> {
+impl<T: Texts> Split<()> for SheetRule<T> {
     ghost left = { λ v. v };
 
     ghost right = { λ v. v };
@@ -43,6 +43,6 @@ impl<T: Texts> Split<()> for Right<T> {
 /// What a thread needs to send or to receive.
 pub(crate) type Ticket = Pass<Imposed, ()>;
 
-pub(crate) type Outlet<T> = RuledSender<Imposed, (), Right<T>>;
+pub(crate) type SheetSender<T> = RuledSender<Imposed, (), SheetRule<T>>;
 
-pub(crate) type Inlet<T> = RuledReceiver<Imposed, (), Right<T>>;
+pub(crate) type SheetReceiver<T> = RuledReceiver<Imposed, (), SheetRule<T>>;

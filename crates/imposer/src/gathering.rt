@@ -18,16 +18,17 @@ ghost use Rattle.imposer.specs.Gathering.{IsFreshSeat, IsFreshPass, ReportsOf, W
 
 use crate::channel::Texts;
 use crate::collecting::{Halt, Progress, Rest, write_rest};
-use crate::crew::Ended;
+use crate::collector::{CollectorInput, CollectorState};
 use crate::gate::Gate;
-use crate::hall::Hall;
 use crate::job::Job;
 use crate::options::Workers;
 use crate::outcome::{Report, RunError};
-use crate::shop::{Desk, Intake, Shop};
+use crate::setup::Setup;
+use crate::shared::Shared;
 use crate::sink::Sink;
 use crate::threads::gather_by;
 use crate::tokens::Tokens;
+use crate::work::Ended;
 use gather_table::{GatherTable, Seat};
 use handover::{Overflow, Pass, Ready, Shelf};
 use std::alloc::Global;
@@ -126,39 +127,39 @@ fn gather_as<'s, 'j, 'd, T: Texts + Send + Sync, R: Threads + Wait + Sync, G: Ga
 {
     let mut tokens = tokens;
     put_blank_sheets(rt, ready, job.plan.born_complete(), &mut tokens.pass);
-    let Ok(hall) = Hall::<T>::new(alloc, job) else {
+    let Ok(setup) = Setup::<T>::new(alloc, job) else {
         return out_of_memory(0);
     };
-    let Hall {
+    let Setup {
         header,
         trailer,
         mut early,
-        outlet,
-        inlet,
-        mut ours,
-        theirs,
-    } = hall;
+        sender,
+        receiver,
+        mut receiving,
+        sending,
+    } = setup;
     let running = AtomicU32::new(workers.preparers);
     let working = AtomicU32::new(workers.imposers);
-    let shop = Shop {
+    let shared = Shared {
         alloc,
         gate,
         table,
         shelf,
         ready,
         running: &running,
-        outlet: &outlet,
-        intake: Intake {
+        sender: &sender,
+        input: CollectorInput {
             job,
             working: &working,
-            inlet: &inlet,
+            receiver: &receiver,
         },
     };
-    let desk = Desk {
+    let state = CollectorState {
         sink,
         early: &mut early,
         header: header.as_slice(),
-        ticket: &mut ours,
+        ticket: &mut receiving,
         progress: Progress {
             next: 0,
             written: 0,
@@ -166,26 +167,26 @@ fn gather_as<'s, 'j, 'd, T: Texts + Send + Sync, R: Threads + Wait + Sync, G: Ga
         },
     };
     let mut ended = None;
-    let mut desk = gather_by(
+    let mut state = gather_by(
         rt,
         alloc,
-        &shop,
-        &shop.intake,
-        desk,
+        &shared,
+        &shared.input,
+        state,
         tokens,
-        theirs,
+        sending,
         workers,
         &mut ended,
     );
-    let gathered = finish(alloc, job, &mut desk, trailer.as_slice(), ended);
+    let gathered = finish(alloc, job, &mut state, trailer.as_slice(), ended);
     // Taken apart, so that what became of the sink is known.
-    let Desk {
+    let CollectorState {
         sink: _,
         early: _,
         header: _,
         ticket: _,
         progress: _,
-    } = desk;
+    } = state;
     gathered
 }
 
@@ -216,22 +217,22 @@ fn out_of_memory<'d>(written: u64) -> Gathered<'d>
 fn finish<'d, S: Sink>(
     alloc: Global,
     job: &Job<'_, 'd>,
-    desk: &mut Desk<'_, S>,
+    state: &mut CollectorState<'_, S>,
     trailer: &[u8],
     ended: Option<Ended<Overflow<'d>>>,
 ) -> Gathered<'d>
-    requires countable { IsSome ended → desk.old.progress.halted ≡ None → S.failures desk.old.sink.now < u64.MAX }
-    requires next { IsSome ended → desk.old.progress.halted ≡ None → desk.old.progress.next ≤ length job.now.plan.sheets }
-    requires early { IsSome ended → AreEarly job.now desk.old.early.now.items }
+    requires countable { IsSome ended → state.old.progress.halted ≡ None → S.failures state.old.sink.now < u64.MAX }
+    requires next { IsSome ended → state.old.progress.halted ≡ None → state.old.progress.next ≤ length job.now.plan.sheets }
+    requires early { IsSome ended → AreEarly job.now state.old.early.now.items }
     requires trailer { trailer.now ≡ trailer_text job.now.units }
-    ensures same_sink { desk.new.sink.ghost_name ≡ desk.old.sink.ghost_name }
-    ensures ended { IfSome ended.entry (λ e. Concludes job.now (S.told desk.old.sink.now) (S.told desk.new.sink.now) (S.failures desk.old.sink.now) (S.failures desk.new.sink.now) desk.old.progress e result) }
-    ensures missing { IsNone ended.entry → (result ≡ record { outcome = Err (NoMemory desk.old.progress.written); unshelved = None; tokens = None })
-        × (S.told desk.new.sink.now ≡ S.told desk.old.sink.now) × (S.failures desk.new.sink.now ≡ S.failures desk.old.sink.now) }
+    ensures same_sink { state.new.sink.ghost_name ≡ state.old.sink.ghost_name }
+    ensures ended { IfSome ended.entry (λ e. Concludes job.now (S.told state.old.sink.now) (S.told state.new.sink.now) (S.failures state.old.sink.now) (S.failures state.new.sink.now) state.old.progress e result) }
+    ensures missing { IsNone ended.entry → (result ≡ record { outcome = Err (NoMemory state.old.progress.written); unshelved = None; tokens = None })
+        × (S.told state.new.sink.now ≡ S.told state.old.sink.now) × (S.failures state.new.sink.now ≡ S.failures state.old.sink.now) }
 {
     match ended {
-        Some(ended) => conclude(alloc, job, desk, trailer, ended),
-        None => out_of_memory(desk.progress.written),
+        Some(ended) => conclude(alloc, job, state, trailer, ended),
+        None => out_of_memory(state.progress.written),
     }
 }
 
@@ -239,18 +240,18 @@ fn finish<'d, S: Sink>(
 fn conclude<'d, S: Sink>(
     alloc: Global,
     job: &Job<'_, 'd>,
-    desk: &mut Desk<'_, S>,
+    state: &mut CollectorState<'_, S>,
     trailer: &[u8],
     ended: Ended<Overflow<'d>>,
 ) -> Gathered<'d>
-    requires countable { desk.old.progress.halted ≡ None → S.failures desk.old.sink.now < u64.MAX }
-    requires next { desk.old.progress.halted ≡ None → desk.old.progress.next ≤ length job.now.plan.sheets }
-    requires early { AreEarly job.now desk.old.early.now.items }
+    requires countable { state.old.progress.halted ≡ None → S.failures state.old.sink.now < u64.MAX }
+    requires next { state.old.progress.halted ≡ None → state.old.progress.next ≤ length job.now.plan.sheets }
+    requires early { AreEarly job.now state.old.early.now.items }
     requires trailer { trailer.now ≡ trailer_text job.now.units }
-    ensures same_sink { desk.new.sink.ghost_name ≡ desk.old.sink.ghost_name }
-    ensures ended { Concludes job.now (S.told desk.old.sink.now) (S.told desk.new.sink.now) (S.failures desk.old.sink.now) (S.failures desk.new.sink.now) desk.old.progress ended.entry result }
+    ensures same_sink { state.new.sink.ghost_name ≡ state.old.sink.ghost_name }
+    ensures ended { Concludes job.now (S.told state.old.sink.now) (S.told state.new.sink.now) (S.failures state.old.sink.now) (S.failures state.new.sink.now) state.old.progress ended.entry result }
 {
-    let rest = write_rest(alloc, job, desk.sink, desk.progress, desk.early, trailer);
+    let rest = write_rest(alloc, job, state.sink, state.progress, state.early, trailer);
     let Ended { tokens, unshelved } = ended;
     let Tokens { seat, pass } = tokens;
     let written = rest.progress.written;

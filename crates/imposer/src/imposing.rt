@@ -10,12 +10,12 @@ ghost use Rattle.imposer.specs.Duty.{Duty};
 ghost use Rattle.imposer.specs.Reading.{OnlyReads};
 ghost use Rattle.imposer.specs.Tokens.{AreTokens, AreUnused, PutsCompleted, done, put};
 
-use crate::channel::{Outlet, Right, Texts, Ticket};
-use crate::crew::Ended;
+use crate::channel::{SheetRule, SheetSender, Texts, Ticket};
 use crate::gate::{Gate, Step};
 use crate::imposition::{ImposeError, Imposed, impose};
 use crate::job::Job;
 use crate::tokens::Tokens;
+use crate::work::Ended;
 use crossbeam_utils::Backoff;
 use gather_table::{GatherTable, Seat};
 use handover::{Overflow, Ready, Shelf};
@@ -34,21 +34,21 @@ pub(crate) fn impose_all<'d, T: Texts, G: Gate, R: Wait>(
     table: &GatherTable<'_>,
     shelf: &Shelf<'d>,
     ready: &Ready,
-    outlet: &Outlet<T>,
+    sender: &SheetSender<T>,
     gate: &G,
     running: &AtomicU32,
     working: &AtomicU32,
 ) -> Result<Ended<Overflow<'d>>, AllocError>
     requires table { table.now.layout ≡ layout job.now.plan }
     requires tokens { AreTokens table.now ready.now 1 tokens × AreUnused tokens }
-    requires ticket { IsSeatAt (sends_on outlet.now) ticket }
+    requires ticket { IsSeatAt (sends_on sender.now) ticket }
     requires texts { (s : ℕ) → T.text s ≡ text_of job.now s }
     ensures tokens { IfOk result (λ e. AreTokens table.now ready.now 1 e.tokens) }
     ensures done { IfOk result (λ e. IsNone e.unshelved × ((h : Duty → ℕ) → done h e.tokens ≡ 0)) }
     ensures put { IfOk result (λ e. PutsCompleted e.tokens) }
 {
     let ended = impose_ready(
-        rt, alloc, tokens, ticket, job, table, shelf, ready, outlet, gate, running,
+        rt, alloc, tokens, ticket, job, table, shelf, ready, sender, gate, running,
     );
     working.fetch_sub(1, SeqCst);
     ended
@@ -64,13 +64,13 @@ fn impose_ready<'d, T: Texts, G: Gate, R: Wait>(
     table: &GatherTable<'_>,
     shelf: &Shelf<'d>,
     ready: &Ready,
-    outlet: &Outlet<T>,
+    sender: &SheetSender<T>,
     gate: &G,
     running: &AtomicU32,
 ) -> Result<Ended<Overflow<'d>>, AllocError>
     requires table { table.now.layout ≡ layout job.now.plan }
     requires tokens { AreTokens table.now ready.now 1 tokens × AreUnused tokens }
-    requires ticket { IsSeatAt (sends_on outlet.now) ticket }
+    requires ticket { IsSeatAt (sends_on sender.now) ticket }
     requires texts { (s : ℕ) → T.text s ≡ text_of job.now s }
     ensures tokens { IfOk result (λ e. AreTokens table.now ready.now 1 e.tokens) }
     ensures done { IfOk result (λ e. IsNone e.unshelved × ((h : Duty → ℕ) → done h e.tokens ≡ 0)) }
@@ -91,7 +91,7 @@ fn impose_ready<'d, T: Texts, G: Gate, R: Wait>(
             table,
             shelf,
             ready,
-            outlet,
+            sender,
             gate,
         )? {
             backoff.reset();
@@ -118,15 +118,15 @@ fn take_turn<'d, T: Texts, G: Gate, R: Wait>(
     table: &GatherTable<'_>,
     shelf: &Shelf<'d>,
     ready: &Ready,
-    outlet: &Outlet<T>,
+    sender: &SheetSender<T>,
     gate: &G,
 ) -> Result<bool, AllocError>
     requires table { table.now.layout ≡ layout job.now.plan }
     requires tokens { AreTokens table.now ready.now 1 tokens.old }
-    requires ticket { IsSeatAt (sends_on outlet.now) ticket.old }
+    requires ticket { IsSeatAt (sends_on sender.now) ticket.old }
     requires texts { (s : ℕ) → T.text s ≡ text_of job.now s }
     ensures tokens { AreTokens table.now ready.now 1 tokens.new }
-    ensures ticket { IsSeatAt (sends_on outlet.now) ticket.new }
+    ensures ticket { IsSeatAt (sends_on sender.now) ticket.new }
     ensures done { (h : Duty → ℕ) → done h tokens.new ≡ done h tokens.old }
     ensures put { (s : ℕ) → put s tokens.new ≡ put s tokens.old }
 {
@@ -135,18 +135,18 @@ fn take_turn<'d, T: Texts, G: Gate, R: Wait>(
     };
     let seat = &mut tokens.seat;
     if let Some(imposed) = impose_taken(alloc, seat, job, table, shelf, gate, sheet)? {
-        send(rt, ticket, outlet, imposed);
+        send(rt, ticket, sender, imposed);
     }
     Ok(true)
 }
 
 /// Sends a sheet to the collector, which makes a sheet itself that it wasn't sent.
-fn send<T: Texts, R: Wait>(rt: &R, ticket: &mut Ticket, outlet: &Outlet<T>, imposed: Imposed)
-    requires ticket { IsSeatAt (sends_on outlet.now) ticket.old }
+fn send<T: Texts, R: Wait>(rt: &R, ticket: &mut Ticket, sender: &SheetSender<T>, imposed: Imposed)
+    requires ticket { IsSeatAt (sends_on sender.now) ticket.old }
     requires text { imposed.text.items ≡ T.text imposed.sheet }
-    ensures { IsSeatAt (sends_on outlet.now) ticket.new }
+    ensures { IsSeatAt (sends_on sender.now) ticket.new }
 {
-    let _ = outlet.try_send_as::<Right<T>, R>(rt, ticket, imposed);
+    let _ = sender.try_send_as::<SheetRule<T>, R>(rt, ticket, imposed);
 }
 
 /// Imposes a sheet that was taken off the queue. None where there is no such sheet, where it isn't complete, and where one of

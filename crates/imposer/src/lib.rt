@@ -3,11 +3,10 @@
 
 mod channel;
 mod collecting;
-mod crew;
+mod collector;
 mod delivery;
 mod gate;
 mod gathering;
-mod hall;
 mod imposing;
 mod imposition;
 mod job;
@@ -16,14 +15,16 @@ mod options;
 mod outcome;
 mod preparing;
 mod runs;
+mod setup;
+mod shared;
 mod sheet;
-mod shop;
 mod sink;
 mod start;
 #[cfg(test)]
 mod tests;
 mod threads;
 mod tokens;
+mod work;
 
 pub use delivery::{DeliverError, Delivered, deliver};
 pub use gate::{Gate, Open, Step};

@@ -6,11 +6,11 @@ ghost use Rattle.handover.specs.Shelves.{IsOn};
 ghost use Rattle.imposer.specs.Duty.{Duty, duties, share_below};
 ghost use Rattle.imposer.specs.Tokens.{AreTokens, AreUnused, PutsCompleted, done};
 
-use crate::crew::Ended;
 use crate::delivery::{DeliverError, deliver};
 use crate::gate::{Gate, Step};
 use crate::job::Job;
 use crate::tokens::Tokens;
+use crate::work::Ended;
 use dsc::DscError;
 use gather_table::GatherTable;
 use handover::{Overflow, Prepared, Ready, Shelf};

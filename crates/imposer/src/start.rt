@@ -5,38 +5,38 @@ ghost use Rattle.imposer.specs.Joining.{KeepsOwn};
 ghost use Rattle.imposer.specs.Tokens.{AreTokens, AreUnused, PutsCompleted, done};
 
 use crate::channel::Ticket;
-use crate::crew::{Crew, Ended, Imposes, Prepares};
 use crate::tokens::Tokens;
+use crate::work::{Ended, Imposes, Prepares, Work};
 use std::alloc::{AllocError, Global};
 use std::sync::Wait;
 use std::thread::{PromisedHandle, Scope};
 
 /// A preparer's thread.
-pub(crate) type Preparer<'s, L, C> = PromisedHandle<Result<Ended<L>, AllocError>, Prepares<'s, C>>;
+pub(crate) type Preparer<'s, L, W> = PromisedHandle<Result<Ended<L>, AllocError>, Prepares<'s, W>>;
 
 /// An imposer's thread.
-pub(crate) type Imposer<'s, L, C> = PromisedHandle<Result<Ended<L>, AllocError>, Imposes<'s, C>>;
+pub(crate) type Imposer<'s, L, W> = PromisedHandle<Result<Ended<L>, AllocError>, Imposes<'s, W>>;
 
 /// Starts the preparers, each with a share of one. Fewer where a thread is refused.
-pub(crate) fn start_preparers<'s, E, R: Wait + Sync, L: Send + Drop + 's, C: Crew<L> + Sync>(
+pub(crate) fn start_preparers<'s, E, R: Wait + Sync, L: Send + Drop + 's, W: Work<L> + Sync>(
     rt: &'s R,
     scope: &'s Scope<'s, E>,
     alloc: Global,
-    crew: &'s C,
+    shared: &'s W,
     tokens: &mut Tokens,
     count: u32,
-) -> Result<Vec<Preparer<'s, L, C>>, AllocError>
+) -> Result<Vec<Preparer<'s, L, W>>, AllocError>
     requires count { (0 < count) × (count < tokens.old.seat.share) }
-    requires tokens { AreTokens (C.table crew.now) (C.queue crew.now) tokens.old.seat.share tokens.old }
+    requires tokens { AreTokens (W.table shared.now) (W.queue shared.now) tokens.old.seat.share tokens.old }
     ensures few { IfOk result (λ v. vec_len v ≤ count) }
-    ensures each { IfOk result (λ v. (k : ℕ) (d : _) → k < vec_len v → ((slice_index_or v.items k d).promise.number ≡ k) × ((slice_index_or v.items k d).promise.count ≡ count) × ((slice_index_or v.items k d).promise.crew.now ≡ crew.now)) }
-    ensures tokens { IfOk result (λ v. vec_len v ≡ count → AreTokens (C.table crew.now) (C.queue crew.now) (tokens.old.seat.share - count) tokens.new) }
+    ensures each { IfOk result (λ v. (k : ℕ) (d : _) → k < vec_len v → ((slice_index_or v.items k d).promise.number ≡ k) × ((slice_index_or v.items k d).promise.count ≡ count) × ((slice_index_or v.items k d).promise.shared.now ≡ shared.now)) }
+    ensures tokens { IfOk result (λ v. vec_len v ≡ count → AreTokens (W.table shared.now) (W.queue shared.now) (tokens.old.seat.share - count) tokens.new) }
     ensures kept { KeepsOwn tokens.old tokens.new }
 {
     let mut handles = Vec::with_capacity(alloc, count as usize)?;
     for number in 0..count {
-        let theirs = crew.split(tokens);
-        match start_preparer(rt, scope, crew, theirs, number, count) {
+        let theirs = shared.split(tokens);
+        match start_preparer(rt, scope, shared, theirs, number, count) {
             Ok(handle) => handles.push_reserved(handle),
             Err(_) => break,
         }
@@ -44,31 +44,31 @@ pub(crate) fn start_preparers<'s, E, R: Wait + Sync, L: Send + Drop + 's, C: Cre
     Ok(handles)
 }
 
-fn start_preparer<'s, E, R: Wait + Sync, L: Send + Drop + 's, C: Crew<L> + Sync>(
+fn start_preparer<'s, E, R: Wait + Sync, L: Send + Drop + 's, W: Work<L> + Sync>(
     rt: &'s R,
     scope: &'s Scope<'s, E>,
-    crew: &'s C,
+    shared: &'s W,
     tokens: Tokens,
     number: u32,
     count: u32,
-) -> Result<Preparer<'s, L, C>, AllocError>
+) -> Result<Preparer<'s, L, W>, AllocError>
     requires count { 0 < count }
-    requires tokens { AreTokens (C.table crew.now) (C.queue crew.now) 1 tokens × AreUnused tokens }
-    ensures { IfOk result (λ h. (h.promise.number ≡ number) × (h.promise.count ≡ count) × (h.promise.crew.now ≡ crew.now)) }
+    requires tokens { AreTokens (W.table shared.now) (W.queue shared.now) 1 tokens × AreUnused tokens }
+    ensures { IfOk result (λ h. (h.promise.number ≡ number) × (h.promise.count ≡ count) × (h.promise.shared.now ≡ shared.now)) }
 {
     let promise = Prepares {
-        crew,
+        shared,
         number,
         count,
     };
     let work = move || -> Result<Ended<L>, AllocError>
         requires count { 0 < count }
-        requires tokens { AreTokens (C.table crew.now) (C.queue crew.now) 1 tokens × AreUnused tokens }
-        ensures tokens { IfOk result (λ e. AreTokens (C.table crew.entry.now) (C.queue crew.entry.now) 1 e.tokens) }
-        ensures done { IfOk result (λ e. IsNone e.unshelved → (h : Duty → ℕ) → done h e.tokens ≡ share_below h (C.table crew.entry.now).layout count number (C.table crew.entry.now).layout.pages) }
+        requires tokens { AreTokens (W.table shared.now) (W.queue shared.now) 1 tokens × AreUnused tokens }
+        ensures tokens { IfOk result (λ e. AreTokens (W.table shared.entry.now) (W.queue shared.entry.now) 1 e.tokens) }
+        ensures done { IfOk result (λ e. IsNone e.unshelved → (h : Duty → ℕ) → done h e.tokens ≡ share_below h (W.table shared.entry.now).layout count number (W.table shared.entry.now).layout.pages) }
         ensures put { IfOk result (λ e. PutsCompleted e.tokens) }
-        ensures lost { IfOk result (λ e. IfSome e.unshelved (C.is_lost crew.entry.now)) }
-    { crew.prepare(rt, tokens, number, count) };
+        ensures lost { IfOk result (λ e. IfSome e.unshelved (W.is_lost shared.entry.now)) }
+    { shared.prepare(rt, tokens, number, count) };
     let Ok(handle) = scope.spawn_with(promise, work) else {
         return Err(AllocError);
     };
@@ -76,29 +76,29 @@ fn start_preparer<'s, E, R: Wait + Sync, L: Send + Drop + 's, C: Crew<L> + Sync>
 }
 
 /// Starts the imposers, each with a share of one and a ticket for sending. Fewer where a thread is refused.
-pub(crate) fn start_imposers<'s, E, R: Wait + Sync, L: Send + Drop + 's, C: Crew<L> + Sync>(
+pub(crate) fn start_imposers<'s, E, R: Wait + Sync, L: Send + Drop + 's, W: Work<L> + Sync>(
     rt: &'s R,
     scope: &'s Scope<'s, E>,
     alloc: Global,
-    crew: &'s C,
+    shared: &'s W,
     tokens: &mut Tokens,
     ticket: Ticket,
     count: u32,
-) -> Result<Vec<Imposer<'s, L, C>>, AllocError>
+) -> Result<Vec<Imposer<'s, L, W>>, AllocError>
     requires count { count < tokens.old.seat.share }
-    requires tokens { AreTokens (C.table crew.now) (C.queue crew.now) tokens.old.seat.share tokens.old }
-    requires ticket { C.sends crew.now ticket }
+    requires tokens { AreTokens (W.table shared.now) (W.queue shared.now) tokens.old.seat.share tokens.old }
+    requires ticket { W.sends shared.now ticket }
     ensures few { IfOk result (λ v. vec_len v ≤ count) }
-    ensures each { IfOk result (λ v. (k : ℕ) (d : _) → k < vec_len v → (slice_index_or v.items k d).promise.crew.now ≡ crew.now) }
-    ensures tokens { IfOk result (λ v. vec_len v ≡ count → AreTokens (C.table crew.now) (C.queue crew.now) (tokens.old.seat.share - count) tokens.new) }
+    ensures each { IfOk result (λ v. (k : ℕ) (d : _) → k < vec_len v → (slice_index_or v.items k d).promise.shared.now ≡ shared.now) }
+    ensures tokens { IfOk result (λ v. vec_len v ≡ count → AreTokens (W.table shared.now) (W.queue shared.now) (tokens.old.seat.share - count) tokens.new) }
     ensures kept { KeepsOwn tokens.old tokens.new }
 {
     let mut ticket = ticket;
     let mut handles = Vec::with_capacity(alloc, count as usize)?;
     for _ in 0..count {
-        let theirs = crew.split(tokens);
-        let sending = crew.another(&mut ticket);
-        match start_imposer(rt, scope, crew, theirs, sending) {
+        let theirs = shared.split(tokens);
+        let sending = shared.another(&mut ticket);
+        match start_imposer(rt, scope, shared, theirs, sending) {
             Ok(handle) => handles.push_reserved(handle),
             Err(_) => break,
         }
@@ -106,25 +106,25 @@ pub(crate) fn start_imposers<'s, E, R: Wait + Sync, L: Send + Drop + 's, C: Crew
     Ok(handles)
 }
 
-fn start_imposer<'s, E, R: Wait + Sync, L: Send + Drop + 's, C: Crew<L> + Sync>(
+fn start_imposer<'s, E, R: Wait + Sync, L: Send + Drop + 's, W: Work<L> + Sync>(
     rt: &'s R,
     scope: &'s Scope<'s, E>,
-    crew: &'s C,
+    shared: &'s W,
     tokens: Tokens,
     ticket: Ticket,
-) -> Result<Imposer<'s, L, C>, AllocError>
-    requires tokens { AreTokens (C.table crew.now) (C.queue crew.now) 1 tokens × AreUnused tokens }
-    requires ticket { C.sends crew.now ticket }
-    ensures { IfOk result (λ h. h.promise.crew.now ≡ crew.now) }
+) -> Result<Imposer<'s, L, W>, AllocError>
+    requires tokens { AreTokens (W.table shared.now) (W.queue shared.now) 1 tokens × AreUnused tokens }
+    requires ticket { W.sends shared.now ticket }
+    ensures { IfOk result (λ h. h.promise.shared.now ≡ shared.now) }
 {
-    let promise = Imposes { crew };
+    let promise = Imposes { shared };
     let work = move || -> Result<Ended<L>, AllocError>
-        requires tokens { AreTokens (C.table crew.now) (C.queue crew.now) 1 tokens × AreUnused tokens }
-        requires ticket { C.sends crew.now ticket }
-        ensures tokens { IfOk result (λ e. AreTokens (C.table crew.entry.now) (C.queue crew.entry.now) 1 e.tokens) }
+        requires tokens { AreTokens (W.table shared.now) (W.queue shared.now) 1 tokens × AreUnused tokens }
+        requires ticket { W.sends shared.now ticket }
+        ensures tokens { IfOk result (λ e. AreTokens (W.table shared.entry.now) (W.queue shared.entry.now) 1 e.tokens) }
         ensures done { IfOk result (λ e. IsNone e.unshelved × ((h : Duty → ℕ) → done h e.tokens ≡ 0)) }
         ensures put { IfOk result (λ e. PutsCompleted e.tokens) }
-    { crew.impose(rt, tokens, ticket) };
+    { shared.impose(rt, tokens, ticket) };
     let Ok(handle) = scope.spawn_with(promise, work) else {
         return Err(AllocError);
     };

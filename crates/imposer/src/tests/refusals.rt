@@ -14,9 +14,9 @@ fn refuse<R: Threads + Wait + Abort + Sync>(
     alloc: Global,
     input: &str,
     spec: &str,
-    crew: (u32, u32),
+    counts: (u32, u32),
 ) -> Result<RunError, Fail> {
-    let options = workers(rt, crew.0, crew.1);
+    let options = workers(rt, counts.0, counts.1);
     let mut sink = MemorySink::new(alloc, 1_000, 1_000, 100)?;
     let answer = run(
         rt,
@@ -36,10 +36,10 @@ fn refuse<R: Threads + Wait + Abort + Sync>(
 
 #[test]
 fn workers_are_checked_first(rt: HostRuntime) -> Result<(), Fail> {
-    for crew in [(0, 1), (1, 0), (1, 17), (17, 1)] {
-        let error = refuse(&rt, rt.alloc(), ONE_PAGE, TWO_UP, crew)?;
+    for counts in [(0, 1), (1, 0), (1, 17), (17, 1)] {
+        let error = refuse(&rt, rt.alloc(), ONE_PAGE, TWO_UP, counts)?;
         assert!(rt; matches!(error, RunError::Options));
-        let error = refuse(&rt, rt.alloc(), "", "x", crew)?;
+        let error = refuse(&rt, rt.alloc(), "", "x", counts)?;
         assert!(rt; matches!(error, RunError::Options));
     }
     Ok(())

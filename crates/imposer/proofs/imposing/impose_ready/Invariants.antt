@@ -9,6 +9,6 @@ abbrev pub invariant-loop : goal.invariant-loop
 invariant-loop g l =
     (goal.iterator-loop g).can_next l.iterator' × (goal.iterator-loop g).is_finite l.iterator'
     × AreTokens l.table l.ready 1 l.tokens
-    × IsSeatAt (sends_on l.outlet) l.ticket
+    × IsSeatAt (sends_on l.sender) l.ticket
     × ((h : Duty → ℕ) → done h l.tokens ≡ 0)
     × ((s : ℕ) → put s l.tokens ≡ 0)

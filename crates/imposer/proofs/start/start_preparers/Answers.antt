@@ -8,7 +8,7 @@ loop-number-preserved g c =
       search rules,
       search rules,
       pushed
-          (λ k h. (h.promise.number ≡ k) × (h.promise.count ≡ c.args.count) × (h.promise.crew.now ≡ c.args.crew.now))
+          (λ k h. (h.promise.number ≡ k) × (h.promise.count ≡ c.args.count) × (h.promise.shared.now ≡ c.args.shared.now))
           (vec_items c.loop-number.handles) c.in-Ok.handle (vec_items c.push_reserved.new.self) c.loop-number.number
           c.push_reserved.ensures.items (search rules) was.2 c.in-Ok.ensures,
       search rules,

@@ -10,8 +10,8 @@ loop-handle-preserved g c =
     let left = into_iter_len c.loop-handle.handle-iterator in let left' = into_iter_len c.next.new.self in
     let less : left ≡ suc left' = search rules in
     let joined = c.args.count - left in
-    let table = g.C.Crew.table c.args.crew.now in
-    let queue = g.C.Crew.queue c.args.crew.now in
+    let table = g.W.Work.table c.args.shared.now in
+    let queue = g.W.Work.queue c.args.shared.now in
     let grown : c.args.count - left' ≡ suc joined = omega (arith, was.0) in (
       omega arith,
       (λ k d below. let h = was.1 (k + 1) d in grind rules),

@@ -9,5 +9,5 @@ invariant-loop-handle g l =
     let rest = l.handle-iterator in
     let joined = l.count - into_iter_len rest in
     (into_iter_len rest ≤ l.count)
-    × ((k : ℕ) (d : _) → k < into_iter_len rest → (get_or (into_iter_items rest) k d).promise.crew.now ≡ l.crew)
-    × IfSome l.all (λ e. IsSomeAnd l.fn.prepared (λ a. AreTokens (g.C.Crew.table l.crew) (g.C.Crew.queue l.crew) (a.tokens.seat.share + joined) e.tokens × AddsNoWork a.tokens e.tokens × (e.unshelved ≡ a.unshelved)))
+    × ((k : ℕ) (d : _) → k < into_iter_len rest → (get_or (into_iter_items rest) k d).promise.shared.now ≡ l.shared)
+    × IfSome l.all (λ e. IsSomeAnd l.fn.prepared (λ a. AreTokens (g.W.Work.table l.shared) (g.W.Work.queue l.shared) (a.tokens.seat.share + joined) e.tokens × AddsNoWork a.tokens e.tokens × (e.unshelved ≡ a.unshelved)))

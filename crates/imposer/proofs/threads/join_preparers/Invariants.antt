@@ -9,7 +9,7 @@ abbrev pub invariant-loop-handle : goal.invariant-loop-handle
 invariant-loop-handle g l =
     let rest = l.handle-iterator in
     let joined = l.count - into_iter_len rest in
-    let layout = (g.C.Crew.table l.crew).layout in
+    let layout = (g.W.Work.table l.shared).layout in
     (into_iter_len rest ≤ l.count)
-    × ((k : ℕ) (d : _) → k < into_iter_len rest → ((get_or (into_iter_items rest) k d).promise.number ≡ joined + k) × ((get_or (into_iter_items rest) k d).promise.count ≡ l.count) × ((get_or (into_iter_items rest) k d).promise.crew.now ≡ l.crew))
-    × IfSome l.all (λ e. AreTokens (g.C.Crew.table l.crew) (g.C.Crew.queue l.crew) (l.fn.tokens.seat.share + joined) e.tokens × (IsNone e.unshelved → (h : Duty → ℕ) → done h e.tokens ≡ shares h layout l.count layout.pages joined) × PutsCompletedSince l.fn.tokens e.tokens × IfSome e.unshelved (g.C.Crew.is_lost l.crew))
+    × ((k : ℕ) (d : _) → k < into_iter_len rest → ((get_or (into_iter_items rest) k d).promise.number ≡ joined + k) × ((get_or (into_iter_items rest) k d).promise.count ≡ l.count) × ((get_or (into_iter_items rest) k d).promise.shared.now ≡ l.shared))
+    × IfSome l.all (λ e. AreTokens (g.W.Work.table l.shared) (g.W.Work.queue l.shared) (l.fn.tokens.seat.share + joined) e.tokens × (IsNone e.unshelved → (h : Duty → ℕ) → done h e.tokens ≡ shares h layout l.count layout.pages joined) × PutsCompletedSince l.fn.tokens e.tokens × IfSome e.unshelved (g.W.Work.is_lost l.shared))

@@ -1,6 +1,6 @@
 use Rattle.std.proofs.Common.{rules}
 use Rattle.imposer.proofs.Fronts.{none_pushed, none_early}
-use Rattle.imposer.proofs.hall.no_sheets.Goals as goal
+use Rattle.imposer.proofs.setup.no_sheets.Goals as goal
 
 pub loop-preserved : goal.loop-preserved
 loop-preserved c = record {

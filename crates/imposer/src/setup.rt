@@ -5,7 +5,7 @@ ghost use Rattle.crossbeam_channel.specs.Ends.{sends_on, receives_on};
 ghost use Rattle.profile.specs.Filters.{preamble_text, trailer_text};
 ghost use Rattle.imposer.specs.Collecting.{AreEarly};
 
-use crate::channel::{Inlet, Outlet, Right, Texts, Ticket};
+use crate::channel::{SheetReceiver, SheetRule, SheetSender, Texts, Ticket};
 use crate::job::Job;
 use crossbeam_channel::bounded_with;
 use std::alloc::{AllocError, Global};
@@ -13,39 +13,41 @@ use std::alloc::{AllocError, Global};
 /// The texts round the sheets, a place for each sheet that comes before its turn, and the channel of finished sheets, with a
 /// ticket for the collector and one for the imposers.
 #[derive(Drop)]
-pub(crate) struct Hall<T: Texts> {
+pub(crate) struct Setup<T: Texts> {
     pub(crate) header: Vec<u8>,
     pub(crate) trailer: Vec<u8>,
     pub(crate) early: Vec<Option<Vec<u8>>>,
-    pub(crate) outlet: Outlet<T>,
-    pub(crate) inlet: Inlet<T>,
-    pub(crate) ours: Ticket,
-    pub(crate) theirs: Ticket,
+    pub(crate) sender: SheetSender<T>,
+    pub(crate) receiver: SheetReceiver<T>,
+    pub(crate) receiving: Ticket,
+    pub(crate) sending: Ticket,
 }
 
-impl<T: Texts> Hall<T> {
+impl<T: Texts> Setup<T> {
     /// The channel has room for all sheets, so that no imposer waits.
     pub(crate) fn new(alloc: Global, job: &Job<'_, '_>) -> Result<Self, AllocError>
-        ensures header { IfOk result (λ h. h.header.items ≡ preamble_text (length job.now.plan.sheets) job.now.units) }
-        ensures trailer { IfOk result (λ h. h.trailer.items ≡ trailer_text job.now.units) }
-        ensures early { IfOk result (λ h. AreEarly job.now h.early.items) }
-        ensures ours { IfOk result (λ h. IsSeatAt (receives_on h.inlet) h.ours) }
-        ensures theirs { IfOk result (λ h. IsSeatAt (sends_on h.outlet) h.theirs) }
+        ensures header { IfOk result (λ s. s.header.items ≡ preamble_text (length job.now.plan.sheets) job.now.units) }
+        ensures trailer { IfOk result (λ s. s.trailer.items ≡ trailer_text job.now.units) }
+        ensures early { IfOk result (λ s. AreEarly job.now s.early.items) }
+        ensures receiving { IfOk result (λ s. IsSeatAt (receives_on s.receiver) s.receiving) }
+        ensures sending { IfOk result (λ s. IsSeatAt (sends_on s.sender) s.sending) }
     {
         let header = job.document.preamble_text(alloc, job.sheets)?;
         let trailer = job.document.trailer_text(alloc)?;
         let early = no_sheets(alloc, job)?;
         let room = (job.sheets as usize).max(1);
-        let (outlet, inlet, mut ours) = bounded_with::<_, _, Right<T>, Global>(alloc, room)?;
-        let theirs = outlet.another::<Right<T>>(&mut ours);
-        Ok(Hall {
+        let (sender, receiver, mut receiving) = bounded_with::<_, _, SheetRule<T>, Global>(
+            alloc, room,
+        )?;
+        let sending = sender.another::<SheetRule<T>>(&mut receiving);
+        Ok(Setup {
             header,
             trailer,
             early,
-            outlet,
-            inlet,
-            ours,
-            theirs,
+            sender,
+            receiver,
+            receiving,
+            sending,
         })
     }
 }

@@ -1,6 +1,6 @@
 use Rattle.std.proofs.Common.{◌≡◌, ◌≤◌, length, vec_capacity}
 use Rattle.imposer.proofs.Fronts.{AreNone}
-use Rattle.imposer.proofs.hall.no_sheets.Given as goal
+use Rattle.imposer.proofs.setup.no_sheets.Given as goal
 
 abbrev pub invariant-loop : goal.invariant-loop
 invariant-loop l = record {

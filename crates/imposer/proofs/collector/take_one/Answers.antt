@@ -1,10 +1,10 @@
 use Rattle.std.proofs.Common.{arith, suc, ◌∙◌}
 use Rattle.imposer.proofs.Fronts.{early_filled}
-use Rattle.imposer.proofs.shop.take_one.Goals as goal
+use Rattle.imposer.proofs.collector.take_one.Goals as goal
 
 pub try_recv_as-requires-clause-rule : goal.try_recv_as-requires-clause-rule
 try_recv_as-requires-clause-rule g c = ((λ x items views h at. (tt, (λ k d below. h (suc k) d (omega arith)), h 0 x (omega arith))), λ items views h at. tt)
 
-pub write_early-desk-requires-clause-early : goal.write_early-desk-requires-clause-early
-write_early-desk-requires-clause-early g c =
+pub write_early-state-requires-clause-early : goal.write_early-state-requires-clause-early
+write_early-state-requires-clause-early g c =
     early_filled c.args.job.now _ c.in-Ok.done.sheet c.in-Ok.done.text (c.in-Ok.ensures.rule ∙ c.requires.texts c.in-Ok.done.sheet) c.requires.early

@@ -20,9 +20,9 @@ pub(crate) struct Ended<L> {
     pub(crate) unshelved: Option<L>,
 }
 
-/// What all threads of a run share. L is what stands for a page without a receipt; neither it nor the crew shows a lifetime
-/// to the code that starts and joins threads.
-pub(crate) trait Crew<L> {
+/// The work of the threads of a run, on what they share. L is what stands for a page without a receipt; neither it nor what is
+/// shared shows a lifetime to the code that starts and joins threads.
+pub(crate) trait Work<L> {
     ghost table: { Self → TableView };
 
     ghost queue: { Self → QueueView };
@@ -30,7 +30,7 @@ pub(crate) trait Crew<L> {
     // The ticket is one for sending finished sheets.
     ghost sends: { Self → Pass Imposed (Unit {0}) → Type 0 };
 
-    // What stands for a page without a receipt is a token of the crew's shelf.
+    // What stands for a page without a receipt is a token of the shared shelf.
     ghost is_lost: { Self → L → Type 0 };
 
     /// The work of the preparer with this number, of so many.
@@ -83,48 +83,48 @@ pub(crate) trait Crew<L> {
         ensures both { AreOfBoth all theirs result };
 }
 
-/// What is done on the caller's thread while the workers run, with a desk D.
-pub(crate) trait Collector<D> {
-    // The desk is as it must be at the start.
-    ghost is_laid: { Self → D → Type 0 };
+/// What is done on the caller's thread while the workers run, with a state S.
+pub(crate) trait Collector<S> {
+    // The state is as it must be at the start.
+    ghost is_ready_to_collect: { Self → S → Type 0 };
 
-    // What became of the desk.
-    ghost collected: { Self → D → D → Type 0 };
+    // What became of the state.
+    ghost collected: { Self → S → S → Type 0 };
 
-    // The ghost name of the reference that the desk holds, or 0: who lent it learns what was written only while it is known
+    // The ghost name of the reference that the state holds, or 0: who lent it learns what was written only while it is known
     // to be the same one.
-    ghost reference: { Self → D → ℕ };
+    ghost reference: { Self → S → ℕ };
 
     /// Takes what the workers finish until all have ended.
-    fn collect<R: Wait>(&self, rt: &R, desk: &mut D)
-        requires { is_laid self.now desk.old }
-        ensures same_reference { reference self.now desk.new ≡ reference self.now desk.old }
-        ensures collected { collected self.now desk.old desk.new };
+    fn collect<R: Wait>(&self, rt: &R, state: &mut S)
+        requires { is_ready_to_collect self.now state.old }
+        ensures same_reference { reference self.now state.new ≡ reference self.now state.old }
+        ensures collected { collected self.now state.old state.new };
 }
 
 /// What a preparer promises.
 #[derive(Drop)]
-pub(crate) struct Prepares<'a, C> {
-    pub(crate) crew: &'a C,
+pub(crate) struct Prepares<'a, W> {
+    pub(crate) shared: &'a W,
     pub(crate) number: u32,
     pub(crate) count: u32,
 }
 
-impl<'a, L, C: Crew<L>> Promise<Result<Ended<L>, AllocError>> for Prepares<'a, C> {
-    ghost kept_by = { λ p r. IfOk r (λ e. AreTokens (C.table p.crew.now) (C.queue p.crew.now) 1 e.tokens
-        × (IsNone e.unshelved → (h : Duty → ℕ) → done h e.tokens ≡ share_below h (C.table p.crew.now).layout p.count p.number (C.table p.crew.now).layout.pages)
+impl<'a, L, W: Work<L>> Promise<Result<Ended<L>, AllocError>> for Prepares<'a, W> {
+    ghost kept_by = { λ p r. IfOk r (λ e. AreTokens (W.table p.shared.now) (W.queue p.shared.now) 1 e.tokens
+        × (IsNone e.unshelved → (h : Duty → ℕ) → done h e.tokens ≡ share_below h (W.table p.shared.now).layout p.count p.number (W.table p.shared.now).layout.pages)
         × PutsCompleted e.tokens
-        × IfSome e.unshelved (C.is_lost p.crew.now)) };
+        × IfSome e.unshelved (W.is_lost p.shared.now)) };
 }
 
 /// What an imposer promises.
 #[derive(Drop)]
-pub(crate) struct Imposes<'a, C> {
-    pub(crate) crew: &'a C,
+pub(crate) struct Imposes<'a, W> {
+    pub(crate) shared: &'a W,
 }
 
-impl<'a, L, C: Crew<L>> Promise<Result<Ended<L>, AllocError>> for Imposes<'a, C> {
-    ghost kept_by = { λ p r. IfOk r (λ e. AreTokens (C.table p.crew.now) (C.queue p.crew.now) 1 e.tokens
+impl<'a, L, W: Work<L>> Promise<Result<Ended<L>, AllocError>> for Imposes<'a, W> {
+    ghost kept_by = { λ p r. IfOk r (λ e. AreTokens (W.table p.shared.now) (W.queue p.shared.now) 1 e.tokens
         × IsNone e.unshelved × ((h : Duty → ℕ) → done h e.tokens ≡ 0)
         × PutsCompleted e.tokens) };
 }

@@ -1,0 +1,142 @@
+//! What the collector needs and keeps, and how it takes what the workers finish.
+ghost use Rattle.std.specs.Prelude.{◌≡◌, ℕ, ◌+◌, ◌<◌, ◌≤◌, None, Some, length, false, IsTrue};
+ghost use Rattle.crossbeam_channel.specs.Claims.{IsSeatAt};
+ghost use Rattle.crossbeam_channel.specs.Ends.{receives_on};
+ghost use Rattle.profile.specs.Filters.{preamble_text};
+ghost use Rattle.imposer.specs.Jobs.{text_of};
+ghost use Rattle.imposer.specs.Collecting.{Stands, GoesOn, AreEarly};
+
+use crate::channel::{SheetReceiver, SheetRule, Texts, Ticket};
+use crate::collecting::{Progress, write_early, write_text};
+use crate::job::Job;
+use crate::sink::Sink;
+use crate::work::Collector;
+use crossbeam_utils::Backoff;
+use std::sync::Wait;
+use std::sync::atomic::AtomicU32;
+use std::sync::atomic::Ordering::SeqCst;
+
+/// What the collector needs of the run.
+#[derive(Drop)]
+pub(crate) struct CollectorInput<'s, 'j, 'd, T: Texts> {
+    pub(crate) job: &'s Job<'j, 'd>,
+    /// How many imposers haven't ended.
+    pub(crate) working: &'s AtomicU32,
+    pub(crate) receiver: &'s SheetReceiver<T>,
+}
+
+/// What the collector writes to, and the sheets that came before their turn. It owns no memory, so that what becomes of the
+/// sink is known to whom it belongs.
+#[derive(Drop)]
+pub(crate) struct CollectorState<'a, S> {
+    pub(crate) sink: &'a mut S,
+    pub(crate) early: &'a mut Vec<Option<Vec<u8>>>,
+    pub(crate) header: &'a [u8],
+    pub(crate) ticket: &'a mut Ticket,
+    pub(crate) progress: Progress,
+}
+
+impl<'s, 'j, 'd, 'a, T: Texts, S: Sink> Collector<CollectorState<'a, S>>
+    for CollectorInput<'s, 'j, 'd, T> {
+    ghost reference = { λ input state. state.sink.ghost_name };
+
+    ghost is_ready_to_collect = { λ input state. ((k : ℕ) → T.text k ≡ text_of input.job.now k)
+        × IsSeatAt (receives_on input.receiver.now) state.ticket.now
+        × (state.header.now ≡ preamble_text (length input.job.now.plan.sheets) input.job.now.units)
+        × (state.progress ≡ record { next = 0; written = 0; halted = None })
+        × AreEarly input.job.now state.early.now.items
+        × (S.failures state.sink.now < 18_446_744_073_709_551_615) };
+
+    ghost collected = { λ input old new. Stands input.job.now (S.told old.sink.now) (S.told new.sink.now) (S.failures old.sink.now) (S.failures new.sink.now) new.progress
+        × AreEarly input.job.now new.early.now.items };
+
+    fn collect<R: Wait>(&self, rt: &R, state: &mut CollectorState<'a, S>) {
+        state.progress = write_text(state.sink, state.progress, state.header);
+        if state.progress.halted.is_none() {
+            take_all(rt, self, state);
+        }
+    }
+}
+
+/// Takes finished sheets until all imposers have ended, or nothing more is to be written.
+fn take_all<R: Wait, T: Texts, S: Sink>(
+    rt: &R,
+    input: &CollectorInput<'_, '_, '_, T>,
+    state: &mut CollectorState<'_, S>,
+)
+    requires countable { S.failures state.old.sink.now < u64.MAX }
+    requires texts { (s : ℕ) → T.text s ≡ text_of input.now.job.now s }
+    requires ticket { IsSeatAt (receives_on input.now.receiver.now) state.old.ticket.now }
+    requires going { state.old.progress.halted ≡ None }
+    requires early { AreEarly input.now.job.now state.old.early.now.items }
+    ensures early { AreEarly input.now.job.now state.new.early.now.items }
+    ensures same { state.new.sink.ghost_name ≡ state.old.sink.ghost_name }
+    ensures goes_on { GoesOn input.now.job.now (S.told state.old.sink.now) (S.told state.new.sink.now) (S.failures state.old.sink.now) (S.failures state.new.sink.now) state.old.progress state.new.progress }
+{
+    let backoff = Backoff::new();
+    for _ in rt.forever() {
+        if !take_turn(rt, input, &backoff, state) {
+            break;
+        }
+    }
+}
+
+/// Takes a sheet where one was finished, and waits a little where none was. False where nothing is to come, or nothing more is to
+/// be written.
+fn take_turn<R: Wait, T: Texts, S: Sink>(
+    rt: &R,
+    input: &CollectorInput<'_, '_, '_, T>,
+    backoff: &Backoff,
+    state: &mut CollectorState<'_, S>,
+) -> bool
+    requires countable { S.failures state.old.sink.now < u64.MAX }
+    requires texts { (s : ℕ) → T.text s ≡ text_of input.now.job.now s }
+    requires ticket { IsSeatAt (receives_on input.now.receiver.now) state.old.ticket.now }
+    requires going { state.old.progress.halted ≡ None }
+    requires early { AreEarly input.now.job.now state.old.early.now.items }
+    ensures ticket { IsSeatAt (receives_on input.now.receiver.now) state.new.ticket.now }
+    ensures going { IsTrue result → state.new.progress.halted ≡ None }
+    ensures early { AreEarly input.now.job.now state.new.early.now.items }
+    ensures same { state.new.sink.ghost_name ≡ state.old.sink.ghost_name }
+    ensures goes_on { GoesOn input.now.job.now (S.told state.old.sink.now) (S.told state.new.sink.now) (S.failures state.old.sink.now) (S.failures state.new.sink.now) state.old.progress state.new.progress }
+    ensures steady { IsTrue result → S.failures state.new.sink.now ≡ S.failures state.old.sink.now }
+{
+    // Asked before the channel is: what the last imposer sent is there then.
+    let is_last = input.working.load(SeqCst) == 0;
+    if take_one(rt, input.job, input.receiver, state) {
+        backoff.reset();
+        return state.progress.halted.is_none();
+    }
+    backoff.snooze();
+    !is_last
+}
+
+/// Takes a finished sheet, and writes those whose turn it is now. False where no sheet was there.
+fn take_one<R: Wait, T: Texts, S: Sink>(
+    rt: &R,
+    job: &Job<'_, '_>,
+    receiver: &SheetReceiver<T>,
+    state: &mut CollectorState<'_, S>,
+) -> bool
+    requires countable { S.failures state.old.sink.now < u64.MAX }
+    requires texts { (s : ℕ) → T.text s ≡ text_of job.now s }
+    requires ticket { IsSeatAt (receives_on receiver.now) state.old.ticket.now }
+    requires going { state.old.progress.halted ≡ None }
+    requires early { AreEarly job.now state.old.early.now.items }
+    ensures ticket { IsSeatAt (receives_on receiver.now) state.new.ticket.now }
+    ensures early { AreEarly job.now state.new.early.now.items }
+    ensures same { state.new.sink.ghost_name ≡ state.old.sink.ghost_name }
+    ensures goes_on { GoesOn job.now (S.told state.old.sink.now) (S.told state.new.sink.now) (S.failures state.old.sink.now) (S.failures state.new.sink.now) state.old.progress state.new.progress }
+    ensures steady { state.new.progress.halted ≡ None → S.failures state.new.sink.now ≡ S.failures state.old.sink.now }
+    ensures nothing { result ≡ false → state.new.progress.halted ≡ None }
+{
+    let Ok(done) = receiver.try_recv_as::<SheetRule<T>, R>(rt, state.ticket) else {
+        return false;
+    };
+    let at = done.sheet as usize;
+    if at < state.early.len() {
+        state.early[at] = Some(done.text);
+        state.progress = write_early(job, state.sink, state.progress, state.early);
+    }
+    true
+}
