@@ -24,7 +24,7 @@ use crate::job::Job;
 use crate::options::Workers;
 use crate::outcome::{Report, RunError};
 use crate::setup::Setup;
-use crate::shared::Shared;
+use crate::shared::{Shared, WorkerInput};
 use crate::sink::Sink;
 use crate::threads::gather_by;
 use crate::tokens::Tokens;
@@ -98,35 +98,39 @@ pub fn gather<'j, 'd, R: Threads + Wait + Sync, G: Gate + Sync, S: Sink>(
     seat.share();
     pass.share();
     let tokens = Tokens { seat, pass };
-    gather_as::<Brand, R, G, S>(
-        rt, alloc, job, table, shelf, ready, tokens, workers, gate, sink,
-    )
+    let shared = Shared {
+        alloc,
+        gate,
+        job,
+        table,
+        shelf,
+        ready,
+        running: AtomicU32::new(workers.preparers),
+        working: AtomicU32::new(workers.imposers),
+    };
+    gather_as::<Brand, R, G, S>(rt, &shared, tokens, workers, sink)
 }
 
-fn gather_as<'s, 'j, 'd, T: Texts + Send + Sync, R: Threads + Wait + Sync, G: Gate + Sync, S: Sink>(
+fn gather_as<'d, T: Texts + Send + Sync, R: Threads + Wait + Sync, G: Gate + Sync, S: Sink>(
     rt: &R,
-    alloc: Global,
-    job: &'s Job<'j, 'd>,
-    table: &'s GatherTable<'j>,
-    shelf: &'s Shelf<'d>,
-    ready: &'s Ready,
+    shared: &Shared<'_, '_, 'd, G>,
     tokens: Tokens,
     workers: Workers,
-    gate: &'s G,
     sink: &mut S,
 ) -> Gathered<'d>
-    requires texts { (s : ℕ) → T.text s ≡ text_of job.now s }
-    requires table { table.now.layout ≡ layout job.now.plan }
-    requires tokens { AreTokens table.now ready.now whole_share tokens × AreUnused tokens }
+    requires texts { (s : ℕ) → T.text s ≡ text_of shared.now.job.now s }
+    requires tokens { AreTokens shared.now.table.now shared.now.ready.now whole_share tokens × AreUnused tokens }
     requires workers { AreWorkers workers }
     requires countable { S.failures sink.old < u64.MAX }
-    ensures outcome { Answers job.now (S.told sink.old) (S.told sink.new) (S.failures sink.old) (S.failures sink.new) result.outcome }
+    ensures outcome { Answers shared.now.job.now (S.told sink.old) (S.told sink.new) (S.failures sink.old) (S.failures sink.new) result.outcome }
     ensures tokens { MatchResult result.outcome (λ _. IsSomeAnd result.tokens (λ t. ⊤)) (λ e. HandsBackTokens e result.tokens) }
-    ensures whole { IfSome result.tokens (λ t. AreWhole table.now ready.now t.0 t.1 × IsHandedOn t.1.front × (IsNone result.unshelved → IsGathered table.now.layout t.0.front)) }
-    ensures unshelved { IfSome result.unshelved (IsOn shelf.now) }
+    ensures whole { IfSome result.tokens (λ t. AreWhole shared.now.table.now shared.now.ready.now t.0 t.1 × IsHandedOn t.1.front × (IsNone result.unshelved → IsGathered shared.now.table.now.layout t.0.front)) }
+    ensures unshelved { IfSome result.unshelved (IsOn shared.now.shelf.now) }
 {
+    let alloc = shared.alloc;
+    let job = shared.job;
     let mut tokens = tokens;
-    put_blank_sheets(rt, ready, job.plan.born_complete(), &mut tokens.pass);
+    put_blank_sheets(rt, shared.ready, job.plan.born_complete(), &mut tokens.pass);
     let Ok(setup) = Setup::<T>::new(alloc, job) else {
         return out_of_memory(0);
     };
@@ -139,21 +143,14 @@ fn gather_as<'s, 'j, 'd, T: Texts + Send + Sync, R: Threads + Wait + Sync, G: Ga
         mut receiving,
         sending,
     } = setup;
-    let running = AtomicU32::new(workers.preparers);
-    let working = AtomicU32::new(workers.imposers);
-    let shared = Shared {
-        alloc,
-        gate,
-        table,
-        shelf,
-        ready,
-        running: &running,
+    let worker_input = WorkerInput {
+        shared: &*shared,
         sender: &sender,
-        input: CollectorInput {
-            job,
-            working: &working,
-            receiver: &receiver,
-        },
+    };
+    let collector_input = CollectorInput {
+        job,
+        working: &shared.working,
+        receiver: &receiver,
     };
     let state = CollectorState {
         sink,
@@ -170,8 +167,8 @@ fn gather_as<'s, 'j, 'd, T: Texts + Send + Sync, R: Threads + Wait + Sync, G: Ga
     let mut state = gather_by(
         rt,
         alloc,
-        &shared,
-        &shared.input,
+        &worker_input,
+        &collector_input,
         state,
         tokens,
         sending,

@@ -1,4 +1,4 @@
-//! What all threads of one run share.
+//! What all threads of one run share, and what the workers need.
 ghost use Rattle.std.specs.Prelude.{◌≡◌, ℕ};
 ghost use Rattle.crossbeam_channel.specs.Claims.{IsSeatAt};
 ghost use Rattle.crossbeam_channel.specs.Ends.{sends_on};
@@ -7,10 +7,8 @@ ghost use Rattle.handover.specs.Shelves.{IsOn};
 ghost use Rattle.imposer.specs.Jobs.{text_of};
 
 use crate::channel::{SheetRule, SheetSender, Texts, Ticket};
-use crate::collector::CollectorInput;
 use crate::gate::Gate;
-use crate::imposing::impose_all;
-use crate::preparing::prepare;
+use crate::job::Job;
 use crate::tokens::Tokens;
 use crate::work::{Ended, Work};
 use gather_table::GatherTable;
@@ -18,31 +16,41 @@ use handover::{Overflow, Ready, Shelf};
 use std::alloc::{AllocError, Global};
 use std::sync::Wait;
 use std::sync::atomic::AtomicU32;
+use std::sync::atomic::Ordering::SeqCst;
 
-/// What the workers share.
+/// What all threads of one run share. The table is one of the job's plan.
 #[derive(Drop)]
-pub(crate) struct Shared<'s, 'j, 'd, T: Texts, G> {
+pub(crate) struct Shared<'s, 'j, 'd, G> {
     pub(crate) alloc: Global,
     pub(crate) gate: &'s G,
+    pub(crate) job: &'s Job<'j, 'd>,
     pub(crate) table: &'s GatherTable<'j>,
     pub(crate) shelf: &'s Shelf<'d>,
     pub(crate) ready: &'s Ready,
     /// How many preparers haven't ended.
-    pub(crate) running: &'s AtomicU32,
-    pub(crate) sender: &'s SheetSender<T>,
-    pub(crate) input: CollectorInput<'s, 'j, 'd, T>,
-    ghost same_plan: { table.now.layout ≡ layout input.job.now.plan },
+    pub(crate) running: AtomicU32,
+    /// How many imposers haven't ended.
+    pub(crate) working: AtomicU32,
+    ghost same_plan: { table.now.layout ≡ layout job.now.plan },
 }
 
-impl<'s, 'j, 'd, T: Texts, G: Gate> Work<Overflow<'d>> for Shared<'s, 'j, 'd, T, G> {
-    ghost table = { λ s. s.table.now };
+/// What the workers need of the run: what all threads share, and where finished sheets are sent.
+#[derive(Drop)]
+pub(crate) struct WorkerInput<'s, 'j, 'd, T: Texts, G> {
+    pub(crate) shared: &'s Shared<'s, 'j, 'd, G>,
+    pub(crate) sender: &'s SheetSender<T>,
+}
 
-    ghost queue = { λ s. s.ready.now };
+impl<'s, 'j, 'd, T: Texts, G: Gate> Work<Overflow<'d>> for WorkerInput<'s, 'j, 'd, T, G> {
+    ghost table = { λ input. input.shared.now.table.now };
 
-    ghost sends = { λ s t. ((k : ℕ) → T.text k ≡ text_of s.input.job.now k) × IsSeatAt (sends_on s.sender.now) t };
+    ghost queue = { λ input. input.shared.now.ready.now };
 
-    ghost is_lost = { λ s l. IsOn s.shelf.now l };
+    ghost sends = { λ input t. ((k : ℕ) → T.text k ≡ text_of input.shared.now.job.now k) × IsSeatAt (sends_on input.sender.now) t };
 
+    ghost is_lost = { λ input l. IsOn input.shared.now.shelf.now l };
+
+    /// However the preparer ends, one less is running then.
     fn prepare<R: Wait>(
         &self,
         rt: &R,
@@ -50,46 +58,26 @@ impl<'s, 'j, 'd, T: Texts, G: Gate> Work<Overflow<'d>> for Shared<'s, 'j, 'd, T,
         number: u32,
         count: u32,
     ) -> Result<Ended<Overflow<'d>>, AllocError> {
-        prepare(
-            rt,
-            self.alloc,
-            tokens,
-            self.input.job,
-            self.table,
-            self.shelf,
-            self.ready,
-            self.gate,
-            self.running,
-            number,
-            count,
-        )
+        let ended = self.shared.prepare_all(rt, tokens, number, count);
+        self.shared.running.fetch_sub(1, SeqCst);
+        ended
     }
 
+    /// However the imposer ends, one less is working then.
     fn impose<R: Wait>(
         &self,
         rt: &R,
         tokens: Tokens,
         ticket: Ticket,
     ) -> Result<Ended<Overflow<'d>>, AllocError> {
-        impose_all(
-            rt,
-            self.alloc,
-            tokens,
-            ticket,
-            self.input.job,
-            self.table,
-            self.shelf,
-            self.ready,
-            self.sender,
-            self.gate,
-            self.running,
-            self.input.working,
-        )
+        let ended = self.impose_ready(rt, tokens, ticket);
+        self.shared.working.fetch_sub(1, SeqCst);
+        ended
     }
 
     fn split(&self, tokens: &mut Tokens) -> Tokens {
-        let seat = self.table.split(&mut tokens.seat, 1);
-        let pass = self.ready.split(&mut tokens.pass, 1);
+        let seat = self.shared.table.split(&mut tokens.seat, 1);
+        let pass = self.shared.ready.split(&mut tokens.pass, 1);
         Tokens { seat, pass }
     }
 
@@ -98,8 +86,8 @@ impl<'s, 'j, 'd, T: Texts, G: Gate> Work<Overflow<'d>> for Shared<'s, 'j, 'd, T,
     }
 
     fn join(&self, all: Tokens, theirs: Tokens) -> Tokens {
-        let seat = self.table.join(all.seat, theirs.seat);
-        let pass = self.ready.join(all.pass, theirs.pass);
+        let seat = self.shared.table.join(all.seat, theirs.seat);
+        let pass = self.shared.ready.join(all.pass, theirs.pass);
         Tokens { seat, pass }
     }
 }

@@ -2,4 +2,4 @@ use Rattle.imposer.specs.Jobs.{text_of}
 use Rattle.imposer.proofs.gathering.gather.Given as goal
 
 abbrev pub ghosts-gather_as : goal.ghosts-gather_as
-ghosts-gather_as g a = record { text = text_of a.job.now }
+ghosts-gather_as g a = record { text = text_of a.shared.now.job.now }

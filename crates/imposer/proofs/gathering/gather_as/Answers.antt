@@ -5,7 +5,6 @@ use Rattle.handover.specs.Shelves.{IsOn}
 use Rattle.sheet_plan.specs.Plans.{IsSound}
 use Rattle.sheet_plan.specs.Places.{born_complete}
 use Rattle.imposer.specs.Tokens as tokens
-use Rattle.imposer.specs.Gathering.{Answers}
 use Rattle.imposer.specs.declared.tokens.Tokens.{Tokens}
 use Rattle.imposer.proofs.Counts.{table_has_pages}
 use Rattle.imposer.proofs.Ends.{sink_answers, gathered_unshelved, gathered_whole}
@@ -15,8 +14,8 @@ use Rattle.imposer.proofs.gathering.gather_as.Goals as goal
 
 pub gather_by-state-requires-clause-tokens : goal.gather_by-state-requires-clause-tokens
 gather_by-state-requires-clause-tokens g c κs within =
-    let table = c.args.table.now in
-    let queue = c.args.ready.now in
+    let table = c.args.shared.now.table.now in
+    let queue = c.args.shared.now.ready.now in
     let put = c.put_blank_sheets.ensures.put in
     are_tokens table queue whole_share (record { seat = c.args.tokens.seat; pass = c.put_blank_sheets.new.pass }) (seat_of table queue whole_share c.args.tokens c.requires.tokens.0)
     (pass_handed_on queue queue whole_share c.born_complete.result.now put.0 c.args.tokens.pass c.put_blank_sheets.new.pass (pass_of table queue whole_share c.args.tokens c.requires.tokens.0) put.1)
@@ -28,27 +27,27 @@ pub returns-clause-outcome : goal.returns-clause-outcome
 returns-clause-outcome g c =
     let state = c.gather_by-state.result in
     let last = c.finish-gathered.new.state in
-    sink_answers c.args.job.now (g.S.Sink.told c.args.sink.now) (g.S.Sink.told state.sink.now) (g.S.Sink.told last.sink.now) _ (g.S.Sink.failures c.args.sink.now) (g.S.Sink.failures state.sink.now) (g.S.Sink.failures last.sink.now) _
+    sink_answers c.args.shared.now.job.now (g.S.Sink.told c.args.sink.now) (g.S.Sink.told state.sink.now) (g.S.Sink.told last.sink.now) _ (g.S.Sink.failures c.args.sink.now) (g.S.Sink.failures state.sink.now) (g.S.Sink.failures last.sink.now) _
     state.progress c.gather_by-state.new.ended c.finish-gathered.result
     (search rules) (search rules) (search rules) (search rules) c.finish-gathered.ensures.ended c.finish-gathered.ensures.missing
 
 pub returns-clause-whole : goal.returns-clause-whole
 returns-clause-whole g c =
-    let job = c.args.job.now in
-    let table = c.args.table.now in
+    let job = c.args.shared.now.job.now in
+    let table = c.args.shared.now.table.now in
     let state = c.gather_by-state.result in
     let last = c.finish-gathered.new.state in
     let put = c.put_blank_sheets.ensures.put in
-    let born : c.born_complete.result.now ≡ born_complete table.layout = c.born_complete.ensures.value ∙ ap (λ j. born_complete (layout j.plan)) c.job.view_is ∙ ap born_complete (sym c.requires.table) in
+    let born : c.born_complete.result.now ≡ born_complete table.layout = c.born_complete.ensures.value ∙ ap (λ j. born_complete (layout j.plan)) c.job.view_is ∙ ap born_complete (sym c.args.shared.now.same_plan) in
     let first : Tokens = record { seat = c.args.tokens.seat; pass = c.put_blank_sheets.new.pass } in
-    gathered_whole job (g.S.Sink.told state.sink.now) (g.S.Sink.told last.sink.now) (g.S.Sink.failures state.sink.now) (g.S.Sink.failures last.sink.now) state.progress table c.args.ready.now first c.gather_by-state.new.ended c.finish-gathered.result
-    (table_has_pages job.plan table (subst (λ j. IsSound j.plan) c.job.view_is c.job.invariant.2) c.requires.table)
-    (λ s. subst (λ xs. tokens.put s first ≤ times s xs) born (started_puts s c.args.ready.now c.born_complete.result.now put.0 c.args.tokens first c.requires.tokens.1 put.1))
+    gathered_whole job (g.S.Sink.told state.sink.now) (g.S.Sink.told last.sink.now) (g.S.Sink.failures state.sink.now) (g.S.Sink.failures last.sink.now) state.progress table c.args.shared.now.ready.now first c.gather_by-state.new.ended c.finish-gathered.result
+    (table_has_pages job.plan table (subst (λ j. IsSound j.plan) c.job.view_is c.job.invariant.2) c.args.shared.now.same_plan)
+    (λ s. subst (λ xs. tokens.put s first ≤ times s xs) born (started_puts s c.args.shared.now.ready.now c.born_complete.result.now put.0 c.args.tokens first c.requires.tokens.1 put.1))
     c.gather_by-state.ensures.tokens c.gather_by-state.ensures.done c.gather_by-state.ensures.put c.finish-gathered.ensures.ended c.finish-gathered.ensures.missing
 
 pub returns-clause-unshelved : goal.returns-clause-unshelved
 returns-clause-unshelved g c =
     let state = c.gather_by-state.result in
     let last = c.finish-gathered.new.state in
-    gathered_unshelved (IsOn c.args.shelf.now) c.args.job.now (g.S.Sink.told state.sink.now) (g.S.Sink.told last.sink.now) (g.S.Sink.failures state.sink.now) (g.S.Sink.failures last.sink.now) state.progress c.gather_by-state.new.ended c.finish-gathered.result
+    gathered_unshelved (IsOn c.args.shared.now.shelf.now) c.args.shared.now.job.now (g.S.Sink.told state.sink.now) (g.S.Sink.told last.sink.now) (g.S.Sink.failures state.sink.now) (g.S.Sink.failures last.sink.now) state.progress c.gather_by-state.new.ended c.finish-gathered.result
     c.gather_by-state.ensures.lost c.finish-gathered.ensures.ended c.finish-gathered.ensures.missing

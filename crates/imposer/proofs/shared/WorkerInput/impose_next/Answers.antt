@@ -1,4 +1,4 @@
-use Rattle.imposer.proofs.imposing.take_turn.Goals as goal
+use Rattle.imposer.proofs.shared.WorkerInput.impose_next.Goals as goal
 use Rattle.imposer.proofs.Held.{puts_taken}
 use Rattle.imposer.proofs.Reading.{tokens_read, done_read}
 

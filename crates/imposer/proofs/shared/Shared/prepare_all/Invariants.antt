@@ -2,12 +2,12 @@ use Rattle.std.proofs.Common.{◌≡◌, ℕ, IfSome, IsNone}
 use Rattle.handover.specs.Shelves.{IsOn}
 use Rattle.imposer.specs.Duty.{Duty, share_below}
 use Rattle.imposer.specs.Tokens.{AreTokens, PutsCompleted, done}
-use Rattle.imposer.proofs.preparing.prepare_all.Given as goal
+use Rattle.imposer.proofs.shared.Shared.prepare_all.Given as goal
 
 abbrev pub invariant-loop-page : goal.invariant-loop-page
 invariant-loop-page g l = record {
-  tokens : AreTokens l.table l.ready 1 l.tokens;
-  done : IsNone l.unshelved → (h : Duty → ℕ) → done h l.tokens ≡ share_below h l.table.layout l.count l.number l.page;
+  tokens : AreTokens l.self.table.now l.self.ready.now 1 l.tokens;
+  done : IsNone l.unshelved → (h : Duty → ℕ) → done h l.tokens ≡ share_below h l.self.table.now.layout l.count l.number l.page;
   put : PutsCompleted l.tokens;
-  lost : IfSome l.unshelved (IsOn l.shelf);
+  lost : IfSome l.unshelved (IsOn l.self.shelf.now);
 }

@@ -3,12 +3,12 @@ use Rattle.crossbeam_channel.specs.Claims.{IsSeatAt}
 use Rattle.crossbeam_channel.specs.Ends.{sends_on}
 use Rattle.imposer.specs.Duty.{Duty}
 use Rattle.imposer.specs.Tokens.{AreTokens, done, put}
-use Rattle.imposer.proofs.imposing.impose_ready.Given as goal
+use Rattle.imposer.proofs.shared.WorkerInput.impose_ready.Given as goal
 
 abbrev pub invariant-loop : goal.invariant-loop
 invariant-loop g l =
     (goal.iterator-loop g).can_next l.iterator' × (goal.iterator-loop g).is_finite l.iterator'
-    × AreTokens l.table l.ready 1 l.tokens
-    × IsSeatAt (sends_on l.sender) l.ticket
+    × AreTokens l.self.shared.now.table.now l.self.shared.now.ready.now 1 l.tokens
+    × IsSeatAt (sends_on l.self.sender.now) l.ticket
     × ((h : Duty → ℕ) → done h l.tokens ≡ 0)
     × ((s : ℕ) → put s l.tokens ≡ 0)
