@@ -24,38 +24,8 @@ use std::sync::Wait;
 use std::sync::atomic::AtomicU32;
 use std::sync::atomic::Ordering::SeqCst;
 
-/// The whole work of an imposer. However it ends, one imposer less is working then.
-pub(crate) fn impose_all<'d, T: Texts, G: Gate, R: Wait>(
-    rt: &R,
-    alloc: Global,
-    tokens: Tokens,
-    ticket: Ticket,
-    job: &Job<'_, 'd>,
-    table: &GatherTable<'_>,
-    shelf: &Shelf<'d>,
-    ready: &Ready,
-    outlet: &Outlet<T>,
-    gate: &G,
-    running: &AtomicU32,
-    working: &AtomicU32,
-) -> Result<Ended<Overflow<'d>>, AllocError>
-    requires table { table.now.layout ≡ layout job.now.plan }
-    requires tokens { AreTokens table.now ready.now 1 tokens × AreUnused tokens }
-    requires ticket { IsSeatAt (sends_on outlet.now) ticket }
-    requires texts { (s : ℕ) → T.text s ≡ text_of job.now s }
-    ensures tokens { IfOk result (λ e. AreTokens table.now ready.now 1 e.tokens) }
-    ensures done { IfOk result (λ e. IsNone e.unshelved × ((h : Duty → ℕ) → done h e.tokens ≡ 0)) }
-    ensures put { IfOk result (λ e. PutsCompleted e.tokens) }
-{
-    let ended = impose_ready(
-        rt, alloc, tokens, ticket, job, table, shelf, ready, outlet, gate, running,
-    );
-    working.fetch_sub(1, SeqCst);
-    ended
-}
-
-/// Imposes sheets that are ready until there are none after the last preparer has ended.
-fn impose_ready<'d, T: Texts, G: Gate, R: Wait>(
+/// The whole work of an imposer: it imposes sheets that are ready until there are none after the last preparer has ended.
+pub(crate) fn impose_ready<'d, T: Texts, G: Gate, R: Wait>(
     rt: &R,
     alloc: Global,
     tokens: Tokens,
@@ -185,7 +155,7 @@ fn impose_taken<'d, G: Gate>(
 }
 
 /// Whether a look shows that no slot of the sheet is missing.
-fn is_complete(seat: &mut Seat, table: &GatherTable<'_>, sheet: u32) -> bool
+pub(crate) fn is_complete(seat: &mut Seat, table: &GatherTable<'_>, sheet: u32) -> bool
     requires seat { IsSeatOf table.now seat.old }
     requires sheet { sheet < length table.now.layout.sheets }
     ensures seat { IsSeatOf table.now seat.new }

@@ -16,40 +16,10 @@ use gather_table::GatherTable;
 use handover::{Overflow, Prepared, Ready, Shelf};
 use std::alloc::{AllocError, Global};
 use std::sync::Wait;
-use std::sync::atomic::AtomicU32;
-use std::sync::atomic::Ordering::SeqCst;
 
-/// The whole work of the preparer with this number, of so many. However it ends, one preparer less is running then.
-pub(crate) fn prepare<'d, G: Gate, R: Wait>(
-    rt: &R,
-    alloc: Global,
-    tokens: Tokens,
-    job: &Job<'_, 'd>,
-    table: &GatherTable<'_>,
-    shelf: &Shelf<'d>,
-    ready: &Ready,
-    gate: &G,
-    running: &AtomicU32,
-    number: u32,
-    count: u32,
-) -> Result<Ended<Overflow<'d>>, AllocError>
-    requires count { 0 < count }
-    requires plan { table.now.layout ≡ layout job.now.plan }
-    requires tokens { AreTokens table.now ready.now 1 tokens × AreUnused tokens }
-    ensures tokens { IfOk result (λ e. AreTokens table.now ready.now 1 e.tokens) }
-    ensures done { IfOk result (λ e. IsNone e.unshelved → (h : Duty → ℕ) → done h e.tokens ≡ share_below h table.now.layout count number table.now.layout.pages) }
-    ensures put { IfOk result (λ e. PutsCompleted e.tokens) }
-    ensures lost { IfOk result (λ e. IfSome e.unshelved (IsOn shelf.now)) }
-{
-    let ended = prepare_all(
-        rt, alloc, tokens, job, table, shelf, ready, gate, number, count,
-    );
-    running.fetch_sub(1, SeqCst);
-    ended
-}
-
-/// Delivers the preparer's own pages, ascending: those whose number leaves its own when divided by the count.
-fn prepare_all<'d, G: Gate, R: Wait>(
+/// The whole work of the preparer with this number, of so many: it delivers its own pages, ascending, those whose number leaves
+/// its own when divided by the count.
+pub(crate) fn prepare_own<'d, G: Gate, R: Wait>(
     rt: &R,
     alloc: Global,
     tokens: Tokens,

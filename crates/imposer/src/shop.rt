@@ -12,9 +12,9 @@ use crate::channel::{Inlet, Outlet, Right, Texts, Ticket};
 use crate::collecting::{Progress, write_early, write_text};
 use crate::crew::{Collector, Crew, Ended};
 use crate::gate::Gate;
-use crate::imposing::impose_all;
+use crate::imposing::impose_ready;
 use crate::job::Job;
-use crate::preparing::prepare;
+use crate::preparing::prepare_own;
 use crate::sink::Sink;
 use crate::tokens::Tokens;
 use crossbeam_utils::Backoff;
@@ -56,7 +56,7 @@ impl<'s, 'j, 'd, T: Texts, G: Gate> Crew<Overflow<'d>> for Shop<'s, 'j, 'd, T, G
         number: u32,
         count: u32,
     ) -> Result<Ended<Overflow<'d>>, AllocError> {
-        prepare(
+        let ended = prepare_own(
             rt,
             self.alloc,
             tokens,
@@ -65,10 +65,12 @@ impl<'s, 'j, 'd, T: Texts, G: Gate> Crew<Overflow<'d>> for Shop<'s, 'j, 'd, T, G
             self.shelf,
             self.ready,
             self.gate,
-            self.running,
             number,
             count,
-        )
+        );
+        // However it ended, one preparer less is running.
+        self.running.fetch_sub(1, SeqCst);
+        ended
     }
 
     fn impose<R: Wait>(
@@ -77,7 +79,7 @@ impl<'s, 'j, 'd, T: Texts, G: Gate> Crew<Overflow<'d>> for Shop<'s, 'j, 'd, T, G
         tokens: Tokens,
         ticket: Ticket,
     ) -> Result<Ended<Overflow<'d>>, AllocError> {
-        impose_all(
+        let ended = impose_ready(
             rt,
             self.alloc,
             tokens,
@@ -89,8 +91,10 @@ impl<'s, 'j, 'd, T: Texts, G: Gate> Crew<Overflow<'d>> for Shop<'s, 'j, 'd, T, G
             self.outlet,
             self.gate,
             self.running,
-            self.intake.working,
-        )
+        );
+        // However it ended, one imposer less is working.
+        self.intake.working.fetch_sub(1, SeqCst);
+        ended
     }
 
     fn split(&self, tokens: &mut Tokens) -> Tokens {

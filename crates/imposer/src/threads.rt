@@ -172,62 +172,6 @@ fn run<'s, E, R: Threads + Wait + Sync, L: Send + Drop + 's, D, C: Crew<L> + Syn
     join_imposers(rt, crew, prepared, workers.imposers, imposers)
 }
 
-/// All threads end before this returns.
-fn run_in_scope<
-    R: Threads + Wait + Sync,
-    L: Send + Drop,
-    D: Drop,
-    C: Crew<L> + Sync,
-    K: Collector<D>,
->(
-    rt: &R,
-    alloc: Global,
-    crew: &C,
-    collector: &K,
-    desk: D,
-    tokens: Tokens,
-    ticket: Ticket,
-    workers: Workers,
-) -> (D, Option<Ended<L>>)
-    requires tokens { AreTokens (C.table crew.now) (C.queue crew.now) whole_share tokens }
-    requires unused { tokens.seat.own ≡ [] }
-    requires ticket { C.sends crew.now ticket }
-    requires desk { K.is_laid collector.now desk }
-    requires workers { AreWorkers workers }
-    ensures same_reference { K.reference collector.now result.0 ≡ K.reference collector.now desk }
-    ensures desk { (result.0 ≡ desk) ⊎ K.collected collector.now desk result.0 }
-    ensures collected { IfSome result.1 (λ e. K.collected collector.now desk result.0) }
-    ensures tokens { IfSome result.1 (λ e. AreTokens (C.table crew.now) (C.queue crew.now) whole_share e.tokens) }
-    ensures done { IfSome result.1 (λ e. IsNone e.unshelved → (h : Duty → ℕ) → done h e.tokens ≡ owed h (C.table crew.now).layout (C.table crew.now).layout.pages) }
-    ensures put { IfSome result.1 (λ e. PutsCompletedSince tokens e.tokens) }
-    ensures lost { IfSome result.1 (λ e. IfSome e.unshelved (C.is_lost crew.now)) }
-{
-    thread::scope(
-        thread::scope_env(),
-        rt,
-        move |scope| -> (D, Option<Ended<L>>)
-            requires tokens { AreTokens (C.table crew.now) (C.queue crew.now) whole_share tokens }
-            requires unused { tokens.seat.own ≡ [] }
-            requires ticket { C.sends crew.now ticket }
-            requires desk { K.is_laid collector.now desk }
-            requires workers { AreWorkers workers }
-            ensures same_reference { K.reference collector.entry.now result.0 ≡ K.reference collector.entry.now desk }
-            ensures desk { (result.0 ≡ desk) ⊎ K.collected collector.entry.now desk result.0 }
-            ensures collected { IfSome result.1 (λ e. K.collected collector.entry.now desk result.0) }
-            ensures tokens { IfSome result.1 (λ e. AreTokens (C.table crew.entry.now) (C.queue crew.entry.now) whole_share e.tokens) }
-            ensures done { IfSome result.1 (λ e. IsNone e.unshelved → (h : Duty → ℕ) → done h e.tokens ≡ owed h (C.table crew.entry.now).layout (C.table crew.entry.now).layout.pages) }
-            ensures put { IfSome result.1 (λ e. PutsCompletedSince tokens e.tokens) }
-            ensures lost { IfSome result.1 (λ e. IfSome e.unshelved (C.is_lost crew.entry.now)) }
-        {
-            let mut desk = desk;
-            let all = run(
-                rt, scope, alloc, crew, collector, &mut desk, tokens, ticket, workers,
-            );
-            (desk, all)
-        },
-    )
-}
-
 /// Starts all threads of a run, collects on the caller's thread while they work, and joins what they hold. Nothing was
 /// collected where a thread was refused; `ended` is None there, and where a worker wanted memory.
 ///
@@ -263,7 +207,30 @@ pub(crate) fn gather_by<
     ensures put { IfSome ended.new (λ e. PutsCompletedSince tokens e.tokens) }
     ensures lost { IfSome ended.new (λ e. IfSome e.unshelved (C.is_lost crew.now)) }
 {
-    let (desk, all) = run_in_scope(rt, alloc, crew, collector, desk, tokens, ticket, workers);
+    let (desk, all) = thread::scope(
+        thread::scope_env(),
+        rt,
+        move |scope| -> (D, Option<Ended<L>>)
+            requires tokens { AreTokens (C.table crew.now) (C.queue crew.now) whole_share tokens }
+            requires unused { tokens.seat.own ≡ [] }
+            requires ticket { C.sends crew.now ticket }
+            requires desk { K.is_laid collector.now desk }
+            requires workers { AreWorkers workers }
+            ensures same_reference { K.reference collector.entry.now result.0 ≡ K.reference collector.entry.now desk }
+            ensures desk { (result.0 ≡ desk) ⊎ K.collected collector.entry.now desk result.0 }
+            ensures collected { IfSome result.1 (λ e. K.collected collector.entry.now desk result.0) }
+            ensures tokens { IfSome result.1 (λ e. AreTokens (C.table crew.entry.now) (C.queue crew.entry.now) whole_share e.tokens) }
+            ensures done { IfSome result.1 (λ e. IsNone e.unshelved → (h : Duty → ℕ) → done h e.tokens ≡ owed h (C.table crew.entry.now).layout (C.table crew.entry.now).layout.pages) }
+            ensures put { IfSome result.1 (λ e. PutsCompletedSince tokens e.tokens) }
+            ensures lost { IfSome result.1 (λ e. IfSome e.unshelved (C.is_lost crew.entry.now)) }
+        {
+            let mut desk = desk;
+            let all = run(
+                rt, scope, alloc, crew, collector, &mut desk, tokens, ticket, workers,
+            );
+            (desk, all)
+        },
+    );
     *ended = all;
     desk
 }

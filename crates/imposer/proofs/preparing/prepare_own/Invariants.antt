@@ -2,7 +2,7 @@ use Rattle.std.proofs.Common.{◌≡◌, ℕ, IfSome, IsNone}
 use Rattle.handover.specs.Shelves.{IsOn}
 use Rattle.imposer.specs.Duty.{Duty, share_below}
 use Rattle.imposer.specs.Tokens.{AreTokens, PutsCompleted, done}
-use Rattle.imposer.proofs.preparing.prepare_all.Given as goal
+use Rattle.imposer.proofs.preparing.prepare_own.Given as goal
 
 abbrev pub invariant-loop-page : goal.invariant-loop-page
 invariant-loop-page g l = record {
