@@ -1,27 +1,24 @@
 -- The tokens of a worker stay tokens whatever it calls, and what it called adds up.
-use Rattle.std.proofs.Common.{◌≡◌, ⊎_elim, ℕ, ◌+◌, ◌-◌, ◌≤◌, ◌==◌, ◌&&◌, Bool, true, false, if◌then◌else◌, List, [], ◌∷◌, ◌++◌, length, refl, sym, ap, ◌∙◌, subst, arith}
-use Rattle.std.specs.Prelude.{Option}
+use Rattle.std.proofs.Common.{◌≡◌, ⊎_elim, ℕ, ◌+◌, ◌≤◌, ◌==◌, ◌&&◌, Bool, true, false, if◌then◌else◌, List, [], ◌∷◌, ◌++◌, length, refl, sym, ap, ◌∙◌, subst, arith}
 use Rattle.profile.specs.Sheets.{Layout}
-use Rattle.histories.specs.Seats.{whole_share, total, times}
+use Rattle.histories.specs.Seats.{total, times}
 use Rattle.histories.specs.Own.{entries_at}
 use Rattle.histories.proofs.Totals.{total-append}
-use Rattle.histories.proofs.Own.{held_opens}
 use Rattle.sheet_plan.specs.Places.{places_of}
 use Rattle.gather_table.specs.declared.answers.Published.{Published}
 use Rattle.gather_table.specs.declared.answers.Reply.{Reply}
-use Rattle.gather_table.specs.History.{Entry, Look, PageAt, IsLegal}
+use Rattle.gather_table.specs.History.{Entry}
 use Rattle.gather_table.specs.Laws.{is_completing, completings}
 use Rattle.gather_table.specs.Shared.{TableView, SeatView, IsSeat, IsSeatOf, own_calls, opening_seat}
 use Rattle.gather_table.specs.Shared as table
 use Rattle.gather_table.proofs.Calls.{same_makes, seat_makes, own_calls_are_kept}
 use Rattle.gather_table.proofs.Legal.{completings-append}
-use Rattle.handover.specs.Queue.{Move, Put, Take, IsQueueHistory, sheets_put}
+use Rattle.handover.specs.Queue.{Move, Put, Take, sheets_put}
 use Rattle.handover.specs.Passes.{QueueView, PassView, IsPass, IsPassOf, own_moves, opening_pass}
 use Rattle.handover.specs.Passes as queue
 use Rattle.handover.proofs.Moves.{own_moves_are_kept}
 use Rattle.imposer.specs.Delivery.{marks_of, delivery, completed, HandedOn}
 use Rattle.imposer.specs.Duty.{Duty, worth, duties}
-use Rattle.imposer.specs.LookUps.{look_ups, LooksUp}
 use Rattle.imposer.specs.Tokens as held
 use Rattle.imposer.specs.Tokens.{AreTokens, AreUnused, AreOfBoth, PutsCompleted, done, put}
 use Rattle.imposer.specs.declared.tokens.Tokens.{Tokens}

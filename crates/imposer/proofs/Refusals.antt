@@ -1,22 +1,16 @@
 -- What the refusals of the parts say of a run.
-use Rattle.std.proofs.Common.{ℕ, ◌≡◌, List, length, refl, sym, subst}
-use Rattle.std.specs.Prelude.{Result, Ok, Err, IfSome, IfErr, IsErrAnd}
+use Rattle.std.proofs.Common.{ℕ, ◌≡◌, List, length, refl}
+use Rattle.std.specs.Prelude.{Ok}
 use Rattle.profile.specs.Specification.{Spec}
 use Rattle.profile.specs.Run.{document_of}
 use Rattle.profile.specs.Parts.{NestedUnit, pages}
 use Rattle.profile.specs.Admissible.{Takes}
-use Rattle.pagespec.specs.Refusals as spec_said
 use Rattle.sheet_plan.specs.Refusals as plan_said
-use Rattle.dsc.specs.Faults as dsc
 use Rattle.imposer.specs.Workers.{AreOptions}
-use Rattle.imposer.specs.Outcomes.{of_spec, of_document, of_plan}
+use Rattle.imposer.specs.Outcomes.{of_plan}
 use Rattle.imposer.specs.Runs.{Request, IsRefusal, IsUnwritten}
-use Rattle.pagespec.specs.declared.error.SpecError.{SpecError}
-use Rattle.pagespec.specs.declared.error.SpecError.TheVariants as spec
 use Rattle.sheet_plan.specs.declared.error.PlanError.{PlanError}
 use Rattle.sheet_plan.specs.declared.error.PlanError.TheVariants as plan
-use Rattle.dsc.specs.declared.errors.DscError.{DscError}
-use Rattle.dsc.specs.declared.errors.DscError.TheVariants as document
 
 pub refused_plan : (r : Request) (e : PlanError) (s : Spec) (us : List NestedUnit) (n : ℕ) → AreOptions r.options → Takes 64 r.spec s → document_of r.input ≡ Ok us → n ≡ length (pages us)
     → plan_said.Refuses s n e → IsRefusal r (of_plan e) × IsUnwritten (of_plan e)

@@ -4,7 +4,7 @@ use Rattle.std.specs.Prelude.{slice_get, slice_index_or, map, flat_map, option_m
 use Rattle.std.proofs.Math.ListN.{get_or, get_or-map}
 use Rattle.std.proofs.Math.Seq.{take-suc}
 use Rattle.std.proofs.lemmas.Option.{slice_get-map, get_or_from_slice_get, slice_get_within}
-use Rattle.std.proofs.lemmas.List.{flat_map_more, length-map, take_all}
+use Rattle.std.proofs.lemmas.List.{flat_map_more, length-map}
 use Rattle.profile.specs.Specification.{Item}
 use Rattle.profile.specs.Sheets.{Slot, Plan}
 use Rattle.profile.specs.Parts.{pages}

@@ -5,7 +5,6 @@ use Rattle.handover.specs.Shelves.{IsOn}
 use Rattle.sheet_plan.specs.Plans.{IsSound}
 use Rattle.sheet_plan.specs.Places.{born_complete}
 use Rattle.imposer.specs.Tokens as tokens
-use Rattle.imposer.specs.Gathering.{Answers}
 use Rattle.imposer.specs.declared.tokens.Tokens.{Tokens}
 use Rattle.imposer.proofs.Counts.{table_has_pages}
 use Rattle.imposer.proofs.Ends.{sink_answers, gathered_unshelved, gathered_whole}
