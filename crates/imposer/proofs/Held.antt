@@ -1,27 +1,24 @@
 -- The tokens of a worker stay tokens whatever it calls, and what it called adds up.
-use Rattle.std.proofs.Common.{◌≡◌, ⊎_elim, ℕ, ◌+◌, ◌-◌, ◌≤◌, ◌==◌, ◌&&◌, Bool, true, false, if◌then◌else◌, List, [], ◌∷◌, ◌++◌, length, refl, sym, ap, ◌∙◌, subst, arith}
-use Rattle.std.specs.Prelude.{Option}
+use Rattle.std.proofs.Common.{◌≡◌, ⊎_elim, ℕ, ◌+◌, ◌≤◌, ◌==◌, ◌&&◌, Bool, true, false, if◌then◌else◌, List, [], ◌∷◌, ◌++◌, length, refl, sym, ap, ◌∙◌, subst, arith}
 use Rattle.profile.specs.Sheets.{Layout}
-use Rattle.histories.specs.Seats.{whole_share, total, times}
+use Rattle.histories.specs.Seats.{total, times}
 use Rattle.histories.specs.Own.{entries_at}
 use Rattle.histories.proofs.Totals.{total-append}
-use Rattle.histories.proofs.Own.{held_opens}
 use Rattle.sheet_plan.specs.Places.{places_of}
 use Rattle.gather_table.specs.declared.answers.Published.{Published}
 use Rattle.gather_table.specs.declared.answers.Reply.{Reply}
-use Rattle.gather_table.specs.History.{Entry, Look, PageAt, IsLegal}
+use Rattle.gather_table.specs.History.{Entry}
 use Rattle.gather_table.specs.Laws.{is_completing, completings}
 use Rattle.gather_table.specs.Shared.{TableView, SeatView, IsSeat, IsSeatOf, own_calls, opening_seat}
 use Rattle.gather_table.specs.Shared as table
 use Rattle.gather_table.proofs.Calls.{same_makes, seat_makes, own_calls_are_kept}
 use Rattle.gather_table.proofs.Legal.{completings-append}
-use Rattle.handover.specs.Queue.{Move, Put, Take, IsQueueHistory, sheets_put}
+use Rattle.handover.specs.Queue.{Move, Put, Take, sheets_put}
 use Rattle.handover.specs.Passes.{QueueView, PassView, IsPass, IsPassOf, own_moves, opening_pass}
 use Rattle.handover.specs.Passes as queue
 use Rattle.handover.proofs.Moves.{own_moves_are_kept}
 use Rattle.imposer.specs.Delivery.{marks_of, delivery, completed, HandedOn}
 use Rattle.imposer.specs.Duty.{Duty, worth, duties}
-use Rattle.imposer.specs.LookUps.{look_ups, LooksUp}
 use Rattle.imposer.specs.Tokens as held
 use Rattle.imposer.specs.Tokens.{AreTokens, AreUnused, AreOfBoth, PutsCompleted, done, put}
 use Rattle.imposer.specs.declared.tokens.Tokens.{Tokens}
@@ -57,9 +54,6 @@ seat_called t n old new es s m =
       share = ap (λ (z : SeatView). z.share) same ∙ s.share;
     }
 
-pub one_call : (old new : SeatView) (e : Entry) → table.Made old e new → table.Makes old (e ∷ []) new
-one_call old new e m = (new, m, refl)
-
 -- a pass stays one of its queue with its share
 pub pass_moved : (q : QueueView) (n : ℕ) (old new : PassView) (m : Move) → IsPassWith q n old → queue.Made old m new → IsPassWith q n new
 pass_moved q n old new m p d = record {
@@ -75,15 +69,7 @@ pass_handed_on q r n (s ∷ sheets) back old new p h = ⊎_elim
     (λ x. pass_handed_on q r n sheets x.0 old new p x.3)
     h
 
--- the same of both
-pub tokens_called : (t : TableView) (q : QueueView) (n : ℕ) (old new : Tokens) (es : List Entry) → AreTokens t q n old → table.Makes old.seat es new.seat → new.pass ≡ old.pass → AreTokens t q n new
-tokens_called t q n old new es a m same =
-    are_tokens t q n new (seat_called t n old.seat new.seat es (seat_of t q n old a) m) (subst (IsPassWith q n) (sym same) (pass_of t q n old a))
-
-pub tokens_moved : (t : TableView) (q : QueueView) (n : ℕ) (old new : Tokens) (m : Move) → AreTokens t q n old → new.seat ≡ old.seat → queue.Made old.pass m new.pass → AreTokens t q n new
-tokens_moved t q n old new m a same d =
-    are_tokens t q n new (subst (IsSeatWith t n) (sym same) (seat_of t q n old a)) (pass_moved q n old.pass new.pass m (pass_of t q n old a) d)
-
+-- both, where a page was delivered
 pub tokens_delivered : (t : TableView) (q r : QueueView) (n : ℕ) (old new : Tokens) (es : List Entry) (sheets back : List ℕ)
     → AreTokens t q n old → table.Makes old.seat es new.seat → HandedOn r sheets back old.pass new.pass → AreTokens t q n new
 tokens_delivered t q r n old new es sheets back a m h =
@@ -124,44 +110,6 @@ completings_delivery s layout p i was rs old new m =
     let d = completings_called s old new (delivery layout p i was rs) m in
     let w = marks_complete s (places_of layout p) rs in
     omega arith
-
--- looks and look-ups do and complete nothing
-pub done_look : (h : Duty → ℕ) (s missing : ℕ) (old new : SeatView) → table.Made old (Look s missing) new → total (worth h) (own_calls new) ≡ total (worth h) (own_calls old)
-done_look h s missing old new m = let d = done_called h old new (Look s missing ∷ []) (one_call old new (Look s missing) m) in omega arith
-
-pub completings_look : (s r missing : ℕ) (old new : SeatView) → table.Made old (Look r missing) new → completings s (own_calls new) ≡ completings s (own_calls old)
-completings_look s r missing old new m = let d = completings_called s old new (Look r missing ∷ []) (one_call old new (Look r missing) m) in omega arith
-
-pub done_look_up : (h : Duty → ℕ) (p : ℕ) (found : Option ℕ) (old new : SeatView) → table.Made old (PageAt p found) new → total (worth h) (own_calls new) ≡ total (worth h) (own_calls old)
-done_look_up h p found old new m = let d = done_called h old new (PageAt p found ∷ []) (one_call old new (PageAt p found) m) in omega arith
-
-pub completings_look_up : (s p : ℕ) (found : Option ℕ) (old new : SeatView) → table.Made old (PageAt p found) new → completings s (own_calls new) ≡ completings s (own_calls old)
-completings_look_up s p found old new m = let d = completings_called s old new (PageAt p found ∷ []) (one_call old new (PageAt p found) m) in omega arith
-
-look_ups_weigh : (h : Duty → ℕ) (ps is : List ℕ) → total (worth h) (look_ups ps is) ≡ 0
-look_ups_weigh h [] is = refl
-look_ups_weigh h (p ∷ ps) [] = refl
-look_ups_weigh h (p ∷ ps) (i ∷ is) = let r = look_ups_weigh h ps is in omega arith
-
-look_ups_complete : (s : ℕ) (ps is : List ℕ) → completings s (look_ups ps is) ≡ 0
-look_ups_complete s [] is = refl
-look_ups_complete s (p ∷ ps) [] = refl
-look_ups_complete s (p ∷ ps) (i ∷ is) = let r = look_ups_complete s ps is in omega arith
-
-pub done_look_ups : (h : Duty → ℕ) (ps is : List ℕ) (old new : SeatView) → table.Makes old (look_ups ps is) new → total (worth h) (own_calls new) ≡ total (worth h) (own_calls old)
-done_look_ups h ps is old new m = let d = done_called h old new (look_ups ps is) m in let w = look_ups_weigh h ps is in omega arith
-
-pub completings_look_ups : (s : ℕ) (ps is : List ℕ) (old new : SeatView) → table.Makes old (look_ups ps is) new → completings s (own_calls new) ≡ completings s (own_calls old)
-completings_look_ups s ps is old new m = let d = completings_called s old new (look_ups ps is) m in let w = look_ups_complete s ps is in omega arith
-
-pub seat_looks_up : (t : TableView) (k n : ℕ) (ps : List ℕ) (old new : SeatView) → IsSeatWith t k old → LooksUp ps n old new → IsSeatWith t k new
-seat_looks_up t k n ps old new s l = seat_called t k old new (look_ups ps l.indexes) s l.made
-
-pub done_looks_up : (h : Duty → ℕ) (n : ℕ) (ps : List ℕ) (old new : SeatView) → LooksUp ps n old new → total (worth h) (own_calls new) ≡ total (worth h) (own_calls old)
-done_looks_up h n ps old new l = done_look_ups h ps l.indexes old new l.made
-
-pub completings_looks_up : (s n : ℕ) (ps : List ℕ) (old new : SeatView) → LooksUp ps n old new → completings s (own_calls new) ≡ completings s (own_calls old)
-completings_looks_up s n ps old new l = completings_look_ups s ps l.indexes old new l.made
 
 -- what is put
 puts-append : (s : ℕ) (xs ys : List Move) → times s (sheets_put (xs ++ ys)) ≡ times s (sheets_put xs) + times s (sheets_put ys)
@@ -210,89 +158,10 @@ puts_delivered q layout p i was rs back old new k m h s =
     omega arith
 
 -- tokens of which nothing was called
-pub unused_done : (h : Duty → ℕ) (tokens : Tokens) → AreUnused tokens → done h tokens ≡ 0
-unused_done h tokens u = ap (λ (own : List ℕ). total (worth h) (entries_at tokens.seat.front own)) u.no_calls
-
 pub unused_put : (s : ℕ) (tokens : Tokens) → AreUnused tokens → put s tokens ≡ 0
 unused_put s tokens u = ap (λ (own : List ℕ). times s (sheets_put (entries_at tokens.pass.front own))) u.no_moves
 
-pub unused_completed : (s : ℕ) (tokens : Tokens) → AreUnused tokens → held.completed s tokens ≡ 0
-unused_completed s tokens u = ap (λ (own : List ℕ). completings s (entries_at tokens.seat.front own)) u.no_calls
-
-pub unused_puts : (tokens : Tokens) → AreUnused tokens → PutsCompleted tokens
-unused_puts tokens u s = let p = unused_put s tokens u in omega arith
-
--- the tokens that a table and a queue are made with
-pub opening_tokens : (t : TableView) (q : QueueView) (tokens : Tokens) → tokens.seat ≡ opening_seat t → tokens.pass ≡ opening_pass q → AreTokens t q whole_share tokens × AreUnused tokens
-opening_tokens t q tokens s p = (
-  are_tokens t q whole_share tokens
-      (subst (IsSeatWith t whole_share) (sym s) (record { of_table = (refl, refl); seat = held_opens (IsLegal t.layout) tt; share = refl }))
-      (subst (IsPassWith q whole_share) (sym p) (record { of_queue = (refl, refl); pass = held_opens (IsQueueHistory q.capacity) tt; share = refl })),
-  record { no_calls = ap (λ (z : SeatView). z.own) s; no_moves = ap (λ (z : PassView). z.own) p },
-)
-
--- tokens that gave some of their share away, and those that got it
-pub seat_keeps : (t : TableView) (n give : ℕ) (old new : SeatView) → IsSeatWith t n old → new ≡ record old { share = old.share - give } → IsSeat new → IsSeatWith t (n - give) new
-seat_keeps t n give old new s e k = record {
-  of_table = (ap (λ (z : SeatView). z.table) e ∙ s.of_table.0, ap (λ (z : SeatView). z.layout) e ∙ s.of_table.1);
-  seat = k;
-  share = ap (λ (z : SeatView). z.share) e ∙ ap (λ m. m - give) s.share;
-}
-
-pub seat_given : (t : TableView) (n give : ℕ) (old new : SeatView) → IsSeatWith t n old → new ≡ record old { own = []; share = give } → IsSeat new → IsSeatWith t give new
-seat_given t n give old new s e k = record {
-  of_table = (ap (λ (z : SeatView). z.table) e ∙ s.of_table.0, ap (λ (z : SeatView). z.layout) e ∙ s.of_table.1);
-  seat = k;
-  share = ap (λ (z : SeatView). z.share) e;
-}
-
-pub pass_keeps : (q : QueueView) (n give : ℕ) (old new : PassView) → IsPassWith q n old → new ≡ record old { share = old.share - give } → IsPass new → IsPassWith q (n - give) new
-pass_keeps q n give old new p e k = record {
-  of_queue = (ap (λ (z : PassView). z.queue) e ∙ p.of_queue.0, ap (λ (z : PassView). z.capacity) e ∙ p.of_queue.1);
-  pass = k;
-  share = ap (λ (z : PassView). z.share) e ∙ ap (λ m. m - give) p.share;
-}
-
-pub pass_given : (q : QueueView) (n give : ℕ) (old new : PassView) → IsPassWith q n old → new ≡ record old { own = []; share = give } → IsPass new → IsPassWith q give new
-pass_given q n give old new p e k = record {
-  of_queue = (ap (λ (z : PassView). z.queue) e ∙ p.of_queue.0, ap (λ (z : PassView). z.capacity) e ∙ p.of_queue.1);
-  pass = k;
-  share = ap (λ (z : PassView). z.share) e;
-}
-
-pub tokens_keep : (t : TableView) (q : QueueView) (n give : ℕ) (old new : Tokens) → AreTokens t q n old
-    → new.seat ≡ record old.seat { share = old.seat.share - give } → IsSeat new.seat → new.pass ≡ record old.pass { share = old.pass.share - give } → IsPass new.pass → AreTokens t q (n - give) new
-tokens_keep t q n give old new a s k p l =
-    are_tokens t q (n - give) new (seat_keeps t n give old.seat new.seat (seat_of t q n old a) s k) (pass_keeps q n give old.pass new.pass (pass_of t q n old a) p l)
-
-pub tokens_given : (t : TableView) (q : QueueView) (n give : ℕ) (old new : Tokens) → AreTokens t q n old
-    → new.seat ≡ record old.seat { own = []; share = give } → IsSeat new.seat → new.pass ≡ record old.pass { own = []; share = give } → IsPass new.pass → AreTokens t q give new × AreUnused new
-tokens_given t q n give old new a s k p l = (
-  are_tokens t q give new (seat_given t n give old.seat new.seat (seat_of t q n old a) s k) (pass_given q n give old.pass new.pass (pass_of t q n old a) p l),
-  record { no_calls = ap (λ (z : SeatView). z.own) s; no_moves = ap (λ (z : PassView). z.own) p },
-)
-
 -- two in one
-pub seat_joined : (t : TableView) (n m : ℕ) (one two new : SeatView) → IsSeatWith t n one → IsSeatWith t m two → table.Joined one two new → IsSeatWith t (n + m) new
-seat_joined t n m one two new a b j = record {
-  of_table = (ap (λ (z : SeatView). z.table) j.joined ∙ a.of_table.0, ap (λ (z : SeatView). z.layout) j.joined ∙ a.of_table.1);
-  seat = j.seat;
-  share = ap (λ (z : SeatView). z.share) j.joined ∙ (λ i. a.share i + b.share i);
-}
-
-pub pass_joined : (q : QueueView) (n m : ℕ) (one two new : PassView) → IsPassWith q n one → IsPassWith q m two → queue.Joined one two new → IsPassWith q (n + m) new
-pass_joined q n m one two new a b j = record {
-  of_queue = (ap (λ (z : PassView). z.queue) j.joined ∙ a.of_queue.0, ap (λ (z : PassView). z.capacity) j.joined ∙ a.of_queue.1);
-  pass = j.pass;
-  share = ap (λ (z : PassView). z.share) j.joined ∙ (λ i. a.share i + b.share i);
-}
-
-pub tokens_joined : (t : TableView) (q : QueueView) (n m : ℕ) (one two new : Tokens) → AreTokens t q n one → AreTokens t q m two → table.Joined one.seat two.seat new.seat → queue.Joined one.pass two.pass new.pass → AreTokens t q (n + m) new
-tokens_joined t q n m one two new a b s p =
-    are_tokens t q (n + m) new
-    (seat_joined t n m one.seat two.seat new.seat (seat_of t q n one a) (seat_of t q m two b) s)
-    (pass_joined q n m one.pass two.pass new.pass (pass_of t q n one a) (pass_of t q m two b) p)
-
 pub of_both : (t : TableView) (q : QueueView) (n m : ℕ) (one two new : Tokens) → AreTokens t q n one → AreTokens t q m two → table.Joined one.seat two.seat new.seat → queue.Joined one.pass two.pass new.pass → AreOfBoth one two new
 of_both t q n m one two new a b s p =
     let calls = own_calls_are_kept.1 one.seat two.seat new.seat a.seat b.seat s in
@@ -302,11 +171,3 @@ of_both t q n m one two new a b s p =
       completions = λ s. ap (completings s) calls ∙ completings-append s (own_calls one.seat) (own_calls two.seat);
       puts = λ s. ap (λ (l : List Move). times s (sheets_put l)) moves ∙ puts-append s (own_moves one.pass) (own_moves two.pass);
     }
-
-pub puts_joined : (one two new : Tokens) → AreOfBoth one two new → PutsCompleted one → PutsCompleted two → PutsCompleted new
-puts_joined one two new b k l s =
-    let p = b.puts s in
-    let c = b.completions s in
-    let x = k s in
-    let y = l s in
-    omega arith

@@ -1,5 +1,5 @@
 -- The look-ups of a sheet's pages, one by one.
-use Rattle.std.proofs.Common.{◌≡◌, ℕ, zero, suc, ◌+◌, ◌≤◌, List, [], ◌∷◌, ◌++◌, Option, Some, length, take, drop, refl, sym, ap, ◌∙◌, subst, arith, length-append}
+use Rattle.std.proofs.Common.{◌≡◌, ℕ, zero, suc, ◌+◌, ◌<◌, ◌≤◌, List, [], ◌∷◌, ◌++◌, Option, Some, length, take, drop, refl, sym, ap, ◌∙◌, subst, arith, length-append}
 use Rattle.std.specs.Prelude.{None, slice_get}
 use Rattle.std.proofs.lemmas.List.{take_all}
 use Rattle.profile.specs.Sheets.{Layout, layout}
@@ -10,14 +10,20 @@ use Rattle.gather_table.specs.Shared.{TableView, SeatView, IsSeat, IsSeatOf, Mad
 use Rattle.gather_table.proofs.Legal.{pages_of as index_of}
 use Rattle.gather_table.proofs.Calls.{makes_push, begins_makes, same_makes, complete_stays, finds_index}
 use Rattle.imposer.specs.Jobs.{JobView}
-use Rattle.imposer.specs.LookUps.{needed, pages_of, look_ups, LooksUp, LooksAt, HasIndex}
+use Rattle.imposer.specs.LookUps.{needed, pages_of, look_ups, LooksUp, LooksUpUntil, LooksAt, HasIndex}
+use Rattle.imposer.specs.declared.imposition.ImposeError.{ImposeError}
+use Rattle.imposer.specs.declared.imposition.ImposeError.TheVariants.{NoMemory, NotShown}
+
+-- the page of a slot, as the job has it
+pub page_in : (inside job : JobView) (s k p : ℕ) (o : Option ℕ) → inside ≡ job → slice_get (pages_on inside.plan s) k ≡ Some o → o ≡ Some p → slice_get (pages_on job.plan s) k ≡ Some (Some p)
+page_in inside job s k p o view read is = ap (λ (j : JobView). slice_get (pages_on j.plan s) k) (sym view) ∙ read ∙ ap Some is
 
 -- each page of a sheet that the seat has seen complete has an index
 pub has_index : (inside job : JobView) (table : Layout) (seat : SeatView) (s k p : ℕ) (o : Option ℕ) → inside ≡ job → table ≡ layout job.plan → seat.layout ≡ table → IsSeat seat → IsComplete table seat.front s
     → slice_get (pages_on inside.plan s) k ≡ Some o → o ≡ Some p → HasIndex table seat.front p
 has_index inside job table seat s k p o view same of ok complete read is =
     index_of table seat.front s k p (subst (λ (l : Layout). IsLegal l seat.front) of ok.legal) complete
-    (ap (λ (l : Layout). slice_get (slots l s) k) same ∙ ap (λ (j : JobView). slice_get (pages_on j.plan s) k) (sym view) ∙ read ∙ ap Some is)
+    (ap (λ (l : Layout). slice_get (slots l s) k) same ∙ page_in inside job s k p o view read is)
 
 -- and a look-up finds it
 pub is_found : (table : Layout) (old new : SeatView) (p : ℕ) (found : Option ℕ) → old.layout ≡ table → HasIndex table old.front p → Made old (PageAt p found) new → found ≡ None → ⊥
@@ -117,6 +123,18 @@ looks_on job table old mid new s k same looked next =
     let more : suc k ≡ k + 1 = omega arith in
     subst (λ n. LooksUp (pages_of table s) (length (needed (take n (slots table s)))) old new) more
     (looks_next old mid new (slots table s) k (slice_get (pages_on job.plan s) k) (ap (λ (l : Layout). slice_get (slots l s) k) same) looked next)
+
+-- a slot with a page is one look-up at least
+pub looks_some : (job : JobView) (table : Layout) (s k p : ℕ) → table ≡ layout job.plan → slice_get (pages_on job.plan s) k ≡ Some (Some p) → 0 < length (needed (take (k + 1) (slots table s)))
+looks_some job table s k p same at =
+    let more : suc k ≡ k + 1 = omega arith in
+    let one : length (needed (take (suc k) (slots table s))) ≡ suc (length (needed (take k (slots table s)))) = some_more (slots table s) k p (ap (λ (l : Layout). slice_get (slots l s) k) same ∙ at) in
+    subst (λ n. 0 < length (needed (take n (slots table s)))) more (omega (arith, one))
+
+-- whatever is answered then
+pub looks_until : (ps : List ℕ) (e : ImposeError) (old new : SeatView) (n : ℕ) → 0 < n → LooksUp ps n old new → LooksUpUntil ps e old new
+looks_until ps NoMemory old new n some looked = (n, looked)
+looks_until ps NotShown old new n some looked = (n, some, looked)
 
 -- all slots
 pub looks_done : (inside job : JobView) (table : Layout) (old new : SeatView) (s k end : ℕ) → inside ≡ job → table ≡ layout job.plan → end ≡ length (pages_on inside.plan s) → k ≡ end

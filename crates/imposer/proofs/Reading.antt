@@ -10,17 +10,16 @@ use Rattle.handover.specs.Queue.{Take}
 use Rattle.handover.specs.Passes.{QueueView, PassView}
 use Rattle.handover.specs.Passes as queue
 use Rattle.imposer.specs.Duty.{Duty, worth}
-use Rattle.imposer.specs.LookUps.{look_ups, LooksUp}
+use Rattle.imposer.specs.LookUps.{look_ups, LooksUp, LooksUpUntil}
+use Rattle.imposer.specs.declared.imposition.ImposeError.{ImposeError}
+use Rattle.imposer.specs.declared.imposition.ImposeError.TheVariants.{NoMemory, NotShown}
 use Rattle.imposer.specs.Reading.{OnlyReads}
 use Rattle.imposer.specs.Tokens.{AreTokens}
 use Rattle.imposer.specs.declared.tokens.Tokens.{Tokens}
 use Rattle.imposer.proofs.LookUps.{still_seat}
 use Rattle.imposer.proofs.Held.{seat_of, pass_of, are_tokens, seat_called, pass_moved, done_called}
 
--- no call, a look, look-ups, and reads after reads
-pub reads_none : (seat : SeatView) → OnlyReads seat seat
-reads_none seat = record { calls = []; made = refl; weightless = λ h. refl }
-
+-- a look, look-ups, and reads after reads
 pub reads_look : (old new : SeatView) (s missing : ℕ) → Made old (Look s missing) new → OnlyReads old new
 reads_look old new s missing made = record { calls = Look s missing ∷ []; made = (new, made, refl); weightless = λ h. refl }
 
@@ -31,6 +30,10 @@ look_ups_weigh h (p ∷ ps) (i ∷ is) = let r = look_ups_weigh h ps is in omega
 
 pub reads_look_ups : (old new : SeatView) (ps : List ℕ) (n : ℕ) → LooksUp ps n old new → OnlyReads old new
 reads_look_ups old new ps n looked = record { calls = look_ups ps looked.indexes; made = looked.made; weightless = λ h. look_ups_weigh h ps looked.indexes }
+
+pub reads_until : (old new : SeatView) (ps : List ℕ) (e : ImposeError) → LooksUpUntil ps e old new → OnlyReads old new
+reads_until old new ps NoMemory looked = reads_look_ups old new ps looked.0 looked.1
+reads_until old new ps NotShown looked = reads_look_ups old new ps looked.0 looked.2
 
 pub reads_both : (a b c : SeatView) → OnlyReads a b → OnlyReads b c → OnlyReads a c
 reads_both a b c one two = record {

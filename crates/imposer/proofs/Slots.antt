@@ -4,7 +4,7 @@ use Rattle.std.specs.Prelude.{slice_get, slice_index_or, map, flat_map, option_m
 use Rattle.std.proofs.Math.ListN.{get_or, get_or-map}
 use Rattle.std.proofs.Math.Seq.{take-suc}
 use Rattle.std.proofs.lemmas.Option.{slice_get-map, get_or_from_slice_get, slice_get_within}
-use Rattle.std.proofs.lemmas.List.{flat_map_more, length-map, take_all}
+use Rattle.std.proofs.lemmas.List.{flat_map_more, length-map}
 use Rattle.profile.specs.Specification.{Item}
 use Rattle.profile.specs.Sheets.{Slot, Plan}
 use Rattle.profile.specs.Parts.{pages}
@@ -58,10 +58,6 @@ slot_more slots it text front k at =
     flat_map_more text front (take k slots) it
     ∙ ap (λ xs. front ++ flat_map text xs)
     (ap (λ x. take k slots ++ x ∷ []) (sym (get_or_from_slice_get slots k it it at)) ∙ sym (take-suc slots k it within) ∙ ap (λ n. take n slots) next)
-
--- all slots
-pub slots_done : (job : JobView) (s k : ℕ) → k ≡ length (pages_on job.plan s) → slots_text job (take k (slots_of job s)) ≡ slots_text job (slots_of job s)
-slots_done job s k is = ap (λ xs. slots_text job xs) (take_all k (slots_of job s) (omega (arith, slot_count job.plan s)))
 
 -- a body that was read and prepared for the page of a slot is the slot's text, opened and closed
 pub slot_placed : (inside job : JobView) (s k p : ℕ) (o : Option ℕ) (it : Slot) (raw body : List ℕ) → inside ≡ job → slice_get (pages_on inside.plan s) k ≡ Some o → o ≡ Some p

@@ -1,9 +1,11 @@
 -- The calls by which a sheet's pages are found.
-use Rattle.std.specs.Prelude.{◌≡◌, ℕ, ◌≤◌, List, [], ◌∷◌, length, Option, Some, None}
+use Rattle.std.specs.Prelude.{◌≡◌, ℕ, ◌<◌, ◌≤◌, List, [], ◌∷◌, length, Option, Some, None}
 use Rattle.profile.specs.Sheets.{Layout}
 use Rattle.gather_table.specs.Table.{slots}
 use Rattle.gather_table.specs.History.{Entry, PageAt, after_history}
 use Rattle.gather_table.specs.Shared.{SeatView, Made, Makes}
+use Rattle.imposer.specs.declared.imposition.ImposeError.{ImposeError}
+use Rattle.imposer.specs.declared.imposition.ImposeError.TheVariants.{NoMemory, NotShown}
 
 -- the pages of these slots, in slot order
 abbrev pub needed : List (Option ℕ) → List ℕ
@@ -27,6 +29,11 @@ pub record LooksUp (pages : List ℕ) (n : ℕ) (old new : SeatView) : Type 0 wh
   pub indexes : List ℕ
   pub found : length indexes ≡ n
   pub made : Makes old (look_ups pages indexes) new
+
+-- the first of these pages were looked up, so many as there were until this was answered: where a page isn't shown, one at least
+abbrev pub LooksUpUntil : List ℕ → ImposeError → (old new : SeatView) → Type 0
+LooksUpUntil pages NoMemory old new = (n : ℕ) × LooksUp pages n old new
+LooksUpUntil pages NotShown old new = (n : ℕ) × (0 < n) × LooksUp pages n old new
 
 -- the page of a slot was looked up and found, and nothing else was called; a blank slot, or one that isn't there, has none
 abbrev pub LooksAt : Option (Option ℕ) → (old new : SeatView) → Type 0

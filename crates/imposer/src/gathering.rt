@@ -276,7 +276,8 @@ fn conclude<'d, S: Sink>(
 /// The numbers of a job whose whole output was written.
 fn report_on(job: &Job<'_, '_>, rest: Rest) -> Report
     requires swept { rest.swept ≤ length job.now.plan.sheets }
-    ensures { rest.progress.written ≡ length (output_of job.now) → ReportsOf job.now result }
+    ensures numbers { rest.progress.written ≡ length (output_of job.now) → ReportsOf job.now result }
+    ensures swept { result.swept ≡ rest.swept }
 {
     Report {
         pages: job.plan.pages(),

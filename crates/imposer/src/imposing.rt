@@ -124,7 +124,7 @@ impl<'s, 'j, 'd, G: Gate> Shared<'s, 'j, 'd, G> {
 }
 
 /// Whether a look shows that no slot of the sheet is missing.
-fn is_complete(seat: &mut Seat, table: &GatherTable<'_>, sheet: u32) -> bool
+pub(crate) fn is_complete(seat: &mut Seat, table: &GatherTable<'_>, sheet: u32) -> bool
     requires seat { IsSeatOf table.now seat.old }
     requires sheet { sheet < length table.now.layout.sheets }
     ensures seat { IsSeatOf table.now seat.new }

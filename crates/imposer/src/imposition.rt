@@ -1,5 +1,5 @@
 //! A sheet is made of the pages that are shelved.
-ghost use Rattle.std.specs.Prelude.{◌≡◌, ℕ, ◌+◌, ◌-◌, ◌<◌, ◌≤◌, ◌++◌, ◌∷◌, [], IfOk, OnOk, MatchResult, length, Some, slice_get, slice_index_or};
+ghost use Rattle.std.specs.Prelude.{◌≡◌, ℕ, ◌+◌, ◌-◌, ◌<◌, ◌≤◌, ◌++◌, ◌∷◌, [], IfOk, OnOk, OnErr, MatchResult, length, Some, slice_get, slice_index_or};
 ghost use Rattle.profile.specs.Parts.{pages};
 ghost use Rattle.profile.specs.Sheets.{Slot, layout};
 ghost use Rattle.profile.specs.Output.{slot_text};
@@ -8,7 +8,7 @@ ghost use Rattle.gather_table.specs.History.{PageAt, IsComplete};
 ghost use Rattle.gather_table.specs.Shared.{IsSeatOf, Made};
 ghost use Rattle.handover.specs.Pages.{IsPrepared};
 ghost use Rattle.imposer.specs.Jobs.{slots_of, slots_text, text_of};
-ghost use Rattle.imposer.specs.LookUps.{pages_of, LooksUp, LooksAt, HasIndex};
+ghost use Rattle.imposer.specs.LookUps.{pages_of, LooksUp, LooksUpUntil, LooksAt, HasIndex};
 
 use crate::job::Job;
 use crate::sheet::{append_page_line, append_placed, likely_len};
@@ -36,7 +36,7 @@ pub enum ImposeError {
 
 /// Makes the text of a complete sheet, counted from 0, of the pages that stand on the shelf. The text is that of `sheet_text`.
 /// The table is one for the job's plan, and the seat has seen the sheet complete: a look that was answered 0 shows it.
-/// Each page of the sheet is looked up in slot order. After a refusal some of the first were.
+/// Each page of the sheet is looked up in slot order. After a refusal some of the first were, and at `NotShown` one at least.
 pub fn impose<'d>(
     alloc: Global,
     seat: &mut Seat,
@@ -52,7 +52,7 @@ pub fn impose<'d>(
     ensures text { IfOk result (λ m. (m.sheet ≡ sheet) × (m.text.items ≡ text_of job.now sheet)) }
     ensures looked_up { MatchResult result
         (λ m. LooksUp (pages_of table.now.layout sheet) (length (pages_of table.now.layout sheet)) seat.old seat.new)
-        (λ e. (n : ℕ) × LooksUp (pages_of table.now.layout sheet) n seat.old seat.new) }
+        (λ e. LooksUpUntil (pages_of table.now.layout sheet) e seat.old seat.new) }
 {
     let Ok(mut text) = Vec::with_capacity(alloc, likely_len(job, sheet)) else {
         return Err(ImposeError::NoMemory);
@@ -86,7 +86,7 @@ fn append_shelved_slots<'d>(
     ensures text { OnOk result (text.new.items ≡ text.old.items ++ slots_text job.now (slots_of job.now sheet)) }
     ensures looked_up { MatchResult result
         (λ m. LooksUp (pages_of table.now.layout sheet) (length (pages_of table.now.layout sheet)) seat.old seat.new)
-        (λ e. (n : ℕ) × LooksUp (pages_of table.now.layout sheet) n seat.old seat.new) }
+        (λ e. (n : ℕ) × (0 < n) × LooksUp (pages_of table.now.layout sheet) n seat.old seat.new) }
 {
     for slot in 0..job.plan.slots(sheet) {
         match append_shelved(text, seat, job, table, shelf, sheet, slot) {
@@ -115,6 +115,7 @@ fn append_shelved<'d>(
     ensures text { OnOk result ((it : Slot) → slice_get (slots_of job.now sheet) slot ≡ Some it →
         text.new.items ≡ text.old.items ++ slot_text job.now.frame (pages job.now.units) it.page it.item) }
     ensures looked_up { LooksAt (slice_get (pages_on job.now.plan sheet) slot) seat.old seat.new }
+    ensures has_page { OnErr result ((page : ℕ) × (slice_get (pages_on job.now.plan sheet) slot ≡ Some (Some page))) }
 {
     let Some(page) = job.plan.page_of(sheet, slot) else {
         return Ok(());

@@ -53,7 +53,10 @@ impl<T: Texts> Setup<T> {
 }
 
 /// A place for each sheet, and no sheet yet.
-fn no_sheets(alloc: Global, job: &Job<'_, '_>) -> Result<Vec<Option<Vec<u8>>>, AllocError>
+pub(crate) fn no_sheets(
+    alloc: Global,
+    job: &Job<'_, '_>,
+) -> Result<Vec<Option<Vec<u8>>>, AllocError>
     ensures { IfOk result (λ early. AreEarly job.now early.items) }
 {
     let mut early = Vec::with_capacity(alloc, job.sheets as usize)?;

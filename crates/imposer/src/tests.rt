@@ -1,10 +1,11 @@
-//! Runs on small documents and on many pages, refusals, sinks, gates, deliveries and impositions.
+//! Runs on small documents and on many pages, refusals, sinks, gates, deliveries, impositions and sweeping.
 mod deliveries;
 mod gates;
 mod impositions;
 mod many_pages;
 mod refusals;
 mod sinks;
+mod sweeping;
 
 use crate::{Job, MemorySink, Open, Options, Report, RunError, Workers, run, sheet_text};
 use dsc::Document;

@@ -180,62 +180,6 @@ fn run_workers<
     join_imposers(rt, shared, prepared, workers.imposers, imposers)
 }
 
-/// All threads end before this returns.
-fn run_in_scope<
-    R: Threads + Wait + Sync,
-    L: Send + Drop,
-    S: Drop,
-    W: Work<L> + Sync,
-    K: Collector<S>,
->(
-    rt: &R,
-    alloc: Global,
-    shared: &W,
-    collector: &K,
-    state: S,
-    tokens: Tokens,
-    ticket: Ticket,
-    workers: Workers,
-) -> (S, Option<Ended<L>>)
-    requires tokens { AreTokens (W.table shared.now) (W.queue shared.now) whole_share tokens }
-    requires unused { tokens.seat.own ≡ [] }
-    requires ticket { W.sends shared.now ticket }
-    requires state { K.is_ready_to_collect collector.now state }
-    requires workers { AreWorkers workers }
-    ensures same_reference { K.reference collector.now result.0 ≡ K.reference collector.now state }
-    ensures state { (result.0 ≡ state) ⊎ K.collected collector.now state result.0 }
-    ensures collected { IfSome result.1 (λ e. K.collected collector.now state result.0) }
-    ensures tokens { IfSome result.1 (λ e. AreTokens (W.table shared.now) (W.queue shared.now) whole_share e.tokens) }
-    ensures done { IfSome result.1 (λ e. IsNone e.unshelved → (h : Duty → ℕ) → done h e.tokens ≡ owed h (W.table shared.now).layout (W.table shared.now).layout.pages) }
-    ensures put { IfSome result.1 (λ e. PutsCompletedSince tokens e.tokens) }
-    ensures lost { IfSome result.1 (λ e. IfSome e.unshelved (W.is_lost shared.now)) }
-{
-    thread::scope(
-        thread::scope_env(),
-        rt,
-        move |scope| -> (S, Option<Ended<L>>)
-            requires tokens { AreTokens (W.table shared.now) (W.queue shared.now) whole_share tokens }
-            requires unused { tokens.seat.own ≡ [] }
-            requires ticket { W.sends shared.now ticket }
-            requires state { K.is_ready_to_collect collector.now state }
-            requires workers { AreWorkers workers }
-            ensures same_reference { K.reference collector.entry.now result.0 ≡ K.reference collector.entry.now state }
-            ensures state { (result.0 ≡ state) ⊎ K.collected collector.entry.now state result.0 }
-            ensures collected { IfSome result.1 (λ e. K.collected collector.entry.now state result.0) }
-            ensures tokens { IfSome result.1 (λ e. AreTokens (W.table shared.entry.now) (W.queue shared.entry.now) whole_share e.tokens) }
-            ensures done { IfSome result.1 (λ e. IsNone e.unshelved → (h : Duty → ℕ) → done h e.tokens ≡ owed h (W.table shared.entry.now).layout (W.table shared.entry.now).layout.pages) }
-            ensures put { IfSome result.1 (λ e. PutsCompletedSince tokens e.tokens) }
-            ensures lost { IfSome result.1 (λ e. IfSome e.unshelved (W.is_lost shared.entry.now)) }
-        {
-            let mut state = state;
-            let all = run_workers(
-                rt, scope, alloc, shared, collector, &mut state, tokens, ticket, workers,
-            );
-            (state, all)
-        },
-    )
-}
-
 /// Starts all threads of a run, collects on the caller's thread while they work, and joins what they hold. Nothing was
 /// collected where a thread was refused; `ended` is None there, and where a worker wanted memory.
 ///
@@ -271,7 +215,30 @@ pub(crate) fn gather_by<
     ensures put { IfSome ended.new (λ e. PutsCompletedSince tokens e.tokens) }
     ensures lost { IfSome ended.new (λ e. IfSome e.unshelved (W.is_lost shared.now)) }
 {
-    let (state, all) = run_in_scope(rt, alloc, shared, collector, state, tokens, ticket, workers);
+    let (state, all) = thread::scope(
+        thread::scope_env(),
+        rt,
+        move |scope| -> (S, Option<Ended<L>>)
+            requires tokens { AreTokens (W.table shared.now) (W.queue shared.now) whole_share tokens }
+            requires unused { tokens.seat.own ≡ [] }
+            requires ticket { W.sends shared.now ticket }
+            requires state { K.is_ready_to_collect collector.now state }
+            requires workers { AreWorkers workers }
+            ensures same_reference { K.reference collector.entry.now result.0 ≡ K.reference collector.entry.now state }
+            ensures state { (result.0 ≡ state) ⊎ K.collected collector.entry.now state result.0 }
+            ensures collected { IfSome result.1 (λ e. K.collected collector.entry.now state result.0) }
+            ensures tokens { IfSome result.1 (λ e. AreTokens (W.table shared.entry.now) (W.queue shared.entry.now) whole_share e.tokens) }
+            ensures done { IfSome result.1 (λ e. IsNone e.unshelved → (h : Duty → ℕ) → done h e.tokens ≡ owed h (W.table shared.entry.now).layout (W.table shared.entry.now).layout.pages) }
+            ensures put { IfSome result.1 (λ e. PutsCompletedSince tokens e.tokens) }
+            ensures lost { IfSome result.1 (λ e. IfSome e.unshelved (W.is_lost shared.entry.now)) }
+        {
+            let mut state = state;
+            let all = run_workers(
+                rt, scope, alloc, shared, collector, &mut state, tokens, ticket, workers,
+            );
+            (state, all)
+        },
+    );
     *ended = all;
     state
 }

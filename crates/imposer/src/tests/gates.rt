@@ -167,3 +167,54 @@ fn a_sheet_is_written_before_the_next_page_is_delivered(rt: HostRuntime) -> Resu
     assert_eq!(rt; (run_out, report.swept), (0, 0));
     Ok(())
 }
+
+/// Counts how often it is told of each step before it, and how often after it.
+#[derive(Drop)]
+struct Told {
+    before: AtomicUsize,
+    after: AtomicUsize,
+}
+
+/// What a step adds: one to its own eight bits of the word. All steps that two pages on two sheets don't have share the rest.
+fn one_more(step: Step) -> usize {
+    match step {
+        Step::Deliver(0) => 1,
+        Step::Deliver(1) => 0x100,
+        Step::Impose(0) => 0x1_0000,
+        Step::Impose(1) => 0x100_0000,
+        _ => 0x1_0000_0000,
+    }
+}
+
+impl Gate for Told {
+    fn before(&self, step: Step) {
+        self.before.fetch_add(one_more(step), SeqCst);
+    }
+
+    fn after(&self, step: Step) {
+        self.after.fetch_add(one_more(step), SeqCst);
+    }
+}
+
+/// Two pages on two sheets: what the gate was told.
+fn run_told<R: Threads + Wait + Abort + Sync>(
+    rt: &R,
+    alloc: Global,
+) -> Result<(usize, usize), RunError> {
+    let gate = Told {
+        before: AtomicUsize::new(0),
+        after: AtomicUsize::new(0),
+    };
+    let mut sink = MemorySink::new(alloc, 1_000, 1_000, 100)?;
+    let options = workers(rt, 2, 2);
+    let input = TWO_PAGES.as_bytes();
+    run(rt, alloc, input, "0", &options, &gate, &mut sink)?;
+    Ok((gate.before.load(SeqCst), gate.after.load(SeqCst)))
+}
+
+#[test]
+fn a_gate_is_told_once_before_each_step_and_once_after_it(rt: HostRuntime) -> Result<(), Fail> {
+    let told = run_told(&rt, rt.alloc())?;
+    assert_eq!(rt; told, (0x101_0101, 0x101_0101));
+    Ok(())
+}

@@ -4,7 +4,8 @@ ghost use Rattle.profile.specs.Sheets.{layout};
 ghost use Rattle.gather_table.specs.History.{IsComplete};
 ghost use Rattle.gather_table.specs.Shared.{IsSeatOf};
 
-use super::{TWO_PAGES, a4};
+use super::{ONE_PAGE, TWO_PAGES, a4};
+use crate::imposing::is_complete;
 use crate::{ImposeError, Imposed, Job, impose, sheet_text};
 use dsc::Document;
 use gather_table::{GatherTable, Published, Reply, Seat};
@@ -36,7 +37,7 @@ fn bring_first(
     }
     let published = table.publish(seat, page, index);
     let marked = table.mark(seat, 0, 0);
-    if table.look(seat, 0) != 0 {
+    if !is_complete(seat, table, 0) {
         return None;
     }
     Some((published, marked))
@@ -95,5 +96,39 @@ fn a_sheet_of_its_own_page_has_its_text(rt: HostRuntime) -> Result<(), Fail> {
     let imposed = answer?;
     assert_eq!(rt; imposed.sheet, 0);
     assert_eq!(rt; imposed.text.as_slice(), text.as_slice());
+    Ok(())
+}
+
+// Imposes the first sheet, where a look shows it complete as it is.
+fn impose_untouched(
+    alloc: Global,
+    plan: &Plan,
+    job: &Job<'_, '_>,
+) -> Result<Option<Result<Imposed, ImposeError>>, AllocError>
+    requires job { job.now.plan ≡ plan.now }
+    requires sheet { 0 < length plan.now.sheets }
+{
+    let (table, mut seat) = GatherTable::new(alloc, plan)?;
+    let shelf = Shelf::new(alloc)?;
+    if !is_complete(&mut seat, &table, 0) {
+        return Ok(None);
+    }
+    Ok(Some(impose(alloc, &mut seat, job, &table, &shelf, 0)))
+}
+
+#[test]
+fn a_sheet_without_pages_needs_no_shelf(rt: HostRuntime) -> Result<(), Fail> {
+    let spec = read_spec(rt.alloc(), "2:1")?;
+    let document = Document::read(rt.alloc(), ONE_PAGE.as_bytes())?;
+    let plan = Plan::new(rt.alloc(), &spec, document.pages())?;
+    assert!(rt; 0 < plan.sheets());
+    let job = Job::new(&plan, &document, a4(&rt), None);
+    let Some(answer) = impose_untouched(rt.alloc(), &plan, &job)? else {
+        panic!(rt; "the sheet is not complete");
+    };
+    assert_eq!(rt;
+        answer?.text.as_slice(),
+        b"%%Page: 1 1\nshowpage\n".as_slice()
+    );
     Ok(())
 }

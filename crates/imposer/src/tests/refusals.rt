@@ -1,7 +1,9 @@
-//! What is refused first.
+//! What is refused first, and how a refusal reads.
 use super::{ONE_PAGE, TWO_UP, workers};
-use crate::{MemorySink, Open, RunError, run};
+use crate::{ImposeError, MemorySink, Open, RunError, run};
+use dsc::DscError;
 use pagespec::SpecError;
+use sheet_plan::PlanError;
 use std::alloc::Global;
 use std::process::Abort;
 use std::sync::Wait;
@@ -49,5 +51,41 @@ fn workers_are_checked_first(rt: HostRuntime) -> Result<(), Fail> {
 fn the_specification_is_read_before_the_input(rt: HostRuntime) -> Result<(), Fail> {
     let error = refuse(&rt, rt.alloc(), "", "x", (1, 1))?;
     assert!(rt; matches!(error, RunError::Spec(SpecError::Syntax(0))));
+    Ok(())
+}
+
+#[test]
+fn each_refusal_has_its_message(rt: HostRuntime) -> Result<(), Fail> {
+    let messages = [
+        (RunError::Options, "bad options"),
+        (
+            RunError::Spec(SpecError::TooManyGroups),
+            "specification: too many groups",
+        ),
+        (RunError::Document(DscError::NoPages), "input: no pages"),
+        (
+            RunError::Plan(PlanError::TooManySheets),
+            "plan: too many sheets",
+        ),
+        (RunError::NoMemory { written: 7 }, "out of memory"),
+        (RunError::Write { written: 7 }, "cannot write output"),
+    ];
+    for (error, message) in &messages {
+        let text = format!(in rt.alloc(); "{error}")?;
+        assert_eq!(rt; text.as_str(), *message);
+    }
+    Ok(())
+}
+
+#[test]
+fn each_refused_sheet_has_its_message(rt: HostRuntime) -> Result<(), Fail> {
+    let messages = [
+        (ImposeError::NoMemory, "out of memory"),
+        (ImposeError::NotShown, "a page is not on the shelf"),
+    ];
+    for (error, message) in &messages {
+        let text = format!(in rt.alloc(); "{error}")?;
+        assert_eq!(rt; text.as_str(), *message);
+    }
     Ok(())
 }

@@ -1,8 +1,8 @@
-//! Sinks that fail, and one that takes a byte a call, beside one worker of each kind and beside several.
+//! Sinks that fail, and one that takes a byte a call, beside one worker of each kind and beside several; and a writer as a sink.
 ghost use Rattle.std.specs.Prelude.{◌<◌};
 
 use super::{ONE_PAGE, ONE_SHEET, workers};
-use crate::{MemorySink, Open, Report, RunError, Sink, run};
+use crate::{MemorySink, Open, Report, RunError, Sink, SinkFault, WriteSink, run};
 use std::alloc::Global;
 use std::process::Abort;
 use std::sync::Wait;
@@ -58,5 +58,16 @@ fn a_sink_that_has_answered_its_calls_fails(rt: HostRuntime) -> Result<(), Fail>
     let mut sink = MemorySink::new(rt.alloc(), 2, 1, 1)?;
     assert_eq!(rt; sink.accept(b"xy"), Ok(1));
     assert!(rt; sink.accept(b"y").is_err());
+    Ok(())
+}
+
+#[test]
+fn a_writer_that_is_full_fails(rt: HostRuntime) -> Result<(), Fail> {
+    let mut place = [0u8; 3];
+    let mut sink = WriteSink::new(place.as_mut_slice());
+    assert_eq!(rt; sink.accept(b"abcd"), Ok(3));
+    assert_eq!(rt; sink.accept(b"d"), Err(SinkFault {}));
+    drop(sink);
+    assert_eq!(rt; place.as_slice(), b"abc".as_slice());
     Ok(())
 }

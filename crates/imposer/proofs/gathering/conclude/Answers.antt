@@ -7,7 +7,7 @@ returns-in-None-clause-ended g c = record {
   answers = (λ start first stands.
       let p = c.write_rest-rest.result.progress in
       let ended = subst (λ h. EndsAt c.args.job.now start (g.S.Sink.told c.write_rest-rest.new.sink) first (g.S.Sink.failures c.write_rest-rest.new.sink) p.written h) c.in-None.is (c.write_rest-rest.ensures.ended start first stands) in
-      (ended.1, ended.2, c.report_on.ensures ended.0));
+      (ended.1, ended.2, c.report_on.ensures.numbers ended.0));
   tokens = search rules;
   same = search rules;
   unshelved = search rules;

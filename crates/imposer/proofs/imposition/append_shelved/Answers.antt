@@ -4,7 +4,7 @@ use Rattle.profile.specs.Parts.{pages}
 use Rattle.profile.specs.Output.{opening_text, closing_text}
 use Rattle.imposer.specs.Jobs.{JobView}
 use Rattle.imposer.proofs.imposition.append_shelved.Goals as goal
-use Rattle.imposer.proofs.LookUps.{has_index}
+use Rattle.imposer.proofs.LookUps.{has_index, page_in}
 use Rattle.imposer.proofs.Slots.{slot_placed}
 
 pub find_shelved-requires-clause-index : goal.find_shelved-requires-clause-index
@@ -17,3 +17,9 @@ returns-in-Ok-append_placed-clause-text c = λ it at.
     c.in-Ok-append_placed.ensures it at
     ∙ ap (λ b. c.args.text.now.items ++ (opening_text c.args.job.now.frame it.item ++ b ++ closing_text)) c.body.ensures.body
     ∙ ap (λ t. c.args.text.now.items ++ t) (slot_placed _ _ c.args.sheet c.args.slot _ _ it _ _ c.job.view_is c.page_of.ensures.value c.in-Some.is raw_is c.in-Ok.ensures.prepared at)
+
+pub returns-in-Err-clause-has_page : goal.returns-in-Err-clause-has_page
+returns-in-Err-clause-has_page c = (c.in-Some.page, page_in _ _ c.args.sheet c.args.slot _ _ c.job.view_is c.page_of.ensures.value c.in-Some.is)
+
+pub returns-in-Err-append_placed-clause-has_page : goal.returns-in-Err-append_placed-clause-has_page
+returns-in-Err-append_placed-clause-has_page c = (c.in-Some.page, page_in _ _ c.args.sheet c.args.slot _ _ c.job.view_is c.page_of.ensures.value c.in-Some.is)

@@ -2,7 +2,7 @@ use Rattle.std.proofs.Common.{arith, ◌+◌, ◌≡◌, length, take, sym, appe
 use Rattle.gather_table.specs.Table.{slots}
 use Rattle.imposer.specs.LookUps.{needed}
 use Rattle.imposer.proofs.imposition.append_shelved_slots.Goals as goal
-use Rattle.imposer.proofs.LookUps.{still_seat, still_complete, looks_none, looks_on, looks_done}
+use Rattle.imposer.proofs.LookUps.{still_seat, still_complete, looks_none, looks_on, looks_some, looks_done}
 use Rattle.imposer.proofs.Slots.{slots_turn}
 
 pub append_shelved-requires-clause-seat : goal.append_shelved-requires-clause-seat
@@ -23,6 +23,7 @@ loop-slot-preserved c = record {
 pub returns-in-Err-clause-looked_up : goal.returns-in-Err-clause-looked_up
 returns-in-Err-clause-looked_up c = (
   length (needed (take (c.loop-slot.slot + 1) (slots c.args.table.now.layout c.args.sheet))),
+  looks_some c.args.job.now c.args.table.now.layout c.args.sheet c.loop-slot.slot _ c.requires.table c.in-Err.ensures.has_page.1,
   looks_on c.args.job.now c.args.table.now.layout _ _ _ c.args.sheet c.loop-slot.slot c.requires.table c.loop-slot.invariant.looked_up c.append_shelved.ensures.looked_up,
 )
 

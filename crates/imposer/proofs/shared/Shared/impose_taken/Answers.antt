@@ -1,7 +1,7 @@
 use Rattle.std.specs.Prelude.{length}
 use Rattle.imposer.specs.LookUps.{pages_of}
 use Rattle.imposer.proofs.shared.Shared.impose_taken.Goals as goal
-use Rattle.imposer.proofs.Reading.{reads_look_ups, reads_both}
+use Rattle.imposer.proofs.Reading.{reads_look_ups, reads_until, reads_both}
 
 pub returns-in-Ok-clause-reads : goal.returns-in-Ok-clause-reads
 returns-in-Ok-clause-reads g c =
@@ -10,8 +10,8 @@ returns-in-Ok-clause-reads g c =
 
 pub returns-in-NoMemory-clause-reads : goal.returns-in-NoMemory-clause-reads
 returns-in-NoMemory-clause-reads g c =
-    reads_both _ _ _ c.is_complete.ensures.reads (reads_look_ups _ _ (pages_of c.args.self.now.table.now.layout c.args.sheet) _ c.in-Err.ensures.looked_up.1)
+    reads_both _ _ _ c.is_complete.ensures.reads (reads_until _ _ (pages_of c.args.self.now.table.now.layout c.args.sheet) _ c.in-Err.ensures.looked_up)
 
 pub returns-in-NotShown-clause-reads : goal.returns-in-NotShown-clause-reads
 returns-in-NotShown-clause-reads g c =
-    reads_both _ _ _ c.is_complete.ensures.reads (reads_look_ups _ _ (pages_of c.args.self.now.table.now.layout c.args.sheet) _ c.in-Err.ensures.looked_up.1)
+    reads_both _ _ _ c.is_complete.ensures.reads (reads_until _ _ (pages_of c.args.self.now.table.now.layout c.args.sheet) _ c.in-Err.ensures.looked_up)

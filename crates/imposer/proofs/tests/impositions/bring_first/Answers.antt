@@ -13,11 +13,3 @@ mark-marked-requires-clause-slot c =
     subst (λ (l : Layout). IsMarkable l (after_history l c.publish-published.new.seat.front) 0 0) seated
     (published_may_be_marked _ _ 0 0 c.in_ok-page.page _ _ c.publish-published.ensures
     (subst (λ (l : Layout). slice_get (slots l 0) 0 ≡ Some (Some c.in_ok-page.page)) (sym c.requires.plan ∙ sym seated) c.in_ok-page.ensures.value))
-
-pub returns-clause-complete : goal.returns-clause-complete
-returns-clause-complete c =
-    let published : c.publish-published.new.seat.layout ≡ c.args.seat.now.layout = ap (λ (z : SeatView). z.layout) c.publish-published.ensures.grown in
-    let marked : c.mark-marked.new.seat.layout ≡ c.publish-published.new.seat.layout = ap (λ (z : SeatView). z.layout) c.mark-marked.ensures.grown in
-    let none : c.look.result ≡ 0 = grind arith in
-    subst (λ (l : Layout). IsComplete l c.look.new.seat.front 0) (marked ∙ published ∙ c.requires.seat.1)
-    (look_shows_seat _ _ 0 (subst (λ n. Made c.mark-marked.new.seat (Look 0 n) c.look.new.seat) none c.look.ensures))
