@@ -121,4 +121,6 @@ settled_ascii spec none =
 
 -- the canonical text of an admissible specification is ASCII
 pub canonical_ascii : (spec : Spec) → IsAdmissible 64 spec → IsAscii (canonical spec)
-canonical_ascii spec a = subst (λ s. IsAscii (canonical s)) (sym a.settles) (settled_ascii a.written a.faultless)
+canonical_ascii spec a =
+    let (short, written, stands, faultless, settles) = a.taken in
+    subst (λ s. IsAscii (canonical s)) (sym settles) (settled_ascii written faultless)

@@ -5,8 +5,7 @@ use Rattle.std.specs.List.{list_any}
 use Rattle.std.proofs.lemmas.List.{length-append, length-map, append-nil}
 use Rattle.std.proofs.lemmas.Slice.Zip.{AllZip-long}
 use Rattle.profile.specs.Specification.{WrittenItem, WrittenSpec, Item, Spec, IsSpec, IsItem, IsJoined, AreGroups, settled, canonical}
-use Rattle.profile.specs.Admissible.{Fault, TooLong, Syntax, TooLarge, ModuloZero, PageOutOfBlock, ScaleZero, Repeated, TooManySlots, TooManyGroups, items, fault_of, else_first, only_if, at_lowest, any_too_large, is_flat, repeats, Refuses, Takes}
-use Rattle.pagespec.specs.Admitted.{IsAdmitted}
+use Rattle.profile.specs.Admissible.{Fault, TooLong, Syntax, TooLarge, ModuloZero, PageOutOfBlock, ScaleZero, Repeated, TooManySlots, TooManyGroups, items, fault_of, else_first, only_if, at_lowest, any_too_large, is_flat, repeats, Refuses, Takes, IsAdmissible}
 use Rattle.pagespec.specs.Reading.{spec_at}
 use Rattle.pagespec.specs.Groups.{AreKept}
 use Rattle.pagespec.specs.Faults.{fault_named, first_fault_of}
@@ -170,16 +169,9 @@ comes_to t modulo ks ns groups read none e =
     same_spec _ _ _ _ (capped_small modulo read.spec.modulo read.modulo_is small.0)
     (e ∙ groups_settle ks read.spec.groups ns (small_items ks (items read.spec) read.shows small.1) read.counted)
 
-pub admitted : (t : List ℕ) (modulo : ℕ) (ks : List KeptItem) (ns : List ℕ) (groups : List (List Item)) → Read t modulo ks ns → length t ≤ 65_536 → None ≡ first_fault_of modulo ks ns
-    → groups ≡ split_by ns (map settled_kept ks) → IsAdmitted (spec_of modulo groups)
-admitted t modulo ks ns groups read h none e =
-    let same = comes_to t modulo ks ns groups read none e in
-    let right = faultless t modulo ks ns read none in
-    record {
-      text = t;
-      taken = (h, read.spec, read.stands, right, same);
-      admissible = record { written = read.spec; settles = same; faultless = right; short = subst (λ s. length (canonical s) ≤ 65_536) (sym same) (short_enough t read.spec read.stands right h) };
-    }
+pub admissible : (t : List ℕ) (modulo : ℕ) (ks : List KeptItem) (ns : List ℕ) (groups : List (List Item)) → Read t modulo ks ns → length t ≤ 65_536 → None ≡ first_fault_of modulo ks ns
+    → groups ≡ split_by ns (map settled_kept ks) → IsAdmissible 64 (spec_of modulo groups)
+admissible t modulo ks ns groups read h none e = record { text = t; taken = (h, read.spec, read.stands, faultless t modulo ks ns read none, comes_to t modulo ks ns groups read none e) }
 
 pub taken : (t : List ℕ) (modulo : ℕ) (ks : List KeptItem) (ns : List ℕ) (groups : List (List Item)) (result : Spec) → Read t modulo ks ns → length t ≤ 65_536 → None ≡ first_fault_of modulo ks ns
     → groups ≡ split_by ns (map settled_kept ks) → result ≡ spec_of modulo groups → Takes 64 t result

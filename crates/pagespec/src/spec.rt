@@ -1,15 +1,13 @@
 //! An admissible specification.
 ghost use Rattle.std.specs.Prelude.{◌≡◌};
 ghost use Rattle.profile.specs.Admissible.{IsAdmissible};
-ghost use Rattle.pagespec.specs.Admitted.{IsAdmitted};
 ghost use Rattle.pagespec.specs.Items.{groups_of};
 
 use crate::item::Item;
 use std::marker::Model;
 
 /// A specification that every check passed: the modulo, and for each sheet of a block the items on it. A contract sees it as
-/// what its text comes to. Its type keeps that some admissible text comes to it, and that its canonical text has at most 65,536
-/// bytes.
+/// what its text comes to. Its type keeps that some text is taken that comes to it.
 #[derive(Drop)]
 pub struct Spec {
     modulo: u32,
@@ -21,18 +19,18 @@ impl Model for Spec {
 
     ghost Value = { Spec };
 
-    ghost use Rattle.pagespec.specs.Admitted.{IsAdmitted};
+    ghost use Rattle.profile.specs.Admissible.{IsAdmissible};
     ghost use Rattle.pagespec.specs.Items.{groups_of};
 
     ghost view = { λ s. record { modulo = s.modulo; groups = groups_of s.groups.items } };
 
-    ghost invariant = { λ s. IsAdmitted (record { modulo = s.modulo; groups = groups_of s.groups.items }) };
+    ghost invariant = { λ s. IsAdmissible 64 (record { modulo = s.modulo; groups = groups_of s.groups.items }) };
 }
 
 impl Spec {
     /// The specification of this modulo and these groups.
     pub(crate) fn new(modulo: u32, groups: Vec<Vec<Item>>) -> Spec
-        requires { IsAdmitted (record { modulo = modulo; groups = groups_of groups.items }) }
+        requires { IsAdmissible 64 (record { modulo = modulo; groups = groups_of groups.items }) }
         ensures { result ≡ record { modulo = modulo; groups = groups_of groups.items } }
     {
         Spec { modulo, groups }
@@ -42,7 +40,6 @@ impl Spec {
     pub fn modulo(&self) -> u32
         ensures value { result ≡ self.now.modulo }
         ensures admissible { IsAdmissible 64 self.now }
-        ensures admitted { IsAdmitted self.now }
     {
         self.modulo
     }
@@ -51,7 +48,6 @@ impl Spec {
     pub fn groups(&self) -> &[Vec<Item>]
         ensures items { groups_of result.now ≡ self.now.groups }
         ensures admissible { IsAdmissible 64 self.now }
-        ensures admitted { IsAdmitted self.now }
     {
         self.groups.as_slice()
     }

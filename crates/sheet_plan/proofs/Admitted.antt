@@ -6,7 +6,6 @@ use Rattle.std.proofs.lemmas.List.{length-map, get_or_append_left, get_or-append
 use Rattle.std.proofs.lemmas.List.Sums.{fails_before_first}
 use Rattle.std.proofs.lemmas.List.Elements.{All-nil, All-cons, All-map}
 use Rattle.profile.specs.Bytes.{comma, plus_sign}
-use Rattle.pagespec.specs.Admitted.{IsAdmitted}
 use Rattle.profile.specs.Specification.{IsJoined, IsItem, IsSpec, AreGroups, WrittenSpec, WrittenItem, Spec, settled, settled_item}
 use Rattle.profile.specs.Admissible.{Takes, Fault, TooLarge, ModuloZero, PageOutOfBlock, ScaleZero, Repeated, TooManySlots, TooManyGroups, IsAdmissible, fault_of, else_first, only_if, at_lowest, any_too_large, items, repeats, is_flat}
 use Rattle.std.specs.List.{list_any, position_or_len}
@@ -105,7 +104,9 @@ bounded_written w e =
     }
 
 pub bounded : (spec : Spec) → IsAdmissible 64 spec → IsBounded spec
-bounded spec a = subst IsBounded (sym a.settles) (bounded_written a.written a.faultless)
+bounded spec a =
+    let (short, written, stands, faultless, settles) = a.taken in
+    subst IsBounded (sym settles) (bounded_written written faultless)
 
 -- ---- a group of a text has an item
 joined_some : {X : Type 0} (c : ℕ) (R : List ℕ → X → Type 0) (text : List ℕ) (xs : List X) → IsJoined c R text xs → 0 < length xs
@@ -131,7 +132,7 @@ written_some text w (inr (digits, rest, is, number, groups)) = groups_some rest 
 filled_written : (text : List ℕ) (w : WrittenSpec) → IsSpec text w → All (λ g. 0 < length g) (settled w).groups
 filled_written text w s = map_all (λ g. 0 < length g) (λ g. map settled_item g) w.groups (λ k d lt. let h = written_some text w s k d lt in let l = length-map (get_or w.groups k d) settled_item in omega arith)
 
-pub filled : (spec : Spec) → IsAdmitted spec → All (λ g. 0 < length g) spec.groups
+pub filled : (spec : Spec) → IsAdmissible 64 spec → All (λ g. 0 < length g) spec.groups
 filled spec a = from_text a.text spec a.taken
   where
     from_text : (text : List ℕ) (spec : Spec) → Takes 64 text spec → All (λ g. 0 < length g) spec.groups

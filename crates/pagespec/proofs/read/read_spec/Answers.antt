@@ -1,7 +1,7 @@
 use Rattle.std.proofs.Common.{arith, ap, length, ◌∙◌}
 use Rattle.pagespec.specs.Reading.{spec_at}
 use Rattle.pagespec.proofs.AllGroups.{stuck_none}
-use Rattle.pagespec.proofs.Outcomes.{all_read, syntax_refused, few_kept, few_lengths, fault_refused, fault_placed, lengths_right, admitted, taken, split_same}
+use Rattle.pagespec.proofs.Outcomes.{all_read, syntax_refused, few_kept, few_lengths, fault_refused, fault_placed, lengths_right, admissible, taken, split_same}
 use Rattle.pagespec.proofs.read.read_spec.Goals as goal
 
 pub returns-in-Err-Stuck-clause-refused : goal.returns-in-Err-Stuck-clause-refused
@@ -35,7 +35,7 @@ settled_groups-requires c = lengths_right _ _ _ _ (all_read _ _ _ _ _ _ c.as_byt
 
 pub new-requires : goal.new-requires
 new-requires c =
-    admitted _ _ _ _ _ (all_read _ _ _ _ _ _ c.as_bytes-bytes.ensures.value c.in-Ok.ensures c.deref.ensures.value c.deref-2.ensures.value) c.if-text-gt-MOST_BYTES.false c.in-None.ensures
+    admissible _ _ _ _ _ (all_read _ _ _ _ _ _ c.as_bytes-bytes.ensures.value c.in-Ok.ensures c.deref.ensures.value c.deref-2.ensures.value) c.if-text-gt-MOST_BYTES.false c.in-None.ensures
     (c.in-Ok-settled_groups.ensures ∙ split_same _ _ _ _ _ _ c.deref-3.ensures.value c.deref.ensures.value c.deref-4.ensures.value c.deref-2.ensures.value)
 
 pub returns-in-Ok-settled_groups-clause-taken : goal.returns-in-Ok-settled_groups-clause-taken

@@ -17,4 +17,4 @@ returns-clause-taken c =
     subst (λ t. Takes 64 t c.args.spec.now)
     (sym (c.ascii_text.ensures
     ∙ canonical_is c.args.spec.now _ _ _ _ _ c.new-out.ensures.items c.in_ok-append_modulo.ensures c.in_ok-append_groups.ensures c.modulo.ensures.value c.groups.ensures.items))
-    (canonical_taken c.modulo.ensures.admitted.text c.args.spec.now c.modulo.ensures.admitted.taken)
+    (canonical_taken c.modulo.ensures.admissible.text c.args.spec.now c.modulo.ensures.admissible.taken)

@@ -45,7 +45,7 @@ invariant_of-result c =
     let k = counted c.args.spec.now c.args.pages c.modulo-modulo.result c.div_ceil-blocks.result c.groups-groups.result.now c.modulo-modulo.ensures.value c.groups-groups.ensures.items c.groups-groups.ensures.admissible c.div_ceil-blocks.ensures in
     let s = k.sheet_total in
     let p = ap (λ b. b * c.slots_in_block.result) c.from-2.ensures ∙ ap (λ w. c.div_ceil-blocks.result * w) c.slots_in_block.ensures ∙ k.place_total in
-    (accepted_fields c.args.spec.now c.args.pages c.modulo-modulo.result c.groups-groups.result.now k.same c.groups-groups.ensures.admissible (filled c.args.spec.now c.groups-groups.ensures.admitted) (omega arith) (omega (arith, ap (λ b. b * length c.groups-groups.result.now) c.from.ensures)) (omega arith), k.ceil)
+    (accepted_fields c.args.spec.now c.args.pages c.modulo-modulo.result c.groups-groups.result.now k.same c.groups-groups.ensures.admissible (filled c.args.spec.now c.groups-groups.ensures.admissible) (omega arith) (omega (arith, ap (λ b. b * length c.groups-groups.result.now) c.from.ensures)) (omega arith), k.ceil)
 
 pub returns-clause-within : goal.returns-clause-within
 returns-clause-within c =
