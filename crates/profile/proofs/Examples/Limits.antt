@@ -1,13 +1,18 @@
 -- The limits: what just fits is taken, and one more is refused. A plan's sheets are counted and not computed.
-use Rattle.std.proofs.Common.{arith, rules, ℕ, List, refl, ◌≡◌, Bool, true, false, length, ap, ◌∙◌}
-use Rattle.std.specs.Prelude.{◌<◌, ◌≤◌, ◌*◌, ◌==◌, nat_lt, not, nat_eq, codes, sum_by, Result, Ok, Err}
-use Rattle.std.specs.List.{starts_with}
-use Rattle.profile.specs.Specification.{Spec}
+use Rattle.std.proofs.Common.{arith, rules, inl, ℕ, zero, suc, List, [], ◌∷◌, refl, sym, ◌≡◌, ◌≢◌, Bool, true, false, length, ap, append-nil, ◌∙◌}
+use Rattle.std.specs.Prelude.{◌<◌, ◌≤◌, ◌*◌, ◌==◌, nat_lt, not, nat_eq, codes, replicate, sum_by, Result, Ok, Err}
+use Rattle.std.specs.List.{AllPass, starts_with}
+use Rattle.std.specs.Char.{is_ascii_digit}
+use Rattle.std.proofs.lemmas.List.{length-replicate}
+use Rattle.std.proofs.lemmas.List.Elements.{All-nil, All-cons}
+use Rattle.profile.specs.Numbers.{number_of}
+use Rattle.profile.specs.Specification.{Spec, settled}
 use Rattle.profile.specs.Sheets.{blocks, sheets}
-use Rattle.profile.specs.Admissible.{Refuses, TooLong}
+use Rattle.profile.specs.Admissible.{Refuses, Takes, TooLong}
 use Rattle.profile.specs.Units.{cut, ◌>>=◌}
 use Rattle.profile.specs.Parts.{NestedUnit, nested, pages}
 use Rattle.profile.specs.Run.{refuse_if, of_block, document_of, InputTooLong, NotPostScript, with_pages, InputTooManyPages, NoPages, plan_of, PlanTooManyPages, TooManySheets, TooManyPlaces}
+use Rattle.profile.proofs.Examples.Written.{item, written}
 use Rattle.profile.proofs.Counts.{sheet_count, place_count}
 
 small : (m n : ℕ) → n ≤ m → nat_lt m n ≡ false
@@ -29,6 +34,27 @@ long_specification text h = omega (arith, h)
 -- one of 65,536 isn't too long
 longest_specification : (text : List ℕ) → length text ≡ 65_536 → Refuses 64 text TooLong → ⊥
 longest_specification text h long = omega (arith, h, long)
+
+-- one of 65,536 zeros is taken, and comes to page 0
+zeros_pass : (n : ℕ) → AllPass is_ascii_digit (replicate n 48)
+zeros_pass zero = All-nil (λ b. is_ascii_digit b ≡ true)
+zeros_pass (suc n) = All-cons (λ b. is_ascii_digit b ≡ true) 48 (replicate n 48) refl (zeros_pass n)
+
+zeros_value : (n : ℕ) → 0 ≡ number_of (replicate n 48)
+zeros_value zero = refl
+zeros_value (suc n) = zeros_value n
+
+zeros_some : (n : ℕ) → 0 < n → replicate {A = ℕ} n 48 ≢ []
+zeros_some n h e = omega (arith, h, length-replicate {A = ℕ} n 48, ap length e)
+
+longest_taken : (n : ℕ) → n ≡ 65_536 → Takes 64 (replicate n 48) (settled (written 1 ((item false 0 [] ∷ []) ∷ [])))
+longest_taken n h = (
+  omega (arith, h, length-replicate {A = ℕ} n 48),
+  written 1 ((item false 0 [] ∷ []) ∷ []),
+  inl (refl, inl (replicate n 48, [], sym (append-nil (replicate n 48)), (zeros_pass n, zeros_some n (omega (arith, h)), zeros_value n), refl)),
+  refl,
+  refl,
+)
 
 -- a document of 1,073,741,825 bytes, whatever it begins with
 long_document : (input : List ℕ) → length input ≡ 1_073_741_825 → document_of input ≡ Err InputTooLong
