@@ -4,9 +4,9 @@ use Rattle.std.specs.Prelude.{ℤ, pos, negsuc, nat_abs, ◌*ℤ◌, codes}
 use Rattle.std.proofs.lemmas.Int.{ints}
 use Rattle.std.proofs.lemmas.List.{append_cancel_left, append_cancel_right}
 use Rattle.profile.specs.Bytes.{space}
-use Rattle.profile.specs.Numbers.{IsNumber, IsSign, IsFraction, is_negative, sign_text, fraction_text, signed, decimals_value, printed, points_text, rounded}
+use Rattle.profile.specs.Numbers.{IsNumber, is_negative, sign_text, fraction_text, signed, decimals_value, printed, points_text, rounded}
 use Rattle.profile.specs.Specification.{IsJoined}
-use Rattle.profile.proofs.Printed.{printed_is_number, printed_is_printed}
+use Rattle.profile.proofs.Printed.{fraction_is, sign_is, printed_is_number, printed_is_printed}
 use Rattle.profile.proofs.OneNumber.{one_number}
 use Rattle.placement.specs.Printed.{nearest, PrintedIsRow, OneRow}
 
@@ -19,14 +19,6 @@ in_nine (a ∷ b ∷ c ∷ []) h = omega arith
 in_nine (a ∷ b ∷ c ∷ d ∷ []) h = omega arith
 in_nine (a ∷ b ∷ c ∷ d ∷ e ∷ []) h = omega arith
 in_nine (a ∷ b ∷ c ∷ d ∷ e ∷ f ∷ ds) h = absurd (omega arith)
-
-fraction_is : (ds : List ℕ) → IsFraction (fraction_text ds) ds
-fraction_is [] = refl
-fraction_is (d ∷ ds) = (refl, refl)
-
-sign_is : (v : ℤ) → IsSign (sign_text v) (is_negative v)
-sign_is (pos n) = refl
-sign_is (negsuc n) = (refl, refl)
 
 not_nil : (xs ys : List ℕ) → 0 < length xs → xs ++ ys ≢ []
 not_nil [] ys h e = omega arith

@@ -66,11 +66,11 @@ decimals_few e part h small =
     let (ds, r) = row e part h small in
     omega (arith, stripped_length (drop 1 (decimal (10 ^ e + part))), ap (λ xs. length (drop 1 xs)) r.text, r.long)
 
-fraction_is : (ds : List ℕ) → IsFraction (fraction_text ds) ds
+pub fraction_is : (ds : List ℕ) → IsFraction (fraction_text ds) ds
 fraction_is [] = refl
 fraction_is (d ∷ ds) = (refl, refl)
 
-sign_is : (v : ℤ) → IsSign (sign_text v) (is_negative v)
+pub sign_is : (v : ℤ) → IsSign (sign_text v) (is_negative v)
 sign_is (pos n) = refl
 sign_is (negsuc n) = (refl, refl)
 
