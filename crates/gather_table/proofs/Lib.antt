@@ -6,7 +6,7 @@ pub mod Replies
 pub mod Stored
 pub mod Blanks
 pub mod Lanes
-pub mod Moves
+pub mod OneCall
 pub mod Pages
 pub mod Sheets
 pub mod Views

@@ -16,7 +16,7 @@ use Rattle.gather_table.specs.Words.{index_in}
 use Rattle.gather_table.specs.Rule.{page_word, Holds, Kept}
 use Rattle.gather_table.specs.Sight.{Sight}
 use Rattle.gather_table.specs.Table.{TableState, with_index, publish_reply}
-use Rattle.gather_table.proofs.Moves.{adds}
+use Rattle.gather_table.proofs.OneCall.{adds}
 use Rattle.histories.specs.Seats.{added}
 
 -- a compare-exchange of 0 leaves the word of the index that stands, or of the new one

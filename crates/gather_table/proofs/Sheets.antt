@@ -19,7 +19,7 @@ use Rattle.gather_table.specs.Words.{has_bit, reply_in}
 use Rattle.gather_table.proofs.Bits.{bit_or_at, bits_not}
 use Rattle.gather_table.proofs.Histories.{markable_later, below_length}
 use Rattle.gather_table.proofs.Lanes.{inside, within, other_bit, lane_shown}
-use Rattle.gather_table.proofs.Moves.{adds}
+use Rattle.gather_table.proofs.OneCall.{adds}
 use Rattle.gather_table.proofs.Replies.{reply_shown}
 use Rattle.gather_table.proofs.Pages.{unwritten}
 use Rattle.histories.specs.Seats.{added}
