@@ -1,5 +1,6 @@
 pub mod Chain
 pub mod Pstops
+pub mod WorkerNumbers
 pub mod Reading
 pub mod Lengths
 pub mod ValueFaults

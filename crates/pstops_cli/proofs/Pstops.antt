@@ -15,6 +15,14 @@ pub pstops_is_free : is_simple_and_free pstops ≡ true
 unfolding pstops
 pstops_is_free = refl
 
+pub pstops_is_plain : pstops.top.is_plain ≡ true
+unfolding pstops
+pstops_is_plain = refl
+
+pub pstops_has_rules : pstops.top.rules ≡ rules
+unfolding pstops
+pstops_has_rules = refl
+
 -- it is the bare command with its rules added in turn
 pub pstops_is_made : fold with_rule (on_top bare (new_app (codes "pstops"))) rules ≡ pstops
 unfolding pstops

@@ -1,4 +1,4 @@
--- The faults of the options' values.
+-- The options' values: their faults, and what they leave as it is.
 use Rattle.std.proofs.Common.{◌≡◌, ◌∙◌, ap, sym, subst, ok_or, List, Option, Some, None, Result, Ok, Err, IsErrAnd}
 use Rattle.std.specs.Prelude.{codes, ⊤}
 use Rattle.clap.specs.Words.{Row, Text, first_of, matches_of}
@@ -50,3 +50,28 @@ refuses_words words found BadWords taken is h = absurd h
 pub handed_on : {T : Type 0} (r : Result T CommandFault) (f : CommandFault) → IsErrAnd r (λ g. g ≡ f) → r ≡ Err f
 handed_on (Ok x) f h = absurd h
 handed_on (Err g) f h = ap Err h
+
+-- ---- the workers
+
+last_step : {X : Type 0} (o : Option X) (e : CommandFault) (k : X → Result Options CommandFault) (named : Options) (P : Type 0)
+    → ((x : X) → k x ≡ Ok named → P) → and_then (ok_or o e) k ≡ Ok named → P
+last_step None e k named P go h = cc
+last_step (Some x) e k named P go h = go x h
+
+named_workers : (p w h d : Option Text) (workers : Workers) (named : Options) → options_named p w h d workers ≡ Ok named → named.workers ≡ workers
+unfolding options_named
+named_workers p w h d workers named =
+    last_step (paper_or_a4 p) UnknownPaper _ named _ (λ paper.
+    last_step (with_width paper w) (BadLength letter_w) _ named _ (λ wide.
+    last_step (with_height wide h) (BadLength letter_h) _ named _ (λ sides.
+    last_step (border_named sides d) (BadLength letter_d) _ named _ (λ border e.
+    ap (λ r. workers_of r workers) (sym e)))))
+  where
+    workers_of : Result Options CommandFault → Workers → Workers
+    workers_of (Ok o) other = o.workers
+    workers_of (Err e) other = other
+
+-- the options have the workers that were found
+pub workers_stay : (found : List Row) (named : Options) → options_found found ≡ Ok named → named.workers ≡ workers_found found
+workers_stay found named =
+    named_workers (first_of (codes "paper") found) (first_of (codes "width") found) (first_of (codes "height") found) (first_of (codes "border") found) (workers_found found) named

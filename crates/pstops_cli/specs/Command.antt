@@ -13,6 +13,7 @@ use Rattle.clap.specs.declared.builder.value_parser.ValueParser.TheVariants.{Sig
 use Rattle.clap.specs.declared.parser.matches.ArgMatches.{ArgMatches}
 use Rattle.imposer.specs.declared.options.Options.{Options}
 use Rattle.imposer.specs.declared.options.Workers.{Workers}
+use Rattle.imposer.specs.Workers.{AreWorkers}
 use Rattle.pstops_cli.specs.declared.command.Request.{Request}
 use Rattle.pstops_cli.specs.declared.command.CommandFault.{CommandFault}
 use Rattle.pstops_cli.specs.declared.command.CommandFault.TheVariants.{BadLength, BadWords, NoMemory, UnknownPaper}
@@ -112,10 +113,11 @@ ParseRefuses words UnknownPaper = ⊥
 ParseRefuses words (BadLength letter) = ⊥
 ParseRefuses words NoMemory = ⊤
 
--- these are the words' matches, and SPECS is among them
+-- these are the words' matches, SPECS is among them, and the numbers of workers lie from 1 to 16
 pub record Finds (words : List Text) (m : ArgMatches) : Type 0 where
   pub rows : rows_of (found_of m) ≡ matches_of pstops words
   pub specs : is_some (first_value (found_of m) (codes "specs")) ≡ true
+  pub workers : AreWorkers (workers_found (rows_of (found_of m)))
 
 -- the id is neither empty nor one that clap adds
 abbrev pub is_own_id : Text → Bool

@@ -4,6 +4,10 @@ use Rattle.std.specs.Io.KnownBytes.{Consumes, IsAtEnd, Keeps}
 use Rattle.pstops_cli.specs.declared.input.ReadFault.{ReadFault}
 use Rattle.pstops_cli.specs.declared.input.ReadFault.TheVariants.{Device, NoMemory}
 
+-- as many bytes as are read at most: one more than a document may have, so that a longer one is seen to be too long
+abbrev pub most_bytes : ℕ
+most_bytes = 1_073_741_825
+
 -- at Ok the first bytes that remained were moved to the buffer's front, 0 of them only where none remained; at Err none
 abbrev pub Fills : {E : Type 0} → (old new : Option (List ℕ)) → Result ℕ E → (buffer : List ℕ) → Type 0
 Fills old new r buffer = MatchResult r (λ k. Consumes old new (take k buffer) × (k ≡ 0 → IsAtEnd new)) (λ _. Keeps old new)

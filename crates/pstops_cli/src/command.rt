@@ -1,6 +1,7 @@
 //! What the words after the program's name ask for.
 ghost use Rattle.std.specs.Prelude.{◌≡◌, IfOk, IfErr, codes, is_some, map, option_map, true, string_bytes};
 ghost use Rattle.clap.specs.Words.{first_of, first_value, found_of, is_simple, matches_of, one_of, rows_of, rule_of};
+ghost use Rattle.imposer.specs.Workers.{AreWorkers};
 ghost use Rattle.pstops_cli.specs.Command.{Finds, IsChain, ParseRefuses, Reads, RefusesFound, Refuses, Takes, counted_rule, flag_rule, has_true, options_found, positional_rule, pstops, rules, valued_rule, workers_found};
 ghost use Rattle.pstops_cli.specs.Values as meaning;
 ghost use Rattle.pstops_cli.specs.declared.command.CommandFault.TheVariants.{NoMemory};
@@ -64,6 +65,7 @@ impl From<AllocError> for CommandFault {
 pub fn read_command(alloc: Global, words: &[String]) -> Result<Request, CommandFault>
     ensures taken { IfOk result (λ _. Takes (map string_bytes words.now)) }
     ensures read { IfOk result (Reads (matches_of pstops (map string_bytes words.now))) }
+    ensures workers { IfOk result (λ request. AreWorkers request.options.workers) }
     // BadWords comes only where the command doesn't take the words, and another refusal only where a value is no paper or
     // no length.
     ensures refused { IfErr result (Refuses (map string_bytes words.now)) }

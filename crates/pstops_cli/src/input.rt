@@ -1,7 +1,7 @@
 //! Reading a whole input.
 ghost use Rattle.std.specs.Prelude.{◌≡◌, ◌+◌, ◌^◌, ◌<◌, ◌≤◌, ℕ, List, None, Option, IfOk, IfErr, OnOk, OnErr, vec_len, length, take, drop};
 ghost use Rattle.std.specs.Io.KnownBytes.{Consumes, IsAtEnd, Keeps};
-ghost use Rattle.pstops_cli.specs.Input.{ConsumesAtMost, Counts, Fills, IsFaultOf, IsFirst};
+ghost use Rattle.pstops_cli.specs.Input.{ConsumesAtMost, Counts, Fills, IsFaultOf, IsFirst, most_bytes};
 ghost use Rattle.pstops_cli.specs.declared.input.ReadFault.TheVariants.{Device, NoMemory};
 
 use std::alloc::{AllocError, Global};
@@ -11,7 +11,10 @@ use std::io::Read;
 pub const MOST_BYTES: usize = 1_073_741_825;
 
 // How much room the source is offered at least.
-const PIECE: usize = 65_536;
+const LEAST_ROOM: usize = 65_536;
+
+// How much is zeroed at once ahead of what was read: little enough to be still in the cache when it is read into.
+const PIECE: usize = 262_144;
 
 /// A source failed and gave nothing.
 #[derive(Clone, Copy, Debug, PartialEq, Eq)]
@@ -97,15 +100,15 @@ impl From<SourceFault> for ReadFault {
 
 /// The bytes of the source to its end, or the first [`MOST_BYTES`] of them where it has more.
 ///
-/// They are read straight into the vector, whose length doubles as it fills. After a fault the bytes that were read are
-/// lost.
+/// They are read straight into the vector, whose length grows by a piece at a time as it fills. After a fault the bytes
+/// that were read are lost.
 pub fn read_input<S: Source>(alloc: Global, source: &mut S) -> Result<Vec<u8>, ReadFault>
     requires countable { S.failures source.old < u64.MAX }
-    ensures within { IfOk result (λ bytes. vec_len bytes ≤ MOST_BYTES) }
-    ensures read { IfOk result (λ bytes. IsFirst MOST_BYTES (S.remaining source.old) bytes.items) }
+    ensures within { IfOk result (λ bytes. vec_len bytes ≤ most_bytes) }
+    ensures read { IfOk result (λ bytes. IsFirst most_bytes (S.remaining source.old) bytes.items) }
     ensures rest { IfOk result (λ bytes. Consumes (S.remaining source.old) (S.remaining source.new) bytes.items) }
     // It ends after so many bytes, whatever comes of it.
-    ensures most { ConsumesAtMost MOST_BYTES (S.remaining source.old) (S.remaining source.new) }
+    ensures most { ConsumesAtMost most_bytes (S.remaining source.old) (S.remaining source.new) }
     // It is Device where the source failed in the call, and only there.
     ensures steady { OnOk result (S.failures source.new ≡ S.failures source.old) }
     ensures refused { IfErr result (IsFaultOf (S.failures source.old) (S.failures source.new)) }
@@ -147,7 +150,7 @@ fn fill_more<S: Source>(
     Ok(fill_behind(source, bytes.as_mut_slice(), filled)?)
 }
 
-// Sees to a piece of room behind the first `filled` bytes, or to as much as may still be read.
+// Sees to room behind the first `filled` bytes, of a piece more or of as much as may still be read.
 fn make_room(bytes: &mut Vec<u8>, filled: usize) -> Result<(), AllocError>
     requires filled { filled ≤ vec_len bytes.old }
     requires more { filled < MOST_BYTES }
@@ -157,8 +160,8 @@ fn make_room(bytes: &mut Vec<u8>, filled: usize) -> Result<(), AllocError>
     ensures room { OnOk result (filled < vec_len bytes.new) }
 {
     let len = bytes.len();
-    if len - filled < PIECE && len < MOST_BYTES {
-        bytes.resize(len.saturating_mul(2).max(PIECE).min(MOST_BYTES), 0)?;
+    if len - filled < LEAST_ROOM && len < MOST_BYTES {
+        bytes.resize(len.saturating_add(PIECE).min(MOST_BYTES), 0)?;
     }
     Ok(())
 }

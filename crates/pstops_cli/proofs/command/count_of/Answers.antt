@@ -1,26 +1,12 @@
-use Rattle.std.proofs.Common.{◌≡◌, ◌∙◌, ℕ, Bool, ap, refl, true, false, List, [], ◌∷◌, Option, Some, None, Result, Ok, Err, unwrap_or, length, nat_lt, ◌&&◌, lt-ltb, ltb-true}
+use Rattle.std.proofs.Common.{◌≡◌, ◌∙◌, ℕ, Bool, ap, refl, true, false, List, Option, Some, None, Result, Ok, Err, unwrap_or, length, lt-ltb, ltb-true}
 use Rattle.std.specs.Prelude.{option_and_then}
-use Rattle.std.specs.List.{list_all}
-use Rattle.std.specs.Char.{digit_value}
-use Rattle.std.specs.Str.Parse.{AllDigits, ExplainsUnsignedError, HasUnsignedDigitsIfOk, ParsesUnsigned, digits_value, without_leading_plus}
+use Rattle.std.specs.Str.Parse.{ExplainsUnsignedError, HasUnsignedDigitsIfOk, ParsesUnsigned, digits_value, without_leading_plus}
 use Rattle.clap.specs.ValueTests.{is_numeral}
 use Rattle.clap.specs.Words.{ReadsOne, found_of, one_text}
 use Rattle.clap.proofs.WalkLemmas.{both, one_text-rows}
 use Rattle.pstops_cli.specs.Values.{count_named, number_of}
+use Rattle.pstops_cli.proofs.WorkerNumbers.{digits_from, digits_pass, is_number}
 use Rattle.pstops_cli.proofs.command.count_of.Goals as goal
-
-digits_pass : (ds : List ℕ) → AllDigits 10 ds → list_all (λ d. nat_lt (digit_value d) 10) ds ≡ true
-digits_pass [] h = refl
-digits_pass (d ∷ ds) h = rw (lt-ltb (digit_value d) 10 h.0) (digits_pass ds h.1)
-
-digits_from : (ds : List ℕ) → list_all (λ d. nat_lt (digit_value d) 10) ds ≡ true → AllDigits 10 ds
-digits_from [] e = tt
-digits_from (d ∷ ds) e =
-    let parts = both _ _ e in
-    (ltb-true _ _ parts.0, digits_from ds parts.1)
-
-abbrev fits : List ℕ → Bool
-fits ds = is_numeral ds && nat_lt (digits_value 10 ds) 4294967296
 
 -- what `u32` reads of a text
 number_read : (E : Type 0) (G : List ℕ → Result ℕ E → Type 0) (t : List ℕ) (r : Option ℕ) → ((r : Result ℕ E) → G t r → ParsesUnsigned 32 10 t r) → ReadsOne G t r → r ≡ number_of t
@@ -28,9 +14,9 @@ number_read E G t (Some v) parse h =
     let p = parse (Ok v) h in
     let ds = without_leading_plus t in
     rw (lt-ltb 0 (length ds) p.0.0.0, digits_pass ds p.0.0.1, lt-ltb (digits_value 10 ds) 4294967296 p.0.1) (ap Some p.1)
-number_read E G t None parse h = go (fits (without_leading_plus t)) refl
+number_read E G t None parse h = go (is_number (without_leading_plus t)) refl
   where
-    go : (b : Bool) → fits (without_leading_plus t) ≡ b → None ≡ number_of t
+    go : (b : Bool) → is_number (without_leading_plus t) ≡ b → None ≡ number_of t
     go false e = rw e refl
     go true e =
         let outer = both (is_numeral (without_leading_plus t)) _ e in

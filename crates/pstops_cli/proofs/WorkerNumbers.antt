@@ -1,0 +1,205 @@
+-- The numbers of workers that are found lie from 1 to 16: clap took no other values for them.
+use Rattle.std.proofs.Common.{◌≡◌, ◌∙◌, ◌<◌, ◌≤◌, ◌&&◌, ap, refl, sym, subst, true, false, Bool, map, List, [], ◌∷◌, ℕ, zero, suc, length, arith, get_or, inl, inr, Option, Some, None, nat_lt, lt-ltb, ltb-true, unwrap_or}
+use Rattle.std.specs.Prelude.{codes, pos, ⊤, option_map, slice_get}
+use Rattle.std.specs.Borrow.{Bor}
+use Rattle.std.specs.List.{All, list_all}
+use Rattle.std.specs.Char.{digit_value}
+use Rattle.std.specs.Str.{bytes_eq}
+use Rattle.std.specs.Str.Parse.{AllDigits, ParsesUnsigned, digits_value, without_leading_plus}
+use Rattle.std.proofs.lemmas.List.{length-map}
+use Rattle.std.proofs.lemmas.List.Elements.{All-get_or}
+use Rattle.std.proofs.lemmas.Slice.Eq.{bytes_eq-Decides}
+use Rattle.clap.specs.Facts.{Entry, EntryPasses, HasReading, PassesArg, ValuesPass, args_of, groups_of, parser_of_value}
+use Rattle.clap.specs.Built.{FitsChain, HasDistinctIds, IsParsedFrom, IsPlainArg}
+use Rattle.clap.specs.Matches.{ReadsOne, found_of, matched_of, one_text}
+use Rattle.clap.specs.Lexer.{without_minus}
+use Rattle.clap.specs.Simple.{app_of}
+use Rattle.clap.specs.Values.{Accepts, IsSignedIn, read_as, reading_of}
+use Rattle.clap.specs.ValueTests.{is_numeral}
+use Rattle.clap.specs.Words.{Rule, Text, one_of, rows_of, rule_of}
+use Rattle.clap.specs.declared.builder.arg.Arg.{Arg}
+use Rattle.clap.specs.declared.builder.command.Command.{Command}
+use Rattle.clap.specs.declared.builder.value_parser.Reading.{Reading}
+use Rattle.clap.specs.declared.builder.value_parser.Reading.TheVariants.{WithoutMinus}
+use Rattle.clap.specs.declared.builder.value_parser.ValueParser.TheVariants.{Signed}
+use Rattle.clap.specs.declared.parser.matches.ArgMatches.{ArgMatches}
+use Rattle.clap.specs.declared.parser.matches.Found.{Found}
+use Rattle.clap.specs.declared.parser.matches.MatchedArg.{MatchedArg}
+use Rattle.clap.proofs.CallerLemmas.{entry_by_id, same_rules_by_id}
+use Rattle.clap.proofs.CallerReads.{signed_reads}
+use Rattle.clap.proofs.SimpleLemmas.{plain_fields}
+use Rattle.clap.proofs.WalkLemmas.{both, one_text-rows}
+use Rattle.imposer.specs.Workers.{AreWorkers}
+use Rattle.pstops_cli.specs.Command.{are_distinct, counted_rule, fits, pstops, rules, workers_found}
+use Rattle.pstops_cli.specs.Values.{count_named, letter_j, letter_k, number_of}
+use Rattle.pstops_cli.proofs.Chain.{distinct, each_fits}
+use Rattle.pstops_cli.proofs.Pstops.{each_rule_fits, pstops_has_rules, pstops_is_plain, rules_are_distinct}
+
+-- ---- a text as a number
+
+pub digits_pass : (ds : List ℕ) → AllDigits 10 ds → list_all (λ d. nat_lt (digit_value d) 10) ds ≡ true
+digits_pass [] h = refl
+digits_pass (d ∷ ds) h = rw (lt-ltb (digit_value d) 10 h.0) (digits_pass ds h.1)
+
+pub digits_from : (ds : List ℕ) → list_all (λ d. nat_lt (digit_value d) 10) ds ≡ true → AllDigits 10 ds
+digits_from [] e = tt
+digits_from (d ∷ ds) e =
+    let parts = both _ _ e in
+    (ltb-true _ _ parts.0, digits_from ds parts.1)
+
+abbrev pub is_number : List ℕ → Bool
+is_number ds = is_numeral ds && nat_lt (digits_value 10 ds) 4294967296
+
+-- `number_of` reads a text as `u32` does
+reads_number : (t : List ℕ) → ReadsOne {T = ℕ} {E = ⊤} (λ bs r. ParsesUnsigned 32 10 bs r) t (number_of t)
+reads_number t = go (is_number (without_leading_plus t)) refl
+  where
+    go : (b : Bool) → is_number (without_leading_plus t) ≡ b → ReadsOne {T = ℕ} {E = ⊤} (λ bs r. ParsesUnsigned 32 10 bs r) t (number_of t)
+    go true e =
+        let outer = both (is_numeral (without_leading_plus t)) _ e in
+        let inner = both _ _ outer.0 in
+        rw e (((ltb-true _ _ inner.0, digits_from (without_leading_plus t) inner.1), ltb-true _ _ outer.1), refl)
+    go false e =
+        rw e (
+          tt,
+          λ h.
+              let bad : true ≡ false = rw (lt-ltb 0 (length (without_leading_plus t)) h.0.0, digits_pass (without_leading_plus t) h.0.1, lt-ltb (digits_value 10 (without_leading_plus t)) 4294967296 h.1) at e in
+              cc,
+        )
+
+in_range : (text : List ℕ) → IsSignedIn (pos 1) (pos 16) text → (n : ℕ) × (number_of (without_minus text) ≡ Some n) × (1 ≤ n) × (n ≤ 16)
+in_range text passed =
+    signed_reads ⊤ (λ bs r. ParsesUnsigned 32 10 bs r) 32 1 16 text (number_of (without_minus text)) (reads_number (without_minus text)) (λ u x g. g) (omega arith) passed
+
+-- ---- an argument of the program by its place
+
+rule_at : (xs : List Arg) (k : ℕ) (d : Arg) (r : Rule) → k < length xs → rule_of (get_or xs k d) ≡ get_or (map rule_of xs) k r
+rule_at [] k d r lt = absurd (omega arith)
+rule_at (x ∷ xs) zero d r lt = refl
+rule_at (x ∷ xs) (suc k) d r lt = rule_at xs k d r (omega arith)
+
+pub some_arg : (xs : List Arg) → map rule_of xs ≡ rules → Arg
+some_arg [] e = let bad : 0 ≡ 10 = ap length e in absurd (omega (arith, bad))
+some_arg (x ∷ xs) e = x
+
+-- ---- what is found of an argument with a range
+
+-- the first of the values, where it is read so
+first_read : (P : Bor (List ℕ) → Type 0) (how : Reading) (vs : List (Bor (List ℕ))) (t : List ℕ) → All P vs
+    → option_map (λ s. read_as how s.now) (slice_get vs 0) ≡ Some t
+    → (v : Bor (List ℕ)) × (t ≡ read_as how v.now) × P v
+first_read P how [] t all e = cc
+first_read P how (v ∷ vs) t all e = (v, ap (λ o. unwrap_or o t) (sym e), All-get_or P (v ∷ vs) 0 v (omega arith) all)
+
+-- what an entry of an id gives: a text that passed the parser of this id, read as that parser says
+entry_text : (c : Command) (id : List ℕ) (Q : List ℕ → Type 0) (how : Reading) (x : MatchedArg) (e : Entry) (t : List ℕ)
+    → groups_of c ≡ [] → (id ≡ [] → ⊥) → ((r : Reading) → HasReading c id r → r ≡ how) → ((w : List ℕ) → PassesArg c id w → Q w)
+    → e.1 ≡ x → e.0.now ≡ id → EntryPasses c e → option_map (λ s. read_as x.reading s.now) (slice_get x.vals.items 0) ≡ Some t
+    → (text : List ℕ) × (t ≡ read_as how text) × Q text
+entry_text c id Q how x e t no_groups named reads passes same_x key_id pass found =
+    let no_group : e.1.is_group ≡ true → ⊥ = λ g. elim (pass.3 g) [
+      | inl empty ↦ named (sym key_id ∙ empty)
+      | inr some ↦
+          let bad : 0 < 0 = rw no_groups at some in
+          absurd (omega arith)
+    ] in
+    let all : All (λ v. PassesArg c id v.now) x.vals.items = elim pass.0 [
+      | inl g ↦ absurd (no_group g)
+      | inr vals ↦ subst (λ (w : List ℕ). All (λ v. PassesArg c w v.now) x.vals.items) key_id (rw same_x at vals)
+    ] in
+    let is : e.1.reading ≡ how = elim pass.4 [
+      | inl g ↦ absurd (no_group g)
+      | inr h ↦ reads e.1.reading (subst (λ (w : List ℕ). HasReading c w e.1.reading) key_id h)
+    ] in
+    finish (first_read (λ v. PassesArg c id v.now) x.reading x.vals.items t all found) (ap (λ (y : MatchedArg). y.reading) (sym same_x) ∙ is)
+  where
+    finish : ((v : Bor (List ℕ)) × (t ≡ read_as x.reading v.now) × PassesArg c id v.now) → x.reading ≡ how
+        → (text : List ℕ) × (t ≡ read_as how text) × Q text
+    finish first is = (first.0.now, first.1 ∙ ap (λ r. read_as r first.0.now) is, passes first.0.now first.2)
+
+-- what is read of an id
+id_text : (c : Command) (f : Found) (id : List ℕ) (Q : List ℕ → Type 0) (how : Reading) (t : List ℕ) → ValuesPass c f
+    → groups_of c ≡ [] → (id ≡ [] → ⊥) → ((r : Reading) → HasReading c id r → r ≡ how) → ((w : List ℕ) → PassesArg c id w → Q w)
+    → one_text f id ≡ Some t → (text : List ℕ) × (t ≡ read_as how text) × Q text
+id_text c f id Q how t values no_groups named reads passes = go (matched_of f id) refl
+  where
+    step : (x : MatchedArg) → option_map (λ s. read_as x.reading s.now) (slice_get x.vals.items 0) ≡ Some t
+        → ((e : Entry) × (e.1 ≡ x) × (bytes_eq e.0.now id ≡ true) × EntryPasses c e) → (text : List ℕ) × (t ≡ read_as how text) × Q text
+    step x first got = entry_text c id Q how x got.0 t no_groups named reads passes got.1 ((bytes_eq-Decides got.0.0.now id).0 got.2) got.3 first
+
+    go : (o : Option MatchedArg) → matched_of f id ≡ o → one_text f id ≡ Some t → (text : List ℕ) × (t ≡ read_as how text) × Q text
+    go None e found =
+        let bad : None ≡ Some t = rw e at found in
+        cc
+    go (Some x) e found = step x (rw e at found) (entry_by_id (EntryPasses c) f.entries.items id x values e)
+
+module _ (c : Command) (m : ArgMatches) (is : app_of c ≡ pstops) (p : IsParsedFrom c m) (k : ℕ) (d : Arg) (lt : k < length (args_of c))
+    (ranged : (get_or (args_of c) k d).value_parser ≡ Some (Signed (pos 1) (pos 16))) where
+  rules_are : map rule_of (args_of c) ≡ rules
+  rules_are = ap (λ a. a.top.rules) is ∙ pstops_has_rules
+
+  each : All FitsChain (args_of c)
+  each = each_fits (args_of c) (ap (list_all fits) rules_are ∙ each_rule_fits)
+
+  apart : HasDistinctIds (args_of c)
+  apart = distinct (args_of c) (ap are_distinct rules_are ∙ rules_are_distinct)
+
+  no_groups : groups_of p.built ≡ []
+  no_groups =
+      let plain = plain_fields c (ap (λ a. a.top.is_plain) is ∙ pstops_is_plain) in
+      let all : All IsPlainArg (args_of c) = λ j e low. (each j e low).0 in
+      (p.from.plain (all, plain.groups)).1
+
+  one_with_id : (j : ℕ) (x : Arg) → j < length (args_of p.built) → get_or (args_of p.built) j x ≡ x
+      → bytes_eq x.id.now (get_or (args_of c) k d).id.now ≡ true → x.value_parser ≡ Some (Signed (pos 1) (pos 16))
+  one_with_id j x high at same =
+      let rules = same_rules_by_id c m p k d lt (λ i e low met. apart i k d e low lt met) (each k d lt).3 j x high at same in
+      rules.parser (Signed (pos 1) (pos 16)) ranged
+
+  accepted : (w : List ℕ) → PassesArg p.built (get_or (args_of c) k d).id.now w → IsSignedIn (pos 1) (pos 16) w
+  accepted w (j, x, high, at, (same, pass)) =
+      subst (λ q. Accepts x.ignore_case (parser_of_value q) w) (one_with_id j x high at same) pass
+
+  read_so : (r : Reading) → HasReading p.built (get_or (args_of c) k d).id.now r → r ≡ WithoutMinus
+  read_so r (j, x, high, at, (same, reading)) = sym reading ∙ ap (λ q. reading_of (parser_of_value q)) (one_with_id j x high at same)
+
+  found_text : (t : List ℕ) → one_text (found_of m) (get_or (args_of c) k d).id.now ≡ Some t
+      → (text : List ℕ) × (t ≡ without_minus text) × IsSignedIn (pos 1) (pos 16) text
+  found_text t =
+      let parsed = p.parsed (p.from.globals ∙ (plain_fields c (ap (λ a. a.top.is_plain) is ∙ pstops_is_plain)).globals) in
+      id_text p.built (found_of m) (get_or (args_of c) k d).id.now (IsSignedIn (pos 1) (pos 16)) WithoutMinus t parsed.values no_groups
+      (each k d lt).2 read_so accepted
+
+  count_found : (1 ≤ count_named (one_text (found_of m) (get_or (args_of c) k d).id.now)) × (count_named (one_text (found_of m) (get_or (args_of c) k d).id.now) ≤ 16)
+  count_found = go (one_text (found_of m) (get_or (args_of c) k d).id.now) refl
+    where
+      go : (o : Option (List ℕ)) → one_text (found_of m) (get_or (args_of c) k d).id.now ≡ o → (1 ≤ count_named o) × (count_named o ≤ 16)
+      go None e = (omega arith, omega arith)
+      go (Some t) e =
+          let text = found_text t e in
+          let n = in_range text.0 text.2 in
+          let is : count_named (Some t) ≡ n.0 = ap (λ u. unwrap_or (number_of u) 2) text.1 ∙ ap (λ o. unwrap_or o 2) n.1 in
+          (omega (arith, is, n.2), omega (arith, is, n.3))
+
+-- ---- both of them
+
+counted : (c : Command) (m : ArgMatches) → app_of c ≡ pstops → IsParsedFrom c m → (k letter : ℕ) (id : Text) → k < 10
+    → get_or rules k (counted_rule id letter) ≡ counted_rule id letter
+    → (1 ≤ count_named (one_of id (rows_of (found_of m)))) × (count_named (one_of id (rows_of (found_of m))) ≤ 16)
+counted c m is p k letter id low at =
+    let all : map rule_of (args_of c) ≡ rules = ap (λ a. a.top.rules) is ∙ pstops_has_rules in
+    let d = some_arg (args_of c) all in
+    let many : length (args_of c) ≡ 10 = sym (length-map (args_of c) rule_of) ∙ ap length all in
+    let lt : k < length (args_of c) = omega (arith, low, many) in
+    let rule : rule_of (get_or (args_of c) k d) ≡ counted_rule id letter
+    = rule_at (args_of c) k d (counted_rule id letter) lt ∙ ap (λ l. get_or l k (counted_rule id letter)) all ∙ at in
+    let found = count_found c m is p k d lt (ap (λ r. r.parser) rule) in
+    let same : one_text (found_of m) (get_or (args_of c) k d).id.now ≡ one_of id (rows_of (found_of m))
+    = ap (λ r. one_text (found_of m) r.id) rule ∙ one_text-rows (found_of m) id in
+    subst (λ o. (1 ≤ count_named o) × (count_named o ≤ 16)) same found
+
+pub workers_in_range : (c : Command) (m : ArgMatches) → app_of c ≡ pstops → IsParsedFrom c m → AreWorkers (workers_found (rows_of (found_of m)))
+workers_in_range c m is p =
+    let preparers = counted c m is p 8 letter_j (codes "preparers") (omega arith) refl in
+    let imposers = counted c m is p 9 letter_k (codes "imposers") (omega arith) refl in
+    record { a_preparer = preparers.0; few_preparers = preparers.1; an_imposer = imposers.0; few_imposers = imposers.1 }
