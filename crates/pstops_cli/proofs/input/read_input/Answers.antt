@@ -1,5 +1,5 @@
-use Rattle.std.proofs.Common.{◌≡◌, ◌≤◌, ◌∙◌, ap, sym, subst, take, length, arith, length-take-le}
-use Rattle.pstops_cli.specs.Input.{IsFirst}
+use Rattle.std.proofs.Common.{◌≡◌, ◌≤◌, ◌∙◌, ap, refl, sym, subst, take, length, arith, length-take-le}
+use Rattle.pstops_cli.specs.Input.{IsFirst, most_bytes}
 use Rattle.pstops_cli.specs.declared.input.TheConstants.{MOST_BYTES}
 use Rattle.pstops_cli.proofs.Reading.{filled_more, none_more, all_first, most_first}
 use Rattle.pstops_cli.proofs.input.read_input.Goals as goal
@@ -15,12 +15,16 @@ loop-filled-preserved g c =
       moved = filled_more _ _ _ c.loop-filled.bytes.items c.fill_more.new.bytes.items c.loop-filled.filled c.in_ok-count.count c.fill_more.ensures.front before.moved read.moved.0;
     }
 
+-- by itself, so that another number is refused at once
+most_is : MOST_BYTES ≡ most_bytes
+most_is = refl
+
 pub returns-clause-read : goal.returns-clause-read
 returns-clause-read g c =
     let before = c.loop-filled.invariant in
     let remaining = g.S.Source.remaining c.args.source.now in
     let within : c.loop-filled.filled ≤ length c.loop-filled.bytes.items = omega (arith, before.within, c.loop-filled.bytes.ok.0) in
-    subst (IsFirst MOST_BYTES remaining) (sym c.truncate.ensures.items) (elim c.loop-filled-test.branch [
+    subst (λ n. IsFirst n remaining c.truncate.new.self.items) most_is (subst (IsFirst MOST_BYTES remaining) (sym c.truncate.ensures.items) (elim c.loop-filled-test.branch [
       | else-loop-filled-test w ↦
           let same = ap (λ b. take c.loop-filled.filled b.items) w.bytes-is in
           let long = length-take-le c.loop-filled.filled c.loop-filled.bytes.items within in
@@ -33,4 +37,4 @@ returns-clause-read g c =
           let short = length-take-le c.loop-filled.filled c.loop-filled.bytes.items within in
           subst (IsFirst MOST_BYTES remaining) (sym (same ∙ w.fill_more.ensures.front))
           (all_first MOST_BYTES remaining _ _ (none_more _ _ _ _ _ w.in_ok-count.count w.if-count-eq0.true before.moved read.moved.0) (read.moved.1 w.if-count-eq0.true) (omega (arith, short, before.within, before.most)))
-    ])
+    ]))
