@@ -17,9 +17,9 @@ use Rattle.imposer.specs.Tokens.{AreTokens, AreUnused, done, put}
 use Rattle.imposer.specs.Joining.{PutsCompletedSince}
 use Rattle.imposer.specs.Gathered.{HasPages, IsGathered, IsHandedOn}
 use Rattle.imposer.specs.Gathering.{Answers, AreWhole, Concludes, IsFreshSeat, IsFreshPass}
-use Rattle.imposer.specs.declared.collecting.Halt.{Halt}
-use Rattle.imposer.specs.declared.collecting.Halt.TheVariants as halt
-use Rattle.imposer.specs.declared.collecting.Progress.{Progress}
+use Rattle.imposer.specs.declared.writing.Halt.{Halt}
+use Rattle.imposer.specs.declared.writing.Halt.TheVariants as halt
+use Rattle.imposer.specs.declared.writing.Progress.{Progress}
 use Rattle.imposer.specs.declared.work.Ended.{Ended}
 use Rattle.imposer.specs.declared.gathering.Gathered.{Gathered}
 use Rattle.imposer.specs.declared.outcome.RunError.TheVariants.{NoMemory}

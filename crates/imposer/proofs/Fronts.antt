@@ -14,8 +14,8 @@ use Rattle.profile.specs.Filters.{preamble_text, trailer_text}
 use Rattle.profile.specs.Output.{sheet_text}
 use Rattle.imposer.specs.Jobs.{JobView, text_of, output_of}
 use Rattle.imposer.specs.Collecting.{front_text, WroteFirst, StandsAt, EndsAt, Handed, AreEarly}
-use Rattle.imposer.specs.declared.collecting.Halt.{Halt}
-use Rattle.imposer.specs.declared.collecting.Halt.TheVariants.{Failed, NoMemory}
+use Rattle.imposer.specs.declared.writing.Halt.{Halt}
+use Rattle.imposer.specs.declared.writing.Halt.TheVariants.{Failed, NoMemory}
 use Rattle.imposer.proofs.Sheets.{job_sheet_more, output_is}
 
 -- the header and the first sheets begin the output

@@ -7,9 +7,9 @@ use Rattle.profile.specs.Parts.{pages}
 use Rattle.profile.specs.Filters.{preamble_text}
 use Rattle.profile.specs.Output.{sheet_text}
 use Rattle.imposer.specs.Jobs.{JobView, text_of, output_of}
-use Rattle.imposer.specs.declared.collecting.Halt.{Halt}
-use Rattle.imposer.specs.declared.collecting.Halt.TheVariants.{Failed, NoMemory}
-use Rattle.imposer.specs.declared.collecting.Progress.{Progress}
+use Rattle.imposer.specs.declared.writing.Halt.{Halt}
+use Rattle.imposer.specs.declared.writing.Halt.TheVariants.{Failed, NoMemory}
+use Rattle.imposer.specs.declared.writing.Progress.{Progress}
 
 -- the header and the first n sheets
 abbrev pub front_text : JobView → ℕ → List ℕ

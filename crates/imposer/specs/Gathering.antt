@@ -9,7 +9,7 @@ use Rattle.handover.specs.Passes.{QueueView, PassView, IsPass, IsPassOf}
 use Rattle.imposer.specs.Jobs.{JobView, output_of}
 use Rattle.imposer.specs.Collecting.{WroteFirst, Stands}
 use Rattle.imposer.specs.Runs.{FailedIn}
-use Rattle.imposer.specs.declared.collecting.Progress.{Progress}
+use Rattle.imposer.specs.declared.writing.Progress.{Progress}
 use Rattle.handover.specs.declared.receipts.Overflow.{Overflow}
 use Rattle.imposer.specs.declared.work.Ended.{Ended}
 use Rattle.imposer.specs.declared.gathering.Gathered.{Gathered}

@@ -7,10 +7,10 @@ ghost use Rattle.imposer.specs.Jobs.{text_of};
 ghost use Rattle.imposer.specs.Collecting.{Stands, GoesOn, AreEarly};
 
 use crate::channel::{SheetReceiver, SheetRule, Texts, Ticket};
-use crate::collecting::{Progress, write_early, write_text};
 use crate::job::Job;
 use crate::sink::Sink;
 use crate::work::Collector;
+use crate::writing::{Progress, write_early, write_text};
 use crossbeam_utils::Backoff;
 use std::sync::Wait;
 use std::sync::atomic::AtomicU32;

@@ -17,7 +17,6 @@ ghost use Rattle.imposer.specs.Gathered.{IsGathered, IsHandedOn};
 ghost use Rattle.imposer.specs.Gathering.{IsFreshSeat, IsFreshPass, ReportsOf, WrotePartOf, HandsBackTokens, AreWhole, Answers, Concludes};
 
 use crate::channel::Texts;
-use crate::collecting::{Halt, Progress, Rest, write_rest};
 use crate::collector::{CollectorInput, CollectorState};
 use crate::gate::Gate;
 use crate::job::Job;
@@ -29,6 +28,7 @@ use crate::sink::Sink;
 use crate::threads::gather_by;
 use crate::tokens::Tokens;
 use crate::work::Ended;
+use crate::writing::{Halt, Progress, Rest, write_rest};
 use gather_table::{GatherTable, Seat};
 use handover::{Overflow, Pass, Ready, Shelf};
 use std::alloc::Global;

@@ -2,7 +2,6 @@
 #![tactic(auto)]
 
 mod channel;
-mod collecting;
 mod collector;
 mod delivery;
 mod gate;
@@ -25,6 +24,7 @@ mod tests;
 mod threads;
 mod tokens;
 mod work;
+mod writing;
 
 pub use delivery::{DeliverError, Delivered, deliver};
 pub use gate::{Gate, Open, Step};

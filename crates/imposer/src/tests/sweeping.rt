@@ -2,8 +2,8 @@
 ghost use Rattle.std.specs.Prelude.{◌<◌};
 
 use super::{FOUR_PAGES, TURNED_PAIRS, TWO_UP, a4};
-use crate::collecting::{Progress, Rest, write_rest};
 use crate::setup::no_sheets;
+use crate::writing::{Progress, Rest, write_rest};
 use crate::{Job, MemorySink};
 use dsc::Document;
 use pagespec::read_spec;

@@ -1,6 +1,6 @@
-use Rattle.std.proofs.Common.{◌≡◌, None, ◌≤◌}
+use Rattle.std.proofs.Common.{◌≡◌, None}
 use Rattle.imposer.specs.Collecting.{GoesOn, AreEarly}
-use Rattle.imposer.proofs.collecting.write_rest.Given as goal
+use Rattle.imposer.proofs.writing.write_early.Given as goal
 
 abbrev pub invariant-loop-sheet : goal.invariant-loop-sheet
 invariant-loop-sheet g l = record {
@@ -9,5 +9,4 @@ invariant-loop-sheet g l = record {
   early : AreEarly l.job l.early.items;
   goes_on : GoesOn l.job (g.S.Sink.told l.initial.sink) (g.S.Sink.told l.sink) (g.S.Sink.failures l.initial.sink) (g.S.Sink.failures l.sink) l.initial.progress l.progress;
   steady : g.S.Sink.failures l.sink ≡ g.S.Sink.failures l.initial.sink;
-  swept : l.swept ≤ l.sheet;
 }

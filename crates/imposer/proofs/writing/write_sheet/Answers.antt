@@ -1,7 +1,7 @@
 use Rattle.std.proofs.Common.{sym, subst, None, ◌+◌}
 use Rattle.imposer.specs.Collecting.{StandsAt}
 use Rattle.imposer.proofs.Fronts.{sheet_handed}
-use Rattle.imposer.proofs.collecting.write_sheet.Goals as goal
+use Rattle.imposer.proofs.writing.write_sheet.Goals as goal
 
 pub returns-clause-goes_on : goal.returns-clause-goes_on
 returns-clause-goes_on g c = λ start first stands.

@@ -1,4 +1,4 @@
-//! The collector: it writes the output, each sheet when its turn has come.
+//! What the collector writes: the output, each sheet when its turn has come.
 ghost use Rattle.std.specs.Prelude.{◌≡◌, ℕ, ◌+◌, ◌<◌, ◌≤◌, None, Some, IfOk, IfErr, length};
 ghost use Rattle.imposer.specs.Jobs.{text_of};
 ghost use Rattle.profile.specs.Filters.{trailer_text};

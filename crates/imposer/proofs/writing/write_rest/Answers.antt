@@ -1,7 +1,7 @@
 use Rattle.std.proofs.Common.{rules, sym, subst, None}
 use Rattle.imposer.specs.Collecting.{StandsAt, EndsAt}
 use Rattle.imposer.proofs.Fronts.{stopped, halted_ends, trailer_handed}
-use Rattle.imposer.proofs.collecting.write_rest.Goals as goal
+use Rattle.imposer.proofs.writing.write_rest.Goals as goal
 
 pub returns-then-is_some-clause-ended : goal.returns-then-is_some-clause-ended
 returns-then-is_some-clause-ended g c = λ start first stands.

@@ -1,6 +1,6 @@
 use Rattle.std.proofs.Common.{rules}
 use Rattle.imposer.proofs.Fronts.{early_taken}
-use Rattle.imposer.proofs.collecting.write_early.Goals as goal
+use Rattle.imposer.proofs.writing.write_early.Goals as goal
 
 pub loop-sheet-preserved : goal.loop-sheet-preserved
 loop-sheet-preserved g c = record {
