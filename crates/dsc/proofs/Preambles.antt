@@ -137,8 +137,8 @@ preamble_found text start sheets s c e =
     )
 
 -- the same from what a document keeps true
-pub preamble_at : (text starts row : List ℕ) (stop n start sheets : ℕ) → HasItsParts text starts stop → n ≡ line_len text → row ≡ starts → start ≡ get_or row 0 0 → PreambleFound text n start sheets
-preamble_at text starts row stop n start sheets i e r s =
+pub preamble_at : (text starts items : List ℕ) (stop n start sheets : ℕ) → HasItsParts text starts stop → n ≡ line_len text → items ≡ starts → start ≡ get_or items 0 0 → PreambleFound text n start sheets
+preamble_at text starts items stop n start sheets i e r s =
     let us : List NestedUnit = units_of text in
     let first : start ≡ length (bytes_of (preamble us)) =
     s ∙ ap (λ xs. get_or xs 0 0) r ∙ any_default starts 0 (end_of us) i.some ∙ ap (λ xs. get_or xs 0 (end_of us)) i.starts_are ∙ preamble_start us in
