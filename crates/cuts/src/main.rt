@@ -104,7 +104,7 @@ fn refusal_of_many(alloc: Global, tail: &str) -> anyhow::Result<String> {
 
 /// The filtered preamble for seven sheets, each page with its body, the filtered trailer.
 fn print_parts(rt: &HostRuntime, document: &Document<'_>) -> anyhow::Result<()> {
-    let preamble = document.preamble_text(rt.alloc(), 7)?;
+    let preamble = document.preamble_text(7)?;
     print_text(rt, "  preamble ", preamble.as_slice())?;
     println!(rt; "")?;
     for number in 0..document.pages() {
@@ -114,7 +114,7 @@ fn print_parts(rt: &HostRuntime, document: &Document<'_>) -> anyhow::Result<()> 
         print_text(rt, " body ", body.as_slice())?;
         println!(rt; "")?;
     }
-    let trailer = document.trailer_text(rt.alloc())?;
+    let trailer = document.trailer_text()?;
     print_text(rt, "  trailer ", trailer.as_slice())?;
     println!(rt; "")?;
     Ok(())

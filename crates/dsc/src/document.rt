@@ -89,12 +89,13 @@ impl<'d> Document<'d> {
     /// What is kept of the preamble, with `%%Pages: ` and the number of sheets on a line of its own behind the first
     /// line, and a line end at its end. Outermost lines with the keys `%%Pages`, `%%PageOrder`, `%%BoundingBox`,
     /// `%%HiResBoundingBox`, `%%DocumentMedia` and `%%Orientation` are dropped, and the `%%+` lines behind them.
-    pub fn preamble_text(&self, alloc: Global, sheets: u32) -> Result<Vec<u8>, AllocError>
+    pub fn preamble_text(&self, sheets: u32) -> Result<Vec<u8>, AllocError>
         ensures text { IfOk result (λ v. v.items ≡ preamble_text sheets self.now) }
     {
         let line_len = line_end_after(self.text, content_end(self.text));
         let (line, behind) = self.text.split_at(line_len);
         let (rest, _) = behind.split_at(entry(self.starts.as_slice(), 0) - line_len);
+        let alloc = *self.starts.allocator();
         let header = with_count(alloc, line, sheets)?;
         let mut text = filter_header(header, rest)?;
         end_line(&mut text)?;
@@ -102,11 +103,11 @@ impl<'d> Document<'d> {
     }
 
     /// What is kept of the trailer: the lines that are dropped from a preamble are dropped from it too.
-    pub fn trailer_text(&self, alloc: Global) -> Result<Vec<u8>, AllocError>
+    pub fn trailer_text(&self) -> Result<Vec<u8>, AllocError>
         ensures text { IfOk result (λ v. v.items ≡ trailer_text self.now) }
     {
         let (_, rest) = self.text.split_at(self.stop);
-        let room = Vec::with_capacity(alloc, rest.len())?;
+        let room = Vec::with_capacity(*self.starts.allocator(), rest.len())?;
         filter_header(room, rest)
     }
 }

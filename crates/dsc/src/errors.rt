@@ -5,7 +5,7 @@ ghost use Rattle.dsc.specs.Faults.{widened};
 use thiserror::Error;
 
 /// Why a document or a page is refused. A byte index is that of the first byte of a faulty data block's begin line.
-#[derive(Debug, Drop, Error)]
+#[derive(Clone, Copy, Debug, PartialEq, Eq, Error)]
 pub enum DscError {
     /// The input has over 1,073,741,824 bytes.
     #[error("input too long")]

@@ -15,7 +15,7 @@ fn an_embedded_document_begins_no_page(rt: HostRuntime) -> Result<(), Fail> {
         b"%!PS\r%%Page: 1 1\r%%BeginDocument: a.eps\r%%Page: 1 1\r%%EndDocument\rshowpage\r".as_slice();
     let document = Document::read(rt.alloc(), text)?;
     assert!(rt; document.pages() == 1);
-    let preamble = document.preamble_text(rt.alloc(), 3)?;
+    let preamble = document.preamble_text(3)?;
     assert_eq!(rt; preamble.as_slice(), b"%!PS\r%%Pages: 3\n".as_slice());
     let body = prepare(rt.alloc(), document.page(0))?;
     assert_eq!(rt;
@@ -139,12 +139,12 @@ fn header_comments_of_the_whole_document_are_dropped(rt: HostRuntime) -> Result<
         b"%!PS\n%%DocumentMedia: a 1 2 3 () ()\n%%+ b 1 2 3 () ()\n%%BoundingBox: 0 0 9 9\n/x 1 def\n%%Page: 1 1\nshowpage\n%%Trailer\n%%Pages: 1\n%%EOF\n".as_slice();
     let document = Document::read(rt.alloc(), text)?;
     assert_eq!(rt; document.page(0), b"%%Page: 1 1\nshowpage\n".as_slice());
-    let preamble = document.preamble_text(rt.alloc(), 2)?;
+    let preamble = document.preamble_text(2)?;
     assert_eq!(rt;
         preamble.as_slice(),
         b"%!PS\n%%Pages: 2\n/x 1 def\n".as_slice()
     );
-    let trailer = document.trailer_text(rt.alloc())?;
+    let trailer = document.trailer_text()?;
     assert_eq!(rt; trailer.as_slice(), b"%%Trailer\n%%EOF\n".as_slice());
     Ok(())
 }

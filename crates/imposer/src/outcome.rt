@@ -21,7 +21,7 @@ pub struct Report {
 }
 
 /// Why a run didn't finish, in the order of its checks.
-#[derive(Debug, Drop, Error)]
+#[derive(Clone, Copy, Debug, PartialEq, Eq, Error)]
 pub enum RunError {
     /// A worker count outside 1 to 16, or a border that isn't above zero.
     #[error("bad options")]

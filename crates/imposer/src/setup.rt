@@ -32,8 +32,8 @@ impl<T: Texts> Setup<T> {
         ensures receiving { IfOk result (λ s. IsSeatAt (receives_on s.receiver) s.receiving) }
         ensures sending { IfOk result (λ s. IsSeatAt (sends_on s.sender) s.sending) }
     {
-        let header = job.document.preamble_text(alloc, job.sheets)?;
-        let trailer = job.document.trailer_text(alloc)?;
+        let header = job.document.preamble_text(job.sheets)?;
+        let trailer = job.document.trailer_text()?;
         let early = no_sheets(alloc, job)?;
         let room = (job.sheets as usize).max(1);
         let (sender, receiver, mut receiving) = bounded_with::<_, _, SheetRule<T>, Global>(

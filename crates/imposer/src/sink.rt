@@ -142,6 +142,8 @@ impl Sink for MemorySink {
         requires countable { self.old.failures < u64.MAX }
         ensures within { IfOk result (λ k. (0 < k) × (k ≤ length bytes.now)) }
         ensures taken { IfOk result (λ k. self.new ≡ after_taking self.old (take k bytes.now)) }
+        // An Ok needs a call left.
+        ensures answers { OnOk result (0 < self.old.calls) }
         // It takes as much as the slice, the room left and the size of a call allow.
         ensures most { IfOk result (λ k. k ≡ acceptable self.old (length bytes.now)) }
         ensures refused { OnErr result (IsSpent self.old (length bytes.now)) }

@@ -96,7 +96,9 @@ fn run_into<R: Threads + Wait + Sync>(
     };
     let mut sink = WriteSink::new(&mut output);
     let (status, line) = run_request(threads, alloc, request, input, &mut sink);
-    if status == 0 && output.flush().is_err() {
+    // A run that finished may have found no memory for its report line: it ends with 3 and no line.
+    let finished = status == 0 || line.is_empty();
+    if finished && output.flush().is_err() {
         // A failed flush is a failed write, whose line doesn't say how much was written.
         return Err(Fault::Run(RunError::Write { written: 0 }));
     }

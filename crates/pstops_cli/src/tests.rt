@@ -8,6 +8,7 @@ use imposer::{MemorySink, RunError};
 use pagespec::SpecError;
 use sheet_plan::PlanError;
 use std::alloc::AllocError;
+use std::io::{self, ErrorKind, Read};
 use std::process::Abort;
 use std::str;
 use std::test::Fail;
@@ -63,6 +64,31 @@ impl Source for Broken {
         self.left -= 1;
         buffer[0] = b'%';
         Ok(1)
+    }
+}
+
+// A reader whose calls are counted, and all fail for this cause.
+#[derive(Drop)]
+struct Failing {
+    cause: ErrorKind,
+    calls: usize,
+}
+
+impl Read for Failing {
+    fn read(&mut self, _buffer: &mut [u8]) -> io::Result<usize> {
+        self.calls += 1;
+        Err(io::Error::from(self.cause))
+    }
+}
+
+#[test]
+fn a_reader_that_fails_is_asked_once(rt: HostRuntime) {
+    for cause in [ErrorKind::Other, ErrorKind::Interrupted] {
+        let mut reader = Failing { cause, calls: 0 };
+        let mut source = ReadSource::new(&mut reader);
+        assert!(rt; read_input(rt.alloc(), &mut source) == Err(ReadFault::Device));
+        drop(source);
+        assert_eq!(rt; reader.calls, 1);
     }
 }
 

@@ -4,6 +4,7 @@ ghost use Rattle.std.specs.Prelude.{◌<◌};
 use super::{ONE_PAGE, ONE_SHEET, workers};
 use crate::{MemorySink, Open, Report, RunError, Sink, SinkFault, WriteSink, run};
 use std::alloc::Global;
+use std::io::{self, ErrorKind, Write};
 use std::process::Abort;
 use std::sync::Wait;
 use std::test::Fail;
@@ -59,6 +60,35 @@ fn a_sink_that_has_answered_its_calls_fails(rt: HostRuntime) -> Result<(), Fail>
     assert_eq!(rt; sink.accept(b"xy"), Ok(1));
     assert!(rt; sink.accept(b"y").is_err());
     Ok(())
+}
+
+// A writer whose calls are counted, and all fail for this cause.
+#[derive(Drop)]
+struct Failing {
+    cause: ErrorKind,
+    calls: usize,
+}
+
+impl Write for Failing {
+    fn write(&mut self, _bytes: &[u8]) -> io::Result<usize> {
+        self.calls += 1;
+        Err(io::Error::from(self.cause))
+    }
+
+    fn flush(&mut self) -> io::Result<()> {
+        Ok(())
+    }
+}
+
+#[test]
+fn a_writer_that_fails_is_asked_once(rt: HostRuntime) {
+    for cause in [ErrorKind::StorageFull, ErrorKind::Interrupted] {
+        let mut writer = Failing { cause, calls: 0 };
+        let mut sink = WriteSink::new(&mut writer);
+        assert_eq!(rt; sink.accept(b"abc"), Err(SinkFault {}));
+        drop(sink);
+        assert_eq!(rt; writer.calls, 1);
+    }
 }
 
 #[test]

@@ -15,7 +15,7 @@ use std::test::Fail;
 fn write_anew(alloc: Global, job: &Job<'_, '_>, sink: &mut MemorySink) -> Result<Rest, Fail>
     requires countable { sink.old.failures < 10 }
 {
-    let trailer = job.document.trailer_text(alloc)?;
+    let trailer = job.document.trailer_text()?;
     let mut early = no_sheets(alloc, job)?;
     let start = Progress {
         next: 0,
