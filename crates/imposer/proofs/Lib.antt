@@ -12,6 +12,7 @@ pub mod HandingOn
 pub mod LookUps
 pub mod Shares
 pub mod Held
+pub mod Closings
 pub mod Counts
 pub mod HandedOn
 pub mod Reading

@@ -1,4 +1,4 @@
-//! Runs on small documents and on many pages, refusals, sinks, gates, deliveries, impositions and sweeping.
+//! Runs on small documents and on many pages, refusals, sinks, gates, deliveries, impositions, sweeping and wide sheets.
 mod deliveries;
 mod gates;
 mod impositions;
@@ -6,6 +6,7 @@ mod many_pages;
 mod refusals;
 mod sinks;
 mod sweeping;
+mod wide_sheets;
 
 use crate::{Job, MemorySink, Open, Options, Report, RunError, Workers, run, sheet_text};
 use dsc::Document;

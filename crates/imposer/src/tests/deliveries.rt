@@ -17,7 +17,7 @@ use std::sync::Wait;
 use std::test::Fail;
 
 /// Delivers a page of a document. Refused for a page that isn't there, too.
-fn deliver_page<'d, R: Wait>(
+pub(super) fn deliver_page<'d, R: Wait>(
     rt: &R,
     alloc: Global,
     seat: &mut Seat,
@@ -28,7 +28,7 @@ fn deliver_page<'d, R: Wait>(
     plan: &Plan<'_>,
     document: &Document<'d>,
     page: u32,
-) -> Result<Delivered<'d>, Fail>
+) -> Result<Delivered<'d>, AllocError>
     requires seat { IsSeatOf table.now seat.old }
     requires pass { IsPassOf ready.now pass.old }
     requires plan { table.now.layout ≡ layout plan.now }
@@ -36,18 +36,19 @@ fn deliver_page<'d, R: Wait>(
     ensures pass { IsPassOf ready.now pass.new }
 {
     if page >= plan.pages() || page >= document.pages() {
-        return Err(AllocError)?;
+        return Err(AllocError);
     }
-    let prepared = Prepared::new(alloc, page, document.page(page))?;
-    let answer = deliver(rt, alloc, seat, pass, table, shelf, ready, plan, prepared);
-    match answer {
+    let Ok(prepared) = Prepared::new(alloc, page, document.page(page)) else {
+        return Err(AllocError);
+    };
+    match deliver(rt, alloc, seat, pass, table, shelf, ready, plan, prepared) {
         Ok(delivered) => Ok(delivered),
-        Err(_) => Err(AllocError)?,
+        Err(_) => Err(AllocError),
     }
 }
 
 /// The missing slots of a sheet. None for a sheet that isn't there.
-fn look_at(table: &GatherTable<'_>, plan: &Plan<'_>, seat: &mut Seat, sheet: u32) -> Option<u64>
+pub(super) fn look_at(table: &GatherTable<'_>, plan: &Plan<'_>, seat: &mut Seat, sheet: u32) -> Option<u64>
     requires seat { IsSeatOf table.now seat.old }
     requires plan { table.now.layout ≡ layout plan.now }
     ensures { IsSeatOf table.now seat.new }

@@ -19,7 +19,7 @@ use std::thread::Threads;
 const ROOM: usize = 100_000;
 
 /// A document of so many pages, each of which pops its number.
-fn document_of(alloc: Global, pages: u32) -> Result<String, Fail> {
+pub(super) fn document_of(alloc: Global, pages: u32) -> Result<String, Fail> {
     let mut text = format!(in alloc; "%!PS-Adobe-3.0\n%%Pages: {pages}\n%%EndComments\n")?;
     for page in 0..pages {
         let number = page + 1;

@@ -1,10 +1,9 @@
-use Rattle.std.proofs.Common.{◌≡◌, Some, ap, sym, ◌∙◌, subst, arith}
+use Rattle.std.proofs.Common.{◌≡◌, Some, sym, ◌∙◌, subst}
 use Rattle.std.specs.Prelude.{slice_get}
 use Rattle.profile.specs.Sheets.{Layout}
 use Rattle.gather_table.specs.Table.{IsMarkable, slots}
-use Rattle.gather_table.specs.History.{Look, IsComplete, after_history}
-use Rattle.gather_table.specs.Shared.{SeatView, Made}
-use Rattle.gather_table.proofs.Calls.{published_may_be_marked, look_shows_seat}
+use Rattle.gather_table.specs.History.{after_history}
+use Rattle.gather_table.proofs.Calls.{published_may_be_marked}
 use Rattle.imposer.proofs.tests.impositions.bring_first.Goals as goal
 
 pub mark-marked-requires-clause-slot : goal.mark-marked-requires-clause-slot

@@ -1,0 +1,328 @@
+//! Sheets of over 64 slots: delivered by one thread and by two, and run.
+ghost use Rattle.std.specs.Prelude.{◌≡◌, ◌<◌};
+ghost use Rattle.profile.specs.Sheets.{layout};
+ghost use Rattle.gather_table.specs.Shared.{IsSeatOf};
+ghost use Rattle.handover.specs.Passes.{IsPassOf};
+
+use super::deliveries::{deliver_page, look_at};
+use super::many_pages::document_of;
+use super::{ONE_PAGE, a4, workers};
+use crate::imposing::is_complete;
+use crate::{DeliverError, Delivered, Job, MemorySink, Open, Report, deliver, impose, run, sheet_text};
+use dsc::Document;
+use gather_table::{Closing, GatherTable, Published, Reply, Seat};
+use handover::{Pass, Prepared, Ready, Shelf};
+use pagespec::read_spec;
+use sheet_plan::Plan;
+use std::alloc::{AllocError, Global};
+use std::process::Abort;
+use std::sync::Wait;
+use std::test::Fail;
+use std::thread;
+use std::thread::Threads;
+
+/// A sheet with the first page in so many slots.
+fn first_page_times(alloc: Global, slots: u32) -> Result<String, Fail> {
+    let mut text = format!(in alloc; "0")?;
+    for _ in 1..slots {
+        text.push_str("+0")?;
+    }
+    Ok(text)
+}
+
+/// A hundred pages on one sheet, in ten rows of ten from the top, each at a tenth of its size.
+fn contact_sheet(alloc: Global) -> Result<String, Fail> {
+    let mut text = format!(in alloc; "100:0@.1(.0w,.9h)")?;
+    for page in 1..100u32 {
+        let column = page % 10;
+        let row = 9 - page / 10;
+        let item = format!(in alloc; "+{page}@.1(.{column}w,.{row}h)")?;
+        text.push_str(&item)?;
+    }
+    Ok(text)
+}
+
+/// Of 65 slots: the first 63 fill nothing, the last of the first group fills it, and the one of the second group that.
+fn assert_fills<R: Abort>(rt: &R, delivered: &Delivered<'_>) {
+    assert_eq!(rt; delivered.published, Published::Stored);
+    assert_eq!(rt; delivered.replies.len(), 65);
+    for (slot, reply) in delivered.replies.iter().enumerate() {
+        let expected = match slot {
+            63 => Reply::Fills(0),
+            64 => Reply::Fills(1),
+            _ => Reply::Fresh,
+        };
+        assert_eq!(rt; *reply, expected, "{slot}");
+    }
+    let closings = [Closing::Closed, Closing::Completing];
+    assert_eq!(rt; delivered.closings.as_slice(), closings.as_slice());
+    assert!(rt; delivered.handed_back.is_empty());
+}
+
+/// Delivers a page that fills both groups of a sheet, imposes the sheet, and delivers the page again.
+fn complete_by_closing<'d, R: Wait + Abort>(
+    rt: &R,
+    alloc: Global,
+    seat: &mut Seat,
+    pass: &mut Pass,
+    table: &GatherTable<'_>,
+    shelf: &Shelf<'d>,
+    ready: &Ready,
+    job: &Job<'_, 'd>,
+) -> Result<(), Fail>
+    requires seat { IsSeatOf table.now seat.old }
+    requires pass { IsPassOf ready.now pass.old }
+    requires plan { table.now.layout ≡ layout job.now.plan }
+{
+    assert_eq!(rt; look_at(table, job.plan, seat, 0), Some(3));
+    let first = deliver_page(
+        rt, alloc, seat, pass, table, shelf, ready, job.plan, job.document, 0,
+    )?;
+    assert_fills(rt, &first);
+    assert_eq!(rt; ready.take(rt, pass), Some(0));
+    assert!(rt; 0 < job.plan.sheets());
+    assert!(rt; is_complete(seat, table, 0));
+    let imposed = impose(alloc, seat, job, table, shelf, 0)?;
+    assert_eq!(rt; imposed.text, sheet_text(alloc, job, 0)?);
+    let second = deliver_page(
+        rt, alloc, seat, pass, table, shelf, ready, job.plan, job.document, 0,
+    )?;
+    assert_eq!(rt; second.published, Published::Held(first.receipt.index()));
+    assert!(rt; second.replies.iter().all(|reply| *reply == Reply::Repeated));
+    assert!(rt; second.closings.is_empty());
+    assert_eq!(rt; ready.take(rt, pass), None);
+    Ok(())
+}
+
+#[test]
+fn the_last_closing_completes_a_sheet(rt: HostRuntime) -> Result<(), Fail> {
+    let text = first_page_times(rt.alloc(), 65)?;
+    let spec = read_spec(rt.alloc(), &text)?;
+    let document = Document::read(rt.alloc(), ONE_PAGE.as_bytes())?;
+    let plan = Plan::new(rt.alloc(), &spec, document.pages())?;
+    let job = Job::new(&plan, &document, a4(&rt), None);
+    let (table, mut seat) = GatherTable::new(rt.alloc(), &plan)?;
+    let shelf = Shelf::new(rt.alloc())?;
+    let (ready, mut pass) = Ready::new(rt.alloc(), 1)?;
+    complete_by_closing(
+        &rt,
+        rt.alloc(),
+        &mut seat,
+        &mut pass,
+        &table,
+        &shelf,
+        &ready,
+        &job,
+    )
+}
+
+// 40 bytes of preamble, 12 of the page line, 65 times 30 + 26 + 21 + 83 + 17 + 19 = 196 of a placed page, 9 of the sheet's
+// showpage and 16 of the trailer: 12,817 bytes.
+#[test]
+fn a_wide_sheet_is_imposed_by_a_worker(rt: HostRuntime) -> Result<(), Fail> {
+    let text = first_page_times(rt.alloc(), 65)?;
+    for (preparers, imposers) in [(1, 1), (2, 3)] {
+        let mut sink = MemorySink::new(rt.alloc(), 20_000, 20_000, 100)?;
+        let report = run(
+            &rt,
+            rt.alloc(),
+            ONE_PAGE.as_bytes(),
+            &text,
+            &workers(&rt, preparers, imposers),
+            &Open {},
+            &mut sink,
+        )?;
+        assert_eq!(rt;
+            report,
+            Report {
+                pages: 1,
+                sheets: 1,
+                born: 0,
+                swept: 0,
+                bytes: 12_817
+            }
+        );
+        assert_eq!(rt; sink.bytes().len(), 12_817);
+    }
+    Ok(())
+}
+
+#[test]
+fn a_hundred_pages_make_a_contact_sheet(rt: HostRuntime) -> Result<(), Fail> {
+    let text = contact_sheet(rt.alloc())?;
+    let document = document_of(rt.alloc(), 100)?;
+    let mut first = MemorySink::new(rt.alloc(), 100_000, 100_000, 1_000)?;
+    let alone = workers(&rt, 1, 1);
+    let input = document.as_bytes();
+    run(&rt, rt.alloc(), input, &text, &alone, &Open {}, &mut first)?;
+    for (preparers, imposers) in [(2, 2), (4, 3), (16, 16)] {
+        let mut sink = MemorySink::new(rt.alloc(), 100_000, 100_000, 1_000)?;
+        let options = workers(&rt, preparers, imposers);
+        let report = run(&rt, rt.alloc(), input, &text, &options, &Open {}, &mut sink)?;
+        assert!(rt; sink.bytes() == first.bytes());
+        assert_eq!(rt; (report.pages, report.sheets, report.born, report.swept), (100, 1, 0, 0));
+    }
+    Ok(())
+}
+
+/// What a thread was answered when it delivered the first page.
+type Answers = Result<(Vec<Reply>, Vec<Closing>), AllocError>;
+
+/// Delivers the first page with a seat and a pass of the thread's own.
+fn deliver_first<'d, R: Wait>(
+    rt: &R,
+    alloc: Global,
+    seat: Seat,
+    pass: Pass,
+    table: &GatherTable<'_>,
+    shelf: &Shelf<'d>,
+    ready: &Ready,
+    plan: &Plan<'_>,
+    document: &Document<'d>,
+) -> Answers
+    requires seat { IsSeatOf table.now seat }
+    requires pass { IsPassOf ready.now pass }
+    requires plan { table.now.layout ≡ layout plan.now }
+{
+    let mut seat = seat;
+    let mut pass = pass;
+    let delivered = deliver_page(
+        rt, alloc, &mut seat, &mut pass, table, shelf, ready, plan, document, 0,
+    )?;
+    Ok((delivered.replies, delivered.closings))
+}
+
+/// Two threads deliver the first page at once. The pass that is left looks at the queue afterwards.
+fn deliver_in_two_threads<'d, R: Threads + Wait + Sync>(
+    rt: &R,
+    alloc: Global,
+    seat: Seat,
+    pass: &mut Pass,
+    table: &GatherTable<'_>,
+    shelf: &Shelf<'d>,
+    ready: &Ready,
+    plan: &Plan<'_>,
+    document: &Document<'d>,
+) -> (Answers, Answers)
+    requires seat { IsSeatOf table.now seat }
+    requires seat_share { 1 < seat.share }
+    requires pass { IsPassOf ready.now pass.old }
+    requires pass_share { 2 < pass.old.share }
+    requires plan { table.now.layout ≡ layout plan.now }
+    ensures { IsPassOf ready.now pass.new }
+{
+    let mut seat = seat;
+    let other_seat = table.split(&mut seat, 1);
+    let one_pass = ready.split(pass, 1);
+    let other_pass = ready.split(pass, 1);
+    thread::join(
+        rt,
+        move || deliver_first(rt, alloc, seat, one_pass, table, shelf, ready, plan, document),
+        move || deliver_first(rt, alloc, other_seat, other_pass, table, shelf, ready, plan, document),
+    )
+}
+
+/// How many of the marks of both were answered so.
+fn replies_of(one: &[Reply], other: &[Reply], reply: Reply) -> usize {
+    let here = one.iter().filter(|r| **r == reply).count();
+    let there = other.iter().filter(|r| **r == reply).count();
+    here.saturating_add(there)
+}
+
+#[test]
+fn two_threads_complete_a_wide_sheet_once(rt: HostRuntime) -> Result<(), Fail> {
+    let text = first_page_times(rt.alloc(), 65)?;
+    let spec = read_spec(rt.alloc(), &text)?;
+    let document = Document::read(rt.alloc(), ONE_PAGE.as_bytes())?;
+    let plan = Plan::new(rt.alloc(), &spec, document.pages())?;
+    let (table, seat) = GatherTable::new(rt.alloc(), &plan)?;
+    let shelf = Shelf::new(rt.alloc())?;
+    let (ready, mut pass) = Ready::new(rt.alloc(), 1)?;
+    let (one, other) = deliver_in_two_threads(
+        &rt,
+        rt.alloc(),
+        seat,
+        &mut pass,
+        &table,
+        &shelf,
+        &ready,
+        &plan,
+        &document,
+    );
+    let (one, closed) = one?;
+    let (other, also_closed) = other?;
+    let (one, other) = (one.as_slice(), other.as_slice());
+    assert_eq!(rt; replies_of(one, other, Reply::Fills(0)), 1);
+    assert_eq!(rt; replies_of(one, other, Reply::Fills(1)), 1);
+    assert_eq!(rt; replies_of(one, other, Reply::Fresh), 63);
+    assert_eq!(rt; replies_of(one, other, Reply::Repeated), 65);
+    assert_eq!(rt; closed.len().saturating_add(also_closed.len()), 2);
+    let last = closed.iter().filter(|c| **c == Closing::Completing).count();
+    let other_last = also_closed.iter().filter(|c| **c == Closing::Completing).count();
+    assert_eq!(rt; last.saturating_add(other_last), 1);
+    assert_eq!(rt; ready.take(&rt, &mut pass), Some(0));
+    assert_eq!(rt; ready.take(&rt, &mut pass), None);
+    Ok(())
+}
+
+/// Delivers the first page, and again if memory was refused: the page came back, and table and queue answer as before.
+fn deliver_until_ok<'d, R: Wait + Abort>(
+    rt: &R,
+    alloc: Global,
+    seat: &mut Seat,
+    pass: &mut Pass,
+    table: &GatherTable<'_>,
+    shelf: &Shelf<'d>,
+    ready: &Ready,
+    plan: &Plan<'_>,
+    prepared: Prepared<'d>,
+) -> Delivered<'d>
+    requires seat { IsSeatOf table.now seat.old }
+    requires pass { IsPassOf ready.now pass.old }
+    requires plan { table.now.layout ≡ layout plan.now }
+    requires page { prepared.page < plan.now.pages }
+    ensures { IsPassOf ready.now pass.new }
+{
+    let page = prepared.page();
+    let prepared = match deliver(rt, alloc, seat, pass, table, shelf, ready, plan, prepared) {
+        Ok(delivered) => return delivered,
+        Err(DeliverError::NoMemory(prepared)) => prepared,
+        Err(DeliverError::ShelfFull(_)) => panic!(rt; "the shelf is full"),
+    };
+    assert_eq!(rt; prepared.page(), page);
+    assert_eq!(rt; look_at(table, plan, seat, 0), Some(3));
+    assert_eq!(rt; table.page_at(seat, page), None);
+    assert_eq!(rt; ready.take(rt, pass), None);
+    match deliver(rt, alloc, seat, pass, table, shelf, ready, plan, prepared) {
+        Ok(delivered) => delivered,
+        Err(_) => panic!(rt; "refused twice"),
+    }
+}
+
+// With `rt try --test --fail-alloc N` the Nth growth is refused, which may be one of the delivery's.
+#[test]
+fn a_refused_delivery_changes_nothing(rt: HostRuntime) -> Result<(), Fail> {
+    let text = first_page_times(rt.alloc(), 65)?;
+    let spec = read_spec(rt.alloc(), &text)?;
+    let document = Document::read(rt.alloc(), ONE_PAGE.as_bytes())?;
+    assert_eq!(rt; document.pages(), 1);
+    let plan = Plan::new(rt.alloc(), &spec, document.pages())?;
+    let (table, mut seat) = GatherTable::new(rt.alloc(), &plan)?;
+    let shelf = Shelf::new(rt.alloc())?;
+    let (ready, mut pass) = Ready::new(rt.alloc(), 1)?;
+    let prepared = Prepared::new(rt.alloc(), 0, document.page(0))?;
+    let delivered = deliver_until_ok(
+        &rt,
+        rt.alloc(),
+        &mut seat,
+        &mut pass,
+        &table,
+        &shelf,
+        &ready,
+        &plan,
+        prepared,
+    );
+    assert_fills(&rt, &delivered);
+    assert_eq!(rt; ready.take(&rt, &mut pass), Some(0));
+    Ok(())
+}
