@@ -1,10 +1,10 @@
 //! What words stand for: the slots of a sheet, bit k for slot k, and the index of a page.
-ghost use Rattle.std.specs.Prelude.{◌≡◌, ◌-◌, ◌<◌, ◌≤◌, ◌^◌, length};
+ghost use Rattle.std.specs.Prelude.{◌≡◌, ◌+◌, ◌-◌, ◌*◌, ◌<◌, ◌≤◌, ◌^◌, nat_lt, if◌then◌else◌, length};
 ghost use Rattle.profile.specs.Sheets.{layout};
-ghost use Rattle.gather_table.specs.Table.{is_blank, bits, slots, slot_count, publish_reply};
+ghost use Rattle.gather_table.specs.Table.{is_blank, bits, slots, slot_count, publish_reply, group_reply, closing_by};
 ghost use Rattle.gather_table.specs.Words.{index_in, reply_in};
 
-use crate::answers::{Published, Reply};
+use crate::answers::{Closing, Published, Reply};
 use sheet_plan::Plan;
 
 // The blank slots of a sheet.
@@ -55,5 +55,38 @@ pub(crate) fn reply_by(found: u64, bit: u64, full: u64) -> Reply
         Reply::Completing
     } else {
         Reply::Fresh
+    }
+}
+
+// The answer of a mark in this group of a wide sheet, by what it is to the slots of the group.
+pub(crate) fn fills(group: u8, reply: Reply) -> Reply
+    ensures { result ≡ group_reply group reply }
+{
+    match reply {
+        Reply::Completing => Reply::Fills(group),
+        other => other,
+    }
+}
+
+// The answer of a closing, by what it is to the groups of its sheet.
+pub(crate) fn closing_by(reply: Reply) -> Closing
+    ensures { result ≡ closing_by reply }
+{
+    match reply {
+        Reply::Fresh | Reply::Fills(_) => Closing::Closed,
+        Reply::Repeated => Closing::Again,
+        Reply::Completing => Closing::Completing,
+    }
+}
+
+// How many slots the group of a wide sheet with so many slots has.
+pub(crate) fn size_of(slots: u16, group: u16) -> u16
+    requires { (64 * group ≤ slots) × (slots ≤ 4096) }
+    ensures { result ≡ (if nat_lt (64 * group + 64) slots then 64 else slots - 64 * group) }
+{
+    if 64 * group + 64 < slots {
+        64
+    } else {
+        slots - 64 * group
     }
 }
