@@ -1,5 +1,5 @@
 -- The closing words at the start: where the blank slots are marked, the groups of blank slots alone are closed.
-use Rattle.std.proofs.Common.{◌≡◌, ◌≢◌, ℕ, zero, suc, ◌+◌, ◌-◌, ◌*◌, ◌<◌, ◌≤◌, ◌^◌, Bool, true, false, true≢false, ◌&&◌, ◌||◌, ◌==◌, ltb, List, length, set, get_or, refl, sym, ap, ◌∙◌, subst, arith, eq-eqb, ne_eqb}
+use Rattle.std.proofs.Common.{◌≡◌, ◌≢◌, ℕ, zero, suc, ◌+◌, ◌-◌, ◌*◌, ◌/◌, ◌<◌, ◌≤◌, ◌^◌, Bool, true, false, true≢false, ◌&&◌, ◌||◌, ◌==◌, ltb, List, length, set, get_or, refl, sym, ap, ◌∙◌, subst, arith, eq-eqb, ne_eqb}
 use Rattle.std.specs.Prelude.{slice_index, bit_and, bit_or, if◌then◌else◌}
 use mathlib.Core.Logic.{dite}
 use native.Mathlib.Decide.{ℕ_discrete}
@@ -54,6 +54,26 @@ closed_other t s g r i ne = dite (ℕ_discrete r s)
 
 blank_where_full : (layout : Layout) (s g : ℕ) → HasGroup layout s g → blank_group layout s g ≡ is_full layout s g (is_blank (slots layout s))
 blank_where_full layout s g has = λ i. (has.wide i && lt-ltb g (group_count layout s) has.group i) && is_full layout s g (is_blank (slots layout s))
+
+-- the groups that the code counts are there
+pub has_group : (layout : Layout) (s g n : ℕ) (home : Home) → IsHome layout s home → s < length layout.sheets → n ≡ (if ltb 64 home.slots then (home.slots + 63) / 64 else 0) → g < n → HasGroup layout s g
+has_group layout s g n home at lt is_n low = two (ltb 64 home.slots) refl
+  where
+    two : (b : Bool) → ltb 64 home.slots ≡ b → HasGroup layout s g
+    two true e =
+        let n_is : n ≡ (home.slots + 63) / 64 = is_n ∙ ap (λ (b : Bool). if b then (home.slots + 63) / 64 else 0) e in
+        let count = ap (λ (z : ℕ). (z + 63) / 64) at.slots in
+        record { sheet = lt; wide = ap (ltb 64) (sym at.slots) ∙ e; group = omega arith }
+    two false e = let n_is : n ≡ 0 = is_n ∙ ap (λ (b : Bool). if b then (home.slots + 63) / 64 else 0) e in absurd (omega arith)
+
+-- and there are no others
+pub counted : (layout : Layout) (s g n : ℕ) (home : Home) → IsHome layout s home → n ≡ (if ltb 64 home.slots then (home.slots + 63) / 64 else 0) → HasGroup layout s g → g < n
+counted layout s g n home at is_n has =
+    let wide : ltb 64 home.slots ≡ true = ap (ltb 64) at.slots ∙ has.wide in
+    let n_is : n ≡ (home.slots + 63) / 64 = is_n ∙ ap (λ (b : Bool). if b then (home.slots + 63) / 64 else 0) wide in
+    let count = ap (λ (z : ℕ). (z + 63) / 64) at.slots in
+    let lt = has.group in
+    omega arith
 
 -- one group more
 pub group_more : (layout : Layout) (words : List ℕ) (s g : ℕ) → HasGroup layout s g
