@@ -1,5 +1,5 @@
 //! What words stand for: the slots of a sheet, bit k for slot k, and the index of a page.
-ghost use Rattle.std.specs.Prelude.{◌≡◌, ◌+◌, ◌-◌, ◌*◌, ◌<◌, ◌≤◌, ◌^◌, nat_lt, if◌then◌else◌, length};
+ghost use Rattle.std.specs.Prelude.{◌≡◌, ◌+◌, ◌-◌, ◌*◌, ◌/◌, ◌<◌, ◌≤◌, ◌^◌, nat_lt, if◌then◌else◌, length};
 ghost use Rattle.profile.specs.Sheets.{layout};
 ghost use Rattle.gather_table.specs.Table.{is_blank, bits, slots, slot_count, publish_reply, group_reply, closing_by};
 ghost use Rattle.gather_table.specs.Words.{index_in, reply_in};
@@ -15,12 +15,33 @@ pub(crate) fn blank_bits(plan: &Plan, sheet: u32) -> u64
     full_bits(plan.slots(sheet)) - plan.missing_at_start(sheet)
 }
 
-// All slots of a sheet.
-pub(crate) fn full_bits(slots: u16) -> u64
-    requires { (0 < slots) × (slots ≤ 64) }
-    ensures { result ≡ 2 ^ slots - 1 }
+// How many groups a sheet of so many slots has.
+pub(crate) fn group_count(slots: u16) -> u8
+    requires { slots ≤ 4_096 }
+    ensures { result ≡ (slots + 63) / 64 }
 {
-    u64::MAX >> (64 - slots)
+    ((slots + 63) / 64) as u8
+}
+
+// How many slots a group of such a sheet has.
+pub(crate) fn group_size(slots: u16, group: u8) -> u16
+    requires { 64 * group ≤ slots }
+    ensures { result ≡ (if nat_lt (64 * group + 64) slots then 64 else slots - 64 * group) }
+{
+    let first = 64 * u16::from(group);
+    if first + 64 < slots {
+        64
+    } else {
+        slots - first
+    }
+}
+
+// All of so many slots or groups.
+pub(crate) fn full_bits(count: u16) -> u64
+    requires { (0 < count) × (count ≤ 64) }
+    ensures { result ≡ 2 ^ count - 1 }
+{
+    u64::MAX >> (64 - count)
 }
 
 // The index of a page, by its word: the index and one more, or 0 where there is none.
@@ -58,8 +79,8 @@ pub(crate) fn reply_by(found: u64, bit: u64, full: u64) -> Reply
     }
 }
 
-// The answer of a mark in this group of a wide sheet, by what it is to the slots of the group.
-pub(crate) fn fills(group: u8, reply: Reply) -> Reply
+// The answer of a mark in a group of a wide sheet, by what the slot is to the group.
+pub(crate) fn group_reply(group: u8, reply: Reply) -> Reply
     ensures { result ≡ group_reply group reply }
 {
     match reply {
@@ -68,7 +89,7 @@ pub(crate) fn fills(group: u8, reply: Reply) -> Reply
     }
 }
 
-// The answer of a closing, by what it is to the groups of its sheet.
+// The answer of the closing of a group, by what the group is to those of its sheet.
 pub(crate) fn closing_by(reply: Reply) -> Closing
     ensures { result ≡ closing_by reply }
 {
@@ -76,17 +97,5 @@ pub(crate) fn closing_by(reply: Reply) -> Closing
         Reply::Fresh | Reply::Fills(_) => Closing::Closed,
         Reply::Repeated => Closing::Again,
         Reply::Completing => Closing::Completing,
-    }
-}
-
-// How many slots the group of a wide sheet with so many slots has.
-pub(crate) fn size_of(slots: u16, group: u16) -> u16
-    requires { (64 * group ≤ slots) × (slots ≤ 4096) }
-    ensures { result ≡ (if nat_lt (64 * group + 64) slots then 64 else slots - 64 * group) }
-{
-    if 64 * group + 64 < slots {
-        64
-    } else {
-        slots - 64 * group
     }
 }

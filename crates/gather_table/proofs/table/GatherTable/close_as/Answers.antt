@@ -38,12 +38,12 @@ returns g c =
     let layout = layout_of c.self.inside.table.shared.key in
     let has : HasGroup layout c.args.sheet c.args.group = subst (λ (p : Layout). HasGroup p c.args.sheet c.args.group) (sym same) c.requires.group.group in
     let home : IsHome layout c.args.sheet c.index-home.result.now = subst (IsHome layout c.args.sheet) (sym c.index-home.ensures) (c.self.invariant.homes_are c.args.sheet _ has.sheet) in
-    let full = c.full_bits-full.ensures ∙ ap (λ (n : _). 2 ^ ((n + 63) / 64) - 1) home.slots in
+    let full = c.full_bits-groups.ensures ∙ ap (λ (n : _). 2 ^ n - 1) (c.from.ensures ∙ c.group_count.ensures) ∙ ap (λ (n : _). 2 ^ ((n + 63) / 64) - 1) home.slots in
     let most = few_groups layout c.self.invariant.sound.narrow c.args.sheet has.sheet in
     let low = has.group in
     made _ _ _ _ _ _ _ c.fetch_or-found.ensures.2.1 c.seat.invariant.1.held c.fetch_or-found.ensures.0
     (ap (λ (f : _). f c.fetch_or-found.result) (c.requires.entry ∙ ap (λ (p : Layout). close_of p c.args.sheet c.args.group) (sym same))
-      ∙ close_told layout c.args.sheet c.args.group c.fetch_or-found.result _ c.full_bits-full.result c.reply_by.result c.closing_by.result full (one_shl c.args.group 64 (omega arith)) c.reply_by.ensures c.closing_by.ensures)
+      ∙ close_told layout c.args.sheet c.args.group c.fetch_or-found.result _ c.full_bits-groups.result c.reply_by.result c.closing_by.result full (one_shl c.args.group 64 (omega arith)) c.reply_by.ensures c.closing_by.ensures)
     c.seat.view_is
 
 pub invariant_of-seat : goal.invariant_of-seat

@@ -32,8 +32,7 @@ returns g c =
     let layout = layout_of c.self.inside.table.shared.key in
     let has : HasGroup layout c.args.sheet c.args.group = subst (λ (p : Layout). HasGroup p c.args.sheet c.args.group) (sym same) c.requires.group in
     let home : IsHome layout c.args.sheet c.index-home.result.now = subst (IsHome layout c.args.sheet) (sym c.index-home.ensures) (c.self.invariant.homes_are c.args.sheet _ has.sheet) in
-    let number = c.from.ensures in
-    let size = c.size_of.ensures ∙ (λ i. if nat_lt (64 * number i + 64) (home.slots i) then 64 else home.slots i - 64 * number i) in
+    let size = c.group_size.ensures ∙ ap (λ (n : _). if nat_lt (64 * c.args.group + 64) n then 64 else n - 64 * c.args.group) home.slots in
     let full = c.full_bits-full.ensures ∙ ap (λ (n : _). 2 ^ n - 1) size in
     made _ _ _ _ _ _ _ c.load-found.ensures.2.1 c.seat.invariant.1.held c.load-found.ensures.0
     (ap (λ (f : _). f c.load-found.result) (c.requires.entry ∙ ap (λ (p : Layout). look_group_of p c.args.sheet c.args.group) (sym same))

@@ -48,11 +48,11 @@ returns g c =
     let layout = layout_of c.self.inside.table.shared.key in
     let below : c.args.sheet < length layout.sheets = subst (λ p. c.args.sheet < length p.sheets) (sym same) c.requires.sheet in
     let home : IsHome layout c.args.sheet c.index-home.result.now = subst (IsHome layout c.args.sheet) (sym c.index-home.ensures) (c.self.invariant.homes_are c.args.sheet _ below) in
-    let size = c.size_of.ensures ∙ ap (λ (n : _). if nat_lt (64 * (c.args.slot / 64) + 64) n then 64 else n - 64 * (c.args.slot / 64)) home.slots in
+    let size = c.group_size.ensures ∙ ap (λ (n : _). if nat_lt (64 * (c.args.slot / 64) + 64) n then 64 else n - 64 * (c.args.slot / 64)) home.slots in
     let full = c.full_bits-full.ensures ∙ ap (λ (n : _). 2 ^ n - 1) size in
     made _ _ _ _ _ _ _ c.fetch_or-found.ensures.2.1 c.seat.invariant.1.held c.fetch_or-found.ensures.0
     (ap (λ (f : _). f c.fetch_or-found.result) (c.requires.entry ∙ ap (λ (p : Layout). wide_mark_of p c.args.sheet c.args.slot) (sym same))
-      ∙ wide_mark_told layout c.args.sheet c.args.slot c.fetch_or-found.result _ c.full_bits-full.result c.reply_by.result c.fills.result full (one_shl (c.args.slot % 64) 64 (omega arith)) c.reply_by.ensures c.fills.ensures)
+      ∙ wide_mark_told layout c.args.sheet c.args.slot c.fetch_or-found.result _ c.full_bits-full.result c.reply_by.result c.group_reply.result full (one_shl (c.args.slot % 64) 64 (omega arith)) c.reply_by.ensures c.group_reply.ensures)
     c.seat.view_is
 
 pub invariant_of-seat : goal.invariant_of-seat
