@@ -8,8 +8,9 @@ ghost use Rattle.gather_table.specs.Shared.{opening_seat};
 
 use crate::lane::{Home, Lane};
 use crate::seat::Seat;
-use crate::starting::{first_words, group_count};
+use crate::starting::first_words;
 use crate::table::GatherTable;
+use crate::words::group_count;
 use atomic_table::Table;
 use sheet_plan::Plan;
 use std::alloc::{AllocError, Global};
