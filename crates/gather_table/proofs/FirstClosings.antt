@@ -11,47 +11,11 @@ use Rattle.gather_table.specs.Lanes.{wide_at, group_word, in_lane}
 use Rattle.gather_table.specs.Rule.{Holds}
 use Rattle.gather_table.specs.Table.{TableState, IsSound, slots, slot_count, is_wide, is_blank, blank_group, is_full, start, bits, in_group, all_below, group_count, group_size, with_mark, with_closed, HasGroup}
 use Rattle.gather_table.proofs.Bits.{full_bits}
-use Rattle.gather_table.proofs.FirstWords.{step, holds_same}
+use Rattle.gather_table.proofs.FirstWords.{holds_same, before_none, before_next, before_all, one_more, none_more}
 use Rattle.gather_table.proofs.Legal.{and_false}
 use Rattle.gather_table.proofs.Sheets.{closing_written, group_shown, low_bits, wide_room, few_groups}
 
--- what comes before one place more
-before_here : (s k : ℕ) → comes_before s (suc k) s k ≡ true
-before_here s k = λ i. le-ltb s s (omega arith) i || (eq-eqb s s refl i && lt-ltb k (suc k) (omega arith) i)
-
-before_other : (s k r j : ℕ) → (r ≡ s → j ≢ k) → comes_before s k r j ≡ comes_before s (suc k) r j
-before_other s k r j ne = dite (ℕ_discrete r s)
-    (λ is. ap (λ (b : Bool). ltb r s || ((r == s) && b)) (step j k (ne is)))
-    (λ other. (λ i. ltb r s || (ne_eqb r s other i && ltb j k)) ∙ sym (λ i. ltb r s || (ne_eqb r s other i && ltb j (suc k))))
-
--- what comes before the first place, before the next sheet, and before the last one
-before_none : (r j : ℕ) → comes_before 0 0 r j ≡ false
-before_none r j = (λ i. le-ltb r 0 (omega arith) i || ((r == 0) && le-ltb j 0 (omega arith) i)) ∙ and_false (r == 0)
-
-before_next : (s n r j : ℕ) → (r ≡ s → j < n) → comes_before s n r j ≡ comes_before (suc s) 0 r j
-before_next s n r j all = dite (ℕ_discrete r s)
-    (λ (is : r ≡ s). (λ i. le-ltb r s (omega arith) i || (eq-eqb r s is i && lt-ltb j n (all is) i)) ∙ sym (λ i. lt-ltb r (suc s) (omega arith) i || ((r == suc s) && ltb j 0)))
-    (λ other. dite (native.Mathlib.Decide.dec_le s r)
-    (λ le.
-    (λ i. le-ltb r s le i || (ne_eqb r s other i && ltb j n))
-    ∙ sym ((λ i. le-ltb r (suc s) (omega arith) i || ((r == suc s) && le-ltb j 0 (omega arith) i)) ∙ and_false (r == suc s)))
-    (λ gt. (λ i. lt-ltb r s (omega arith) i || ((r == s) && ltb j n)) ∙ sym (λ i. lt-ltb r (suc s) (omega arith) i || ((r == suc s) && ltb j 0))))
-
-before_all : (n r j : ℕ) → r < n → comes_before n 0 r j ≡ true
-before_all n r j lt = λ i. lt-ltb r n lt i || ((r == n) && ltb j 0)
-
--- a closing closes its group and no other
-closed_here : (t : TableState) (s g : ℕ) → (with_closed t s g).closed s g ≡ true
-closed_here t s g = ap (λ (b : Bool). (if b then with_mark (t.closed s) g else t.closed s) g) (eq-eqb s s refl) ∙ ap (λ (b : Bool). if b then true else t.closed s g) (eq-eqb g g refl)
-
-closed_other : (t : TableState) (s g r i : ℕ) → (r ≡ s → i ≢ g) → (with_closed t s g).closed r i ≡ t.closed r i
-closed_other t s g r i ne = dite (ℕ_discrete r s)
-    (λ (is : r ≡ s).
-    ap (λ (b : Bool). (if b then with_mark (t.closed s) g else t.closed r) i) (eq-eqb r s is)
-    ∙ ap (λ (b : Bool). if b then true else t.closed s i) (ne_eqb i g (ne is))
-    ∙ ap (λ (z : ℕ). t.closed z i) (sym is))
-    (λ other. ap (λ (b : Bool). (if b then with_mark (t.closed s) g else t.closed r) i) (ne_eqb r s other))
-
+-- a group of a wide sheet is closed from the start where its slots are all blank
 blank_where_full : (layout : Layout) (s g : ℕ) → HasGroup layout s g → blank_group layout s g ≡ is_full layout s g (is_blank (slots layout s))
 blank_where_full layout s g has = λ i. (has.wide i && lt-ltb g (group_count layout s) has.group i) && is_full layout s g (is_blank (slots layout s))
 
@@ -81,30 +45,10 @@ pub group_more : (layout : Layout) (words : List ℕ) (s g : ℕ) → HasGroup l
 group_more layout words s g has held = two (is_full layout s g (is_blank (slots layout s))) refl held
   where
     two : (b : Bool) → is_full layout s g (is_blank (slots layout s)) ≡ b → Holds layout (if b then with_closed (closed_to layout s g) s g else closed_to layout s g) words → Holds layout (closed_to layout s (suc g)) words
-    two true e h = holds_same layout (with_closed (closed_to layout s g) s g) (closed_to layout s (suc g)) words h (λ p lt. refl) (λ r j lt inn. refl) (λ r i _. shut r i)
-      where
-        elsewhere : (r i : ℕ) → (r ≡ s → i ≢ g) → (with_closed (closed_to layout s g) s g).closed r i ≡ (closed_to layout s (suc g)).closed r i
-        elsewhere r i ne = closed_other (closed_to layout s g) s g r i ne ∙ ap (λ (b : Bool). b && blank_group layout r i) (before_other s g r i ne)
-
-        shut : (r i : ℕ) → (with_closed (closed_to layout s g) s g).closed r i ≡ (closed_to layout s (suc g)).closed r i
-        shut r i = dite (ℕ_discrete r s)
-            (λ (is : r ≡ s). dite (ℕ_discrete i g)
-            (λ (here : i ≡ g).
-            let at : (with_closed (closed_to layout s g) s g).closed s g ≡ (closed_to layout s (suc g)).closed s g =
-                closed_here (closed_to layout s g) s g ∙ sym (λ m. before_here s g m && (blank_where_full layout s g has ∙ e) m) in
-            subst (λ (z : ℕ × ℕ). (with_closed (closed_to layout s g) s g).closed z.0 z.1 ≡ (closed_to layout s (suc g)).closed z.0 z.1) (λ m. (sym is m, sym here m)) at)
-            (λ ne. elsewhere r i (λ _. ne)))
-            (λ other. elsewhere r i (λ is. absurd (other is)))
-    two false e h = holds_same layout (closed_to layout s g) (closed_to layout s (suc g)) words h (λ p lt. refl) (λ r j lt inn. refl) (λ r i _. shut r i)
-      where
-        shut : (r i : ℕ) → (closed_to layout s g).closed r i ≡ (closed_to layout s (suc g)).closed r i
-        shut r i = dite (ℕ_discrete r s)
-            (λ (is : r ≡ s). dite (ℕ_discrete i g)
-            (λ (here : i ≡ g).
-            let blank : blank_group layout r i ≡ false = ap (λ (z : ℕ × ℕ). blank_group layout z.0 z.1) (λ m. (is m, here m)) ∙ blank_where_full layout s g has ∙ e in
-            (λ m. comes_before s g r i && blank m) ∙ and_false (comes_before s g r i) ∙ sym ((λ m. comes_before s (suc g) r i && blank m) ∙ and_false (comes_before s (suc g) r i)))
-            (λ ne. ap (λ (b : Bool). b && blank_group layout r i) (before_other s g r i (λ _. ne))))
-            (λ other. ap (λ (b : Bool). b && blank_group layout r i) (before_other s g r i (λ is. absurd (other is))))
+    two true e h = holds_same layout (with_closed (closed_to layout s g) s g) (closed_to layout s (suc g)) words h (λ p lt. refl) (λ r j lt inn. refl)
+        (λ r i _. one_more (blank_group layout) s g r i (blank_where_full layout s g has ∙ e))
+    two false e h = holds_same layout (closed_to layout s g) (closed_to layout s (suc g)) words h (λ p lt. refl) (λ r j lt inn. refl)
+        (λ r i _. none_more (blank_group layout) s g r i (blank_where_full layout s g has ∙ e))
 
 -- no group yet, one sheet more, and all sheets
 pub none_closed : (layout : Layout) (words : List ℕ) → Holds layout (blanks_to layout (length layout.sheets) 0) words → Holds layout (closed_to layout 0 0) words

@@ -10,6 +10,7 @@ use crate::lane::{Home, Lane};
 use crate::seat::Seat;
 use crate::starting::first_words;
 use crate::table::GatherTable;
+use crate::words::group_count;
 use atomic_table::Table;
 use sheet_plan::Plan;
 use std::alloc::{AllocError, Global};
@@ -107,7 +108,7 @@ fn own_words(slots: u16) -> u32
     ensures { result ≡ (if nat_lt 64 slots then 1 + (slots + 63) / 64 else 0) }
 {
     if slots > 64 {
-        return 1 + u32::from((slots + 63) / 64);
+        return 1 + u32::from(group_count(slots));
     }
     0
 }
