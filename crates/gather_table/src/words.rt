@@ -13,7 +13,7 @@ pub(crate) fn blank_bits(plan: &Plan, sheet: u32, group: u8) -> u64
     requires group { group < group_count (layout plan.now) sheet }
     ensures { result ≡ bits (in_group (is_blank (slots (layout plan.now) sheet)) group) (group_size (layout plan.now) sheet group) }
 {
-    full_bits(group_size(plan.slots(sheet), group)) - plan.missing_at_start(sheet)
+    full_bits(group_size(plan.slots(sheet), group)) - plan.missing_at_start(sheet, group)
 }
 
 // How many groups a sheet of so many slots has.
