@@ -1,5 +1,5 @@
 -- What is read off a plan, and what every plan keeps to.
-use Rattle.std.specs.Prelude.{◌≡◌, ℕ, ◌<◌, ◌≤◌, Bool, true, false, List, [], length, map, Option, Some, None, slice_get, slice_index_or, sum_by}
+use Rattle.std.specs.Prelude.{◌≡◌, ℕ, ◌+◌, ◌/◌, ◌<◌, ◌≤◌, Bool, true, false, List, [], length, map, Option, Some, None, slice_get, slice_index_or, sum_by}
 use Rattle.profile.specs.Specification.{Spec, Item}
 use Rattle.profile.specs.Admissible.{IsAdmissible}
 use Rattle.profile.specs.Sheets.{Plan, sheets, layout}
@@ -15,6 +15,10 @@ pages_on plan s = slice_index_or (layout plan).sheets s []
 -- the items of a sheet, one for each slot
 abbrev pub items_on : Plan → ℕ → List Item
 items_on plan s = map (λ slot. slot.item) (slice_index_or plan.sheets s [])
+
+-- how many slot groups a sheet has: one for each 64 slots, and a last one for those that are left
+abbrev pub slot_groups : Plan → ℕ → ℕ
+slot_groups plan s = (length (pages_on plan s) + 63) / 64
 
 abbrev pub is_page : Option (Option ℕ) → Bool
 is_page None = false
