@@ -28,9 +28,12 @@ fetch_or-found-requires g c =
     let room = wide_room layout c.args.sheet _ has.wide has.sheet c.self.invariant.room in
     let few = few_groups layout c.self.invariant.sound.narrow in
     let most = few c.args.sheet has.sheet in
-    let low = has.group in
-    (ours, omega arith, or_at layout _ _ _ _ _ _ _ _ _ word (one_shl c.args.group 64 (omega arith)) (c.requires.entry ∙ ap (λ (p : Layout). close_of p c.args.sheet c.args.group) (sym same))
-      (close_moves layout _ _ _ c.args.sheet c.args.group few c.seat.invariant.1.held.some_share may))
+    let low = has.group in (
+      ours,
+      omega arith,
+      or_at layout _ _ _ _ _ _ _ _ _ word (one_shl c.args.group 64 (omega arith)) (c.requires.entry ∙ ap (λ (p : Layout). close_of p c.args.sheet c.args.group) (sym same))
+          (close_moves layout _ _ _ c.args.sheet c.args.group few c.seat.invariant.1.held.some_share may),
+    )
 
 pub returns : goal.returns
 returns g c =
@@ -43,7 +46,7 @@ returns g c =
     let low = has.group in
     made _ _ _ _ _ _ _ c.fetch_or-found.ensures.2.1 c.seat.invariant.1.held c.fetch_or-found.ensures.0
     (ap (λ (f : _). f c.fetch_or-found.result) (c.requires.entry ∙ ap (λ (p : Layout). close_of p c.args.sheet c.args.group) (sym same))
-      ∙ close_told layout c.args.sheet c.args.group c.fetch_or-found.result _ c.full_bits-groups.result c.reply_by.result c.closing_by.result full (one_shl c.args.group 64 (omega arith)) c.reply_by.ensures c.closing_by.ensures)
+    ∙ close_told layout c.args.sheet c.args.group c.fetch_or-found.result _ c.full_bits-groups.result c.reply_by.result c.closing_by.result full (one_shl c.args.group 64 (omega arith)) c.reply_by.ensures c.closing_by.ensures)
     c.seat.view_is
 
 pub invariant_of-seat : goal.invariant_of-seat

@@ -36,7 +36,7 @@ returns g c =
     let full = c.full_bits-full.ensures ∙ ap (λ (n : _). 2 ^ n - 1) size in
     made _ _ _ _ _ _ _ c.load-found.ensures.2.1 c.seat.invariant.1.held c.load-found.ensures.0
     (ap (λ (f : _). f c.load-found.result) (c.requires.entry ∙ ap (λ (p : Layout). look_group_of p c.args.sheet c.args.group) (sym same))
-      ∙ look_group_told layout c.args.sheet c.args.group c.load-found.result c.full_bits-full.result full)
+    ∙ look_group_told layout c.args.sheet c.args.group c.load-found.result c.full_bits-full.result full)
     c.seat.view_is
 
 pub invariant_of-seat : goal.invariant_of-seat

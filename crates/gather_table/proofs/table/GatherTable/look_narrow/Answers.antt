@@ -37,7 +37,7 @@ returns g c =
     let full = c.full_bits-full.ensures ∙ ap (λ (n : _). 2 ^ n - 1) home.slots in
     made _ _ _ _ _ _ _ c.load-found.ensures.2.1 c.seat.invariant.1.held c.load-found.ensures.0
     (ap (λ (f : _). f c.load-found.result) (c.requires.entry ∙ ap (λ (p : Layout). look_of p c.args.sheet) (sym same))
-      ∙ look_told layout c.args.sheet c.load-found.result c.full_bits-full.result c.index-home.result.now.first (home.lane kind).1 full)
+    ∙ look_told layout c.args.sheet c.load-found.result c.full_bits-full.result c.index-home.result.now.first (home.lane kind).1 full)
     c.seat.view_is
 
 pub invariant_of-seat : goal.invariant_of-seat

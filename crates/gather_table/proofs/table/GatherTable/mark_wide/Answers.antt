@@ -22,15 +22,18 @@ fetch_or-found-requires g c =
     let below : c.args.sheet < length layout.sheets = subst (λ p. c.args.sheet < length p.sheets) (sym same) c.requires.sheet in
     let wide : is_wide layout c.args.sheet ≡ true = subst (λ (p : Layout). is_wide p c.args.sheet ≡ true) (sym same) c.requires.wide in
     let markable : IsMarkable layout (after_history layout c.seat.inside.seat.me.0.mine.front) c.args.sheet c.args.slot =
-        subst (λ (f : _). IsMarkable layout (after_history layout f) c.args.sheet c.args.slot) (sym (ap (λ t. t.front) c.seat.view_is))
-        (subst (λ (p : Layout). IsMarkable p (after_history p c.args.seat.now.front) c.args.sheet c.args.slot) (sym same) c.requires.slot) in
+    subst (λ (f : _). IsMarkable layout (after_history layout f) c.args.sheet c.args.slot) (sym (ap (λ t. t.front) c.seat.view_is))
+    (subst (λ (p : Layout). IsMarkable p (after_history p c.args.seat.now.front) c.args.sheet c.args.slot) (sym same) c.requires.slot) in
     let in_sheet : c.args.slot < slot_count layout c.args.sheet = below_length _ c.args.slot _ markable.needed in
     let home : IsHome layout c.args.sheet c.index-home.result.now = subst (IsHome layout c.args.sheet) (sym c.index-home.ensures) (c.self.invariant.homes_are c.args.sheet _ below) in
     let word = home.wide wide in
     let room = wide_room layout c.args.sheet _ wide below c.self.invariant.room in
-    let group = group_of_slot layout c.args.sheet c.args.slot in_sheet in
-    (ours, omega arith, or_at layout _ _ _ _ _ _ _ _ _ (omega arith) (one_shl (c.args.slot % 64) 64 (omega arith)) (c.requires.entry ∙ ap (λ (p : Layout). wide_mark_of p c.args.sheet c.args.slot) (sym same))
-      (wide_mark_moves layout _ _ _ c.args.sheet c.args.slot wide below c.seat.invariant.1.held.some_share markable))
+    let group = group_of_slot layout c.args.sheet c.args.slot in_sheet in (
+      ours,
+      omega arith,
+      or_at layout _ _ _ _ _ _ _ _ _ (omega arith) (one_shl (c.args.slot % 64) 64 (omega arith)) (c.requires.entry ∙ ap (λ (p : Layout). wide_mark_of p c.args.sheet c.args.slot) (sym same))
+          (wide_mark_moves layout _ _ _ c.args.sheet c.args.slot wide below c.seat.invariant.1.held.some_share markable),
+    )
 
 pub overflow_cast-group : goal.overflow_cast-group
 overflow_cast-group g c =
@@ -52,7 +55,7 @@ returns g c =
     let full = c.full_bits-full.ensures ∙ ap (λ (n : _). 2 ^ n - 1) size in
     made _ _ _ _ _ _ _ c.fetch_or-found.ensures.2.1 c.seat.invariant.1.held c.fetch_or-found.ensures.0
     (ap (λ (f : _). f c.fetch_or-found.result) (c.requires.entry ∙ ap (λ (p : Layout). wide_mark_of p c.args.sheet c.args.slot) (sym same))
-      ∙ wide_mark_told layout c.args.sheet c.args.slot c.fetch_or-found.result _ c.full_bits-full.result c.reply_by.result c.group_reply.result full (one_shl (c.args.slot % 64) 64 (omega arith)) c.reply_by.ensures c.group_reply.ensures)
+    ∙ wide_mark_told layout c.args.sheet c.args.slot c.fetch_or-found.result _ c.full_bits-full.result c.reply_by.result c.group_reply.result full (one_shl (c.args.slot % 64) 64 (omega arith)) c.reply_by.ensures c.group_reply.ensures)
     c.seat.view_is
 
 pub invariant_of-seat : goal.invariant_of-seat
