@@ -2,6 +2,7 @@
 ghost use Rattle.std.specs.Prelude.{◌≡◌, ℕ, ◌+◌, ◌*◌, ◌<◌, ◌≤◌, if◌then◌else◌, length, map, Ok, OnOk, IfOk, IfErr, Some, slice_get};
 ghost use Rattle.std.specs.Int.{bit_at};
 ghost use Rattle.std.specs.List.{range_with_len};
+ghost use Rattle.profile.specs.Admissible.{most_slots};
 ghost use Rattle.profile.specs.Run.{plan_of};
 ghost use Rattle.profile.specs.Sheets.{layout, sheets};
 ghost use Rattle.pagespec.specs.Items.{item_of};
@@ -78,12 +79,12 @@ impl<'s> Plan<'s> {
         self.expansion.sheets()
     }
 
-    /// How many slots a sheet has, blank ones counted: 1 to 64.
+    /// How many slots a sheet has, blank ones counted: 1 to 4,096.
     pub fn slots(&self, sheet: u32) -> u16
         requires { sheet < length self.now.sheets }
         ensures value { result ≡ length (pages_on self.now sheet) }
         ensures some { 0 < result }
-        ensures few { result ≤ 64 }
+        ensures few { result ≤ most_slots }
     {
         self.expansion.slots(sheet)
     }
