@@ -1,12 +1,15 @@
 -- Splitting, joining and meeting, as steps of the rule.
-use Rattle.std.proofs.Common.{◌≡◌, ℕ, ◌<◌, List, set, refl, sym, subst}
+use Rattle.std.proofs.Common.{◌≡◌, ℕ, ◌<◌, List, length, set, refl, sym, subst, arith}
 use mathlib.Core.Option.{none}
 use Rattle.atomic_table.specs.Table.{State, Me, step, Allows, Splits, Joins, keeps}
 use Rattle.profile.specs.Sheets.{Layout}
+use Rattle.gather_table.specs.Counts.{KeepsCounts}
+use Rattle.gather_table.specs.declared.lane.Home.{Home}
 use Rattle.gather_table.specs.Plays.{levels, merges}
 use Rattle.gather_table.specs.Rule.{IsKept, Kept}
 use Rattle.gather_table.specs.History.{Entry}
 use Rattle.gather_table.specs.Sight.{Sight, nobody}
+use Rattle.gather_table.proofs.Lanes.{at_least}
 use Rattle.gather_table.proofs.Pages.{unwritten}
 use Rattle.histories.specs.Seats.{nothing, keeps_back, given, side_by_side, levelled, merged, first_of_two, second_of_two, AreSeats}
 
@@ -33,3 +36,7 @@ pub merges_moves : (layout : Layout) (slots id : ℕ) (me : Me Unit Sight) (i : 
 merges_moves layout slots id me i pos s kept homes at lt =
     let k = reseated layout s kept.0 _ kept.1 (Rattle.histories.proofs.Shares.merges layout kept.0 s.views id me.0 pos kept.1.seats at) in
     (merged me.0, keeps, tt, (kept.0, subst (λ ws. IsKept layout (record { words = ws; homes = s.homes; views = set s.views id (merged me.0) }) kept.0) (sym (unwritten s.words i)) k), (refl, refl, Rattle.histories.proofs.Shares.meets layout kept.0 s.views id me.0 kept.1.seats at))
+
+-- every table has a word
+pub some_word : {layout : Layout} {words pages : ℕ} {homes : List Home} → KeepsCounts layout words pages homes → 0 < words
+some_word {layout} k = let r = k.room in let l = at_least layout (length layout.sheets) in omega arith

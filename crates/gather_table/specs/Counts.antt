@@ -1,16 +1,15 @@
 -- What a table of the program keeps beside its words.
-use Rattle.std.specs.Prelude.{◌≡◌, ℕ, ◌+◌, ◌-◌, ◌^◌, ◌<◌, List, length, slice_index, slice_index_or}
+use Rattle.std.specs.Prelude.{◌≡◌, ℕ, ◌<◌, ◌≤◌, List, length, slice_index_or}
 use Rattle.profile.specs.Sheets.{Layout}
-use Rattle.gather_table.specs.declared.lane.Lane.{Lane}
-use Rattle.gather_table.specs.Table.{slot_count, IsSound}
-use Rattle.gather_table.specs.Lanes.{lane, free}
+use Rattle.gather_table.specs.declared.lane.Home.{Home}
+use Rattle.gather_table.specs.Table.{IsSound}
+use Rattle.gather_table.specs.Lanes.{wide_at}
+use Rattle.gather_table.specs.Homes.{IsHome}
 
--- the number of pages, the bits of each sheet's slots, and each sheet's lane
-pub record KeepsCounts (layout : Layout) (words page_count : ℕ) (full_words : List ℕ) (lane_list : List Lane) : Type 0 where
+-- the number of pages, and of each sheet how many slots it has and where its bits stand
+pub record KeepsCounts (layout : Layout) (words page_count : ℕ) (homes : List Home) : Type 0 where
   pub sound : IsSound layout
   pub pages : page_count ≡ layout.pages
-  pub room : layout.pages + (free layout (length layout.sheets)).word < words
-  pub count_full : length full_words ≡ length layout.sheets
-  pub full : (s : ℕ) → s < length layout.sheets → slice_index full_words s ≡ 2 ^ slot_count layout s - 1
-  pub count_lanes : length lane_list ≡ length layout.sheets
-  pub lanes : (s : ℕ) (d : Lane) → s < length layout.sheets → slice_index_or lane_list s d ≡ lane layout s
+  pub room : wide_at layout (length layout.sheets) ≤ words
+  pub count : length homes ≡ length layout.sheets
+  pub homes_are : (s : ℕ) (d : Home) → s < length layout.sheets → IsHome layout s (slice_index_or homes s d)

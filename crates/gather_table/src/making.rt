@@ -1,67 +1,133 @@
 //! How the shared table is made.
-ghost use Rattle.std.specs.Prelude.{◌≡◌, ◌+◌, ◌<◌, ◌≤◌, [], ◌∷◌, ◌++◌, nat_lt, if◌then◌else◌, IfOk};
+ghost use Rattle.std.specs.Prelude.{◌≡◌, ℕ, ◌+◌, ◌/◌, ◌<◌, ◌≤◌, nat_lt, if◌then◌else◌, length, slice_index_or, IfOk};
 ghost use Rattle.profile.specs.Sheets.{layout};
-ghost use Rattle.gather_table.specs.Lanes.{fitted};
+ghost use Rattle.gather_table.specs.declared.lane.Home.{Home};
+ghost use Rattle.gather_table.specs.Homes.{IsHome};
+ghost use Rattle.gather_table.specs.Lanes.{fitted, free, wide_at};
 ghost use Rattle.gather_table.specs.Shared.{opening_seat};
 
-use crate::lane::Lane;
+use crate::lane::{Home, Lane};
 use crate::seat::Seat;
+use crate::starting::first_words;
 use crate::table::GatherTable;
-use crate::words::{blank_bits, full_bits};
+use crate::words::group_count;
 use atomic_table::Table;
 use sheet_plan::Plan;
 use std::alloc::{AllocError, Global};
 
-// The lane of so many bits that comes next, with its word.
-fn fit(words: &mut Vec<u64>, next: Lane, count: u8) -> Result<Lane, AllocError>
-    requires { (next.first ≤ 64) × (count ≤ 64) × (next.word < 1_000_000) }
-    ensures lane { IfOk result (λ lane. lane ≡ fitted next count) }
-    ensures words { IfOk result (λ lane. words.new.items ≡ (if nat_lt 64 (next.first + count) then words.old.items ++ 0 ∷ [] else words.old.items)) }
-{
-    if next.first + count > 64 {
-        words.push(0)?;
-        return Ok(Lane {
-            word: next.word + 1,
-            first: 0,
-        });
-    }
-    Ok(next)
-}
-
 impl<'s> GatherTable<'s> {
-    /// A table for a plan, and the seat that has all its shares. Blank slots count as marked from the start.
+    /// A table for a plan, and the seat that has all its shares. Blank slots count as marked from the start, and groups of blank
+    /// slots alone as closed.
     ///
-    /// One word a page holds its index; the bits of a sheet stand in a lane of neighbouring bits of one word. A sheet takes
-    /// the next free bits of the current word where they suffice, else the first bits of the next word.
+    /// One word a page holds its index. The bits of a sheet of up to 64 slots stand in a lane of neighbouring bits of one word: a
+    /// sheet takes the next free bits of the current word where they suffice, else the first bits of the next word. A wide sheet
+    /// has words of its own behind the lanes, a closing word and then one word a group.
     pub fn new(alloc: Global, plan: &Plan<'s>) -> Result<(GatherTable<'s>, Seat), AllocError>
         ensures layout { IfOk result (λ made. made.0.layout ≡ layout plan.now) }
         ensures seat { IfOk result (λ made. made.1 ≡ opening_seat made.0) }
     {
-        let pages = plan.pages() as usize;
-        let mut words = Vec::from_elem(alloc, 0u64, pages + 1)?;
-        let mut full = Vec::new(alloc);
-        let mut lanes = Vec::new(alloc);
-        let mut next = Lane { word: 0, first: 0 };
-        for sheet in 0..plan.sheets() {
-            let slots = plan.slots(sheet);
-            next = fit(&mut words, next, slots as u8)?;
-            words[pages + next.word as usize] += blank_bits(plan, sheet) << next.first;
-            full.push(full_bits(slots))?;
-            lanes.push(next)?;
-            next.first += slots as u8;
-        }
+        let (homes, count) = homes_of(alloc, plan)?;
+        let words = first_words(alloc, plan, homes.as_slice(), count)?;
         let (table, seat) = Table::of_words(alloc, words.as_slice(), plan)?;
+        let pages = plan.pages() as usize;
         Ok((
             GatherTable {
                 table,
                 pages,
-                full,
-                lanes,
+                homes,
             },
             Seat {
                 seat,
                 share: 1 << 32,
             },
         ))
+    }
+}
+
+// Where the bits of each sheet stand, and how many words that takes.
+fn homes_of(alloc: Global, plan: &Plan) -> Result<(Vec<Home>, u32), AllocError>
+    ensures count { IfOk result (λ made. length made.0.items ≡ length (layout plan.now).sheets) }
+    ensures homes { IfOk result (λ made. (s : ℕ) (d : Home) → s < length (layout plan.now).sheets → IsHome (layout plan.now) s (slice_index_or made.0.items s d)) }
+    ensures words { IfOk result (λ made. made.1 ≡ wide_at (layout plan.now) (length (layout plan.now).sheets)) }
+{
+    let pages = plan.pages();
+    let mut homes = Vec::with_capacity(alloc, plan.sheets() as usize)?;
+    let mut next = Lane { word: 0, first: 0 };
+    let mut wide = pages + lane_words(plan);
+    for sheet in 0..plan.sheets() {
+        let slots = plan.slots(sheet);
+        let width = lane_width(slots);
+        next = fit(next, width);
+        homes.push(home_at(slots, pages, next, wide))?;
+        next.first += width;
+        wide += own_words(slots);
+    }
+    Ok((homes, wide))
+}
+
+// How many words hold the lanes.
+fn lane_words(plan: &Plan) -> u32
+    ensures { result ≡ (free (layout plan.now) (length (layout plan.now).sheets)).word + 1 }
+{
+    let mut next = Lane { word: 0, first: 0 };
+    for sheet in 0..plan.sheets() {
+        let width = lane_width(plan.slots(sheet));
+        next = fit(next, width);
+        next.first += width;
+    }
+    next.word + 1
+}
+
+// The lane of so many bits that comes next.
+fn fit(next: Lane, count: u8) -> Lane
+    requires { (next.first ≤ 64) × (count ≤ 64) × (next.word < 1_000_000) }
+    ensures { result ≡ fitted next count }
+{
+    if next.first + count > 64 {
+        return Lane {
+            word: next.word + 1,
+            first: 0,
+        };
+    }
+    next
+}
+
+// How many bits a sheet has among the lanes: a wide one has none.
+fn lane_width(slots: u16) -> u8
+    ensures { result ≡ (if nat_lt 64 slots then 0 else slots) }
+{
+    if slots > 64 {
+        return 0;
+    }
+    slots as u8
+}
+
+// How many words a wide sheet has for itself, a closing word and one a group. Another has none.
+fn own_words(slots: u16) -> u32
+    requires { slots ≤ 4_096 }
+    ensures { result ≡ (if nat_lt 64 slots then 1 + (slots + 63) / 64 else 0) }
+{
+    if slots > 64 {
+        return 1 + u32::from(group_count(slots));
+    }
+    0
+}
+
+// Where a sheet's bits stand, by its lane and by the next word behind those of the wide sheets before it.
+fn home_at(slots: u16, pages: u32, lane: Lane, wide: u32) -> Home
+    requires { (pages ≤ 1_000_000) × (lane.word ≤ 1_000_000) }
+    ensures { result ≡ (if nat_lt 64 slots then record { slots = slots; word = wide; first = 0 } else record { slots = slots; word = pages + lane.word; first = lane.first }) }
+{
+    if slots > 64 {
+        return Home {
+            slots,
+            word: wide,
+            first: 0,
+        };
+    }
+    Home {
+        slots,
+        word: pages + lane.word,
+        first: lane.first,
     }
 }

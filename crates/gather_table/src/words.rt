@@ -1,26 +1,48 @@
-//! What words stand for: the slots of a sheet, bit k for slot k, and the index of a page.
-ghost use Rattle.std.specs.Prelude.{◌≡◌, ◌-◌, ◌<◌, ◌≤◌, ◌^◌, length};
+//! What words stand for: the slots of a group, bit k for slot k of it, the groups of a wide sheet, and the index of a page.
+ghost use Rattle.std.specs.Prelude.{◌≡◌, ◌+◌, ◌-◌, ◌*◌, ◌/◌, ◌<◌, ◌≤◌, ◌^◌, nat_lt, if◌then◌else◌, length};
 ghost use Rattle.profile.specs.Sheets.{layout};
-ghost use Rattle.gather_table.specs.Table.{is_blank, bits, slots, slot_count, publish_reply};
+ghost use Rattle.gather_table.specs.Table.{is_blank, in_group, bits, slots, group_count, group_size, group_reply, closing_by, publish_reply};
 ghost use Rattle.gather_table.specs.Words.{index_in, reply_in};
 
-use crate::answers::{Published, Reply};
+use crate::answers::{Closing, Published, Reply};
 use sheet_plan::Plan;
 
-// The blank slots of a sheet.
-pub(crate) fn blank_bits(plan: &Plan, sheet: u32) -> u64
-    requires { sheet < length plan.now.sheets }
-    ensures { result ≡ bits (is_blank (slots (layout plan.now) sheet)) (slot_count (layout plan.now) sheet) }
+// The blank slots of a group, counted from its first. A sheet of up to 64 slots is one group.
+pub(crate) fn blank_bits(plan: &Plan, sheet: u32, group: u8) -> u64
+    requires sheet { sheet < length plan.now.sheets }
+    requires group { group < group_count (layout plan.now) sheet }
+    ensures { result ≡ bits (in_group (is_blank (slots (layout plan.now) sheet)) group) (group_size (layout plan.now) sheet group) }
 {
-    full_bits(plan.slots(sheet)) - plan.missing_at_start(sheet)
+    full_bits(group_size(plan.slots(sheet), group)) - plan.missing_at_start(sheet, group)
 }
 
-// All slots of a sheet.
-pub(crate) fn full_bits(slots: u16) -> u64
-    requires { (0 < slots) × (slots ≤ 64) }
-    ensures { result ≡ 2 ^ slots - 1 }
+// How many groups a sheet of so many slots has.
+pub(crate) fn group_count(slots: u16) -> u8
+    requires { slots ≤ 4_096 }
+    ensures { result ≡ (slots + 63) / 64 }
 {
-    u64::MAX >> (64 - slots)
+    ((slots + 63) / 64) as u8
+}
+
+// How many slots a group of such a sheet has.
+pub(crate) fn group_size(slots: u16, group: u8) -> u16
+    requires { 64 * group ≤ slots }
+    ensures { result ≡ (if nat_lt (64 * group + 64) slots then 64 else slots - 64 * group) }
+{
+    let first = 64 * u16::from(group);
+    if first + 64 < slots {
+        64
+    } else {
+        slots - first
+    }
+}
+
+// All of so many slots or groups.
+pub(crate) fn full_bits(count: u16) -> u64
+    requires { (0 < count) × (count ≤ 64) }
+    ensures { result ≡ 2 ^ count - 1 }
+{
+    u64::MAX >> (64 - count)
 }
 
 // The index of a page, by its word: the index and one more, or 0 where there is none.
@@ -45,7 +67,7 @@ pub(crate) fn published_by(found: u64) -> Published
     }
 }
 
-// The answer of a mark, by the marked slots that it found, its own bit, and all slots.
+// What a bit is to those that it found, where all are `full`: it was there, it is the last one, or another.
 pub(crate) fn reply_by(found: u64, bit: u64, full: u64) -> Reply
     ensures { result ≡ reply_in found bit full }
 {
@@ -55,5 +77,26 @@ pub(crate) fn reply_by(found: u64, bit: u64, full: u64) -> Reply
         Reply::Completing
     } else {
         Reply::Fresh
+    }
+}
+
+// The answer of a mark in a group of a wide sheet, by what the slot is to the group.
+pub(crate) fn group_reply(group: u8, reply: Reply) -> Reply
+    ensures { result ≡ group_reply group reply }
+{
+    match reply {
+        Reply::Completing => Reply::Fills(group),
+        other => other,
+    }
+}
+
+// The answer of the closing of a group, by what the group is to those of its sheet.
+pub(crate) fn closing_by(reply: Reply) -> Closing
+    ensures { result ≡ closing_by reply }
+{
+    match reply {
+        Reply::Fresh | Reply::Fills(_) => Closing::Closed,
+        Reply::Repeated => Closing::Again,
+        Reply::Completing => Closing::Completing,
     }
 }

@@ -14,4 +14,4 @@ ones_of n m e =
     omega arith
 
 pub returns : goal.returns
-returns c = ones_of c.args.slots (64 - c.args.slots) (omega arith)
+returns c = ones_of c.args.count (64 - c.args.count) (omega arith)

@@ -1,6 +1,5 @@
 use Rattle.std.proofs.Common.{refl, arith, sym, ap, ◌∙◌}
-use Rattle.gather_table.proofs.Laying.{some_word}
-use Rattle.gather_table.proofs.Seats.{splits}
+use Rattle.gather_table.proofs.Seats.{some_word, splits}
 use Rattle.histories.specs.Seats.{keeps_back, given}
 use Rattle.histories.proofs.Alone.{stands_kept, stands_given}
 use Rattle.gather_table.specs.History.{IsLegal}

@@ -1,7 +1,6 @@
 use Rattle.std.proofs.Common.{refl, sym, ap, ◌∙◌, subst, ◌<◌}
 use Rattle.gather_table.specs.Sight.{Sight}
-use Rattle.gather_table.proofs.Laying.{some_word}
-use Rattle.gather_table.proofs.Seats.{joins, merges_moves}
+use Rattle.gather_table.proofs.Seats.{some_word, joins, merges_moves}
 use Rattle.gather_table.proofs.Views.{joined, stands_joined}
 use Rattle.gather_table.proofs.table.GatherTable.join.Goals as goal
 

@@ -1,7 +1,6 @@
 use Rattle.std.proofs.Common.{sym, ap, ◌∙◌, subst, ◌<◌}
 use Rattle.gather_table.specs.Sight.{Sight}
-use Rattle.gather_table.proofs.Laying.{some_word}
-use Rattle.gather_table.proofs.Seats.{joins, levels_moves, parts}
+use Rattle.gather_table.proofs.Seats.{some_word, joins, levels_moves, parts}
 use Rattle.gather_table.proofs.Views.{met, stands_first, stands_second}
 use Rattle.gather_table.proofs.table.GatherTable.meet.Goals as goal
 

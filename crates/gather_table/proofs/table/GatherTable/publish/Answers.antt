@@ -1,6 +1,8 @@
-use Rattle.std.proofs.Common.{arith, sym, ap, ◌∙◌, subst, ◌≡◌, ◌<◌, ◌+◌, ◌-◌}
+use Rattle.std.proofs.Common.{arith, sym, ap, ◌∙◌, subst, ◌≡◌, ◌<◌, length, ◌+◌, ◌-◌}
+use Rattle.profile.specs.Sheets.{layout as layout_of}
 use Rattle.gather_table.specs.History.{Publish, IsLegal}
 use Rattle.histories.proofs.Alone.{stands_after}
+use Rattle.gather_table.proofs.Lanes.{at_least}
 use Rattle.gather_table.proofs.Views.{made}
 use Rattle.gather_table.proofs.Pages.{publish_moves}
 use Rattle.gather_table.proofs.table.GatherTable.publish.Goals as goal
@@ -11,6 +13,7 @@ compare_exchange-found-requires c =
     let same = ap (λ t. t.layout) c.self.view_is in
     let below : c.args.page < c.self.inside.table.shared.key.pages = subst (λ p. c.args.page < p.pages) (sym same) c.requires.page in
     let room = c.self.invariant.room in
+    let least = at_least (layout_of c.self.inside.table.shared.key) (length (layout_of c.self.inside.table.shared.key).sheets) in
     (ours, omega arith, publish_moves _ _ _ _ _ _ below (omega arith) c.seat.invariant.1.held.some_share)
 
 pub invariant_of-seat : goal.invariant_of-seat
