@@ -1,0 +1,8 @@
+pub mod Recut
+pub mod Keeps
+pub mod Plainly
+pub mod Pieces
+pub mod Pages
+pub mod Assembly
+pub mod Again
+pub mod Examples
