@@ -16,13 +16,15 @@ use Rattle.dsc.proofs.Cases.{by_test, and_false}
 use Rattle.dsc.proofs.LineLengths.{line_len-within, line_len-pos, end_len-pos}
 use Rattle.dsc.proofs.Reading.{accepted_cut, accepted_opening}
 use Rattle.seams.specs.Seams.{joined, passes, line_unit, ends}
-use Rattle.guard.specs.Guard.{is_header, ends_header, stays, run_len, header_run, header_len, guarded, IsGuard, IsGuarded, GuardedStays}
+use Rattle.guard.specs.Header.{is_header, ends_header, stays, is_last, run_len, header_run, header_len, put_in}
+use Rattle.guard.specs.Laws.{CanBePutIn, ChangesPreambleAlone, LinesStay}
 use Rattle.seams.proofs.LinesMeet.{clash, stop_line, go_line}
 use Rattle.seams.proofs.UnitsMeet.{unit_content, unit_line}
 use Rattle.seams.proofs.Texts.{are_units, units_are, joined_is, joined_append, lines_put_in}
 use Rattle.seams.proofs.Splits.{at_depth, from_passed, pages_stay}
-use Rattle.imposed_again.proofs.Keeps.{key_is}
-use Rattle.imposed_again.proofs.Again.{two_on, taken_two, line_two, accept, IsFirst, first_is, first_no_page, let_through, some_pages, same_units}
+use Rattle.seams.proofs.Keys.{key_is}
+use Rattle.seams.proofs.FirstLine.{two_on, taken_two, line_two, IsFirst, first_is, first_no_page}
+use Rattle.seams.proofs.Accepted.{accept, let_through, some_pages, few_pages}
 
 take_none : (t : List ℕ) → take 0 t ≡ []
 take_none [] = refl
@@ -165,11 +167,11 @@ walk (suc most) text (u ∷ us) m = by_test (is_header (content_of text) && not 
     let page : begins_page (at_depth 0 u) ≡ false = no_page u (ap (is_comment (codes "%%Page")) content ∙ (neither (is_comment (codes "%%Page") c) _ h.1).0) in
     let depth : depth_after 0 u ≡ 0 = no_deeper u (ap (λ x. begin_key (key x)) content ∙ h.0) in
     let rest : AreUnits (drop n text) us = behind_line text u us bytes m.2 in
-    subst (λ t. Walk (if t then (if has_key (codes "%%EndComments" ∷ []) c then n else n + run_len most (drop n text)) else 0) text (u ∷ us)) (sym is)
-    (last (has_key (codes "%%EndComments" ∷ []) c) n (run_len most (drop n text))
+    subst (λ t. Walk (if t then (if is_last c then n else n + run_len most (drop n text)) else 0) text (u ∷ us)) (sym is)
+    (last (is_last c) n (run_len most (drop n text))
     (let e : n + 0 ≡ n = omega arith in subst (λ k. Walk k text (u ∷ us)) e (one_line 0 text u us bytes page depth rest (stand_still (drop n text) us)))
     (one_line (run_len most (drop n text)) text u us bytes page depth rest (walk most (drop n text) us rest))))
-    (λ isnt. subst (λ t. Walk (if t then (if has_key (codes "%%EndComments" ∷ []) (content_of text) then line_len text else line_len text + run_len most (drop (line_len text) text)) else 0) text (u ∷ us)) (sym isnt) (stand_still text (u ∷ us)))
+    (λ isnt. subst (λ t. Walk (if t then (if is_last (content_of text) then line_len text else line_len text + run_len most (drop (line_len text) text)) else 0) text (u ∷ us)) (sym isnt) (stand_still text (u ∷ us)))
   where
     last : (b : Bool) (n k : ℕ) → Walk n text (u ∷ us) → Walk (n + k) text (u ∷ us) → Walk (if b then n else n + k) text (u ∷ us)
     last true n k v w = v
@@ -214,8 +216,8 @@ front_there : (front : List TextUnit) (r : List ℕ) → joined front ≡ 37 ∷
 front_there [] r e = cc
 front_there (u ∷ front) r e = omega arith
 
-guarded_by : (lines : List (List ℕ)) (text : List ℕ) (u : TextUnit) (us : List TextUnit) → IsGuard lines → document_of text ≡ Ok (nested (u ∷ us)) → AreUnits text (u ∷ us) → length (guarded lines text) ≤ 1_073_741_824
-    → (document_of (guarded lines text) ≡ Ok (units_of (guarded lines text))) × IsGuarded lines text (nested (u ∷ us)) (units_of (guarded lines text))
+guarded_by : (lines : List (List ℕ)) (text : List ℕ) (u : TextUnit) (us : List TextUnit) → CanBePutIn lines → document_of text ≡ Ok (nested (u ∷ us)) → AreUnits text (u ∷ us) → length (put_in lines text) ≤ 1_073_741_824
+    → (document_of (put_in lines text) ≡ Ok (units_of (put_in lines text))) × ChangesPreambleAlone lines text (nested (u ∷ us)) (units_of (put_in lines text))
 guarded_by [] text u us g d m l = absurd g
 guarded_by (first ∷ more) text u us g d m l =
     let lines : List (List ℕ) = first ∷ more in
@@ -231,7 +233,7 @@ guarded_by (first ∷ more) text u us g d m l =
     let rest : drop n text ≡ joined w.back = cancel (take n text) (drop n text) (joined w.back) parts in
     let two : take n text ≡ 37 ∷ 33 ∷ take (n - 2) (drop 2 text) = ap (take n) (two_on text s) ∙ taken_two n (drop 2 text) (let z = line_two text s in omega (arith, z)) in
     let shut : ended (take n text) ≡ joined w.front = ap ended (sym w.bytes) ∙ ended_same (joined w.front) (w.closed (front_there w.front (take (n - 2) (drop 2 text)) (w.bytes ∙ two)) back) in
-    let out : guarded lines text ≡ joined w.front ++ (flat_map line lines ++ joined w.back) =
+    let out : put_in lines text ≡ joined w.front ++ (flat_map line lines ++ joined w.back) =
     ap (λ t. t ++ (flat_map line lines ++ drop n text)) shut ∙ ap (λ t. joined w.front ++ (flat_map line lines ++ t)) rest in
     let units : List TextUnit = w.front ++ (map line_unit lines ++ w.back) in
     let put : cut (joined w.front ++ (flat_map line lines ++ joined w.back)) ≡ Ok units =
@@ -239,10 +241,10 @@ guarded_by (first ∷ more) text u us g d m l =
     let stay = pages_stay w.front (map line_unit lines) w.back 0 w.passing g.2 in
     let old : nested (u ∷ us) ≡ nested (w.front ++ w.back) = ap nested w.whole in
     let same : pages (nested units) ≡ pages (nested (u ∷ us)) = stay.0 ∙ sym (ap pages old) in
-    let made : AreUnits (guarded lines text) units = subst (λ t. AreUnits t units) (sym out) (are_units _ units put) in
-    let starts : starts_with nat_eq (guarded lines text) (codes "%!") ≡ true =
+    let made : AreUnits (put_in lines text) units = subst (λ t. AreUnits t units) (sym out) (are_units _ units put) in
+    let starts : starts_with nat_eq (put_in lines text) (codes "%!") ≡ true =
     starts_on (ended (take n text)) (flat_map line lines ++ drop n text) (take (n - 2) (drop 2 text)) (shut ∙ w.bytes ∙ two) in
-    let r = accept (guarded lines text) units (length (pages (nested (u ∷ us)))) l starts made (ap length same) some (few_pages text (nested (u ∷ us)) d) in (
+    let r = accept (put_in lines text) units (length (pages (nested (u ∷ us)))) l starts made (ap length same) some (few_pages text (nested (u ∷ us)) d) in (
       r.0,
       record {
         front = w.front;
@@ -255,66 +257,13 @@ guarded_by (first ∷ more) text u us g d m l =
       },
     )
 
-guarded_all : (lines : List (List ℕ)) (text : List ℕ) (us : List TextUnit) → IsGuard lines → document_of text ≡ Ok (nested us) → AreUnits text us → length (guarded lines text) ≤ 1_073_741_824
-    → (document_of (guarded lines text) ≡ Ok (units_of (guarded lines text))) × IsGuarded lines text (nested us) (units_of (guarded lines text))
+guarded_all : (lines : List (List ℕ)) (text : List ℕ) (us : List TextUnit) → CanBePutIn lines → document_of text ≡ Ok (nested us) → AreUnits text us → length (put_in lines text) ≤ 1_073_741_824
+    → (document_of (put_in lines text) ≡ Ok (units_of (put_in lines text))) × ChangesPreambleAlone lines text (nested us) (units_of (put_in lines text))
 guarded_all lines text [] g d m l = let some = some_pages text [] d in absurd (omega (arith, some))
 guarded_all lines text (u ∷ us) g d m l = guarded_by lines text u us g d m l
 
-pub guarded_stays : GuardedStays
-guarded_stays lines text us g d l =
+pub lines_stay : LinesStay
+lines_stay lines text us g d l =
     let w = accepted_cut text us d in
-    subst (λ vs. (document_of (guarded lines text) ≡ Ok (units_of (guarded lines text))) × IsGuarded lines text vs (units_of (guarded lines text))) w.1
+    subst (λ vs. (document_of (put_in lines text) ≡ Ok (units_of (put_in lines text))) × ChangesPreambleAlone lines text vs (units_of (put_in lines text))) w.1
     (guarded_all lines text (or_none (cut text)) g (subst (λ vs. document_of text ≡ Ok vs) (sym w.1) d) (are_units text (or_none (cut text)) w.0) l)
-
--- The run of header comments, a line at a time.
-
-pub run_enough : (k m : ℕ) (text : List ℕ) → length text ≤ k → length text ≤ m → run_len k text ≡ run_len m text
-run_enough zero zero text h g = refl
-run_enough zero (suc m) [] h g = refl
-run_enough zero (suc m) (b ∷ bs) h g = absurd (omega (arith, h))
-run_enough (suc k) zero [] h g = refl
-run_enough (suc k) zero (b ∷ bs) h g = absurd (omega (arith, g))
-run_enough (suc k) (suc m) [] h g = refl
-run_enough (suc k) (suc m) (b ∷ bs) h g =
-    let text : List ℕ = b ∷ bs in
-    let n : ℕ = line_len text in
-    let moves = line_len-pos b bs in
-    let less : length (drop n text) ≤ length bs = omega (arith, moves, length-drop n text) in
-    ap (λ r. if is_header (content_of text) && not (ends_header (content_of text)) then (if has_key (codes "%%EndComments" ∷ []) (content_of text) then n else n + r) else 0)
-    (run_enough k m (drop n text) (omega (arith, h, less)) (omega (arith, g, less)))
-
-pub run_step : (b : ℕ) (bs : List ℕ)
-    → header_run (b ∷ bs)
-    ≡ (if stays (content_of (b ∷ bs)) then (if has_key (codes "%%EndComments" ∷ []) (content_of (b ∷ bs)) then line_len (b ∷ bs) else line_len (b ∷ bs) + header_run (drop (line_len (b ∷ bs)) (b ∷ bs))) else 0)
-run_step b bs =
-    let text : List ℕ = b ∷ bs in
-    let n : ℕ = line_len text in
-    let moves = line_len-pos b bs in
-    ap (λ r. if stays (content_of text) then (if has_key (codes "%%EndComments" ∷ []) (content_of text) then n else n + r) else 0)
-    (run_enough (length bs) (length (drop n text)) (drop n text) (omega (arith, moves, length-drop n text)) (omega arith))
-
-pub run_none : (text : List ℕ) → stays (content_of text) ≡ false → header_run text ≡ 0
-run_none [] h = refl
-run_none (b ∷ bs) h =
-    run_step b bs
-    ∙ ap (λ t. if t then (if has_key (codes "%%EndComments" ∷ []) (content_of (b ∷ bs)) then line_len (b ∷ bs) else line_len (b ∷ bs) + header_run (drop (line_len (b ∷ bs)) (b ∷ bs))) else 0) h
-
-pub run_last : (text : List ℕ) → 0 < length text → stays (content_of text) ≡ true → has_key (codes "%%EndComments" ∷ []) (content_of text) ≡ true → header_run text ≡ line_len text
-run_last [] l h e = absurd (omega (arith, l))
-run_last (b ∷ bs) l h e =
-    run_step b bs
-    ∙ ap (λ t. if t then (if has_key (codes "%%EndComments" ∷ []) (content_of (b ∷ bs)) then line_len (b ∷ bs) else line_len (b ∷ bs) + header_run (drop (line_len (b ∷ bs)) (b ∷ bs))) else 0) h
-    ∙ ap (λ t. if t then line_len (b ∷ bs) else line_len (b ∷ bs) + header_run (drop (line_len (b ∷ bs)) (b ∷ bs))) e
-
-pub run_more : (text : List ℕ) → 0 < length text → stays (content_of text) ≡ true → has_key (codes "%%EndComments" ∷ []) (content_of text) ≡ false → header_run text ≡ line_len text + header_run (drop (line_len text) text)
-run_more [] l h e = absurd (omega (arith, l))
-run_more (b ∷ bs) l h e =
-    run_step b bs
-    ∙ ap (λ t. if t then (if has_key (codes "%%EndComments" ∷ []) (content_of (b ∷ bs)) then line_len (b ∷ bs) else line_len (b ∷ bs) + header_run (drop (line_len (b ∷ bs)) (b ∷ bs))) else 0) h
-    ∙ ap (λ t. if t then line_len (b ∷ bs) else line_len (b ∷ bs) + header_run (drop (line_len (b ∷ bs)) (b ∷ bs))) e
-
-pub glued : (lines : List (List ℕ)) (text : List ℕ) (n : ℕ) (h r a b c d : List ℕ) → n ≡ header_len text → h ≡ take n text → r ≡ drop n text → a ≡ h → b ≡ ended a → c ≡ b ++ flat_map line lines → d ≡ c ++ r → d ≡ guarded lines text
-glued lines text n h r a b c d e f g p q s t =
-    let whole : b ≡ ended (take n text) = q ∙ ap ended (p ∙ f) in
-    t ∙ ap (λ x. x ++ r) (s ∙ ap (λ x. x ++ flat_map line lines) whole) ∙ append_assoc (ended (take n text)) (flat_map line lines) r
-    ∙ ap (λ x. ended (take n text) ++ (flat_map line lines ++ x)) g ∙ ap (λ k. ended (take k text) ++ (flat_map line lines ++ drop k text)) e

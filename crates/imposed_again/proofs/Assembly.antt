@@ -21,7 +21,7 @@ use Rattle.seams.proofs.Texts.{Goes, goes_append, units_join, joined_is, units_a
 use Rattle.seams.proofs.Splits.{at_depth, Through, same_some, passes_cons, passes_append, Opens, up_to_passed, from_passed, up_to_open, from_open}
 use Rattle.imposed_again.proofs.Recut.{Row, Stands, Recut, recut, loose, head_of}
 use Rattle.imposed_again.proofs.Keeps.{is_dropped, kept_units, kept_bytes, kept_row, kept_passes, header_mild, header_key}
-use Rattle.imposed_again.proofs.Plainly.{text as plain, ◌then◌, number}
+use Rattle.seams.proofs.Plainly.{text as plain, ◌then◌, number}
 use Rattle.imposed_again.proofs.Pieces.{begins_part, Made, Sheet}
 use Rattle.imposed_again.proofs.Pages.{make, page_blind, part_blind, nothing_and}
 use Rattle.seams.proofs.FirstLine.{and_second}

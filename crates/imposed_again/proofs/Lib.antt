@@ -1,6 +1,5 @@
 pub mod Recut
 pub mod Keeps
-pub mod Plainly
 pub mod Pieces
 pub mod Pages
 pub mod Assembly

@@ -20,7 +20,7 @@ use Rattle.seams.specs.Seams.{passes, no_ends, line_unit, lf, ends}
 
 use Rattle.seams.proofs.Texts.{Goes, goes_append, goes_line, units_join}
 use Rattle.seams.proofs.Splits.{at_depth, passes_cons, passes_append, Through, through_append}
-use Rattle.imposed_again.proofs.Plainly.{no_ends_append, no_ends_points, no_ends_scale, Whole, text as plain, ◌then◌, number, length_of}
+use Rattle.seams.proofs.Plainly.{no_ends_append, no_ends_points, no_ends_scale, Whole, text as plain, ◌then◌, number, length_of}
 
 -- begins a page or the trailer
 abbrev pub begins_part : NestedUnit → Bool

@@ -5,3 +5,4 @@ pub mod Splits
 pub mod Keys
 pub mod FirstLine
 pub mod Accepted
+pub mod Plainly

@@ -1,0 +1,4 @@
+pub mod HeaderRun
+pub mod Guarding
+pub mod Gluing
+pub mod TheGuard
