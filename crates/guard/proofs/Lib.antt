@@ -2,3 +2,4 @@ pub mod HeaderRun
 pub mod Guarding
 pub mod Gluing
 pub mod TheGuard
+pub mod Examples
