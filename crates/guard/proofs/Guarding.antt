@@ -1,22 +1,22 @@
 -- Lines put in behind the header comments.
-use Rattle.std.specs.Prelude.{Some, None, Result, Ok, Err, codes, map, flat_map, not, nat_lt, if◌then◌else◌}
+use Rattle.std.specs.Prelude.{Some, None, Ok, codes, map, flat_map, not, if◌then◌else◌}
 use Rattle.std.specs.List.{starts_with, list_any}
 use Rattle.std.specs.Str.{bytes_eq}
-use Rattle.std.proofs.Common.{append_assoc, nat_eq, ◌==◌, ◌||◌, ◌&&◌, Bool, true, false, ◌≡◌, ℕ, zero, suc, ◌+◌, ◌-◌, ◌<◌, ◌≤◌, List, [], ◌∷◌, ◌++◌, length, take, drop, refl, ap, arith, length-take, length-drop, eqb, sym, ◌∙◌, subst}
+use Rattle.std.proofs.Common.{nat_eq, ◌==◌, ◌||◌, ◌&&◌, Bool, true, false, ◌≡◌, ℕ, zero, suc, ◌+◌, ◌-◌, ◌<◌, ◌≤◌, List, [], ◌∷◌, ◌++◌, length, take, drop, refl, ap, arith, length-take, length-drop, eqb, sym, ◌∙◌, subst}
 use Rattle.std.proofs.lemmas.List.{append-nil, take-append-drop}
-use Rattle.std.proofs.lemmas.Bool.{ltb-false, eqb-true}
+use Rattle.std.proofs.lemmas.Bool.{eqb-true}
 use Rattle.std.proofs.Math.Seq.{drop-append_seam}
 use Rattle.profile.specs.Bytes.{line}
-use Rattle.profile.specs.Units.{TextUnit, FaultyBlock, is_end, end_len, content_of, line_len, AreUnits, key, has_key, is_comment, begins_block, cut, ◌>>=◌}
-use Rattle.profile.specs.Parts.{NestedUnit, depth_after, nested, begins_page, begins_trailer, up_to, split_pages, bytes_of, pages, trailer, is_outermost_line}
+use Rattle.profile.specs.Units.{TextUnit, is_end, end_len, content_of, line_len, AreUnits, key, has_key, is_comment, begins_block, cut}
+use Rattle.profile.specs.Parts.{depth_after, nested, begins_page, begins_trailer, up_to, split_pages, bytes_of, pages, trailer, is_outermost_line}
 use Rattle.profile.specs.Filters.{ended}
-use Rattle.profile.specs.Run.{InputTooLong, NotPostScript, InputTooManyPages, NoPages, document_of, with_pages, of_block}
+use Rattle.profile.specs.Run.{document_of}
 use Rattle.dsc.specs.Units.{or_none, units_of}
 use Rattle.dsc.proofs.Cases.{by_test, and_false}
-use Rattle.dsc.proofs.LineLengths.{line_len-within, line_len-pos, end_len-pos}
+use Rattle.dsc.proofs.LineLengths.{line_len-within, end_len-pos}
 use Rattle.dsc.proofs.Reading.{accepted_cut, accepted_opening}
 use Rattle.seams.specs.Seams.{joined, passes, line_unit, ends}
-use Rattle.guard.specs.Header.{is_header, ends_header, stays, is_last, run_len, header_run, header_len, put_in}
+use Rattle.guard.specs.Header.{is_header, ends_header, is_last, run_len, header_run, header_len, put_in}
 use Rattle.guard.specs.Laws.{CanBePutIn, ChangesPreambleAlone, LinesStay}
 use Rattle.seams.proofs.LinesMeet.{clash, stop_line, go_line}
 use Rattle.seams.proofs.UnitsMeet.{unit_content, unit_line}
@@ -24,7 +24,7 @@ use Rattle.seams.proofs.Texts.{are_units, units_are, joined_is, joined_append, l
 use Rattle.seams.proofs.Splits.{at_depth, from_passed, pages_stay}
 use Rattle.seams.proofs.Keys.{key_is}
 use Rattle.seams.proofs.FirstLine.{two_on, taken_two, line_two, IsFirst, first_is, first_no_page}
-use Rattle.seams.proofs.Accepted.{accept, let_through, some_pages, few_pages}
+use Rattle.seams.proofs.Accepted.{accept, some_pages, few_pages}
 
 take_none : (t : List ℕ) → take 0 t ≡ []
 take_none [] = refl

@@ -1,7 +1,7 @@
 -- The run of header comments, a line at a time.
-use Rattle.std.specs.Prelude.{codes, not, if◌then◌else◌}
-use Rattle.std.proofs.Common.{◌&&◌, Bool, true, false, ◌≡◌, ℕ, zero, suc, ◌+◌, ◌<◌, ◌≤◌, List, [], ◌∷◌, length, drop, refl, ap, arith, length-drop, ◌∙◌}
-use Rattle.profile.specs.Units.{content_of, line_len, has_key}
+use Rattle.std.specs.Prelude.{not, if◌then◌else◌}
+use Rattle.std.proofs.Common.{◌&&◌, true, false, ◌≡◌, ℕ, zero, suc, ◌+◌, ◌<◌, ◌≤◌, List, [], ◌∷◌, length, drop, refl, ap, arith, length-drop, ◌∙◌}
+use Rattle.profile.specs.Units.{content_of, line_len}
 use Rattle.dsc.proofs.LineLengths.{line_len-pos}
 use Rattle.guard.specs.Header.{is_header, ends_header, stays, is_last, run_len, header_run}
 

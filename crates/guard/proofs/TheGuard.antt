@@ -1,6 +1,6 @@
 -- The guard's lines can be put in, for every paper.
 use Rattle.std.specs.Prelude.{codes, map, not, ◌&&◌, Option, Some, None}
-use Rattle.std.proofs.Common.{Bool, true, false, ◌≡◌, ℕ, ◌<◌, List, [], ◌∷◌, ◌++◌, length, refl, arith}
+use Rattle.std.proofs.Common.{Bool, true, false, ◌≡◌, ℕ, List, [], ◌∷◌, ◌++◌, refl, arith}
 use Rattle.profile.specs.Numbers.{points_text}
 use Rattle.profile.specs.Papers.{Paper}
 use Rattle.profile.specs.Parts.{begins_page}
@@ -56,7 +56,7 @@ pub can_be_put_in : (sheet : Option Paper) → CanBePutIn (guard_lines sheet)
 can_be_put_in sheet = (
   omega arith,
   lines_append first_lines (page_size_lines sheet ++ other_lines) (told first_lines refl)
-  (lines_append (page_size_lines sheet) other_lines (are_sizes sheet) (told other_lines refl)),
+      (lines_append (page_size_lines sheet) other_lines (are_sizes sheet) (told other_lines refl)),
   pass sheet,
 )
 

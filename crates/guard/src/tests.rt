@@ -9,9 +9,11 @@ const DOCUMENT: &[u8] =
 
 /// What stands before the guard, and behind it.
 const HEADER: &[u8] = b"%!PS-Adobe-3.0\n%%Pages: 1\n%%EndComments\n";
+
 const REST: &[u8] = b"%%Page: 1 1\nshowpage\n%%Trailer\n";
 
 const FIRST_LINE: &[u8] = b"%%BeginResource: procset ImposeGuard 1.0 0\n";
+
 const LAST_LINES: &[u8] = b"end} bind if\n%%EndResource\n";
 
 #[test]
@@ -32,7 +34,9 @@ fn a_paper_adds_the_line_that_sets_the_page_size(rt: HostRuntime) -> Result<(), 
     let paper = paper_by_name("a4").expect(&rt, "a4 is a paper");
     let bare = guarded(rt.alloc(), DOCUMENT, None)?;
     let with = guarded(rt.alloc(), DOCUMENT, Some(&paper))?;
-    let before = HEADER.len() + FIRST_LINE.len() + "userdict /ImposeGuard known not {userdict begin\n".len();
+    let before = HEADER.len()
+        + FIRST_LINE.len()
+        + "userdict /ImposeGuard known not {userdict begin\n".len();
     let (bare_front, bare_back) = bare.as_slice().split_at(before);
     let (front, behind) = with.as_slice().split_at(before);
     let (added, back) = behind.split_at(line.len());

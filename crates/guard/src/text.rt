@@ -50,11 +50,7 @@ const ROOM: usize = 2_048;
 /// `%%EndComments`. With a sheet's paper the guard first sets the device's page size to it, if the interpreter has
 /// `setpagedevice`. Any text is taken; whether it is a document is for whoever reads it to say.
 /// Refused for memory alone.
-pub fn guarded(
-    alloc: Global,
-    text: &[u8],
-    sheet: Option<&Paper>,
-) -> Result<Vec<u8>, AllocError>
+pub fn guarded(alloc: Global, text: &[u8], sheet: Option<&Paper>) -> Result<Vec<u8>, AllocError>
     ensures put_in { IfOk result (λ v. v.items ≡ guarded (option_map (λ p. p.now) sheet.entry) text.now) }
 {
     let (header, rest) = text.split_at(header_len(text));

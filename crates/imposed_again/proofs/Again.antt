@@ -1,32 +1,27 @@
 -- What a run wrote of a document is a document again.
 use mathlib.Core.Logic.{inl, inr}
-use Rattle.std.specs.Prelude.{Option, Some, None, Result, Ok, Err, codes, map, flat_map, not, nat_lt}
-use Rattle.std.specs.List.{starts_with, take_while, enumerate_from}
-use Rattle.std.proofs.Common.{nat_eq, ◌==◌, ◌||◌, cond, Bool, true, false, append_assoc, ◌≡◌, ℕ, zero, suc, ◌+◌, ◌-◌, ◌*◌, ◌<◌, ◌≤◌, List, [], ◌∷◌, ◌++◌, length, take, drop, refl, ap, arith, length-append, sym, ◌∙◌, subst}
-use Rattle.std.proofs.lemmas.List.{append-nil, take-append-drop}
-use Rattle.std.proofs.lemmas.List.Sums.{take_while-cons}
+use Rattle.std.specs.Prelude.{Option, Some, None, Result, Ok, codes, map, flat_map, not}
+use Rattle.std.specs.List.{starts_with, enumerate_from}
+use Rattle.std.proofs.Common.{nat_eq, ◌==◌, Bool, true, false, append_assoc, ◌≡◌, ℕ, zero, suc, ◌+◌, ◌-◌, ◌*◌, ◌<◌, ◌≤◌, List, [], ◌∷◌, ◌++◌, length, refl, ap, arith, length-append, sym, ◌∙◌, subst}
+use Rattle.std.proofs.lemmas.List.{append-nil}
 use Rattle.std.proofs.lemmas.Nat.{le-div}
-use Rattle.std.proofs.lemmas.Slice.Eq.{bytes_eq-Decides}
-use Rattle.std.proofs.lemmas.Bool.{le-ltb, ltb-false, eqb-true}
-use Rattle.profile.specs.Units.{TextUnit, FaultyBlock, is_end, is_blank, first_unit, content_of, line_len, AreUnits, key, has_key, cut, ◌>>=◌}
+use Rattle.std.proofs.lemmas.Bool.{ltb-false, eqb-true}
+use Rattle.profile.specs.Units.{TextUnit, AreUnits, has_key, cut}
 use Rattle.profile.specs.Parts.{NestedUnit, depth_after, nested_from, nested, begins_page, begins_trailer, up_to, starting_at, preamble, page_run, trailer, split_pages, bytes_of, pages, is_outermost_line}
 use Rattle.profile.specs.Filters.{ended, kept, drops_in_header, with_count, preamble_text, trailer_text}
 use Rattle.profile.specs.Specification.{Spec, WrittenSpec, WrittenItem, IsSpec, AreGroups, settled_item}
 use Rattle.profile.specs.Admissible.{IsAdmissible, Fault, fault_of, any_too_large, else_first, only_if, TooLarge, ModuloZero}
 use Rattle.profile.specs.Sheets.{Slot, sheets, blocks}
 use Rattle.profile.specs.Output.{Frame, sheet_text, output}
-use Rattle.profile.specs.Run.{DocumentFault, InputTooLong, NotPostScript, InputTooManyPages, NoPages, document_of, with_pages, refuse_if, of_block, PlanFault, PlanTooManyPages, TooManySheets, TooManyPlaces, plan_of}
+use Rattle.profile.specs.Run.{document_of, PlanFault, PlanTooManyPages, TooManySheets, TooManyPlaces, plan_of}
 use Rattle.profile.proofs.Counts.{sheet_count}
 use Rattle.dsc.specs.Units.{or_none, units_of}
-use Rattle.dsc.proofs.Cases.{by_test}
 use Rattle.dsc.proofs.Reading.{accepted_cut, accepted_opening}
-use Rattle.dsc.proofs.Rows.{unit-front}
 use Rattle.dsc.proofs.PartMarks.{exclusive}
 use Rattle.seams.specs.Seams.{joined, line_unit, passes}
 use Rattle.imposed_again.specs.Again.{depth_behind, sheet_texts, written, AreShut, IsAgain, WrittenIsDocument, SheetsShut, TrailerShuts, MakesSheets, ImposedAgain}
-use Rattle.seams.proofs.LinesMeet.{clash, go_line}
-use Rattle.seams.proofs.UnitsMeet.{unit_content}
-use Rattle.seams.proofs.Texts.{are_units, units_are, units_behind, joined_append, joined_is}
+use Rattle.seams.proofs.LinesMeet.{clash}
+use Rattle.seams.proofs.Texts.{are_units, units_behind, joined_append, joined_is}
 use Rattle.seams.proofs.Splits.{at_depth, same_some, Opens, Split, split, up_to_passed, from_passed, up_to_open, from_open}
 use Rattle.imposed_again.proofs.Recut.{Row, row_of}
 use Rattle.imposed_again.proofs.Keeps.{header_key, kept_units}

@@ -15,7 +15,6 @@ use Rattle.dsc.specs.Units.{or_none, units_of}
 use Rattle.std.proofs.lemmas.Bool.{eqb-true, ne_eqb}
 use Rattle.seams.specs.Seams.{joined, passes, line_unit, no_ends, lf}
 use Rattle.imposed_again.specs.Again.{depth_behind, AreShut}
-
 use Rattle.seams.proofs.UnitsMeet.{first_line}
 use Rattle.seams.proofs.Texts.{Goes, goes_append, units_join, joined_is, units_are}
 use Rattle.seams.proofs.Splits.{at_depth, Through, same_some, passes_cons, passes_append, Opens, up_to_passed, from_passed, up_to_open, from_open}

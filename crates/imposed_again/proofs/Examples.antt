@@ -1,11 +1,11 @@
 -- What is cut of what was written, worked out: where pages are sheets and where they aren't, and what kept lines, put together,
 -- are cut into.
-use Rattle.std.proofs.Common.{arith, ℕ, ◌+◌, List, [], ◌∷◌, ◌++◌, refl, ◌≡◌, false, None, map, length}
+use Rattle.std.proofs.Common.{ℕ, List, [], ◌∷◌, ◌++◌, refl, ◌≡◌, false, None, map, length}
 use Rattle.std.specs.Prelude.{codes, flat_map, Result, Ok, pos}
 use Rattle.std.specs.Fmt.{digits}
 use Rattle.profile.specs.Papers.{Pt, points}
 use Rattle.profile.specs.Specification.{Item, Spec, Upright}
-use Rattle.profile.specs.Units.{TextUnit, FaultyBlock, ◌>>=◌, cut, first_unit}
+use Rattle.profile.specs.Units.{FaultyBlock, ◌>>=◌, cut, first_unit}
 use Rattle.profile.specs.Parts.{NestedUnit, nested, pages, page_run, trailer}
 use Rattle.profile.specs.Filters.{ended, kept, drops_in_page}
 use Rattle.profile.specs.Run.{document_of, DocumentFault}

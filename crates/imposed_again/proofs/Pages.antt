@@ -6,7 +6,7 @@ use Rattle.std.specs.Str.{bytes_eq}
 use Rattle.std.proofs.Common.{◌==◌, ◌||◌, ◌&&◌, Bool, true, false, append_assoc, ◌≡◌, ℕ, zero, suc, ◌<◌, List, [], ◌∷◌, ◌++◌, length, refl, ap, arith, length-append, sym, ◌∙◌, subst}
 use Rattle.std.proofs.lemmas.List.{append-nil}
 use Rattle.std.proofs.Math.Seq.{drop-append_seam, take-append_seam}
-use Rattle.profile.specs.Units.{TextUnit, is_end, first_unit, AreUnits, key, has_key, is_comment, ◌>>=◌}
+use Rattle.profile.specs.Units.{TextUnit, is_end, first_unit, AreUnits, key, is_comment, ◌>>=◌}
 use Rattle.profile.specs.Parts.{NestedUnit, depth_after, nested_from, nested, begins_page, begins_trailer, up_to, split_pages, bytes_of, is_outermost_line}
 use Rattle.profile.specs.Filters.{ended, kept, drops_in_page, prepared}
 use Rattle.profile.specs.Output.{body_text}
@@ -15,8 +15,7 @@ use Rattle.dsc.proofs.Fronts.{first_unit-take}
 use Rattle.std.proofs.lemmas.Bool.{eqb-true}
 use Rattle.dsc.proofs.Alone.{nested-bytes}
 use Rattle.seams.specs.Seams.{joined, passes, ends}
-
-use Rattle.seams.proofs.FirstLine.{and_first, and_second, page_named}
+use Rattle.seams.proofs.FirstLine.{and_first, page_named}
 use Rattle.seams.proofs.Texts.{units_are, rest_of, joined_append}
 use Rattle.seams.proofs.Splits.{at_depth, passes_cons, passes_append, same_some, Opens, Split, split, up_to_passed, up_to_open}
 use Rattle.imposed_again.proofs.Recut.{Row, row_of, Blind, Recut, recut, loose, loose_feed, feed_unit}

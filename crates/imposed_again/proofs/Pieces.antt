@@ -17,7 +17,6 @@ use Rattle.profile.specs.Output.{Frame, edge_text, border_text, opening_text, cl
 use Rattle.std.proofs.lemmas.Bool.{eqb-true}
 use Rattle.dsc.proofs.Cases.{and_false, by_test}
 use Rattle.seams.specs.Seams.{passes, no_ends, line_unit, lf, ends}
-
 use Rattle.seams.proofs.Texts.{Goes, goes_append, goes_line, units_join}
 use Rattle.seams.proofs.Splits.{at_depth, passes_cons, passes_append, Through, through_append}
 use Rattle.seams.proofs.Plainly.{no_ends_append, no_ends_points, no_ends_scale, Whole, text as plain, ◌then◌, number, length_of}

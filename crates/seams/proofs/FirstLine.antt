@@ -1,7 +1,7 @@
 -- The first line of a text of PostScript.
 use Rattle.std.specs.Prelude.{Ok, codes, not}
 use Rattle.std.specs.List.{starts_with, take_while}
-use Rattle.std.proofs.Common.{nat_eq, ◌==◌, ◌||◌, ◌&&◌, cond, Bool, true, false, ◌≡◌, ℕ, zero, suc, ◌+◌, ◌-◌, ◌≤◌, List, [], ◌∷◌, ◌++◌, length, take, drop, refl, ap, arith, sym, ◌∙◌}
+use Rattle.std.proofs.Common.{nat_eq, ◌==◌, ◌||◌, ◌&&◌, cond, Bool, true, false, ◌≡◌, ℕ, zero, suc, ◌-◌, ◌≤◌, List, [], ◌∷◌, ◌++◌, length, take, drop, refl, ap, arith, sym, ◌∙◌}
 use Rattle.std.proofs.lemmas.List.{take-append-drop}
 use Rattle.std.proofs.lemmas.List.Sums.{take_while-cons}
 use Rattle.std.proofs.lemmas.Slice.Eq.{bytes_eq-Decides}

@@ -1,8 +1,7 @@
 -- How long a line is, by its first byte; and what it hangs on of the bytes behind a text.
 use mathlib.Core.Logic.{◌⊎◌, inl, inr}
 use Rattle.std.specs.Prelude.{Option, Some, None, not, option_map, if◌then◌else◌}
-use Rattle.std.specs.List.{starts_with}
-use Rattle.std.proofs.Common.{Bool, true, false, cond, ◌==◌, ◌&&◌, nat_eq, ◌≡◌, ℕ, zero, suc, ◌+◌, ◌<◌, ◌≤◌, List, [], ◌∷◌, ◌++◌, length, drop, refl, ap, arith, length-drop, sym, ◌∙◌, subst, true≢false}
+use Rattle.std.proofs.Common.{Bool, true, false, cond, ◌==◌, ◌&&◌, ◌≡◌, ℕ, zero, suc, ◌+◌, ◌<◌, ◌≤◌, List, [], ◌∷◌, ◌++◌, length, drop, refl, ap, arith, length-drop, sym, ◌∙◌, subst, true≢false}
 use Rattle.std.proofs.lemmas.List.Sums.{take_while-cons}
 use Rattle.std.proofs.Math.Seq.{drop-append-le}
 use Rattle.profile.specs.Units.{is_end, content_of, end_len, line_len, lines_len}

@@ -1,6 +1,5 @@
-use Rattle.std.proofs.Common.{rules, arith, ◌≡◌, ◌<◌, length, drop, ap, sym, ◌∙◌, true, false, [], ◌∷◌}
-use Rattle.std.specs.Prelude.{codes}
-use Rattle.profile.specs.Units.{content_of, has_key, line_len}
+use Rattle.std.proofs.Common.{rules, arith, ◌≡◌, ◌<◌, length, drop, ap, sym, ◌∙◌, true, false}
+use Rattle.profile.specs.Units.{content_of, line_len}
 use Rattle.guard.specs.Header.{stays, is_last, header_run}
 use Rattle.guard.proofs.HeaderRun.{run_none, run_last, run_more}
 use Rattle.guard.proofs.header.header_run.Goals as goal
