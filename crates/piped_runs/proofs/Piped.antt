@@ -1,5 +1,5 @@
 -- What a run wrote is a document.
-use Rattle.std.specs.Prelude.{Option, Some, None, Result, Ok, Err, IsSomeAnd}
+use Rattle.std.specs.Prelude.{Option, Some, None, Ok, Err, IsSomeAnd}
 use Rattle.std.specs.List.{enumerate_from}
 use Rattle.std.proofs.Common.{◌≡◌, ℕ, suc, ◌+◌, ◌≤◌, List, [], ◌∷◌, length, map, refl, ap, arith, sym, ◌∙◌, subst}
 use Rattle.profile.specs.Specification.{Spec}
@@ -9,12 +9,11 @@ use Rattle.profile.specs.Output.{Frame, sheet_text, output}
 use Rattle.profile.specs.Run.{DocumentFault, document_of}
 use Rattle.dsc.specs.Faults.{fault_told}
 use Rattle.dsc.specs.Units.{units_of}
-use Rattle.dsc.specs.declared.errors.DscError.{DscError}
-use Rattle.imposer.specs.Runs.{Request, frame_of, Accepted, IsAccepted, Reports}
+use Rattle.imposer.specs.Runs.{Request, frame_of, IsAccepted, Reports}
 use Rattle.imposer.specs.declared.outcome.Report.{Report}
-use Rattle.imposed_again.specs.Again.{depth_behind, sheet_texts, IsAgain}
+use Rattle.imposed_again.specs.Again.{depth_behind, IsAgain}
 use Rattle.imposed_again.proofs.Again.{imposed_again}
-use Rattle.piped_runs.specs.Runs.{HasRun, RunIsDocument, RunsGoOn}
+use Rattle.piped_runs.specs.Runs.{RunIsDocument, RunsGoOn}
 
 as_many : {X : Type 0} (f : ℕ × X → List ℕ) (n : ℕ) (xs : List X) → length (map f (enumerate_from n xs)) ≡ length xs
 as_many f n [] = refl

@@ -1,9 +1,8 @@
 -- What a run wrote, read as a document, and run on.
 use Rattle.std.specs.Io.KnownBytes.{Appends}
 use Rattle.std.specs.Prelude.{◌≡◌, ℕ, ◌≤◌, List, [], length, Some, Ok}
-use Rattle.profile.specs.Specification.{Spec}
 use Rattle.profile.specs.Sheets.{sheets}
-use Rattle.profile.specs.Parts.{NestedUnit, page_run, pages}
+use Rattle.profile.specs.Parts.{page_run, pages}
 use Rattle.profile.specs.Output.{output}
 use Rattle.profile.specs.Run.{document_of}
 use Rattle.dsc.specs.Units.{units_of}
@@ -26,8 +25,8 @@ RunIsDocument =
     (r : Request) (report : Report) (written : List ℕ) → HasRun r report written → report.bytes ≤ 1_073_741_824
     → (document_of written ≡ Ok (units_of written))
     × Accepted r (λ spec us.
-      IsAgain (frame_of r.options) (sheets spec (length (pages us))) us (units_of written)
-      × (depth_behind (page_run us) ≡ 0 → length (pages (units_of written)) ≡ report.sheets))
+    IsAgain (frame_of r.options) (sheets spec (length (pages us))) us (units_of written)
+    × (depth_behind (page_run us) ≡ 0 → length (pages (units_of written)) ≡ report.sheets))
 
 -- a run on what a run wrote isn't refused for the document
 abbrev pub RunsGoOn : Type 0
