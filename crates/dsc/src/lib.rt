@@ -17,7 +17,9 @@ mod units;
 pub use bodies::Body;
 pub use document::Document;
 pub use errors::DscError;
-pub use filters::prepare;
+pub use filters::{end_line, prepare};
+pub use keys::key_of;
+pub use lines::{content_end, line_end_after};
 
 #[cfg(test)]
 mod tests;

@@ -1,0 +1,5 @@
+pub mod HeaderRun
+pub mod Guarding
+pub mod Gluing
+pub mod TheGuard
+pub mod Examples

@@ -1,0 +1,62 @@
+-- The guard: lines of PostScript that are put into a document before it is imposed. docs/GUARD.md says what each line is for.
+use Rattle.std.specs.Prelude.{ℕ, List, [], ◌∷◌, ◌++◌, codes, Option, Some, None}
+use Rattle.profile.specs.Numbers.{points_text}
+use Rattle.profile.specs.Papers.{Paper}
+use Rattle.guard.specs.Header.{put_in}
+
+-- the line that sets the device's page size to a paper, if the interpreter has `setpagedevice`
+abbrev pub page_size_line : Paper → List ℕ
+page_size_line paper =
+    codes "/setpagedevice where {pop 1 dict dup /PageSize ["
+    ++ (points_text paper.width ++ (codes " " ++ (points_text paper.height ++ codes "] put setpagedevice} if")))
+
+-- for the sheet's paper, if one is named
+abbrev pub page_size_lines : Option Paper → List (List ℕ)
+page_size_lines None = []
+page_size_lines (Some paper) = page_size_line paper ∷ []
+
+-- the lines before it
+abbrev pub first_lines : List (List ℕ)
+first_lines =
+    codes "%%BeginResource: procset ImposeGuard 1.0 0"
+    ∷ codes "userdict /ImposeGuard known not {userdict begin"
+    ∷ []
+
+-- and behind it
+abbrev pub other_lines : List (List ℕ)
+other_lines =
+    codes "/ImposeShow /showpage load def"
+    ∷ codes "/PStoPSenablepage true def"
+    ∷ codes "/showpage {PStoPSenablepage {ImposeShow} if} def"
+    ∷ codes "/copypage {} def"
+    ∷ codes "/erasepage {} def"
+    ∷ codes "/setpagedevice where {pop /setpagedevice {pop} def} if"
+    ∷ codes "[/letter /lettersmall /legal /ledger /tabloid /11x17 /note /a3 /a4 /a4small /a5 /b4 /b5"
+    ∷ codes "/executivepage /folio /quarto /halfletter /com10envelope /monarchenvelope /c5envelope /dlenvelope]"
+    ∷ codes "{dup where {pop {} def} {pop} ifelse} forall"
+    ∷ codes "/PStoPSmatrix matrix currentmatrix def"
+    ∷ codes "/PStoPSclip {clippath} def"
+    ∷ codes "/ImposePath {[{/moveto cvx} {/lineto cvx} {/curveto cvx} {/closepath cvx} pathforall] cvx} def"
+    ∷ codes "/defaultmatrix {PStoPSmatrix exch copy} def"
+    ∷ codes "/initmatrix {PStoPSmatrix setmatrix} def"
+    ∷ codes "/initclip {ImposePath matrix currentmatrix systemdict /initclip get exec"
+    ∷ codes "PStoPSmatrix setmatrix newpath PStoPSclip clip newpath setmatrix exec} def"
+    ∷ codes "/initgraphics {systemdict /initgraphics get exec PStoPSmatrix setmatrix /initclip load exec} def"
+    ∷ codes "/ImposeGuard 1 dict def"
+    ∷ codes "ImposeGuard /clip {end clip userdict begin"
+    ∷ codes "/PStoPSmatrix matrix currentmatrix def /PStoPSclip ImposePath def /PStoPSenablepage false def"
+    ∷ codes "end newpath systemdict /save get exec pop} put"
+    ∷ codes "/save {count 0 ne {dup /ImposeSave eq {"
+    ∷ codes "/showpage where {dup userdict ne 1 index wcheck and"
+    ∷ codes "{/showpage {userdict /showpage get exec} put} {pop} ifelse} if"
+    ∷ codes "ImposeGuard begin} if} if systemdict /save get exec} def"
+    ∷ codes "end} bind if"
+    ∷ codes "%%EndResource"
+    ∷ []
+
+abbrev pub guard_lines : Option Paper → List (List ℕ)
+guard_lines sheet = first_lines ++ (page_size_lines sheet ++ other_lines)
+
+-- a document with the guard put in
+abbrev pub guarded : Option Paper → List ℕ → List ℕ
+guarded sheet text = put_in (guard_lines sheet) text

@@ -1,0 +1,47 @@
+-- The header comments of a document: its first line and the comments behind it. The rule is this project's own; what comments of
+-- the header look like, and that %%EndComments ends them, is of DSC, General Header Comments.
+use Rattle.std.specs.Prelude.{ℕ, zero, suc, ◌+◌, Bool, false, not, ◌&&◌, ◌||◌, ◌==◌, nat_eq, nat_le, if◌then◌else◌, List, [], ◌∷◌, ◌++◌, length, take, drop, flat_map, codes}
+use Rattle.std.specs.List.{starts_with}
+use Rattle.profile.specs.Bytes.{line}
+use Rattle.profile.specs.Units.{content_of, line_len, key, has_key, is_comment}
+use Rattle.profile.specs.Filters.{ended}
+
+-- a percent sign and a byte that prints
+abbrev pub is_header : List ℕ → Bool
+is_header [] = false
+is_header (a ∷ []) = false
+is_header (a ∷ b ∷ rest) = (a == 37) && (nat_le 33 b && nat_le b 126)
+
+-- the header comments end before such a line
+abbrev pub ends_header : List ℕ → Bool
+ends_header content =
+    starts_with nat_eq (key content) (codes "%%Begin")
+    || (is_comment (codes "%%Page") content || has_key (codes "%%Trailer" ∷ codes "%%EOF" ∷ []) content)
+
+-- such a line goes on with the header comments
+abbrev pub stays : List ℕ → Bool
+stays content = is_header content && not (ends_header content)
+
+-- the header comments end with such a line
+abbrev pub is_last : List ℕ → Bool
+is_last content = has_key (codes "%%EndComments" ∷ []) content
+
+-- how long the run of header comments is that these bytes begin with, of at most so many lines
+abbrev pub run_len : ℕ → List ℕ → ℕ
+run_len zero text = 0
+run_len (suc most) text =
+    let content = content_of text in
+    let n = line_len text in
+    if stays content then (if is_last content then n else n + run_len most (drop n text)) else 0
+
+-- how long that run is; a line has a byte, so there are no more lines than bytes
+abbrev pub header_run : List ℕ → ℕ
+header_run text = run_len (length text) text
+
+-- how long the header comments are: the first line, and the run behind it
+abbrev pub header_len : List ℕ → ℕ
+header_len text = let n = line_len text in n + header_run (drop n text)
+
+-- the text with lines put in behind its header comments, whose last line gets an end if it has none
+abbrev pub put_in : List (List ℕ) → List ℕ → List ℕ
+put_in lines text = let n = header_len text in ended (take n text) ++ (flat_map line lines ++ drop n text)

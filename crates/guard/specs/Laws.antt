@@ -1,0 +1,38 @@
+-- What stays as it is if lines are put into a document.
+use Rattle.std.specs.Prelude.{◌≡◌, ℕ, ◌<◌, ◌≤◌, List, [], ◌∷◌, ◌++◌, length, take, map, Option, Some, Ok}
+use Rattle.profile.specs.Units.{TextUnit}
+use Rattle.profile.specs.Parts.{NestedUnit, nested, begins_page, pages, trailer}
+use Rattle.profile.specs.Papers.{Paper}
+use Rattle.profile.specs.Run.{document_of}
+use Rattle.dsc.specs.Units.{units_of}
+use Rattle.seams.specs.Seams.{joined, passes, AreLines, line_unit}
+use Rattle.guard.specs.Header.{header_len, put_in}
+use Rattle.guard.specs.Guard.{guard_lines, guarded}
+
+-- lines that can be put in: the first isn't empty, none begins a page or data, and the depth is 0 behind them
+abbrev pub CanBePutIn : List (List ℕ) → Type 0
+CanBePutIn [] = ⊥
+CanBePutIn (first ∷ more) = (0 < length first) × AreLines (first ∷ more) × (passes begins_page 0 (map line_unit (first ∷ more)) ≡ Some 0)
+
+-- The text has the units `us`, and with the lines put in it has the units `changed`: these are the lines' own, put in behind
+-- those of the header comments. Pages and trailer stay.
+pub record ChangesPreambleAlone (lines : List (List ℕ)) (text : List ℕ) (us changed : List NestedUnit) : Type 0 where
+  pub front : List TextUnit
+  pub back : List TextUnit
+  pub header : joined front ≡ take (header_len text) text
+  pub old : us ≡ nested (front ++ back)
+  pub new : changed ≡ nested (front ++ (map line_unit lines ++ back))
+  pub same_pages : pages changed ≡ pages us
+  pub same_trailer : trailer changed ≡ trailer us
+
+-- a document is accepted with lines put in too, unless it is too long then; and they change the preamble alone
+abbrev pub LinesStay : Type 0
+LinesStay =
+    (lines : List (List ℕ)) (text : List ℕ) (us : List NestedUnit) → CanBePutIn lines → document_of text ≡ Ok us → length (put_in lines text) ≤ 1_073_741_824
+    → (document_of (put_in lines text) ≡ Ok (units_of (put_in lines text))) × ChangesPreambleAlone lines text us (units_of (put_in lines text))
+
+-- so it is with the guard, for every paper of the sheet
+abbrev pub GuardStays : Type 0
+GuardStays =
+    (sheet : Option Paper) (text : List ℕ) (us : List NestedUnit) → document_of text ≡ Ok us → length (guarded sheet text) ≤ 1_073_741_824
+    → (document_of (guarded sheet text) ≡ Ok (units_of (guarded sheet text))) × ChangesPreambleAlone (guard_lines sheet) text us (units_of (guarded sheet text))

@@ -1,0 +1,93 @@
+//! Where the header comments of a document end.
+ghost use Rattle.std.specs.Prelude.{◌≡◌, ◌<◌, ◌≤◌, length};
+ghost use Rattle.profile.specs.Units.{content_of, line_len};
+ghost use Rattle.guard.specs.Header.{is_header, ends_header, stays, is_last, header_run, header_len};
+
+use dsc::{content_end, key_of, line_end_after};
+
+/// How long the header comments are: the first line, and the run of comments behind it.
+pub fn header_len(text: &[u8]) -> usize
+    ensures value { result ≡ header_len text.now }
+    ensures within { result ≤ length text.now }
+{
+    let first = first_len(text);
+    let (_, rest) = text.split_at(first);
+    first + header_run(rest)
+}
+
+/// How long the run of header comments is that the bytes begin with.
+fn header_run(text: &[u8]) -> usize
+    ensures value { result ≡ header_run text.now }
+    ensures within { result ≤ length text.now }
+{
+    let mut rest = text;
+    let mut end = 0usize;
+    while !rest.is_empty() {
+        let content = first_content(rest);
+        if !stays(content) {
+            return end;
+        }
+        let len = first_len(rest);
+        if is_last(content) {
+            return end + len;
+        }
+        let (_, others) = rest.split_at(len);
+        rest = others;
+        end += len;
+    }
+    end
+}
+
+/// Whether a line with this content goes on with the header comments.
+fn stays(content: &[u8]) -> bool
+    ensures { result ≡ stays content.now }
+{
+    is_header(content) && !ends_header(content)
+}
+
+/// Whether a line with this content begins with a percent sign and a byte that prints.
+fn is_header(content: &[u8]) -> bool
+    ensures { result ≡ is_header content.now }
+{
+    match content.split_first() {
+        None => false,
+        Some((first, rest)) => match rest.split_first() {
+            None => false,
+            Some((second, _)) => *first == b'%' && (33 <= *second && *second <= 126),
+        },
+    }
+}
+
+/// Whether the header comments end before such a line.
+fn ends_header(content: &[u8]) -> bool
+    ensures { result ≡ ends_header content.now }
+{
+    let key = key_of(content);
+    key.starts_with(b"%%Begin")
+        || ((key == b"%%Page".as_slice() && content.starts_with(b"%%Page:"))
+            || (key == b"%%Trailer".as_slice() || key == b"%%EOF".as_slice()))
+}
+
+/// Whether the header comments end with such a line.
+fn is_last(content: &[u8]) -> bool
+    ensures { result ≡ is_last content.now }
+{
+    key_of(content) == b"%%EndComments".as_slice()
+}
+
+/// The content of the first line.
+fn first_content(text: &[u8]) -> &[u8]
+    ensures { result.now ≡ content_of text.now }
+{
+    let (content, _) = text.split_at(content_end(text));
+    content
+}
+
+/// How long the first line is.
+fn first_len(text: &[u8]) -> usize
+    ensures value { result ≡ line_len text.now }
+    ensures within { result ≤ length text.now }
+    ensures moves { 0 < length text.now → 0 < result }
+{
+    line_end_after(text, content_end(text))
+}

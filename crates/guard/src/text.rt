@@ -1,0 +1,95 @@
+//! The guard's text, and where it is put in.
+ghost use Rattle.std.specs.Prelude.{◌≡◌, ◌++◌, flat_map, option_map, IfOk, OnOk};
+ghost use Rattle.profile.specs.Bytes.{line};
+ghost use Rattle.guard.specs.Guard.{page_size_line, page_size_lines, guard_lines, guarded};
+
+use crate::header::header_len;
+use dsc::end_line;
+use lengths::{Paper, print_points};
+use std::alloc::{AllocError, Global};
+
+/// The guard's first lines; behind them the page size is set.
+const FIRST_LINES: &[u8] = b"\
+    %%BeginResource: procset ImposeGuard 1.0 0\n\
+    userdict /ImposeGuard known not {userdict begin\n";
+
+/// Its other lines. docs/GUARD.md says what each is for.
+const OTHER_LINES: &[u8] = b"\
+    /ImposeShow /showpage load def\n\
+    /PStoPSenablepage true def\n\
+    /showpage {PStoPSenablepage {ImposeShow} if} def\n\
+    /copypage {} def\n\
+    /erasepage {} def\n\
+    /setpagedevice where {pop /setpagedevice {pop} def} if\n\
+    [/letter /lettersmall /legal /ledger /tabloid /11x17 /note /a3 /a4 /a4small /a5 /b4 /b5\n\
+    /executivepage /folio /quarto /halfletter /com10envelope /monarchenvelope /c5envelope /dlenvelope]\n\
+    {dup where {pop {} def} {pop} ifelse} forall\n\
+    /PStoPSmatrix matrix currentmatrix def\n\
+    /PStoPSclip {clippath} def\n\
+    /ImposePath {[{/moveto cvx} {/lineto cvx} {/curveto cvx} {/closepath cvx} pathforall] cvx} def\n\
+    /defaultmatrix {PStoPSmatrix exch copy} def\n\
+    /initmatrix {PStoPSmatrix setmatrix} def\n\
+    /initclip {ImposePath matrix currentmatrix systemdict /initclip get exec\n\
+    PStoPSmatrix setmatrix newpath PStoPSclip clip newpath setmatrix exec} def\n\
+    /initgraphics {systemdict /initgraphics get exec PStoPSmatrix setmatrix /initclip load exec} def\n\
+    /ImposeGuard 1 dict def\n\
+    ImposeGuard /clip {end clip userdict begin\n\
+    /PStoPSmatrix matrix currentmatrix def /PStoPSclip ImposePath def /PStoPSenablepage false def\n\
+    end newpath systemdict /save get exec pop} put\n\
+    /save {count 0 ne {dup /ImposeSave eq {\n\
+    /showpage where {dup userdict ne 1 index wcheck and\n\
+    {/showpage {userdict /showpage get exec} put} {pop} ifelse} if\n\
+    ImposeGuard begin} if} if systemdict /save get exec} def\n\
+    end} bind if\n\
+    %%EndResource\n";
+
+/// More bytes than the guard has, with any paper.
+const ROOM: usize = 2_048;
+
+/// The text with the guard put in behind its header comments: the first line, and the comments behind it up to and with
+/// `%%EndComments`. With a sheet's paper the guard first sets the device's page size to it, if the interpreter has
+/// `setpagedevice`. Any text is taken; whether it is a document is for whoever reads it to say.
+/// Refused for memory alone.
+pub fn guarded(alloc: Global, text: &[u8], sheet: Option<&Paper>) -> Result<Vec<u8>, AllocError>
+    ensures put_in { IfOk result (λ v. v.items ≡ guarded (option_map (λ p. p.now) sheet.entry) text.now) }
+{
+    let (header, rest) = text.split_at(header_len(text));
+    let mut out = Vec::with_capacity(alloc, text.len() + ROOM)?;
+    out.extend_from_slice(header)?;
+    end_line(&mut out)?;
+    append_guard(sheet, &mut out)?;
+    out.extend_from_slice(rest)?;
+    Ok(out)
+}
+
+/// Appends the guard.
+fn append_guard(sheet: Option<&Paper>, out: &mut Vec<u8>) -> Result<(), AllocError>
+    ensures { OnOk result (out.new.items ≡ out.old.items ++ flat_map line (guard_lines (option_map (λ p. p.now) sheet.entry))) }
+{
+    out.extend_from_slice(FIRST_LINES)?;
+    append_page_size(sheet, out)?;
+    out.extend_from_slice(OTHER_LINES)?;
+    Ok(())
+}
+
+/// Appends the line that sets the page size to a paper, if there is one.
+fn append_page_size(sheet: Option<&Paper>, out: &mut Vec<u8>) -> Result<(), AllocError>
+    ensures { OnOk result (out.new.items ≡ out.old.items ++ flat_map line (page_size_lines (option_map (λ p. p.now) sheet.entry))) }
+{
+    match sheet {
+        None => Ok(()),
+        Some(paper) => append_size_of(paper, out),
+    }
+}
+
+/// Appends the line that sets the page size to this paper.
+fn append_size_of(paper: &Paper, out: &mut Vec<u8>) -> Result<(), AllocError>
+    ensures { OnOk result (out.new.items ≡ out.old.items ++ line (page_size_line paper.now)) }
+{
+    out.extend_from_slice(b"/setpagedevice where {pop 1 dict dup /PageSize [")?;
+    print_points(paper.width(), out)?;
+    out.extend_from_slice(b" ")?;
+    print_points(paper.height(), out)?;
+    out.extend_from_slice(b"] put setpagedevice} if\n")?;
+    Ok(())
+}

@@ -1,0 +1,75 @@
+-- What a run wrote, read again as a document.
+use Rattle.std.specs.Prelude.{◌≡◌, ℕ, ◌<◌, ◌≤◌, List, [], ◌∷◌, ◌++◌, length, map, flat_map, Ok}
+use Rattle.std.specs.List.{enumerate_from}
+use Rattle.profile.specs.Parts.{NestedUnit, depth_after, preamble, page_run, pages, trailer, bytes_of}
+use Rattle.profile.specs.Filters.{preamble_text, trailer_text}
+use Rattle.profile.specs.Specification.{Spec}
+use Rattle.profile.specs.Admissible.{IsAdmissible}
+use Rattle.profile.specs.Sheets.{Slot, sheets}
+use Rattle.profile.specs.Output.{Frame, sheet_text, output}
+use Rattle.profile.specs.Run.{document_of, plan_of}
+use Rattle.dsc.specs.Units.{units_of}
+
+-- the depth behind units, that is how many embedded documents they leave open; behind none it is 0
+abbrev pub depth_behind : List NestedUnit → ℕ
+depth_behind [] = 0
+depth_behind (u ∷ []) = depth_after u.depth u.unit
+depth_behind (u ∷ v ∷ us) = depth_behind (v ∷ us)
+
+-- the texts of these sheets, in order, for a document with these pages
+abbrev pub sheet_texts : Frame → List (List ℕ) → List (List Slot) → List (List ℕ)
+sheet_texts frame texts all = map (λ (s, slots). sheet_text frame texts s slots) (enumerate_from 0 all)
+
+-- what is written of a document with these sheets: the output of a specification is what is written with its sheets
+abbrev pub written : Frame → List (List Slot) → List NestedUnit → List ℕ
+written frame all us =
+    preamble_text (length all) us
+    ++ flat_map (λ (s, slots). sheet_text frame (pages us) s slots) (enumerate_from 0 all)
+    ++ trailer_text us
+
+-- behind each of these texts but the last no embedded document is open
+abbrev pub AreShut : List (List ℕ) → Type 0
+AreShut [] = Unit {0}
+AreShut (text ∷ []) = Unit {0}
+AreShut (text ∷ next ∷ more) = (depth_behind (units_of text) ≡ 0) × AreShut (next ∷ more)
+
+-- The units `again` are those of what was written of a document with these sheets. Preamble and trailer are the texts that were
+-- written. The pages are the texts of the sheets if each of these but the last leaves no embedded document open; and only then
+-- are there as many. If the document's last page leaves none open, nor does the last page of what was written.
+pub record IsAgain (frame : Frame) (all : List (List Slot)) (us again : List NestedUnit) : Type 0 where
+  pub before : bytes_of (preamble again) ≡ preamble_text (length all) us
+  pub sheets_are : AreShut (sheet_texts frame (pages us) all) → pages again ≡ sheet_texts frame (pages us) all
+  pub only_if : length (pages again) ≡ length all → AreShut (sheet_texts frame (pages us) all)
+  pub fewer : length (pages again) ≤ length all
+  pub behind : bytes_of (trailer again) ≡ trailer_text us
+  pub stays_shut : depth_behind (page_run us) ≡ 0 → depth_behind (page_run again) ≡ 0
+
+-- what is written of a document with any sheets, of which there are some and not too many, is a document again
+abbrev pub WrittenIsDocument : Type 0
+WrittenIsDocument =
+    (frame : Frame) (all : List (List Slot)) (text : List ℕ) (us : List NestedUnit)
+    → document_of text ≡ Ok us → 0 < length all → length all ≤ 1_000_000 → length (written frame all us) ≤ 1_073_741_824
+    → (document_of (written frame all us) ≡ Ok (units_of (written frame all us))) × IsAgain frame all us (units_of (written frame all us))
+
+-- if the document's last page leaves no embedded document open, no sheet does
+abbrev pub SheetsShut : Type 0
+SheetsShut =
+    (frame : Frame) (all : List (List Slot)) (text : List ℕ) (us : List NestedUnit)
+    → document_of text ≡ Ok us → depth_behind (page_run us) ≡ 0 → AreShut (sheet_texts frame (pages us) all)
+
+-- if a document has a trailer, its last page leaves no embedded document open
+abbrev pub TrailerShuts : Type 0
+TrailerShuts = (text : List ℕ) (us : List NestedUnit) → document_of text ≡ Ok us → 0 < length (trailer us) → depth_behind (page_run us) ≡ 0
+
+-- an admissible specification makes at least one sheet of pages
+abbrev pub MakesSheets : Type 0
+MakesSheets = (most_slots : ℕ) (spec : Spec) (n : ℕ) → IsAdmissible most_slots spec → 0 < n → 0 < length (sheets spec n)
+
+-- the output of an accepted document, an admissible specification and an accepted plan is a document again, unless it is too
+-- long; and if the document's last page leaves no embedded document open, its pages are the sheets
+abbrev pub ImposedAgain : Type 0
+ImposedAgain =
+    (most_slots : ℕ) (frame : Frame) (spec : Spec) (text : List ℕ) (us : List NestedUnit) (all : List (List Slot))
+    → document_of text ≡ Ok us → IsAdmissible most_slots spec → plan_of spec (length (pages us)) ≡ Ok all → length (output frame spec us) ≤ 1_073_741_824
+    → (document_of (output frame spec us) ≡ Ok (units_of (output frame spec us))) × IsAgain frame all us (units_of (output frame spec us))
+    × (depth_behind (page_run us) ≡ 0 → pages (units_of (output frame spec us)) ≡ sheet_texts frame (pages us) all)

@@ -1,0 +1,29 @@
+//! Laws of what a run wrote, read again. The functions do nothing.
+ghost use Rattle.imposed_again.specs.Again.{ImposedAgain, MakesSheets, SheetsShut, TrailerShuts, WrittenIsDocument};
+
+/// What is written of an accepted document, with any sheets, is accepted again, unless it is too long: its preamble and trailer
+/// are those that were written, and its pages are the sheets exactly if each sheet but the last leaves no embedded document open.
+pub fn written_is_document()
+    ensures { WrittenIsDocument }
+{}
+
+/// If a document's last page leaves no embedded document open, no sheet does.
+pub fn sheets_shut()
+    ensures { SheetsShut }
+{}
+
+/// If a document has a trailer, its last page leaves no embedded document open.
+pub fn trailer_shuts()
+    ensures { TrailerShuts }
+{}
+
+/// An admissible specification makes at least one sheet of a document.
+pub fn makes_sheets()
+    ensures { MakesSheets }
+{}
+
+/// The output of an accepted document, an admissible specification and an accepted plan is accepted again, unless it is too
+/// long; if the document's last page leaves no embedded document open, the pages of the output are the sheets.
+pub fn imposed_again()
+    ensures { ImposedAgain }
+{}

@@ -1,0 +1,6 @@
+//! Runs one behind the other: what a run wrote is the next one's input.
+#![tactic(auto)]
+
+pub mod laws;
+#[cfg(test)]
+mod tests;
