@@ -1,0 +1,5 @@
+use Rattle.pagespec.proofs.Making.{made_admissible}
+use Rattle.pagespec.proofs.spec.Spec.of_groups.Goals as goal
+
+pub new-requires : goal.new-requires
+new-requires c = made_admissible 64 _ c.requires
