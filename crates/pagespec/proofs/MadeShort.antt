@@ -7,6 +7,7 @@ use Rattle.std.proofs.lemmas.Fmt.{length-decimal-le_wide}
 use Rattle.profile.specs.Numbers.{number_text}
 use Rattle.profile.specs.Papers.{Pt}
 use Rattle.profile.specs.Specification.{Measure, Item, Spec, Turn, turn_text, scale_part, offset_part, item_text, joined_by, canonical, modulo_text, measure_text}
+use Rattle.profile.specs.Admissible.{most_spec_bytes}
 use Rattle.pagespec.specs.Items.{group_text, groups_text}
 use Rattle.pagespec.proofs.NumberLengths.{positive_few}
 use Rattle.pagespec.proofs.Short.{scale_short, offset_short, turn_few, modulo_short}
@@ -55,7 +56,7 @@ group_few k g items = joined_few 43 k item_text g items
 
 -- groups of so many bytes at most
 pub groups_short : (k : ℕ) (spec : Spec) → spec.modulo ≤ 99_999 → AllByRecursion (λ g. length (group_text g) ≤ k) spec.groups → suc k * length spec.groups ≤ 65_530
-    → length (canonical spec) ≤ 65_536
+    → length (canonical spec) ≤ most_spec_bytes
 groups_short k spec low groups fit =
     omega (
       arith,

@@ -6,7 +6,7 @@ use Rattle.std.proofs.lemmas.List.{length-map}
 use Rattle.lengths.proofs.Numbers.{same_byte}
 use Rattle.profile.specs.Numbers.{is_large}
 use Rattle.profile.specs.Specification.{Item, WrittenItem, WrittenSpec, Spec, IsJoined, IsItem, AreGroups, IsSpec, minus_text, turn_text, scale_part, offset_part, item_text, is_one, is_zero_points, joined_by, canonical, settled, settled_item, scale, offset_x, offset_y}
-use Rattle.profile.specs.Admissible.{TooLarge, ModuloZero, PageOutOfBlock, ScaleZero, Repeated, TooManySlots, TooManyGroups, items, fault_of, only_if, at_lowest, any_too_large, has_large, is_flat, repeats, Takes, IsAdmissible}
+use Rattle.profile.specs.Admissible.{TooLarge, ModuloZero, PageOutOfBlock, ScaleZero, Repeated, TooManySlots, TooManyGroups, items, fault_of, only_if, at_lowest, any_too_large, has_large, is_flat, repeats, Takes, IsAdmissible, most_groups}
 use Rattle.pagespec.specs.Items.{group_text, groups_text}
 use Rattle.pagespec.specs.Made.{IsItemOf, IsGroupOf, IsWritable}
 use Rattle.pagespec.proofs.Texts.{IsGroup}
@@ -137,7 +137,7 @@ faultless slots spec is =
     (none_else (at_lowest (position (λ g. nat_lt slots (length g)) w.groups) TooManySlots) _
     (none_place _ TooManySlots (none_placed (λ g. nat_lt slots (length g)) w.groups
     (none_any (λ g. nat_lt slots (length g)) (λ g. map written_item g) (IsGroupOf slots spec.modulo) (λ g h. ap (nat_lt slots) (length-map g written_item) ∙ few_enough slots (length g) h.few) spec.groups is.groups)))
-    (none_if (nat_lt 10_000 (length w.groups)) TooManyGroups (ap (nat_lt 10_000) (length-map spec.groups (λ g. map written_item g)) ∙ few_enough 10_000 (length spec.groups) is.few)))))))
+    (none_if (nat_lt most_groups (length w.groups)) TooManyGroups (ap (nat_lt most_groups) (length-map spec.groups (λ g. map written_item g)) ∙ few_enough most_groups (length spec.groups) is.few)))))))
 
 pub made_taken : (slots : ℕ) (spec : Spec) → IsWritable slots spec → Takes slots (canonical spec) spec
 made_taken slots spec is = (is.short, written spec, spec_is slots spec is, faultless slots spec is, sym (spec_back spec))

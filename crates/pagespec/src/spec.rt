@@ -40,7 +40,7 @@ impl Spec {
     /// The specification of this modulo and these groups, for programs that make one and don't read it. That it passes every
     /// check is the caller's to show.
     pub fn of_groups(modulo: u32, groups: Vec<Vec<Item>>) -> Spec
-        requires { IsWritable 64 (record { modulo = modulo; groups = groups_of groups.items }) }
+        requires { IsWritable most_slots (record { modulo = modulo; groups = groups_of groups.items }) }
         ensures { result ≡ record { modulo = modulo; groups = groups_of groups.items } }
     {
         Spec::new(modulo, groups)
