@@ -1,12 +1,12 @@
 -- Two pages in different cells are apart.
-use Rattle.std.proofs.Common.{arith, rules, ◌≡◌, ◌≢◌, ◌⊎◌, inl, inr, ℕ, suc, zero, ◌+◌, ◌-◌, ◌*◌, ◌/◌, ◌%◌, ◌<◌, ◌≤◌, Bool, true, false, refl, sym, ap, subst, ◌∙◌}
-use Rattle.std.specs.Prelude.{ℤ, pos, negsuc, neg_ℤ, ◌≤ℤ◌}
+use Rattle.std.proofs.Common.{arith, ◌≡◌, inl, inr, ℕ, suc, zero, ◌*◌, ◌/◌, ◌%◌, ◌<◌, Bool, true, false, refl, ap}
+use Rattle.std.specs.Prelude.{ℤ, neg_ℤ, ◌≤ℤ◌}
 use Rattle.std.proofs.Math.Nat.{div-add-mod}
 use Rattle.std.proofs.lemmas.Int.{ints}
 use Rattle.profile.specs.Papers.{Paper}
 use Rattle.profile.specs.Specification.{Item}
-use Rattle.layouts.specs.Placed.{AreApart, IsLeftOf, IsAbove, ComesFirst, across, up}
-use Rattle.layouts.specs.Grids.{Grid, item_in}
+use Rattle.layouts.specs.Placed.{AreApart, IsLeftOf, IsAbove}
+use Rattle.layouts.specs.Grids.{item_in}
 use Rattle.layouts.specs.Laws.{GridIsApart}
 use Rattle.layouts.proofs.InGrid.{cells, grid_in_order}
 

@@ -1,13 +1,13 @@
 -- Pages on sheets that are turned by half.
-use Rattle.std.proofs.Common.{arith, ◌≡◌, ◌⊎◌, inl, inr, ℕ, suc, zero, ◌+◌, ◌-◌, ◌*◌, ◌/◌, ◌%◌, ◌<◌, ◌≤◌, Bool, true, false, refl, sym, ap, subst, ◌∙◌}
-use Rattle.std.specs.Prelude.{ℤ, pos, negsuc, ◌≤ℤ◌, ◌*ℤ◌, ◌+ℤ◌, ◌-ℤ◌, neg_ℤ, nat_abs, if◌then◌else◌}
+use Rattle.std.proofs.Common.{arith, ◌≡◌, inl, inr, ℕ, ◌+◌, ◌-◌, ◌*◌, ◌/◌, ◌%◌, ◌<◌, ◌≤◌, Bool, true, false}
+use Rattle.std.specs.Prelude.{ℤ, pos, negsuc, ◌≤ℤ◌, ◌*ℤ◌, ◌-ℤ◌, neg_ℤ, nat_abs, if◌then◌else◌}
 use Rattle.std.proofs.Math.Nat.{mul-le-mul_left}
 use Rattle.std.proofs.lemmas.Int.{ints}
 use Rattle.profile.specs.Papers.{Paper}
-use Rattle.profile.specs.Specification.{Item, Upright, Left, Half, Right}
+use Rattle.profile.specs.Specification.{Upright, Left, Half, Right}
 use Rattle.profile.specs.Placement.{Point}
 use Rattle.layouts.specs.Placed.{stands, IsOfPage, LiesOn, IsInside, IsLeftOf, AreApart}
-use Rattle.layouts.specs.Grids.{Grid, back_in, half_turned, cell_width, cell_height, scale_in, to_right, to_top, whole}
+use Rattle.layouts.specs.Grids.{back_in, half_turned, cell_width, cell_height, scale_in, to_right, to_top, whole}
 use Rattle.layouts.specs.Laws.{BackIsInside, BackIsInOrder, BackIsHalfTurn}
 use Rattle.layouts.proofs.Cells.{parts_fit, in_cell, cell_ends, next_cell}
 use Rattle.layouts.proofs.Sides.{of_sides, placed, point}

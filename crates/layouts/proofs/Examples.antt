@@ -1,11 +1,11 @@
 -- Worked examples.
-use Rattle.std.proofs.Common.{◌≡◌, refl, ℕ}
-use Rattle.std.specs.Prelude.{codes, true, false, List, [], ◌∷◌, pos, ◌*ℤ◌, None, Some}
+use Rattle.std.proofs.Common.{◌≡◌, refl}
+use Rattle.std.specs.Prelude.{codes, true, false, None, Some}
 use Rattle.std.specs.Fmt.{digits}
 use Rattle.profile.specs.Papers.{points}
 use Rattle.profile.specs.Specification.{canonical}
 use Rattle.layouts.specs.declared.error.LayoutError.TheVariants.{FoldOnLongEdge}
-use Rattle.layouts.specs.Grids.{n_up, best_grid, Grid, scale_in, leaves}
+use Rattle.layouts.specs.Grids.{n_up, best_grid, scale_in}
 use Rattle.layouts.specs.Refusals.{why_no_booklet}
 
 two_on_a4 : best_grid (points 595 842) (points 595 842) 2 ≡ record { rows = 1; columns = 2; turned = true }

@@ -1,11 +1,10 @@
 -- Pages in the cells of a grid. A page has the sides v and u, its sheet w and h.
-use Rattle.std.proofs.Common.{arith, rules, ◌≡◌, ◌≢◌, ◌⊎◌, inl, inr, ℕ, suc, zero, ◌+◌, ◌-◌, ◌*◌, ◌/◌, ◌%◌, ◌<◌, ◌≤◌, Bool, true, false, refl, sym, ap, subst, ◌∙◌}
-use Rattle.std.specs.Prelude.{ℤ, pos, negsuc, nat_abs, min, IsTrue, ◌&&◌}
+use Rattle.std.proofs.Common.{arith, rules, ◌≡◌, ℕ, suc, zero, ◌+◌, ◌-◌, ◌*◌, ◌/◌, ◌%◌, ◌<◌, ◌≤◌, Bool, true, false, refl, sym, subst}
+use Rattle.std.specs.Prelude.{ℤ, pos, negsuc, nat_abs, IsTrue, ◌&&◌}
 use Rattle.std.proofs.Math.Nat.{min-le_left, min-le_right, mod-lt, div-lt_iff_lt-mul}
-use Rattle.profile.specs.Papers.{Paper, is_paper, is_side}
-use Rattle.profile.specs.Specification.{Upright, Left}
-use Rattle.layouts.specs.Placed.{IsInside, AreApart, IsLeftOf, IsAbove}
-use Rattle.layouts.specs.Grids.{Grid, item_in, cell_width, cell_height, scale_in, margin_x, margin_y, margin, fitting, part, to_right, to_top}
+use Rattle.profile.specs.Papers.{Paper, is_side}
+use Rattle.layouts.specs.Placed.{IsInside, IsLeftOf, IsAbove}
+use Rattle.layouts.specs.Grids.{Grid, item_in, cell_width, cell_height, scale_in, fitting, to_right, to_top}
 use Rattle.layouts.specs.Refusals.{is_reached, are_reached}
 use Rattle.layouts.specs.Laws.{IsPaper, GridIsInside, GridIsInOrder}
 use Rattle.layouts.proofs.Cells.{parts_fit, scaled_fits, in_cell, cell_ends, next_cell}

@@ -1,17 +1,17 @@
 -- What holds of n pages on each sheet, and of the sheets of a booklet.
-use Rattle.std.proofs.Common.{arith, rules, ◌≡◌, ◌≢◌, ◌⊎◌, inl, inr, ℕ, suc, zero, ◌+◌, ◌*◌, ◌/◌, ◌%◌, ◌<◌, ◌≤◌, List, [], ◌∷◌, Bool, true, false, refl, sym, ap, subst, ◌∙◌}
-use Rattle.std.specs.Prelude.{map, pos, nat_abs, nat_le, ◌==◌, ◌&&◌, IsTrue, if◌then◌else◌}
+use Rattle.std.proofs.Common.{arith, rules, ◌≡◌, ◌⊎◌, inl, inr, ℕ, suc, zero, ◌+◌, ◌*◌, ◌<◌, ◌≤◌, [], ◌∷◌, Bool, true, false, refl, sym, ap, subst}
+use Rattle.std.specs.Prelude.{map, nat_abs, nat_le, ◌==◌, IsTrue, if◌then◌else◌}
 use Rattle.std.specs.List.{range_with_len, AllByRecursion}
 use Rattle.std.proofs.Math.Nat.{le_of_mul-le-mul_left, mul_comm}
 use Rattle.std.proofs.lemmas.Bool.{cases_lt}
 use Rattle.lengths.proofs.Numbers.{same_byte}
 use Rattle.profile.specs.Papers.{Paper}
-use Rattle.profile.specs.Specification.{Item, Turn, Upright, Left, Right}
+use Rattle.profile.specs.Specification.{Item, Upright, Left, Right}
 use Rattle.layouts.specs.Placed.{IsInside, AreApart}
 use Rattle.layouts.specs.Grids.{Grid, item_in, back_in, n_up, best_grid, scale_in, turn_in, leaves, beside, alone, is_same, is_itself, in_grid}
 use Rattle.layouts.specs.Refusals.{folds_short}
 use Rattle.layouts.specs.Laws.{IsPaper, IsNotTiny, Allows, EachTwo, IsInOrder, IsLike, IsExact, IsLaidOut, ArePages, IsNUp, AreSides, IsBooklet}
-use Rattle.layouts.proofs.Sides.{of_sides, inside_upright}
+use Rattle.layouts.proofs.Sides.{inside_upright}
 use Rattle.layouts.proofs.InGrid.{both_true, with_sides, grid_inside, grid_in_order}
 use Rattle.layouts.proofs.Apart.{grid_apart}
 use Rattle.layouts.proofs.Large.{best_has_cells, best_is_large, allowed}

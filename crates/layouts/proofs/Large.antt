@@ -1,11 +1,11 @@
 -- No grid allows a scale that is noticeably larger than that of the chosen one.
-use Rattle.std.proofs.Common.{arith, rules, ◌≡◌, ◌≢◌, ◌⊎◌, inl, inr, ℕ, suc, zero, ◌+◌, ◌-◌, ◌*◌, ◌/◌, ◌%◌, ◌<◌, ◌≤◌, Bool, true, false, refl, sym, ap, subst, ◌∙◌, eq-eqb}
-use Rattle.std.specs.Prelude.{nat_abs, min, nat_lt, ◌==◌, ◌&&◌, if◌then◌else◌}
-use Rattle.std.proofs.Math.Nat.{lt-div-mul-add, mul_assoc, mul_comm, mul_right_comm, mul_left_comm, lt_of_mul-lt-mul_left, mul-le-mul_left, mul-le-mul_right, mul-div_cancel, mul-add, div-mul-le_self, suc-mul, zero-mul}
-use Rattle.std.proofs.lemmas.Bool.{cases_order, cases_lt}
+use Rattle.std.proofs.Common.{arith, rules, ◌≡◌, inl, inr, ℕ, suc, zero, ◌+◌, ◌*◌, ◌/◌, ◌%◌, ◌<◌, ◌≤◌, Bool, true, false, refl, sym, ap, subst, ◌∙◌, eq-eqb}
+use Rattle.std.specs.Prelude.{nat_abs, nat_lt, ◌==◌, ◌&&◌, if◌then◌else◌}
+use Rattle.std.proofs.Math.Nat.{lt-div-mul-add, mul_comm, mul_left_comm, lt_of_mul-lt-mul_left, mul-le-mul_right, mul-div_cancel, mul-add, zero-mul}
+use Rattle.std.proofs.lemmas.Bool.{cases_lt}
 use Rattle.std.proofs.lemmas.Nat.{div-add-mod'}
 use Rattle.profile.specs.Papers.{Paper}
-use Rattle.layouts.specs.Grids.{Grid, grid, better, best_columns, best_of, larger, best_grid, scale_in, part, fitting, held_width, held_height, cell_width, cell_height}
+use Rattle.layouts.specs.Grids.{Grid, grid, best_columns, best_of, best_grid, scale_in, part, fitting, held_width, held_height, cell_width, cell_height}
 use Rattle.layouts.specs.Laws.{Allows, IsNotTiny, BestIsLarge, BestHasCells}
 
 -- one side: what an exact part allows is little more than what fits its cell
@@ -47,9 +47,9 @@ best_is page sheet turned n (suc k) d some most divides =
     let one = best_columns page sheet turned n k in
     elim (cases_lt k d) [
       | inl last ↦
-        let same : d ≡ suc k = omega (arith, last, most) in
-        subst (λ e. size page sheet turned n e ≤ size page sheet turned n (best_columns page sheet turned n (suc k))) (sym same)
-        (pick_second (size page sheet turned n) one (suc k) (n % suc k == 0) (subst (λ e. (n % e == 0) ≡ true) same divides))
+          let same : d ≡ suc k = omega (arith, last, most) in
+          subst (λ e. size page sheet turned n e ≤ size page sheet turned n (best_columns page sheet turned n (suc k))) (sym same)
+          (pick_second (size page sheet turned n) one (suc k) (n % suc k == 0) (subst (λ e. (n % e == 0) ≡ true) same divides))
       | inr earlier ↦ omega (arith, best_is page sheet turned n k d some earlier divides, pick_first (size page sheet turned n) one (suc k) (n % suc k == 0))
     ]
 

@@ -1,5 +1,5 @@
 -- Where nothing refuses.
-use Rattle.std.proofs.Common.{rules, ◌≡◌, ℕ, Bool, true, false, None, List, [], ◌∷◌, refl, sym, ap, subst, ◌∙◌}
+use Rattle.std.proofs.Common.{◌≡◌, ℕ, Bool, true, false, None, List, [], ◌∷◌, refl, sym, ap, subst, ◌∙◌}
 use Rattle.std.specs.Prelude.{IsTrue, ◌&&◌, map}
 use Rattle.std.specs.List.{range_with_len}
 use Rattle.profile.specs.Papers.{Paper}

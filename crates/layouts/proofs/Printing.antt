@@ -1,12 +1,12 @@
 -- Whole numbers of 10^-5 of a point are printed as they are.
-use Rattle.std.proofs.Common.{arith, ◌≡◌, ℕ, ◌+◌, ◌-◌, ◌*◌, ◌/◌, ◌%◌, Bool, true, false, refl, sym, ap, ◌∙◌}
+use Rattle.std.proofs.Common.{arith, ◌≡◌, ℕ, ◌+◌, ◌-◌, ◌*◌, ◌/◌, ◌%◌, refl}
 use Rattle.std.specs.Prelude.{ℤ, pos, ◌*ℤ◌, nat_abs}
 use Rattle.std.proofs.lemmas.Int.{ints}
 use Rattle.profile.specs.Papers.{Paper}
-use Rattle.profile.specs.Specification.{Item, Turn, Upright, Left, Half, Right}
-use Rattle.profile.specs.Placement.{Point, Matrix, matrix, matrix_of, offset}
-use Rattle.placement.specs.Printed.{printed_matrix, nearest}
-use Rattle.layouts.specs.Grids.{Grid, item_in, back_in, turn_in, half_turned, scale_in, to_right, to_top, whole, alone}
+use Rattle.profile.specs.Specification.{Turn, Upright, Left, Half, Right}
+use Rattle.profile.specs.Placement.{Matrix}
+use Rattle.placement.specs.Printed.{nearest}
+use Rattle.layouts.specs.Grids.{turn_in, half_turned, scale_in, to_right, to_top, whole}
 use Rattle.layouts.specs.Laws.{IsExact, PrintedAsItIs}
 use Rattle.layouts.proofs.Sides.{placed}
 

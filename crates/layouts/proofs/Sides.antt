@@ -1,13 +1,13 @@
 -- Upright pages and pages turned to the left. A page has the sides v and u, its sheet w and h; where the sheet is not
 -- named, a page has the sides w and h.
-use Rattle.std.proofs.Common.{arith, ◌≡◌, ℕ, suc, zero, ◌+◌, ◌-◌, ◌*◌, ◌/◌, ◌<◌, ◌≤◌, refl, sym, ap, subst, ◌∙◌}
-use Rattle.std.specs.Prelude.{ℤ, pos, negsuc, ◌≤ℤ◌, ◌*ℤ◌, ◌+ℤ◌, neg_ℤ, false}
+use Rattle.std.proofs.Common.{arith, ℕ, ◌+◌, ◌*◌, ◌≤◌}
+use Rattle.std.specs.Prelude.{ℤ, pos, negsuc, ◌≤ℤ◌, neg_ℤ, false}
 use Rattle.std.proofs.Math.Nat.{mul-le-mul_left}
 use Rattle.std.proofs.lemmas.Int.{ints}
 use Rattle.profile.specs.Papers.{Paper}
 use Rattle.profile.specs.Specification.{Item, Turn, Upright, Left}
 use Rattle.profile.specs.Placement.{Point}
-use Rattle.layouts.specs.Placed.{stands, IsOfPage, LiesOn, IsInside, ComesFirst, across, up, held, IsLeftOf, IsAbove}
+use Rattle.layouts.specs.Placed.{stands, IsOfPage, LiesOn, IsInside, IsLeftOf, IsAbove}
 use Rattle.layouts.specs.Grids.{in_points}
 
 abbrev pub of_sides : (w h : ℕ) → Paper

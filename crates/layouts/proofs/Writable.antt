@@ -1,11 +1,11 @@
 -- A sheet in a grid is a specification that can be written.
-use Rattle.std.proofs.Common.{arith, rules, ◌≡◌, ℕ, suc, zero, ◌+◌, ◌-◌, ◌*◌, ◌/◌, ◌%◌, ◌^◌, ◌<◌, ◌≤◌, List, [], ◌∷◌, ◌++◌, length, Bool, true, false, refl, sym, ap, subst, ◌∙◌}
-use Rattle.std.specs.Prelude.{map, pos, int_le, nat_abs, IsTrue, nat_le, decimal}
+use Rattle.std.proofs.Common.{arith, rules, ◌≡◌, ℕ, suc, zero, ◌+◌, ◌-◌, ◌*◌, ◌/◌, ◌%◌, ◌<◌, ◌≤◌, List, [], ◌∷◌, ◌++◌, length, Bool, true, false, sym, ap, ◌∙◌}
+use Rattle.std.specs.Prelude.{map, pos, int_le, nat_abs, IsTrue, nat_le}
 use Rattle.std.specs.List.{range_with_len, AllByRecursion}
 use Rattle.std.proofs.lemmas.List.FromFn.{length-map-range_with_len, map-range_with_len_more}
 use Rattle.std.proofs.lemmas.List.{map-append}
 use Rattle.profile.specs.Papers.{Paper}
-use Rattle.profile.specs.Specification.{Item, Spec, Turn, item_text, canonical}
+use Rattle.profile.specs.Specification.{Item, Turn, item_text}
 use Rattle.pagespec.specs.Items.{group_text}
 use Rattle.pagespec.specs.Made.{IsItemOf, IsGroupOf, IsWritable}
 use Rattle.pagespec.proofs.MadeShort.{page_few, forward_few, group_few, groups_short}

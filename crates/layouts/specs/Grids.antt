@@ -2,7 +2,7 @@
 -- Sides of cells and offsets are whole numbers of 10^-5 of a point, which are 1,270,000 grains: with these a shift is printed
 -- exactly. Both are rounded down, and so is the scale, in 10^-9; so a page is never larger than its cell, nor the grid than
 -- the sheet.
-use Rattle.std.specs.Prelude.{ℕ, ◌+◌, ◌-◌, ◌*◌, ◌/◌, ◌%◌, min, suc, zero, pos, nat_abs, Bool, true, false, ◌&&◌, ◌==◌, nat_lt, if◌then◌else◌, List, [], ◌∷◌, map}
+use Rattle.std.specs.Prelude.{ℕ, ◌+◌, ◌-◌, ◌*◌, ◌/◌, ◌%◌, min, suc, zero, pos, nat_abs, Bool, true, false, ◌&&◌, ◌==◌, nat_lt, if◌then◌else◌, [], ◌∷◌, map}
 use Rattle.std.specs.List.{range_with_len}
 use Rattle.profile.specs.Papers.{Paper, Pt}
 use Rattle.profile.specs.Specification.{Item, Spec, Measure, Turn, Upright, Left, Half, Right, zero_points}

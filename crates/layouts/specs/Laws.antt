@@ -1,5 +1,5 @@
 -- What holds of the pages in a grid.
-use Rattle.std.specs.Prelude.{◌≡◌, ◌≢◌, ℕ, ◌+◌, ◌*◌, ◌/◌, ◌%◌, ◌<◌, ◌≤◌, ◌⊎◌, nat_abs, ℤ, pos, ◌*ℤ◌, ◌-ℤ◌, Bool, true, false, List, [], ◌∷◌, map, ⊤, IsTrue}
+use Rattle.std.specs.Prelude.{◌≡◌, ◌≢◌, ℕ, ◌+◌, ◌*◌, ◌/◌, ◌%◌, ◌<◌, ◌≤◌, ◌⊎◌, nat_abs, pos, ◌*ℤ◌, ◌-ℤ◌, Bool, true, false, List, [], ◌∷◌, map, ⊤, IsTrue}
 use Rattle.std.specs.List.{AllByRecursion, range_with_len}
 use Rattle.profile.specs.Papers.{Paper, is_paper}
 use Rattle.profile.specs.Specification.{Item, Spec, Turn, Upright, Left, Right}

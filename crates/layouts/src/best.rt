@@ -12,7 +12,12 @@ pub fn best_grid(page: &Paper, sheet: &Paper, n: u32) -> Grid
     requires some { 0 < n }
     ensures { result ≡ best_grid_of page.now sheet.now n }
 {
-    larger(page, sheet, best_of(page, sheet, false, n), best_of(page, sheet, true, n))
+    larger(
+        page,
+        sheet,
+        best_of(page, sheet, false, n),
+        best_of(page, sheet, true, n),
+    )
 }
 
 /// Upright, unless turned is larger.
@@ -46,7 +51,8 @@ fn better(page: &Paper, sheet: &Paper, turned: bool, n: u32, one: u32, other: u3
     ensures in_range { (0 < result) × (result ≤ n) }
 {
     if n % other == 0
-        && scale_in(page, sheet, Grid::of(turned, n, one)) < scale_in(page, sheet, Grid::of(turned, n, other))
+        && scale_in(page, sheet, Grid::of(turned, n, one))
+            < scale_in(page, sheet, Grid::of(turned, n, other))
     {
         other
     } else {

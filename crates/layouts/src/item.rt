@@ -94,11 +94,7 @@ pub fn item_in(page: &Paper, sheet: &Paper, grid: Grid, k: u32) -> Item
     Item {
         page: k,
         from_end: false,
-        turn: if grid.turned {
-            Turn::Left
-        } else {
-            Turn::None
-        },
+        turn: if grid.turned { Turn::Left } else { Turn::None },
         scale: number(scale_in(page, sheet, grid)),
         offset: (points(x), points(y)),
     }
@@ -116,11 +112,7 @@ pub fn back_in(page: &Paper, sheet: &Paper, grid: Grid, n: u32, k: u32) -> Item
     Item {
         page: n + k,
         from_end: false,
-        turn: if grid.turned {
-            Turn::Right
-        } else {
-            Turn::Half
-        },
+        turn: if grid.turned { Turn::Right } else { Turn::Half },
         scale: number(scale_in(page, sheet, grid)),
         offset: (
             points(u128::from(side(sheet.width()) / 1_270_000) - x),
@@ -141,7 +133,13 @@ fn number(billionths: u128) -> Number
 }
 
 /// The pages of a sheet in their cells, in order.
-pub fn items_in(alloc: Global, page: &Paper, sheet: &Paper, grid: Grid, n: u32) -> Result<Vec<Item>, AllocError>
+pub fn items_in(
+    alloc: Global,
+    page: &Paper,
+    sheet: &Paper,
+    grid: Grid,
+    n: u32,
+) -> Result<Vec<Item>, AllocError>
     requires places { n ≤ grid.rows * grid.columns }
     requires reached { IsTrue (are_reached sheet.now) }
     requires scaled { IsTrue (is_scale (scale_of page.now sheet.now grid)) }
@@ -157,7 +155,8 @@ pub fn items_in(alloc: Global, page: &Paper, sheet: &Paper, grid: Grid, n: u32) 
 /// One group of these pages.
 pub fn groups_in(
     alloc: Global,
-    page: &Paper, sheet: &Paper,
+    page: &Paper,
+    sheet: &Paper,
     grid: Grid,
     n: u32,
 ) -> Result<Vec<Vec<Item>>, AllocError>
@@ -174,7 +173,8 @@ pub fn groups_in(
 /// The same pages on a sheet that is turned by half.
 fn backs_in(
     alloc: Global,
-    page: &Paper, sheet: &Paper,
+    page: &Paper,
+    sheet: &Paper,
     grid: Grid,
     n: u32,
 ) -> Result<Vec<Item>, AllocError>
@@ -192,7 +192,12 @@ fn backs_in(
 }
 
 /// The two sides of a leaf, of which the second is turned by half.
-pub fn sides_in(alloc: Global, page: &Paper, sheet: &Paper, grid: Grid) -> Result<Vec<Vec<Item>>, AllocError>
+pub fn sides_in(
+    alloc: Global,
+    page: &Paper,
+    sheet: &Paper,
+    grid: Grid,
+) -> Result<Vec<Vec<Item>>, AllocError>
     requires places { 2 ≤ grid.rows * grid.columns }
     requires reached { IsTrue (are_reached sheet.now) }
     requires scaled { IsTrue (is_scale (scale_of page.now sheet.now grid)) }

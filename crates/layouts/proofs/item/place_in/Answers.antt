@@ -1,4 +1,4 @@
-use Rattle.std.proofs.Common.{arith, rules, ◌≡◌, ◌*◌, ◌/◌, ◌%◌, ◌≤◌}
+use Rattle.std.proofs.Common.{arith, rules, ◌≡◌, ◌/◌, ◌%◌}
 use Rattle.layouts.specs.Grids.{to_right}
 use Rattle.layouts.proofs.InGrid.{offsets_in_range}
 use Rattle.layouts.proofs.item.place_in.Goals as goal

@@ -1,4 +1,4 @@
-use Rattle.std.proofs.Common.{arith, rules, ◌≡◌, ◌*◌, ◌<◌, ◌≤◌, ap, subst, sym, ◌∙◌, true, false}
+use Rattle.std.proofs.Common.{arith, rules, ◌≡◌, subst, sym, ◌∙◌, true, false}
 use Rattle.std.specs.Prelude.{IsTrue}
 use Rattle.profile.specs.Admissible.{most_slots}
 use Rattle.pagespec.specs.Made.{IsWritable}

@@ -1,11 +1,10 @@
-use Rattle.std.proofs.Common.{arith, rules, ◌≡◌, ◌*◌, ◌<◌, ◌≤◌, ap, subst, sym, ◌∙◌, Bool, true, false}
-use Rattle.std.specs.Prelude.{IsTrue, IfOk, nat_le, ◌&&◌}
-use Rattle.profile.specs.Specification.{Spec}
+use Rattle.std.proofs.Common.{arith, rules, ◌≡◌, ◌*◌, ap, subst, sym, ◌∙◌, true}
+use Rattle.std.specs.Prelude.{IsTrue}
 use Rattle.profile.specs.Admissible.{most_slots}
 use Rattle.pagespec.specs.Made.{IsWritable}
-use Rattle.layouts.specs.Grids.{in_grid, best_grid, scale_in, Grid, n_up}
+use Rattle.layouts.specs.Grids.{best_grid, scale_in, Grid, n_up}
 use Rattle.layouts.specs.Laws.{IsNUp}
-use Rattle.layouts.specs.Refusals.{are_reached, is_scale}
+use Rattle.layouts.specs.Refusals.{is_scale}
 use Rattle.layouts.proofs.LaidOut.{is_n_up}
 use Rattle.layouts.proofs.Large.{best_has_cells}
 use Rattle.layouts.proofs.Writable.{grid_writable, itself_writable, scale_range}
@@ -19,10 +18,10 @@ of_groups-requires c = subst (λ gs. IsWritable most_slots (record { modulo = 1;
 pub returns-then-is_of_size-clause-laid_out : goal.returns-then-is_of_size-clause-laid_out
 returns-then-is_of_size-clause-laid_out c = elim c.match-alone.branch [
   | in-Ok w ↦
-    let made : w.of_groups.result ≡ n_up c.args.page.now c.args.sheet.now c.args.n = search rules in
-    let holds : IsNUp c.args.page.now c.args.sheet.now c.args.n w.of_groups.result =
-    subst (IsNUp c.args.page.now c.args.sheet.now c.args.n) (sym made) (is_n_up c.args.page.now c.args.sheet.now c.args.n c.are_both_reached.ensures.page c.are_both_reached.ensures.sheet (omega arith)) in
-    search (rules, holds)
+      let made : w.of_groups.result ≡ n_up c.args.page.now c.args.sheet.now c.args.n = search rules in
+      let holds : IsNUp c.args.page.now c.args.sheet.now c.args.n w.of_groups.result =
+      subst (IsNUp c.args.page.now c.args.sheet.now c.args.n) (sym made) (is_n_up c.args.page.now c.args.sheet.now c.args.n c.are_both_reached.ensures.page c.are_both_reached.ensures.sheet (omega arith)) in
+      search (rules, holds)
   | in-Err w ↦ search rules
 ]
 
