@@ -22,7 +22,7 @@ sound_of plan ok =
     record {
       few_pages = ok.few_pages;
       few_sheets = let f = ok.few_sheets in omega arith;
-      narrow = λ s lt. ok.narrow s (omega arith);
+      narrow = λ s lt. ok.few_slots s (omega arith);
       paged = λ s k p lt at. ok.paged s k p (omega arith) at;
     }
 

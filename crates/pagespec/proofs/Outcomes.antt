@@ -4,7 +4,7 @@ use Rattle.std.specs.Prelude.{flat_map, option_map, ◌==◌, nat_lt, nat_le, po
 use Rattle.std.specs.List.{list_any}
 use Rattle.std.proofs.lemmas.List.{length-append, length-map, append-nil}
 use Rattle.std.proofs.lemmas.Slice.Zip.{AllZip-long}
-use Rattle.profile.specs.Specification.{WrittenItem, WrittenSpec, Item, Spec, IsSpec, IsItem, IsJoined, AreGroups, settled, canonical}
+use Rattle.profile.specs.Specification.{WrittenItem, WrittenSpec, Item, Spec, IsSpec, IsItem, IsJoined, AreGroups, settled}
 use Rattle.profile.specs.Admissible.{Fault, TooLong, Syntax, TooLarge, ModuloZero, PageOutOfBlock, ScaleZero, Repeated, TooManySlots, TooManyGroups, items, fault_of, else_first, only_if, at_lowest, any_too_large, is_flat, repeats, Refuses, Takes, IsAdmissible, most_slots, most_spec_bytes, most_groups}
 use Rattle.pagespec.specs.Reading.{spec_at}
 use Rattle.pagespec.specs.Groups.{AreKept}
@@ -22,7 +22,6 @@ use Rattle.pagespec.proofs.Joined.{few_parts}
 use Rattle.pagespec.proofs.Texts.{IsGroup, spec_found, no_tree}
 use Rattle.pagespec.proofs.Faults.{told_fault, no_fault, neither, small_items, capped_small}
 use Rattle.pagespec.proofs.Settling.{groups_settle, kept_fit}
-use Rattle.pagespec.proofs.Short.{short_enough}
 
 pub syntax_refused : (t bytes : List ℕ) → length t ≤ most_spec_bytes → bytes ≡ t → spec_at bytes ≡ None → Refuses most_slots t Syntax
 syntax_refused t bytes h b e = (h, λ spec is. no_tree t (ap spec_at (sym b) ∙ e) spec is)

@@ -9,7 +9,7 @@ use crate::error::SpecError;
 use crate::kept::KeptItem;
 
 /// The most items that a group may have.
-const MOST_SLOTS: usize = 64;
+const MOST_SLOTS: usize = 4_096;
 /// The most groups.
 const MOST_GROUPS: usize = 10_000;
 /// The greatest modulo, page number and integer part.

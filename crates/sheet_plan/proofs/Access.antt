@@ -85,7 +85,7 @@ page_blank spec n count plan s k item at here e is le = page_shown spec n count 
 -- a block has at most so many slots
 pub few_in_block : (spec : Spec) → IsBounded spec → sum_by length spec.groups ≤ most_groups * most_slots
 few_in_block spec b =
-    let s = sum_by-le length most_slots spec.groups b.narrow in
+    let s = sum_by-le length most_slots spec.groups b.few_slots in
     let m = mul-le (length spec.groups) most_slots most_groups most_slots b.few_groups (omega arith) in
     omega arith
 

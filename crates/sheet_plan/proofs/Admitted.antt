@@ -55,7 +55,7 @@ of_flat P (g ∷ gs) h =
 pub record IsBounded (spec : Spec) : Type 0 where
   pub modulo : 0 < spec.modulo
   pub few_groups : length spec.groups ≤ most_groups
-  pub narrow : All (λ g. length g ≤ most_slots) spec.groups
+  pub few_slots : All (λ g. length g ≤ most_slots) spec.groups
   pub paged : All (λ g. All (λ i. i.page < spec.modulo) g) spec.groups
 
 map_all : {X Y : Type 0} (P : Y → Type 0) (f : X → Y) (xs : List X) → All (λ x. P (f x)) xs → All P (map f xs)
@@ -99,7 +99,7 @@ bounded_written w e =
     record {
       modulo = grind (arith, nat_tests);
       few_groups = let l = length-map w.groups (λ g. map settled_item g) in omega arith;
-      narrow = map_all (λ g. length g ≤ most_slots) (λ g. map settled_item g) w.groups (λ k d lt. let l = length-map (get_or w.groups k d) settled_item in let b = at_most _ _ (wide_none k d lt) in omega arith);
+      few_slots = map_all (λ g. length g ≤ most_slots) (λ g. map settled_item g) w.groups (λ k d lt. let l = length-map (get_or w.groups k d) settled_item in let b = at_most _ _ (wide_none k d lt) in omega arith);
       paged = map_all (λ g. All (λ i. i.page < w.modulo) g) (λ g. map settled_item g) w.groups (λ k d lt. map_all (λ i. i.page < w.modulo) settled_item (get_or w.groups k d) (λ j c lt'. below _ _ (of_flat (λ i. nat_le w.modulo i.page ≡ false) w.groups page_none k d lt j c lt')));
     }
 

@@ -29,12 +29,12 @@ is_page (Some (Some p)) = true
 abbrev pub needs_page : Plan → (sheet k : ℕ) → Bool
 needs_page plan s k = is_page (slice_get (pages_on plan s) k)
 
--- the limits of every plan: a sheet has 1 to 64 slots, and each slot that isn't blank has one of the plan's pages
+-- the limits of every plan: a sheet has 1 to `most_slots` slots, and each slot that isn't blank has one of the plan's pages
 pub record IsSound (plan : Plan) : Type 0 where
   pub few_pages : plan.pages ≤ 1_000_000
   pub few_sheets : length plan.sheets ≤ 1_000_000
   pub few_places : sum_by length plan.sheets ≤ 4_000_000
-  pub narrow : (s : ℕ) → s < length plan.sheets → (0 < length (pages_on plan s)) × (length (pages_on plan s) ≤ most_slots)
+  pub few_slots : (s : ℕ) → s < length plan.sheets → (0 < length (pages_on plan s)) × (length (pages_on plan s) ≤ most_slots)
   pub paged : (s k p : ℕ) → s < length plan.sheets → slice_get (pages_on plan s) k ≡ Some (Some p) → p < plan.pages
 
 -- some admissible specification has these sheets on the plan's pages
