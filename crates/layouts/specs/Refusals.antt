@@ -1,14 +1,13 @@
 -- Why there is no layout.
-use Rattle.std.specs.Prelude.{◌≡◌, ◌⊎◌, ℕ, min, nat_abs, Bool, true, false, ◌&&◌, ◌||◌, nat_le, nat_lt, if◌then◌else◌, Option, Some, None}
+use Rattle.std.specs.Prelude.{◌≡◌, ◌⊎◌, ℕ, nat_abs, Bool, true, false, ◌&&◌, ◌||◌, nat_le, nat_lt, if◌then◌else◌, Option, Some, None}
 use Rattle.profile.specs.Papers.{Paper}
-use Rattle.profile.specs.Admissible.{most_slots}
 use Rattle.layouts.specs.declared.error.LayoutError.{LayoutError}
 use Rattle.layouts.specs.declared.error.LayoutError.TheVariants.{PagesOutOfRange, SideTooLong, FoldOnLongEdge, ScaleOutOfRange, NoMemory}
 use Rattle.layouts.specs.Grids.{scale_in, best_grid, beside, is_itself}
 
 -- how many pages a sheet takes at most
 abbrev pub most_pages : ℕ
-most_pages = min 1_024 most_slots
+most_pages = 1_024
 
 abbrev pub is_count : ℕ → Bool
 is_count n = nat_le 1 n && nat_le n most_pages

@@ -4,8 +4,8 @@ use thiserror::Error;
 /// Why there is no layout.
 #[derive(Clone, Copy, Debug, PartialEq, Eq, Error)]
 pub enum LayoutError {
-    /// No page was asked for on a sheet, or more than 64.
-    #[error("a sheet has from 1 to 64 pages")]
+    /// No page was asked for on a sheet, or more than 1,024.
+    #[error("a sheet has from 1 to 1,024 pages")]
     PagesOutOfRange,
     /// A side of the pages' paper or of the sheet's has 100,000 points or more.
     #[error("a paper's side is 100,000 points or more")]

@@ -319,6 +319,17 @@ fn all_numbers_of_pages_on_all_papers(rt: HostRuntime) -> Result<(), Fail> {
 }
 
 #[test]
+fn many_pages_on_all_papers(rt: HostRuntime) -> Result<(), Fail> {
+    for paper in PAPERS {
+        for n in [65, 97, 256, 720, 1_024u32] {
+            let fault = fault_of(rt.alloc(), n, paper, paper)?;
+            assert_eq!(rt; fault, "", "{n} on {}", paper.0);
+        }
+    }
+    Ok(())
+}
+
+#[test]
 fn pages_on_sheets_of_all_other_papers(rt: HostRuntime) -> Result<(), Fail> {
     for page in PAPERS {
         for sheet in PAPERS {
@@ -458,8 +469,8 @@ fn layouts_that_are_refused(rt: HostRuntime) {
     let (point, long, too_long) = (100_000, 9_999_999_999, 10_000_000_000);
     for (n, page, sheet, wanted) in [
         (0, too_long, point, Some(LayoutError::PagesOutOfRange)),
-        (65, point, point, Some(LayoutError::PagesOutOfRange)),
-        (64, point, point, None),
+        (1_025, point, point, Some(LayoutError::PagesOutOfRange)),
+        (1_024, point, point, None),
         (2, too_long, point, Some(LayoutError::SideTooLong)),
         (2, point, too_long, Some(LayoutError::SideTooLong)),
         (1, too_long, too_long, Some(LayoutError::SideTooLong)),
@@ -519,7 +530,7 @@ fn refusals_are_told(rt: HostRuntime) -> Result<(), Fail> {
     for (error, line) in [
         (
             LayoutError::PagesOutOfRange,
-            "a sheet has from 1 to 64 pages",
+            "a sheet has from 1 to 1,024 pages",
         ),
         (
             LayoutError::SideTooLong,
