@@ -18,22 +18,22 @@ use Rattle.pagespec.proofs.Settling.{same_item, map_row}
 use Rattle.pagespec.proofs.NumberLengths.{small_abs}
 use Rattle.pagespec.proofs.Short.{either, large_item, scale_small, offset_small, any_row, page_small, short_enough}
 
-abbrev turn_modifiers : Turn → List Modifier
+abbrev pub turn_modifiers : Turn → List Modifier
 turn_modifiers Upright = []
 turn_modifiers Left = Quarters 1 ∷ []
 turn_modifiers Half = Quarters 2 ∷ []
 turn_modifiers Right = Quarters 3 ∷ []
 
-abbrev scale_modifiers : Bool → ℤ → List Modifier
+abbrev pub scale_modifiers : Bool → ℤ → List Modifier
 scale_modifiers one v = if one then [] else Scaled v ∷ []
 
-abbrev offset_modifiers : Bool → Measure → Measure → List Modifier
+abbrev pub offset_modifiers : Bool → Measure → Measure → List Modifier
 offset_modifiers none x y = if none then [] else Moved x y ∷ []
 
-abbrev few : Turn → (one none : Bool) → ℤ → Measure → Measure → List Modifier
+abbrev pub few : Turn → (one none : Bool) → ℤ → Measure → Measure → List Modifier
 few t one none v x y = turn_modifiers t ++ (scale_modifiers one v ++ offset_modifiers none x y)
 
-abbrev fewest : Turn → ℤ → Measure → Measure → List Modifier
+abbrev pub fewest : Turn → ℤ → Measure → Measure → List Modifier
 fewest t v x y = few t (is_one v) (is_zero_points x && is_zero_points y) v x y
 
 abbrev normal_item : WrittenItem → WrittenItem
@@ -44,14 +44,14 @@ normal spec = record { modulo = spec.modulo; groups = map (λ g. map normal_item
 
 -- the grammar
 
-are_append : (ms ns : List Modifier) (t u : List ℕ) → AreModifiers t ms → AreModifiers u ns → AreModifiers (t ++ u) (ms ++ ns)
+pub are_append : (ms ns : List Modifier) (t u : List ℕ) → AreModifiers t ms → AreModifiers u ns → AreModifiers (t ++ u) (ms ++ ns)
 are_append [] ns t u e are = subst (λ x. AreModifiers (x ++ u) ns) (sym e) are
 are_append (m ∷ ms) ns t u (front, rest, e, is, more) are = (front, rest ++ u, ap (λ x. x ++ u) e ∙ append_assoc front rest u, is, are_append ms ns rest u more are)
 
 one_modifier : (t : List ℕ) (m : Modifier) → IsModifier t m → AreModifiers t (m ∷ [])
 one_modifier t m is = (t, [], sym (append-nil t), is, refl)
 
-turn_written : (t : Turn) → AreModifiers (turn_text t) (turn_modifiers t)
+pub turn_written : (t : Turn) → AreModifiers (turn_text t) (turn_modifiers t)
 turn_written Upright = refl
 turn_written Left = one_modifier (76 ∷ []) (Quarters 1) (inl (refl, inl refl))
 turn_written Half = one_modifier (85 ∷ []) (Quarters 2) (inr (inl (refl, inl refl)))
@@ -60,7 +60,7 @@ turn_written Right = one_modifier (82 ∷ []) (Quarters 3) (inr (inr (refl, inl 
 number_is : (v : ℤ) → is_large v ≡ false → IsNumber (number_text v) v
 number_is v small = number_text_is_number v (omega (arith, small_abs v small))
 
-scale_written : (v : ℤ) (b : Bool) → is_large v ≡ false → AreModifiers (if b then [] else 64 ∷ number_text v) (scale_modifiers b v)
+pub scale_written : (v : ℤ) (b : Bool) → is_large v ≡ false → AreModifiers (if b then [] else 64 ∷ number_text v) (scale_modifiers b v)
 scale_written v true small = refl
 scale_written v false small = one_modifier (64 ∷ number_text v) (Scaled v) (number_text v, refl, number_is v small)
 
@@ -75,13 +75,13 @@ unit_is Height = inl refl
 measure_is : (m : Measure) → is_large m.number ≡ false → IsMeasure (measure_text m) m
 measure_is m small = (number_text m.number, unit_text m.unit, refl, number_is m.number small, unit_is m.unit)
 
-offset_written : (x y : Measure) (b : Bool) → is_large x.number ≡ false → is_large y.number ≡ false
+pub offset_written : (x y : Measure) (b : Bool) → is_large x.number ≡ false → is_large y.number ≡ false
     → AreModifiers (if b then [] else 40 ∷ measure_text x ++ 44 ∷ measure_text y ++ 41 ∷ []) (offset_modifiers b x y)
 offset_written x y true small_x small_y = refl
 offset_written x y false small_x small_y =
     one_modifier (40 ∷ measure_text x ++ 44 ∷ measure_text y ++ 41 ∷ []) (Moved x y) (measure_text x, measure_text y, refl, measure_is x small_x, measure_is y small_y)
 
-decimal_is : (n : ℕ) → n < 10 ^ 5 → IsDigits (decimal n) n
+pub decimal_is : (n : ℕ) → n < 10 ^ 5 → IsDigits (decimal n) n
 decimal_is n low = let w : Writes n (decimal n) = decimal_writes n (omega (arith, low)) in (w.pass, no_nil (decimal n) w.some, sym w.value)
   where
     no_nil : (xs : List ℕ) → 0 < length xs → xs ≢ []
@@ -151,14 +151,14 @@ no_turn true false v x y = refl
 no_turn false true v x y = refl
 no_turn false false v x y = refl
 
-turn_back : (t : Turn) (one none : Bool) (v : ℤ) (x y : Measure) → turn_of (quarters (few t one none v x y)) ≡ t
+pub turn_back : (t : Turn) (one none : Bool) (v : ℤ) (x y : Measure) → turn_of (quarters (few t one none v x y)) ≡ t
 turn_back Upright one none v x y = ap turn_of (no_turn one none v x y)
 turn_back Left one none v x y = ap (λ n. turn_of (1 + n)) (no_turn one none v x y)
 turn_back Half one none v x y = ap (λ n. turn_of (2 + n)) (no_turn one none v x y)
 turn_back Right one none v x y = ap (λ n. turn_of (3 + n)) (no_turn one none v x y)
 
 -- a turn has no scale and no offset
-past_turn : {A : Type 0} (f : List Modifier → A) → ((n : ℕ) (ms : List Modifier) → f (Quarters n ∷ ms) ≡ f ms) → (t : Turn) (ms : List Modifier) → f (turn_modifiers t ++ ms) ≡ f ms
+pub past_turn : {A : Type 0} (f : List Modifier → A) → ((n : ℕ) (ms : List Modifier) → f (Quarters n ∷ ms) ≡ f ms) → (t : Turn) (ms : List Modifier) → f (turn_modifiers t ++ ms) ≡ f ms
 past_turn f same Upright ms = refl
 past_turn f same Left ms = same 1 ms
 past_turn f same Half ms = same 2 ms
@@ -168,7 +168,7 @@ one_is : (v : ℤ) → is_one v ≡ true → v ≡ pos 1_000_000_000
 one_is (pos n) e = ap pos (same_byte n 1_000_000_000 e)
 one_is (negsuc n) e = absurd (cc (e))
 
-scale_here : (one none : Bool) (v : ℤ) (x y : Measure) → is_one v ≡ one → scale (scale_modifiers one v ++ offset_modifiers none x y) ≡ v
+pub scale_here : (one none : Bool) (v : ℤ) (x y : Measure) → is_one v ≡ one → scale (scale_modifiers one v ++ offset_modifiers none x y) ≡ v
 scale_here true true v x y e = sym (one_is v e)
 scale_here true false v x y e = sym (one_is v e)
 scale_here false none v x y e = refl
@@ -200,13 +200,13 @@ measure_zero m e =
     let (n, u) = both (nat_abs m.number == 0) (is_points m.unit) e in
     same_measure m.number (pos 0) m.unit Pt (zero_is m.number n) (points_is m.unit u)
 
-offset_x_here : (one none : Bool) (v : ℤ) (x y : Measure) → (is_zero_points x && is_zero_points y) ≡ none → offset_x (scale_modifiers one v ++ offset_modifiers none x y) ≡ x
+pub offset_x_here : (one none : Bool) (v : ℤ) (x y : Measure) → (is_zero_points x && is_zero_points y) ≡ none → offset_x (scale_modifiers one v ++ offset_modifiers none x y) ≡ x
 offset_x_here true true v x y e = sym (measure_zero x (both (is_zero_points x) (is_zero_points y) e).0)
 offset_x_here false true v x y e = sym (measure_zero x (both (is_zero_points x) (is_zero_points y) e).0)
 offset_x_here true false v x y e = refl
 offset_x_here false false v x y e = refl
 
-offset_y_here : (one none : Bool) (v : ℤ) (x y : Measure) → (is_zero_points x && is_zero_points y) ≡ none → offset_y (scale_modifiers one v ++ offset_modifiers none x y) ≡ y
+pub offset_y_here : (one none : Bool) (v : ℤ) (x y : Measure) → (is_zero_points x && is_zero_points y) ≡ none → offset_y (scale_modifiers one v ++ offset_modifiers none x y) ≡ y
 offset_y_here true true v x y e = sym (measure_zero y (both (is_zero_points x) (is_zero_points y) e).1)
 offset_y_here false true v x y e = sym (measure_zero y (both (is_zero_points x) (is_zero_points y) e).1)
 offset_y_here true false v x y e = refl
@@ -242,17 +242,17 @@ else_none : (a b : Option Fault) → else_first a b ≡ None → (a ≡ None) ×
 else_none None b e = (refl, e)
 else_none (Some f) b e = absurd (cc (e))
 
-none_else : (a b : Option Fault) → a ≡ None → b ≡ None → else_first a b ≡ None
+pub none_else : (a b : Option Fault) → a ≡ None → b ≡ None → else_first a b ≡ None
 none_else a b e f = rw e f
 
-none_if : (b : Bool) (f : Fault) → b ≡ false → only_if b f ≡ None
+pub none_if : (b : Bool) (f : Fault) → b ≡ false → only_if b f ≡ None
 none_if b f e = rw e refl
 
 place_none : (o : Option ℕ) (f : ℕ → Fault) → at_lowest o f ≡ None → o ≡ None
 place_none None f e = refl
 place_none (Some i) f e = absurd (cc (e))
 
-none_place : (o : Option ℕ) (f : ℕ → Fault) → o ≡ None → at_lowest o f ≡ None
+pub none_place : (o : Option ℕ) (f : ℕ → Fault) → o ≡ None → at_lowest o f ≡ None
 none_place o f e = rw e refl
 
 stop_found : {X : Type 0} (p : X → Bool) (xs : List X) → list_any p xs ≡ true → position_or_len p xs < length xs
@@ -268,7 +268,7 @@ stop_missed p (x ∷ xs) e =
     let (here, behind) = either (p x) (list_any p xs) e in
     rw here (omega (arith, stop_missed p xs behind))
 
-none_placed : {X : Type 0} (p : X → Bool) (xs : List X) → list_any p xs ≡ false → position p xs ≡ None
+pub none_placed : {X : Type 0} (p : X → Bool) (xs : List X) → list_any p xs ≡ false → position p xs ≡ None
 none_placed p xs e = by_less _ refl
   where
     by_less : (b : Bool) → nat_lt (position_or_len p xs) (length xs) ≡ b → cond b (Some (position_or_len p xs)) None ≡ None
@@ -298,7 +298,7 @@ items_made p same spec e = ap (list_any p) (sym (map_row normal_item spec.groups
 past_turn_any : (p : Modifier → Bool) → ((n : ℕ) → p (Quarters n) ≡ false) → (t : Turn) (ms : List Modifier) → list_any p (turn_modifiers t ++ ms) ≡ list_any p ms
 past_turn_any p clear t ms = past_turn (list_any p) (λ n ms. ap (λ b. b || list_any p ms) (clear n)) t ms
 
-any_few : (p : Modifier → Bool) → ((n : ℕ) → p (Quarters n) ≡ false) → (t : Turn) (one none : Bool) (v : ℤ) (x y : Measure) → p (Scaled v) ≡ false → p (Moved x y) ≡ false
+pub any_few : (p : Modifier → Bool) → ((n : ℕ) → p (Quarters n) ≡ false) → (t : Turn) (one none : Bool) (v : ℤ) (x y : Measure) → p (Scaled v) ≡ false → p (Moved x y) ≡ false
     → list_any p (few t one none v x y) ≡ false
 any_few p clear t one none v x y scaled moved = past_turn_any p clear t (scale_modifiers one v ++ offset_modifiers none x y) ∙ rest one none
   where
@@ -308,7 +308,7 @@ any_few p clear t one none v x y scaled moved = past_turn_any p clear t (scale_m
     rest false true = ap (λ b. b || false) scaled
     rest false false = ap (λ b. b || (p (Moved x y) || false)) scaled ∙ ap (λ b. b || false) moved
 
-neither_is : (a b : Bool) → a ≡ false → b ≡ false → (a || b) ≡ false
+pub neither_is : (a b : Bool) → a ≡ false → b ≡ false → (a || b) ≡ false
 neither_is a b e f = rw e f
 
 large_normal : (i : WrittenItem) → large_item i ≡ false → large_item (normal_item i) ≡ false
@@ -330,10 +330,10 @@ flat_normal i e =
     any_few is_flat (λ n. refl) (turn_of (quarters i.modifiers)) (is_one (scale i.modifiers)) (is_zero_points (offset_x i.modifiers) && is_zero_points (offset_y i.modifiers)) (scale i.modifiers) (offset_x i.modifiers) (offset_y i.modifiers)
     (scale_above i.modifiers e) refl
 
-abbrev repeat : List Modifier → Bool
+abbrev pub repeat : List Modifier → Bool
 repeat ms = repeats (record { from_end = false; page = 0; modifiers = ms })
 
-repeat_few : (t : Turn) (one none : Bool) (v : ℤ) (x y : Measure) → repeat (few t one none v x y) ≡ false
+pub repeat_few : (t : Turn) (one none : Bool) (v : ℤ) (x y : Measure) → repeat (few t one none v x y) ≡ false
 repeat_few t one none v x y = past_turn repeat (λ n ms. refl) t (scale_modifiers one v ++ offset_modifiers none x y) ∙ rest one none
   where
     rest : (one none : Bool) → repeat (scale_modifiers one v ++ offset_modifiers none x y) ≡ false

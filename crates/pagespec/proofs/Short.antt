@@ -38,24 +38,24 @@ measure_short : (text : List ℕ) (m : Measure) → IsMeasure text m → is_larg
 measure_short text m (number, unit, e, is, is_unit) small =
     omega (arith, ap length e, length-append number unit, length-append (number_text m.number) (unit_text m.unit), number_short number m.number is small, unit_stands unit m.unit is_unit)
 
-measure_few : (m : Measure) → is_large m.number ≡ false → length (measure_text m) ≤ 18
+pub measure_few : (m : Measure) → is_large m.number ≡ false → length (measure_text m) ≤ 18
 measure_few m small = omega (arith, length-append (number_text m.number) (unit_text m.unit), number_few m.number small, unit_few m.unit)
 
 unless : (b : Bool) (xs : List ℕ) (k : ℕ) → length xs ≤ k → length (if b then [] else xs) ≤ k
 unless true xs k h = omega arith
 unless false xs k h = h
 
-scale_short : (v : ℤ) (k : ℕ) → length (number_text v) ≤ k → length (scale_part v) ≤ suc k
+pub scale_short : (v : ℤ) (k : ℕ) → length (number_text v) ≤ k → length (scale_part v) ≤ suc k
 scale_short v k h = unless (is_one v) (64 ∷ number_text v) (suc k) (omega (arith, h))
 
 pair_length : (a b : List ℕ) → length (40 ∷ a ++ 44 ∷ b ++ 41 ∷ []) ≡ length a + length b + 3
 pair_length a b = omega (arith, length-append (40 ∷ a ++ 44 ∷ b) (41 ∷ []), length-append (40 ∷ a) (44 ∷ b))
 
-offset_short : (x y : Measure) (k : ℕ) → length (measure_text x) + length (measure_text y) + 3 ≤ k → length (offset_part x y) ≤ k
+pub offset_short : (x y : Measure) (k : ℕ) → length (measure_text x) + length (measure_text y) + 3 ≤ k → length (offset_part x y) ≤ k
 offset_short x y k h =
     unless (is_zero_points x && is_zero_points y) (40 ∷ measure_text x ++ 44 ∷ measure_text y ++ 41 ∷ []) k (omega (arith, h, pair_length (measure_text x) (measure_text y)))
 
-turn_few : (t : Turn) → length (turn_text t) ≤ 1
+pub turn_few : (t : Turn) → length (turn_text t) ≤ 1
 turn_few Upright = omega arith
 turn_few Left = omega arith
 turn_few Half = omega arith
@@ -132,7 +132,7 @@ item_short text i (ds, rest, e, is, are) small =
       modifiers_short i.modifiers rest are behind,
     )
 
-minus_few : (b : Bool) → length (minus_text b) ≤ 1
+pub minus_few : (b : Bool) → length (minus_text b) ≤ 1
 minus_few true = omega arith
 minus_few false = omega arith
 
@@ -187,7 +187,7 @@ groups_short text gs (inr (i, e, bare)) small =
     let here : list_any large_item (i ∷ []) ≡ false = sym (ap (λ x. list_any large_item (flat_map (λ g. g) x)) e) ∙ small in
     inr (subst (λ x. length (groups_text x) ≤ 60) (sym e) (bare_few text i bare (either (large_item i) false here).0))
 
-modulo_short : (m k : ℕ) → length (decimal m) ≤ k → length (modulo_text m) ≤ suc k
+pub modulo_short : (m k : ℕ) → length (decimal m) ≤ k → length (modulo_text m) ≤ suc k
 modulo_short m k h = unless (m == 1) (decimal m ++ 58 ∷ []) (suc k) (omega (arith, h, length-append (decimal m) (58 ∷ [])))
 
 canonical_length : (spec : WrittenSpec) → length (canonical (settled spec)) ≡ length (modulo_text spec.modulo) + length (groups_text spec.groups)

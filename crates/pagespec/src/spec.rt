@@ -2,6 +2,7 @@
 ghost use Rattle.std.specs.Prelude.{◌≡◌};
 ghost use Rattle.profile.specs.Admissible.{IsAdmissible, most_slots};
 ghost use Rattle.pagespec.specs.Items.{groups_of};
+ghost use Rattle.pagespec.specs.Made.{IsWritable};
 
 use crate::item::Item;
 use std::marker::Model;
@@ -34,6 +35,15 @@ impl Spec {
         ensures { result ≡ record { modulo = modulo; groups = groups_of groups.items } }
     {
         Spec { modulo, groups }
+    }
+
+    /// The specification of this modulo and these groups, for programs that make one and don't read it. That it passes every
+    /// check is the caller's to show.
+    pub fn of_groups(modulo: u32, groups: Vec<Vec<Item>>) -> Spec
+        requires { IsWritable most_slots (record { modulo = modulo; groups = groups_of groups.items }) }
+        ensures { result ≡ record { modulo = modulo; groups = groups_of groups.items } }
+    {
+        Spec::new(modulo, groups)
     }
 
     /// How many pages a block has, at least 1.

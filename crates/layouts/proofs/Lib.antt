@@ -1,0 +1,12 @@
+mod Examples
+mod Cells
+mod Standing
+mod Sides
+mod InGrid
+mod Apart
+mod Large
+mod Writable
+mod Backs
+mod LaidOut
+mod Printing
+mod Possible

@@ -1,0 +1,51 @@
+-- Why there is no layout.
+use Rattle.std.specs.Prelude.{◌≡◌, ◌⊎◌, ℕ, nat_abs, Bool, true, false, ◌&&◌, ◌||◌, nat_le, nat_lt, if◌then◌else◌, Option, Some, None}
+use Rattle.profile.specs.Papers.{Paper}
+use Rattle.layouts.specs.declared.error.LayoutError.{LayoutError}
+use Rattle.layouts.specs.declared.error.LayoutError.TheVariants.{PagesOutOfRange, SideTooLong, FoldOnLongEdge, ScaleOutOfRange, NoMemory}
+use Rattle.layouts.specs.Grids.{scale_in, best_grid, beside, is_itself}
+
+-- how many pages a sheet takes at most
+abbrev pub most_pages : ℕ
+most_pages = 1_024
+
+abbrev pub is_count : ℕ → Bool
+is_count n = nat_le 1 n && nat_le n most_pages
+
+-- it has less than 100,000 points: offsets of at most 99,999 points and five nines behind the dot reach across it
+abbrev pub is_reached : (side : ℕ) → Bool
+is_reached side = nat_lt side 12_700_000_000_000_000
+
+abbrev pub are_reached : Paper → Bool
+are_reached paper = is_reached (nat_abs paper.width) && is_reached (nat_abs paper.height)
+
+-- from 10^-9 to 99,999
+abbrev pub is_scale : ℕ → Bool
+is_scale scale = nat_le 1 scale && nat_le scale 99_999_000_000_000
+
+-- the first reason why n pages of the one paper can't stand on a sheet of the other, if there is one
+abbrev pub why_not : (page sheet : Paper) → ℕ → Option LayoutError
+why_not page sheet n =
+    if is_count n
+    then (if are_reached page && are_reached sheet
+    then (if is_itself page sheet n || is_scale (scale_in page sheet (best_grid page sheet n)) then None else Some ScaleOutOfRange)
+    else Some SideTooLong)
+    else Some PagesOutOfRange
+
+-- the sheet is no wider than high, and upright pages side by side would not be larger than turned ones
+abbrev pub folds_short : (page sheet : Paper) → Bool
+folds_short page sheet =
+    nat_le (nat_abs sheet.width) (nat_abs sheet.height) && nat_le (scale_in page sheet (beside false)) (scale_in page sheet (beside true))
+
+-- the first reason why a booklet can't be made on such sheets, if there is one
+abbrev pub why_no_booklet : (page sheet : Paper) → Option LayoutError
+why_no_booklet page sheet =
+    if are_reached page && are_reached sheet
+    then (if folds_short page sheet
+    then (if is_scale (scale_in page sheet (beside true)) then None else Some ScaleOutOfRange)
+    else Some FoldOnLongEdge)
+    else Some SideTooLong
+
+-- the error is that one, or out of memory
+abbrev pub IsRefusal : Option LayoutError → LayoutError → Type 0
+IsRefusal why e = (e ≡ NoMemory) ⊎ (why ≡ Some e)

@@ -1,0 +1,23 @@
+//! Why there is no layout.
+use thiserror::Error;
+
+/// Why there is no layout.
+#[derive(Clone, Copy, Debug, PartialEq, Eq, Error)]
+pub enum LayoutError {
+    /// No page was asked for on a sheet, or more than 1,024.
+    #[error("a sheet has from 1 to 1,024 pages")]
+    PagesOutOfRange,
+    /// A side of the pages' paper or of the sheet's has 100,000 points or more.
+    #[error("a paper's side is 100,000 points or more")]
+    SideTooLong,
+    /// The sheet of a booklet is wider than high, or upright pages side by side would be larger on it: the fold would be
+    /// parallel to its longer edge.
+    #[error("a booklet would fold along the longer edge of the sheet")]
+    FoldOnLongEdge,
+    /// The scale of the pages would be 0, or above 99,999.
+    #[error("the pages would be too small or too large: their scale must be from 0.000000001 to 99999")]
+    ScaleOutOfRange,
+    /// A growth was refused.
+    #[error("out of memory")]
+    NoMemory,
+}

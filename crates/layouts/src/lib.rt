@@ -1,0 +1,16 @@
+//! Layouts: specifications that a program makes, for people who don't want to compute scales and offsets.
+#![tactic(auto)]
+
+mod best;
+mod error;
+mod grid;
+mod item;
+pub mod laws;
+mod scale;
+mod sheet;
+
+pub use error::LayoutError;
+pub use sheet::{booklet, nup};
+
+#[cfg(test)]
+mod tests;

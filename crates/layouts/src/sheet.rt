@@ -1,0 +1,123 @@
+//! Several pages on each sheet.
+ghost use Rattle.std.specs.Prelude.{◌≡◌, IfOk, IfErr, OnOk, None, IsTrue, ◌&&◌};
+ghost use Rattle.profile.specs.Papers.{is_paper};
+ghost use Rattle.layouts.specs.Laws.{IsNUp, IsBooklet};
+ghost use Rattle.layouts.specs.Grids.{n_up, leaves, is_same};
+ghost use Rattle.layouts.specs.Refusals.{why_not, why_no_booklet, IsRefusal, are_reached, folds_short};
+
+use super::best::best_grid;
+use super::error::LayoutError;
+use super::grid::Grid;
+use super::item::{alone, groups_in, sides_in};
+use super::scale::{is_scale, scale_in, side};
+use lengths::Paper;
+use pagespec::Spec;
+use std::alloc::Global;
+
+/// How many pages a sheet takes at most.
+const MOST_PAGES: u32 = 1_024;
+
+/// So many pages of one paper on each sheet of another or the same, from 1 to 1,024: in rows and columns, upright or turned to
+/// the left, as large as they can be, each in the middle of its cell. One page on a sheet of its own paper is left as it is.
+pub fn nup(alloc: Global, n: u32, page: &Paper, sheet: &Paper) -> Result<Spec, LayoutError>
+    ensures made { IfOk result (λ spec. spec ≡ n_up page.now sheet.now n) }
+    ensures laid_out { IfOk result (IsNUp page.now sheet.now n) }
+    ensures possible { OnOk result (why_not page.now sheet.now n ≡ None) }
+    ensures refused { IfErr result (IsRefusal (why_not page.now sheet.now n)) }
+{
+    if n < 1 || MOST_PAGES < n {
+        return Err(LayoutError::PagesOutOfRange);
+    }
+    if !are_both_reached(page, sheet) {
+        return Err(LayoutError::SideTooLong);
+    }
+    if n == 1 && is_of_size(page, sheet) {
+        return match alone(alloc) {
+            Ok(groups) => Ok(Spec::of_groups(1, groups)),
+            Err(_) => Err(LayoutError::NoMemory),
+        };
+    }
+    let grid = best_grid(page, sheet, n);
+    if !is_scale(scale_in(page, sheet, grid)) {
+        return Err(LayoutError::ScaleOutOfRange);
+    }
+    match groups_in(alloc, page, sheet, grid, n) {
+        Ok(groups) => Ok(Spec::of_groups(n, groups)),
+        Err(_) => Err(LayoutError::NoMemory),
+    }
+}
+
+/// Two pages side by side on each side of a sheet, with the fold parallel to its shorter edge, for a row of pages that
+/// stands in signature order. For printers that flip a sheet about its longer edge the backs are turned by half.
+pub fn booklet(
+    alloc: Global,
+    page: &Paper,
+    sheet: &Paper,
+    long_edge: bool,
+) -> Result<Spec, LayoutError>
+    ensures made { IfOk result (λ spec. spec ≡ leaves page.now sheet.now long_edge) }
+    ensures laid_out { IfOk result (IsBooklet page.now sheet.now long_edge) }
+    ensures possible { OnOk result (why_no_booklet page.now sheet.now ≡ None) }
+    ensures refused { IfErr result (IsRefusal (why_no_booklet page.now sheet.now)) }
+{
+    if !are_both_reached(page, sheet) {
+        return Err(LayoutError::SideTooLong);
+    }
+    if !is_fold_short(page, sheet) {
+        return Err(LayoutError::FoldOnLongEdge);
+    }
+    let grid = Grid::beside(true);
+    if !is_scale(scale_in(page, sheet, grid)) {
+        return Err(LayoutError::ScaleOutOfRange);
+    }
+    if long_edge {
+        match sides_in(alloc, page, sheet, grid) {
+            Ok(groups) => Ok(Spec::of_groups(4, groups)),
+            Err(_) => Err(LayoutError::NoMemory),
+        }
+    } else {
+        match groups_in(alloc, page, sheet, grid, 2) {
+            Ok(groups) => Ok(Spec::of_groups(2, groups)),
+            Err(_) => Err(LayoutError::NoMemory),
+        }
+    }
+}
+
+/// Whether offsets in points reach across both papers.
+fn are_both_reached(page: &Paper, sheet: &Paper) -> bool
+    ensures value { result ≡ (are_reached page.now && are_reached sheet.now) }
+    ensures page { IsTrue (is_paper page.now.width page.now.height) }
+    ensures sheet { IsTrue (is_paper sheet.now.width sheet.now.height) }
+{
+    let first = is_reached_across(page);
+    let second = is_reached_across(sheet);
+    first && second
+}
+
+/// Whether offsets in points reach across the paper.
+fn is_reached_across(paper: &Paper) -> bool
+    ensures value { result ≡ are_reached paper.now }
+    ensures in_range { IsTrue (is_paper paper.now.width paper.now.height) }
+{
+    let (width, height) = (side(paper.width()), side(paper.height()));
+    width < 12_700_000_000_000_000 && height < 12_700_000_000_000_000
+}
+
+/// Whether the papers have the same sides.
+fn is_of_size(page: &Paper, sheet: &Paper) -> bool
+    ensures { result ≡ is_same page.now sheet.now }
+{
+    let (width, height) = (side(page.width()), side(page.height()));
+    let (sheet_width, sheet_height) = (side(sheet.width()), side(sheet.height()));
+    width == sheet_width && height == sheet_height
+}
+
+/// Whether the fold between two pages is parallel to the shorter edge of the sheet.
+fn is_fold_short(page: &Paper, sheet: &Paper) -> bool
+    ensures { result ≡ folds_short page.now sheet.now }
+{
+    let (width, height) = (side(sheet.width()), side(sheet.height()));
+    let upright = scale_in(page, sheet, Grid::beside(false));
+    let turned = scale_in(page, sheet, Grid::beside(true));
+    width <= height && upright <= turned
+}
