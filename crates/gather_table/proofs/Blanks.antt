@@ -1,5 +1,5 @@
 -- The word of the blank slots of a sheet.
-use Rattle.std.proofs.Common.{◌≡◌, ℕ, zero, suc, ◌-◌, ◌<◌, ◌≤◌, ◌^◌, ◌==◌, Bool, true, false, not, List, [], ◌∷◌, length, refl, sym, ap, ◌∙◌, arith}
+use Rattle.std.proofs.Common.{◌≡◌, ℕ, zero, suc, ◌+◌, ◌-◌, ◌*◌, ◌<◌, ◌≤◌, ◌^◌, ◌==◌, Bool, true, false, not, List, [], ◌∷◌, length, refl, sym, ap, ◌∙◌, arith}
 use Rattle.std.specs.Prelude.{Some, None, Option, slice_get, if◌then◌else◌}
 use Rattle.std.specs.Int.{bit_at}
 use mathlib.Core.Logic.{dite}
@@ -50,13 +50,13 @@ bit_told true = refl
 bit_told false = refl
 
 -- all slots without the needed ones are the blank ones
-pub blanks_left : (xs : List (Option ℕ)) (missing full slots : ℕ) → missing < 2 ^ 64 → length xs ≤ 64 → slots ≡ length xs → full ≡ 2 ^ slots - 1 → ((k : ℕ) → bit_at missing k ≡ (if plans.is_page (slice_get xs k) then 1 else 0))
+pub blanks_left : (xs : List (Option ℕ)) (missing full slots : ℕ) → missing < 2 ^ 64 → length xs ≤ 64 → slots ≡ length xs → full ≡ 2 ^ slots - 1 → ((k : ℕ) → k < 64 → bit_at missing k ≡ (if plans.is_page (slice_get xs (64 * 0 + k)) then 1 else 0))
     → (missing ≤ full) × (full - missing ≡ bits (is_blank xs) (length xs))
 blanks_left xs missing full slots small few is_slots is_full told =
     let f : ℕ → Bool = λ k. plans.is_page (slice_get xs k) in
     let n = length xs in
     let made = made_of_bits missing 64 small in
-    let same : bits (has_bit missing) 64 ≡ bits f 64 = bits_same (has_bit missing) f 64 (λ k lt. ap (λ (x : ℕ). x == 1) (told k) ∙ bit_told (f k)) in
+    let same : bits (has_bit missing) 64 ≡ bits f 64 = bits_same (has_bit missing) f 64 (λ k lt. let z : 64 * 0 + k ≡ k = omega arith in ap (λ (x : ℕ). x == 1) (told k lt) ∙ bit_told (f (64 * 0 + k)) ∙ ap f z) in
     let cut : bits f 64 ≡ bits f n = bits_beyond f n 64 few (λ k le. none_beyond xs k le) in
     let others = bits_not f n in
     let blanks : bits (λ k. not (f k)) n ≡ bits (is_blank xs) n = bits_same (λ k. not (f k)) (is_blank xs) n (λ k lt. needed_or_blank xs k lt) in

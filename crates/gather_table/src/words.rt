@@ -12,7 +12,7 @@ pub(crate) fn blank_bits(plan: &Plan, sheet: u32) -> u64
     requires { sheet < length plan.now.sheets }
     ensures { result ≡ bits (is_blank (slots (layout plan.now) sheet)) (slot_count (layout plan.now) sheet) }
 {
-    full_bits(plan.slots(sheet)) - plan.missing_at_start(sheet)
+    full_bits(plan.slots(sheet)) - plan.missing_at_start(sheet, 0)
 }
 
 // All slots of a sheet.

@@ -8,7 +8,7 @@ use Rattle.std.proofs.lemmas.List.{length-map}
 use Rattle.pagespec.specs.declared.item.Item.{Item as PageItem}
 use Rattle.pagespec.specs.Items.{groups_of, item_of}
 use Rattle.profile.specs.Specification.{Spec}
-use Rattle.profile.specs.Admissible.{IsAdmissible}
+use Rattle.profile.specs.Admissible.{IsAdmissible, most_slots, most_groups}
 use Rattle.profile.specs.Sheets.{Slot, blocks}
 use Rattle.profile.specs.Signatures.{AreSidesIfGiven, entry_in, row_len, sheets_in}
 use Rattle.profile.specs.Run.{plan_in, refuse_if, PlanFault, PlanTooManyPages, TooManySheets, TooManyPlaces}
@@ -62,12 +62,12 @@ pub record IsCounted (sides : Option ℕ) (spec : Spec) (n modulo many : ℕ) (g
   pub same : spec_of modulo groups ≡ spec
   pub ceil : many ≡ blocks modulo (row_len sides n)
   pub few_blocks : many ≤ row_len sides n
-  pub few_groups : length groups ≤ 10_000
-  pub few_slots : sum_by length (groups_of groups) ≤ 640_000
+  pub few_groups : length groups ≤ most_groups
+  pub few_slots : sum_by length (groups_of groups) ≤ most_groups * most_slots
   pub sheet_total : many * length groups ≡ length (sheets_in sides spec n)
   pub place_total : many * sum_by length (groups_of groups) ≡ sum_by length (sheets_in sides spec n)
 
-counted_fields : (sides : Option ℕ) (n modulo many : ℕ) (groups : List (Vec PageItem Global)) → IsAdmissible 64 (spec_of modulo groups) → many ≡ row_len sides n / modulo + min 1 (row_len sides n % modulo) → IsCounted sides (spec_of modulo groups) n modulo many groups
+counted_fields : (sides : Option ℕ) (n modulo many : ℕ) (groups : List (Vec PageItem Global)) → IsAdmissible most_slots (spec_of modulo groups) → many ≡ row_len sides n / modulo + min 1 (row_len sides n % modulo) → IsCounted sides (spec_of modulo groups) n modulo many groups
 counted_fields sides n modulo many groups admissible is =
     let spec = spec_of modulo groups in
     let entries = row_len sides n in
@@ -88,12 +88,12 @@ counted_fields sides n modulo many groups admissible is =
 same_fields : (spec : Spec) (modulo : ℕ) (groups : List (Vec PageItem Global)) → modulo ≡ spec.modulo → groups_of groups ≡ spec.groups → spec_of modulo groups ≡ spec
 same_fields spec modulo groups m g = ap (λ k. record { modulo = k; groups = groups_of groups }) m ∙ ap (λ gs. record { modulo = spec.modulo; groups = gs }) g
 
-pub counted : (sides : Option ℕ) (spec : Spec) (n entries modulo many : ℕ) (groups : List (Vec PageItem Global)) → entries ≡ row_len sides n → modulo ≡ spec.modulo → groups_of groups ≡ spec.groups → IsAdmissible 64 spec → many ≡ entries / modulo + min 1 (entries % modulo) → IsCounted sides spec n modulo many groups
+pub counted : (sides : Option ℕ) (spec : Spec) (n entries modulo many : ℕ) (groups : List (Vec PageItem Global)) → entries ≡ row_len sides n → modulo ≡ spec.modulo → groups_of groups ≡ spec.groups → IsAdmissible most_slots spec → many ≡ entries / modulo + min 1 (entries % modulo) → IsCounted sides spec n modulo many groups
 counted sides spec n entries modulo many groups l m g admissible is =
     let same = same_fields spec modulo groups m g in
     let up : many ≡ row_len sides n / modulo + min 1 (row_len sides n % modulo) = is ∙ ap (λ k. k / modulo + min 1 (k % modulo)) l in
-    subst (λ s. IsCounted sides s n modulo many groups) same (counted_fields sides n modulo many groups (subst (IsAdmissible 64) (sym same) admissible) up)
+    subst (λ s. IsCounted sides s n modulo many groups) same (counted_fields sides n modulo many groups (subst (IsAdmissible most_slots) (sym same) admissible) up)
 
 -- an accepted specification, by its fields
-pub accepted_fields : (sides : Option ℕ) (spec : Spec) (n modulo : ℕ) (groups : List (Vec PageItem Global)) → AreSidesIfGiven sides → spec_of modulo groups ≡ spec → IsAdmissible 64 spec → All (λ g. 0 < length g) spec.groups → row_len sides n ≤ 1_000_000 → length (sheets_in sides spec n) ≤ 1_000_000 → sum_by length (sheets_in sides spec n) ≤ 4_000_000 → IsAccepted sides (spec_of modulo groups) n
+pub accepted_fields : (sides : Option ℕ) (spec : Spec) (n modulo : ℕ) (groups : List (Vec PageItem Global)) → AreSidesIfGiven sides → spec_of modulo groups ≡ spec → IsAdmissible most_slots spec → All (λ g. 0 < length g) spec.groups → row_len sides n ≤ 1_000_000 → length (sheets_in sides spec n) ≤ 1_000_000 → sum_by length (sheets_in sides spec n) ≤ 4_000_000 → IsAccepted sides (spec_of modulo groups) n
 accepted_fields sides spec n modulo groups valid same admissible filled le few fit = subst (λ s. IsAccepted sides s n) (sym same) (record { valid = valid; admissible = admissible; filled = filled; few_entries = le; few_sheets = few; few_places = fit })

@@ -1,7 +1,7 @@
 -- What is read off a plan, and what every plan keeps to.
-use Rattle.std.specs.Prelude.{◌≡◌, ℕ, ◌<◌, ◌≤◌, Bool, true, false, List, [], length, map, Option, Some, None, slice_get, slice_index_or, sum_by}
+use Rattle.std.specs.Prelude.{◌≡◌, ℕ, ◌+◌, ◌/◌, ◌<◌, ◌≤◌, Bool, true, false, List, [], length, map, Option, Some, None, slice_get, slice_index_or, sum_by}
 use Rattle.profile.specs.Specification.{Spec, Item}
-use Rattle.profile.specs.Admissible.{IsAdmissible}
+use Rattle.profile.specs.Admissible.{IsAdmissible, most_slots}
 use Rattle.profile.specs.Sheets.{Plan, sheets, layout}
 use Rattle.profile.specs.Signatures.{AreSidesIfGiven, sheets_in}
 
@@ -21,6 +21,10 @@ pages_on plan s = slice_index_or (layout plan).sheets s []
 abbrev pub items_on : Plan → ℕ → List Item
 items_on plan s = map (λ slot. slot.item) (slice_index_or plan.sheets s [])
 
+-- how many slot groups a sheet has: one for each 64 slots, and a last one for those that are left
+abbrev pub slot_groups : Plan → ℕ → ℕ
+slot_groups plan s = (length (pages_on plan s) + 63) / 64
+
 abbrev pub is_page : Option (Option ℕ) → Bool
 is_page None = false
 is_page (Some None) = false
@@ -35,7 +39,7 @@ pub record IsSound (plan : Plan) : Type 0 where
   pub few_pages : plan.pages ≤ 1_000_000
   pub few_sheets : length plan.sheets ≤ 1_000_000
   pub few_places : sum_by length plan.sheets ≤ 4_000_000
-  pub narrow : (s : ℕ) → s < length plan.sheets → (0 < length (pages_on plan s)) × (length (pages_on plan s) ≤ 64)
+  pub narrow : (s : ℕ) → s < length plan.sheets → (0 < length (pages_on plan s)) × (length (pages_on plan s) ≤ most_slots)
   pub paged : (s k p : ℕ) → s < length plan.sheets → slice_get (pages_on plan s) k ≡ Some (Some p) → p < plan.pages
 
 -- some admissible specification has these sheets on the plan's pages, in signatures or not
@@ -43,5 +47,5 @@ pub record IsOfSpec (plan : Plan) : Type 0 where
   pub spec : Spec
   pub sides : Option ℕ
   pub valid : AreSidesIfGiven sides
-  pub admissible : IsAdmissible 64 spec
+  pub admissible : IsAdmissible most_slots spec
   pub same : plan ≡ planned_in sides spec plan.pages

@@ -1,7 +1,7 @@
 -- Which specifications are planned, and why the others are refused.
 use Rattle.std.specs.Prelude.{◌≡◌, ℕ, ◌<◌, ◌≤◌, Ok, Err, length, sum_by, All, Option, None}
 use Rattle.profile.specs.Specification.{Spec}
-use Rattle.profile.specs.Admissible.{IsAdmissible}
+use Rattle.profile.specs.Admissible.{IsAdmissible, most_slots}
 use Rattle.profile.specs.Signatures.{AreSidesIfGiven, row_len, sheets_in}
 use Rattle.profile.specs.Run.{plan_in, PlanTooManyPages}
 use Rattle.profile.specs.Run as profile
@@ -22,7 +22,7 @@ Refuses spec n error = RefusesIn None spec n error
 -- the sides are valid, the specification is admissible, and the limits of a plan hold on n pages
 pub record IsAccepted (sides : Option ℕ) (spec : Spec) (n : ℕ) : Type 0 where
   pub valid : AreSidesIfGiven sides
-  pub admissible : IsAdmissible 64 spec
+  pub admissible : IsAdmissible most_slots spec
   pub filled : All (λ g. 0 < length g) spec.groups
   pub few_entries : row_len sides n ≤ 1_000_000
   pub few_sheets : length (sheets_in sides spec n) ≤ 1_000_000

@@ -76,7 +76,7 @@ fn blank_slots(rt: HostRuntime) -> Result<(), Fail> {
     let plan = Plan::new(alloc, &booklet, 5)?;
     assert_eq!(rt; plan.sheets(), 4);
     for (sheet, missing) in [(0, 2), (1, 1), (2, 3), (3, 2)] {
-        assert_eq!(rt; plan.missing_at_start(sheet), missing, "sheet {sheet}");
+        assert_eq!(rt; plan.missing_at_start(sheet, 0), missing, "sheet {sheet}");
     }
     assert_eq!(rt; plan.born_complete().len(), 0);
 
