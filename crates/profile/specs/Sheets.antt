@@ -23,15 +23,20 @@ pub record Slot : Type 0 where
   pub page : Option ℕ
   pub item : Item
 
--- the sheets of a specification on n pages: one for each group of each block, block by block
+-- the sheets of a specification on a row of so many entries, each of which is a page or a blank: one sheet for each group of
+-- each block, block by block
+abbrev pub sheets_over : Spec → (entries : ℕ) → (entry : ℕ → Option ℕ) → List (List Slot)
+sheets_over spec entries entry =
+    flat_map (λ b. map (λ g. map (λ i. record { page = entry (place spec.modulo entries b i); item = i }) g) spec.groups)
+    (range_with_len 0 (blocks spec.modulo entries))
+
+-- the sheets of a specification on n pages
 abbrev pub sheets : Spec → ℕ → List (List Slot)
-sheets spec n =
-    flat_map (λ b. map (λ g. map (λ i. record { page = page_at n (place spec.modulo n b i); item = i }) g) spec.groups)
-    (range_with_len 0 (blocks spec.modulo n))
+sheets spec n = sheets_over spec n (page_at n)
 
 -- there is a sheet for each group in each block: a law
 abbrev pub SheetCount : Type 0
-SheetCount = (spec : Spec) (n : ℕ) → length (sheets spec n) ≡ blocks spec.modulo n * length spec.groups
+SheetCount = (spec : Spec) (entries : ℕ) (entry : ℕ → Option ℕ) → length (sheets_over spec entries entry) ≡ blocks spec.modulo entries * length spec.groups
 
 -- a number of pages, and the sheets that they are placed on
 pub record Plan : Type 0 where

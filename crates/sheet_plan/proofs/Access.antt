@@ -1,9 +1,8 @@
 -- A slot of a plan, read from its specification.
-use Rattle.std.proofs.Common.{arith, ◌≡◌, ℕ, ◌+◌, ◌*◌, ◌/◌, ◌%◌, ◌<◌, ◌≤◌, List, [], length, map, get_or, take, sym, ap, ◌∙◌, Some, None, subst}
+use Rattle.std.proofs.Common.{arith, ◌≡◌, ℕ, ◌+◌, ◌*◌, ◌/◌, ◌%◌, ◌<◌, ◌≤◌, List, [], length, map, get_or, take, sym, ap, ◌∙◌, Some, subst, Option}
 use Rattle.std.specs.Prelude.{vec_len, slice_get, option_map, sum_by}
 use Rattle.std.specs.declared.vec.Vec.{Vec}
 use Rattle.std.specs.declared.alloc.Global.{Global}
-use Rattle.std.proofs.lemmas.Bool.Decides.{nat_tests}
 use Rattle.std.proofs.lemmas.List.{length-map, get_or-map, map_more, take-map}
 use Rattle.std.proofs.lemmas.List.Sums.{sum_by-le, sum_by_push, sum_by-take-le}
 use Rattle.std.proofs.lemmas.Nat.{mul-le}
@@ -12,75 +11,78 @@ use Rattle.pagespec.specs.declared.item.Item.{Item as PageItem}
 use Rattle.pagespec.specs.Items.{groups_of, item_of}
 use Rattle.profile.specs.Admissible.{most_groups, most_slots}
 use Rattle.profile.specs.Specification.{Spec, Item}
-use Rattle.profile.specs.Sheets.{Plan, sheets, place, page_at, blocks}
+use Rattle.profile.specs.Sheets.{Plan, place, blocks}
+use Rattle.profile.specs.Signatures.{entry_in, row_len, sheets_in}
 use Rattle.profile.proofs.Counts.{sheet_count}
-use Rattle.sheet_plan.specs.Plans.{planned, pages_on, items_on, IsSound, IsOfSpec}
+use Rattle.sheet_plan.specs.Plans.{planned_in, pages_on, items_on, IsSound, IsOfSpec}
 use Rattle.sheet_plan.specs.Refusals.{IsAccepted}
 use Rattle.sheet_plan.proofs.Admitted.{IsBounded, bounded}
 use Rattle.sheet_plan.proofs.Rows.{is_sheet, pages_row, items_row, slot_count}
-use Rattle.sheet_plan.proofs.Bounds.{sound, of_spec}
+use Rattle.sheet_plan.proofs.Bounds.{blocks_times, place_below, sound, of_spec}
 
 -- the specification that these fields make
 abbrev pub spec_of : ℕ → List (Vec PageItem Global) → Spec
 spec_of modulo groups = record { modulo = modulo; groups = groups_of groups }
 
 -- a sheet of the plan, its block and its group among count groups
-pub record IsAt (spec : Spec) (n count : ℕ) (plan : Plan) (s : ℕ) : Type 0 where
+pub record IsAt (sides : Option ℕ) (spec : Spec) (n count : ℕ) (plan : Plan) (s : ℕ) : Type 0 where
   pub some : 0 < count
-  pub block : s / count < blocks spec.modulo n
+  pub block : s / count < blocks spec.modulo (row_len sides n)
   pub group : s % count < count
-  pub pages : pages_on plan s ≡ map (λ i. page_at n (place spec.modulo n (s / count) i)) (get_or spec.groups (s % count) [])
+  pub pages : pages_on plan s ≡ map (λ i. entry_in sides n (place spec.modulo (row_len sides n) (s / count) i)) (get_or spec.groups (s % count) [])
   pub items : items_on plan s ≡ get_or spec.groups (s % count) []
   pub slots : length (pages_on plan s) ≡ length (get_or spec.groups (s % count) [])
 
-at_of : (spec : Spec) (n s : ℕ) → s < length (sheets spec n) → IsAt spec n (length spec.groups) (planned spec n) s
-at_of spec n s lt =
-    let at = is_sheet spec n s lt in
-    record { some = at.some; block = at.block; group = at.group; pages = pages_row spec n s lt; items = items_row spec n s lt; slots = slot_count spec n s lt }
+at_of : (sides : Option ℕ) (spec : Spec) (n s : ℕ) → s < length (sheets_in sides spec n) → IsAt sides spec n (length spec.groups) (planned_in sides spec n) s
+at_of sides spec n s lt =
+    let at = is_sheet sides spec n s lt in
+    record { some = at.some; block = at.block; group = at.group; pages = pages_row sides spec n s lt; items = items_row sides spec n s lt; slots = slot_count sides spec n s lt }
 
-pub at_sheet : (modulo n : ℕ) (groups : List (Vec PageItem Global)) (plan : Plan) → planned (spec_of modulo groups) n ≡ plan → (s : ℕ) → s < length plan.sheets → IsAt (spec_of modulo groups) n (length groups) plan s
-at_sheet modulo n groups plan is s lt =
+pub at_sheet : (sides : Option ℕ) (modulo n : ℕ) (groups : List (Vec PageItem Global)) (plan : Plan) → planned_in sides (spec_of modulo groups) n ≡ plan → (s : ℕ) → s < length plan.sheets → IsAt sides (spec_of modulo groups) n (length groups) plan s
+at_sheet sides modulo n groups plan is s lt =
     let spec = spec_of modulo groups in
-    let lt' : s < length (sheets spec n) = subst (λ (p : Plan). s < length p.sheets) (sym is) lt in
-    let here = at_of spec n s lt' in
-    let counted = subst (λ count. IsAt spec n count (planned spec n) s) (length-map groups (λ g. map item_of g.items)) here in
-    subst (λ (p : Plan). IsAt spec n (length groups) p s) is counted
+    let lt' : s < length (sheets_in sides spec n) = subst (λ (p : Plan). s < length p.sheets) (sym is) lt in
+    let here = at_of sides spec n s lt' in
+    let counted = subst (λ count. IsAt sides spec n count (planned_in sides spec n) s) (length-map groups (λ g. map item_of g.items)) here in
+    subst (λ (p : Plan). IsAt sides spec n (length groups) p s) is counted
 
-pub sound_of : (modulo n : ℕ) (groups : List (Vec PageItem Global)) (plan : Plan) → planned (spec_of modulo groups) n ≡ plan → IsAccepted (spec_of modulo groups) n → IsSound plan
-sound_of modulo n groups plan is a = subst IsSound is (sound (spec_of modulo groups) n a)
+pub sound_of : (sides : Option ℕ) (modulo n : ℕ) (groups : List (Vec PageItem Global)) (plan : Plan) → planned_in sides (spec_of modulo groups) n ≡ plan → IsAccepted sides (spec_of modulo groups) n → IsSound plan
+sound_of sides modulo n groups plan is a = subst IsSound is (sound sides (spec_of modulo groups) n a)
 
-pub of_spec_of : (modulo n : ℕ) (groups : List (Vec PageItem Global)) (plan : Plan) → planned (spec_of modulo groups) n ≡ plan → IsAccepted (spec_of modulo groups) n → IsOfSpec plan
-of_spec_of modulo n groups plan is a = subst IsOfSpec is (of_spec (spec_of modulo groups) n a)
+pub of_spec_of : (sides : Option ℕ) (modulo n : ℕ) (groups : List (Vec PageItem Global)) (plan : Plan) → planned_in sides (spec_of modulo groups) n ≡ plan → IsAccepted sides (spec_of modulo groups) n → IsOfSpec plan
+of_spec_of sides modulo n groups plan is a = subst IsOfSpec is (of_spec sides (spec_of modulo groups) n a)
 
 -- how many sheets there are
-pub sheets_of : (modulo n : ℕ) (groups : List (Vec PageItem Global)) (plan : Plan) → planned (spec_of modulo groups) n ≡ plan → blocks modulo n * length groups ≡ length plan.sheets
-sheets_of modulo n groups plan is =
-    ap (λ k. blocks modulo n * k) (sym (length-map groups (λ g. map item_of g.items))) ∙ sym (sheet_count (spec_of modulo groups) n) ∙ ap (λ (p : Plan). length p.sheets) is
+pub sheets_of : (sides : Option ℕ) (modulo n : ℕ) (groups : List (Vec PageItem Global)) (plan : Plan) → planned_in sides (spec_of modulo groups) n ≡ plan → blocks modulo (row_len sides n) * length groups ≡ length plan.sheets
+sheets_of sides modulo n groups plan is =
+    ap (λ k. blocks modulo (row_len sides n) * k) (sym (length-map groups (λ g. map item_of g.items))) ∙ sym (sheet_count (spec_of modulo groups) (row_len sides n) (entry_in sides n)) ∙ ap (λ (p : Plan). length p.sheets) is
 
 -- an item's page lies in its block
-pub paged_item : (spec : Spec) (n : ℕ) → IsAccepted spec n → (g k : ℕ) → g < length spec.groups → (item : Item) → slice_get (get_or spec.groups g []) k ≡ Some item → item.page < spec.modulo
-paged_item spec n a g k lt item e =
+pub paged_item : (sides : Option ℕ) (spec : Spec) (n : ℕ) → IsAccepted sides spec n → (g k : ℕ) → g < length spec.groups → (item : Item) → slice_get (get_or spec.groups g []) k ≡ Some item → item.page < spec.modulo
+paged_item sides spec n a g k lt item e =
     let b = bounded spec a.admissible in
     subst (λ (i : Item). i.page < spec.modulo) (get_or_from_slice_get (get_or spec.groups g []) k item item e) (b.paged g [] lt k item (slice_get_within (get_or spec.groups g []) k item e))
 
 -- a slot's page, by its place
-page_shown : (spec : Spec) (n count : ℕ) (plan : Plan) (s k : ℕ) (item : Item) → IsAt spec n count plan s → slice_get (get_or spec.groups (s % count) []) k ≡ Some item → slice_get (pages_on plan s) k ≡ Some (page_at n (place spec.modulo n (s / count) item))
-page_shown spec n count plan s k item at e =
-    ap (λ xs. slice_get xs k) at.pages
-    ∙ slice_get-map (λ i. page_at n (place spec.modulo n (s / count) i)) (get_or spec.groups (s % count) []) k
-    ∙ ap (option_map (λ i. page_at n (place spec.modulo n (s / count) i))) e
+pub page_shown : (sides : Option ℕ) (spec : Spec) (n count : ℕ) (plan : Plan) (s k : ℕ) (item : Item) (at : ℕ) (page : Option ℕ) → IsAt sides spec n count plan s → slice_get (get_or spec.groups (s % count) []) k ≡ Some item
+    → at ≡ place spec.modulo (row_len sides n) (s / count) item → page ≡ entry_in sides n at → slice_get (pages_on plan s) k ≡ Some page
+page_shown sides spec n count plan s k item at page here e place_is page_is =
+    ap (λ xs. slice_get xs k) here.pages
+    ∙ slice_get-map (λ i. entry_in sides n (place spec.modulo (row_len sides n) (s / count) i)) (get_or spec.groups (s % count) []) k
+    ∙ ap (option_map (λ i. entry_in sides n (place spec.modulo (row_len sides n) (s / count) i))) e
+    ∙ ap (λ p. Some (entry_in sides n p)) (sym place_is)
+    ∙ ap Some (sym page_is)
 
-pub page_there : (spec : Spec) (n count : ℕ) (plan : Plan) (s k : ℕ) (item : Item) (at : ℕ) → IsAt spec n count plan s → slice_get (get_or spec.groups (s % count) []) k ≡ Some item → at ≡ place spec.modulo n (s / count) item → at < n → slice_get (pages_on plan s) k ≡ Some (Some at)
-page_there spec n count plan s k item at here e is lt = page_shown spec n count plan s k item here e ∙ ap (λ p. Some (page_at n p)) (sym is) ∙ ap Some (shown at n lt)
-  where
-    shown : (x n : ℕ) → x < n → page_at n x ≡ Some x
-    shown x n lt = grind (arith, nat_tests)
-
-pub page_blank : (spec : Spec) (n count : ℕ) (plan : Plan) (s k : ℕ) (item : Item) (at : ℕ) → IsAt spec n count plan s → slice_get (get_or spec.groups (s % count) []) k ≡ Some item → at ≡ place spec.modulo n (s / count) item → n ≤ at → slice_get (pages_on plan s) k ≡ Some None
-page_blank spec n count plan s k item at here e is le = page_shown spec n count plan s k item here e ∙ ap (λ p. Some (page_at n p)) (sym is) ∙ ap Some (hidden at n le)
-  where
-    hidden : (x n : ℕ) → n ≤ x → page_at n x ≡ None
-    hidden x n le = grind (arith, nat_tests)
+-- the places of a block lie in the filled row
+pub entry_few : (sides : Option ℕ) (spec : Spec) (n block at : ℕ) (item : Item) → IsAccepted sides spec n → block < blocks spec.modulo (row_len sides n) → item.page < spec.modulo
+    → at ≡ place spec.modulo (row_len sides n) block item → at < 1_100_000
+entry_few sides spec n block at item a lt page is =
+    let b = bounded spec a.admissible in
+    let row = blocks_times (row_len sides n) spec.modulo b.modulo in
+    let few = a.few_entries in
+    let narrow = b.few_pages in
+    let low = place_below spec.modulo (row_len sides n) block item lt page in
+    omega arith
 
 -- a block has at most so many slots
 pub few_in_block : (spec : Spec) → IsBounded spec → sum_by length spec.groups ≤ most_groups * most_slots

@@ -7,7 +7,7 @@ use Rattle.std.proofs.lemmas.List.Sums.{fails_before_first}
 use Rattle.std.proofs.lemmas.List.Elements.{All-nil, All-cons, All-map}
 use Rattle.profile.specs.Bytes.{comma, plus_sign}
 use Rattle.profile.specs.Specification.{IsJoined, IsItem, IsSpec, AreGroups, WrittenSpec, WrittenItem, Spec, settled, settled_item}
-use Rattle.profile.specs.Admissible.{Takes, Fault, TooLarge, ModuloZero, PageOutOfBlock, ScaleZero, Repeated, TooManySlots, TooManyGroups, IsAdmissible, fault_of, else_first, only_if, at_lowest, any_too_large, items, repeats, is_flat, most_slots, most_groups}
+use Rattle.profile.specs.Admissible.{Takes, Fault, TooLarge, ModuloZero, PageOutOfBlock, ScaleZero, Repeated, TooManySlots, TooManyGroups, IsAdmissible, fault_of, else_first, only_if, at_lowest, any_too_large, has_large, items, repeats, is_flat, most_slots, most_groups}
 use Rattle.std.specs.List.{list_any, position_or_len}
 
 -- a list of checks without a fault
@@ -54,6 +54,7 @@ of_flat P (g ∷ gs) h =
 -- the bounds of an admissible specification
 pub record IsBounded (spec : Spec) : Type 0 where
   pub modulo : 0 < spec.modulo
+  pub few_pages : spec.modulo ≤ 99_999
   pub few_groups : length spec.groups ≤ most_groups
   pub few_slots : All (λ g. length g ≤ most_slots) spec.groups
   pub paged : All (λ g. All (λ i. i.page < spec.modulo) g) spec.groups
@@ -91,6 +92,7 @@ bounded_written w e =
     let past_repeat : from_groups w ≡ None = later_none (at_lowest (position repeats (items w)) Repeated) (from_groups w) past_scale in
     let wide : wide_fault w ≡ None = not_found (wide_fault w) TooManySlots (first_none (at_lowest (wide_fault w) TooManySlots) (only_if (nat_lt most_groups (length w.groups)) TooManyGroups) past_repeat) in
     let many : nat_lt most_groups (length w.groups) ≡ false = not_met (nat_lt most_groups (length w.groups)) TooManyGroups (later_none (at_lowest (wide_fault w) TooManySlots) (only_if (nat_lt most_groups (length w.groups)) TooManyGroups) past_repeat) in
+    let large : any_too_large w ≡ false = not_met (any_too_large w) TooLarge (first_none (only_if (any_too_large w) TooLarge) (from_zero w) e) in
     let zero : (w.modulo == 0) ≡ false = not_met (w.modulo == 0) ModuloZero (first_none (only_if (w.modulo == 0) ModuloZero) (from_pages w) past_large) in
     let page : page_fault w ≡ None = not_found (page_fault w) PageOutOfBlock (first_none (at_lowest (page_fault w) PageOutOfBlock) (from_scales w) past_zero) in
     let many_groups : length w.groups ≤ most_groups = at_most most_groups (length w.groups) many in
@@ -98,6 +100,7 @@ bounded_written w e =
     let page_none : All (λ (i : WrittenItem). nat_le w.modulo i.page ≡ false) (items w) = none_passes (λ (i : WrittenItem). nat_le w.modulo i.page) (items w) page in
     record {
       modulo = grind (arith, nat_tests);
+      few_pages = at_most 99_999 w.modulo (first_or (nat_lt 99_999 w.modulo) (list_any (λ i. nat_lt 99_999 i.page || list_any has_large i.modifiers) (items w)) large);
       few_groups = let l = length-map w.groups (λ g. map settled_item g) in omega arith;
       few_slots = map_all (λ g. length g ≤ most_slots) (λ g. map settled_item g) w.groups (λ k d lt. let l = length-map (get_or w.groups k d) settled_item in let b = at_most _ _ (wide_none k d lt) in omega arith);
       paged = map_all (λ g. All (λ i. i.page < w.modulo) g) (λ g. map settled_item g) w.groups (λ k d lt. map_all (λ i. i.page < w.modulo) settled_item (get_or w.groups k d) (λ j c lt'. below _ _ (of_flat (λ i. nat_le w.modulo i.page ≡ false) w.groups page_none k d lt j c lt')));

@@ -1,6 +1,7 @@
 pub mod Admitted
 pub mod Rows
 pub mod Bounds
+pub mod Entries
 pub mod Access
 pub mod Limits
 pub mod Counting

@@ -3,10 +3,15 @@ use Rattle.std.specs.Prelude.{◌≡◌, ℕ, ◌+◌, ◌/◌, ◌<◌, ◌≤�
 use Rattle.profile.specs.Specification.{Spec, Item}
 use Rattle.profile.specs.Admissible.{IsAdmissible, most_slots}
 use Rattle.profile.specs.Sheets.{Plan, sheets, layout}
+use Rattle.profile.specs.Signatures.{AreSidesIfGiven, sheets_in}
 
 -- the plan of a specification on n pages
 abbrev pub planned : Spec → ℕ → Plan
 planned spec n = record { pages = n; sheets = sheets spec n }
+
+-- the same, in signatures if a number of sides is given
+abbrev pub planned_in : (sides : Option ℕ) → Spec → ℕ → Plan
+planned_in sides spec n = record { pages = n; sheets = sheets_in sides spec n }
 
 -- the slots of a sheet, each with its page, or None where it is blank
 abbrev pub pages_on : Plan → ℕ → List (Option ℕ)
@@ -37,8 +42,10 @@ pub record IsSound (plan : Plan) : Type 0 where
   pub few_slots : (s : ℕ) → s < length plan.sheets → (0 < length (pages_on plan s)) × (length (pages_on plan s) ≤ most_slots)
   pub paged : (s k p : ℕ) → s < length plan.sheets → slice_get (pages_on plan s) k ≡ Some (Some p) → p < plan.pages
 
--- some admissible specification has these sheets on the plan's pages
+-- some admissible specification has these sheets on the plan's pages, in signatures or not
 pub record IsOfSpec (plan : Plan) : Type 0 where
   pub spec : Spec
+  pub sides : Option ℕ
+  pub valid : AreSidesIfGiven sides
   pub admissible : IsAdmissible most_slots spec
-  pub same : plan ≡ planned spec plan.pages
+  pub same : plan ≡ planned_in sides spec plan.pages

@@ -1,17 +1,19 @@
-//! A specification expanded over a number of pages, from either end. Nothing of the sheets is stored: each slot is computed.
+//! A specification expanded over a row of pages, from either end. Nothing of the sheets is stored: each slot is computed.
 ghost use Rattle.std.specs.Prelude.{◌≡◌, ◌≢◌, ℕ, ◌+◌, ◌-◌, ◌*◌, ◌^◌, ◌<◌, ◌≤◌, length, map, Some, Err, IfOk, IfErr, slice_get, slice_index_or, sum_by, [], ◌%◌};
 ghost use Rattle.profile.specs.Admissible.{most_groups, most_slots};
-ghost use Rattle.profile.specs.Run.{plan_of};
+ghost use Rattle.profile.specs.Run.{plan_in};
 ghost use Rattle.profile.specs.Sheets.{blocks as blocks_of, place};
+ghost use Rattle.profile.specs.Signatures.{AreSidesIfGiven};
 ghost use Rattle.pagespec.specs.Items.{item_of, groups_of};
-ghost use Rattle.sheet_plan.specs.Plans.{planned, pages_on, items_on, IsSound, IsOfSpec};
-ghost use Rattle.sheet_plan.specs.Refusals.{Refuses};
+ghost use Rattle.sheet_plan.specs.Plans.{planned_in, pages_on, items_on, IsSound, IsOfSpec};
+ghost use Rattle.sheet_plan.specs.Refusals.{RefusesIn};
 
 use crate::error::PlanError;
+use crate::row::Row;
 use pagespec::{Item, Spec};
 use std::marker::Model;
 
-const MOST_PAGES: u32 = 1_000_000;
+const MOST_PAGES: u64 = 1_000_000;
 
 const MOST_SHEETS: u64 = 1_000_000;
 
@@ -22,7 +24,7 @@ const MOST_PLACES: u64 = 4_000_000;
 pub struct Expansion<'s> {
     groups: &'s [Vec<Item>],
     modulo: u32,
-    pages: u32,
+    row: Row,
     blocks: u32,
 }
 
@@ -33,13 +35,14 @@ impl<'s> Model for Expansion<'s> {
     ghost Value = { Plan };
 
     ghost use Rattle.pagespec.specs.Items.{groups_of};
-    ghost use Rattle.sheet_plan.specs.Plans.{planned};
+    ghost use Rattle.profile.specs.Signatures.{row_len};
+    ghost use Rattle.sheet_plan.specs.Plans.{planned_in};
     ghost use Rattle.sheet_plan.specs.Refusals.{IsAccepted};
 
-    ghost view = { λ e. planned (record { modulo = e.modulo; groups = groups_of e.groups.now }) e.pages };
+    ghost view = { λ e. planned_in e.row.sides (record { modulo = e.modulo; groups = groups_of e.groups.now }) e.row.pages };
 
-    ghost invariant = { λ e. IsAccepted (record { modulo = e.modulo; groups = groups_of e.groups.now }) e.pages
-        × (e.blocks ≡ blocks_of e.modulo e.pages) };
+    ghost invariant = { λ e. IsAccepted e.row.sides (record { modulo = e.modulo; groups = groups_of e.groups.now }) e.row.pages
+        × (e.blocks ≡ blocks_of e.modulo (row_len e.row.sides e.row.pages)) };
 }
 
 /// How many slots one block has.
@@ -81,18 +84,20 @@ fn place_of(modulo: u32, blocks: u32, block: u32, item: &Item) -> u32
 
 impl<'s> Expansion<'s> {
     /// Tests the limits of a plan.
-    pub fn new(spec: &'s Spec, pages: u32) -> Result<Expansion<'s>, PlanError>
-        ensures value { IfOk result (λ e. e ≡ planned spec.now pages) }
-        ensures within { IfOk result (λ e. plan_of spec.now pages ≡ Ok e.sheets) }
-        ensures refused { IfErr result (Refuses spec.now pages) }
+    pub fn new(spec: &'s Spec, row: Row) -> Result<Expansion<'s>, PlanError>
+        requires { AreSidesIfGiven row.sides }
+        ensures value { IfOk result (λ e. e ≡ planned_in row.sides spec.now row.pages) }
+        ensures within { IfOk result (λ e. plan_in row.sides spec.now row.pages ≡ Ok e.sheets) }
+        ensures refused { IfErr result (RefusesIn row.sides spec.now row.pages) }
         ensures no_growth { result ≢ Err PlanError.NoMemory }
     {
-        if pages > MOST_PAGES {
+        let entries = row.len();
+        if entries > MOST_PAGES {
             return Err(PlanError::TooManyPages);
         }
         let groups = spec.groups();
         let modulo = spec.modulo();
-        let blocks = pages.div_ceil(modulo);
+        let blocks = (entries as u32).div_ceil(modulo);
         if u64::from(blocks) * groups.len() as u64 > MOST_SHEETS {
             return Err(PlanError::TooManySheets);
         }
@@ -102,7 +107,7 @@ impl<'s> Expansion<'s> {
         Ok(Expansion {
             groups,
             modulo,
-            pages,
+            row,
             blocks,
         })
     }
@@ -112,7 +117,7 @@ impl<'s> Expansion<'s> {
         ensures sound { IsSound self.now }
         ensures of_spec { IsOfSpec self.now }
     {
-        self.pages
+        self.row.pages
     }
 
     pub fn sheets(&self) -> u32
@@ -147,10 +152,6 @@ impl<'s> Expansion<'s> {
         let item = item_at(self.groups, sheet, slot);
         let block = sheet / self.groups.len() as u32;
         let place = place_of(self.modulo, self.blocks, block, item);
-        if place < self.pages {
-            Some(place)
-        } else {
-            None
-        }
+        self.row.page_at(place)
     }
 }

@@ -7,9 +7,11 @@ mod expansion;
 mod index;
 mod placed;
 mod plan;
+mod row;
 
 pub use error::PlanError;
 pub use plan::Plan;
+pub use row::are_sides;
 
 #[cfg(test)]
 mod tests;

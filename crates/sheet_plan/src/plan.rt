@@ -3,18 +3,20 @@ ghost use Rattle.std.specs.Prelude.{◌≡◌, ℕ, ◌+◌, ◌*◌, ◌<◌, �
 ghost use Rattle.std.specs.Int.{bit_at};
 ghost use Rattle.std.specs.List.{range_with_len};
 ghost use Rattle.profile.specs.Admissible.{most_slots};
-ghost use Rattle.profile.specs.Run.{plan_of};
+ghost use Rattle.profile.specs.Run.{plan_of, plan_in};
 ghost use Rattle.profile.specs.Sheets.{layout, sheets};
+ghost use Rattle.profile.specs.Signatures.{AreSides, AreSidesIfGiven, sheets_in};
 ghost use Rattle.pagespec.specs.Items.{item_of};
-ghost use Rattle.sheet_plan.specs.Plans.{planned, pages_on, items_on, slot_groups, needs_page, IsSound, IsOfSpec};
+ghost use Rattle.sheet_plan.specs.Plans.{planned, planned_in, pages_on, items_on, slot_groups, needs_page, IsSound, IsOfSpec};
 ghost use Rattle.sheet_plan.specs.Places.{places_of, born_complete};
-ghost use Rattle.sheet_plan.specs.Refusals.{Refuses};
+ghost use Rattle.sheet_plan.specs.Refusals.{Refuses, RefusesIn};
 
 use crate::born::born_complete;
 use crate::error::PlanError;
 use crate::expansion::Expansion;
 use crate::index::PageIndex;
 use crate::placed::placed_pages;
+use crate::row::Row;
 use pagespec::{Item, Spec};
 use std::alloc::{AllocError, Global};
 use std::marker::Model;
@@ -23,6 +25,9 @@ use std::marker::Model;
 /// and slots are counted from 0. With n pages, modulo m and G groups there are `M = m * ceil(n / m)` places and `G * M / m` sheets.
 /// Sheet `b * G + g` is group g in block b. An item with number p names place `b * m + p`, and with a minus place
 /// `M - (b + 1) * m + p`. A place at or above n is blank.
+///
+/// In signatures of s sides the pages are first put into psbook's order. The row then has `s * ceil(n / s)` entries, of which those
+/// at or above page n are blank. It takes the place of the n pages: M is counted over it, and a place is an entry of it.
 #[derive(Drop)]
 pub struct Plan<'s> {
     expansion: Expansion<'s>,
@@ -53,7 +58,40 @@ impl<'s> Plan<'s> {
         ensures accepted { OnOk result (plan_of spec.now pages ≡ Ok (sheets spec.now pages)) }
         ensures refused { IfErr result (Refuses spec.now pages) }
     {
-        let expansion = Expansion::new(spec, pages)?;
+        Plan::over(alloc, spec, Row { pages, sides: None })
+    }
+
+    /// The same for pages in signatures of so many sides each, a positive multiple of four. Of the limits, that of pages is tested
+    /// on the length of the row, in which the last signature is filled up.
+    pub fn with_signatures(
+        alloc: Global,
+        spec: &'s Spec,
+        pages: u32,
+        sides: u32,
+    ) -> Result<Plan<'s>, PlanError>
+        requires { AreSides sides }
+        ensures planned { IfOk result (λ plan. plan ≡ planned_in (Some sides) spec.now pages) }
+        ensures accepted { OnOk result (plan_in (Some sides) spec.now pages ≡ Ok (sheets_in (Some sides) spec.now pages)) }
+        ensures refused { IfErr result (RefusesIn (Some sides) spec.now pages) }
+    {
+        Plan::over(
+            alloc,
+            spec,
+            Row {
+                pages,
+                sides: Some(sides),
+            },
+        )
+    }
+
+    /// Plans the sheets on a row of pages.
+    fn over(alloc: Global, spec: &'s Spec, row: Row) -> Result<Plan<'s>, PlanError>
+        requires { AreSidesIfGiven row.sides }
+        ensures planned { IfOk result (λ plan. plan ≡ planned_in row.sides spec.now row.pages) }
+        ensures accepted { OnOk result (plan_in row.sides spec.now row.pages ≡ Ok (sheets_in row.sides spec.now row.pages)) }
+        ensures refused { IfErr result (RefusesIn row.sides spec.now row.pages) }
+    {
+        let expansion = Expansion::new(spec, row)?;
         let (index, born) = listed(alloc, &expansion).map_err(|_| PlanError::NoMemory)?;
         Ok(Plan {
             expansion,

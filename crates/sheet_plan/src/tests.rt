@@ -1,7 +1,8 @@
 //! Worked examples of plans, and the limits.
-use crate::{Plan, PlanError};
-use pagespec::read_spec;
+use crate::{Plan, PlanError, are_sides};
+use pagespec::{Spec, read_spec};
 use std::alloc::{AllocError, Global};
+use std::process::Abort;
 use std::test::Fail;
 
 /// The pages of each sheet, as `4, 2, -`.
@@ -184,5 +185,121 @@ fn four_million_places(rt: HostRuntime) -> Result<(), Fail> {
         plan.slots_of_page(999_999),
         [(999_999, 0), (999_999, 1), (999_999, 2), (999_999, 3)].as_slice()
     );
+    Ok(())
+}
+
+/// The plan of pages in signatures.
+fn plan_in_signatures<'s, R: Abort>(
+    rt: &R,
+    alloc: Global,
+    spec: &'s Spec,
+    pages: u32,
+    sides: u32,
+) -> Result<Plan<'s>, PlanError> {
+    let valid = are_sides(sides);
+    assert!(rt; valid, "signatures of {sides} sides");
+    Plan::with_signatures(alloc, spec, pages, sides)
+}
+
+#[test]
+fn numbers_of_sides(rt: HostRuntime) -> Result<(), Fail> {
+    for (sides, valid) in [
+        (0, false),
+        (1, false),
+        (4, true),
+        (6, false),
+        (999_996, true),
+        (1_000_000, true),
+        (1_000_004, false),
+    ] {
+        assert_eq!(rt; are_sides(sides), valid, "{sides}");
+    }
+    Ok(())
+}
+
+const TWO_UP: &str = "2:0L@.7(21cm,0)+1L@.7(21cm,14.85cm)";
+
+#[test]
+fn pages_in_signatures(rt: HostRuntime) -> Result<(), Fail> {
+    let alloc = rt.alloc();
+    let cases = [
+        (
+            "0",
+            8,
+            8,
+            "7; 0; 1; 6; 5; 2; 3; 4",
+            "1.0; 2.0; 5.0; 6.0; 7.0; 4.0; 3.0; 0.0",
+        ),
+        (
+            "0",
+            5,
+            4,
+            "3; 0; 1; 2; -; 4; -; -",
+            "1.0; 2.0; 3.0; 0.0; 5.0",
+        ),
+        (
+            TWO_UP,
+            8,
+            8,
+            "7 0; 1 6; 5 2; 3 4",
+            "0.1; 1.0; 2.1; 3.0; 3.1; 2.0; 1.1; 0.0",
+        ),
+        ("2:-0", 5, 4, "-; -; 1; 3", "; 2.0; ; 3.0; "),
+        ("3:0", 5, 4, "3; 2; -", "; ; 1.0; 0.0; "),
+        ("0", 0, 4, "", ""),
+    ];
+    for (text, pages, sides, sheets, places) in cases {
+        let spec = read_spec(alloc, text)?;
+        let plan = plan_in_signatures(&rt, alloc, &spec, pages, sides)?;
+        assert_eq!(rt; plan.pages(), pages, "{text}");
+        assert_eq!(rt; sheets_text(alloc, &plan)?.as_str(), sheets, "{text}");
+        assert_eq!(rt; places_text(alloc, &plan)?.as_str(), places, "{text}");
+    }
+    Ok(())
+}
+
+#[test]
+fn blank_sheets_in_signatures(rt: HostRuntime) -> Result<(), Fail> {
+    let alloc = rt.alloc();
+    let spec = read_spec(alloc, "0")?;
+    let plan = plan_in_signatures(&rt, alloc, &spec, 5, 4)?;
+    assert_eq!(rt; plan.born_complete(), [4, 6, 7].as_slice());
+    Ok(())
+}
+
+#[test]
+fn one_page_in_a_million_sides(rt: HostRuntime) -> Result<(), Fail> {
+    let alloc = rt.alloc();
+    let spec = read_spec(alloc, "0")?;
+    let plan = plan_in_signatures(&rt, alloc, &spec, 1, 1_000_000)?;
+    assert_eq!(rt; plan.sheets(), 1_000_000);
+    assert_eq!(rt; plan.pages(), 1);
+    assert_eq!(rt; plan.slots_of_page(0), [(1, 0)].as_slice());
+    assert_eq!(rt; plan.born_complete().len(), 999_999);
+    Ok(())
+}
+
+#[test]
+fn a_million_pages_in_one_signature(rt: HostRuntime) -> Result<(), Fail> {
+    let alloc = rt.alloc();
+    let spec = read_spec(alloc, "0")?;
+    let plan = plan_in_signatures(&rt, alloc, &spec, 1_000_000, 1_000_000)?;
+    assert_eq!(rt; plan.sheets(), 1_000_000);
+    assert_eq!(rt; plan.pages(), 1_000_000);
+    assert_eq!(rt; plan.slots_of_page(999_999), [(0, 0)].as_slice());
+    assert_eq!(rt; plan.slots_of_page(0), [(1, 0)].as_slice());
+    Ok(())
+}
+
+#[test]
+fn limit_of_a_padded_row(rt: HostRuntime) -> Result<(), Fail> {
+    let alloc = rt.alloc();
+    let spec = read_spec(alloc, "0")?;
+    let plan = plan_in_signatures(&rt, alloc, &spec, 999_999, 8)?;
+    assert_eq!(rt; plan.sheets(), 1_000_000);
+    match plan_in_signatures(&rt, alloc, &spec, 999_999, 12) {
+        Ok(_) => assert!(rt; false, "1,000,008 entries are planned"),
+        Err(error) => assert_eq!(rt; error, PlanError::TooManyPages),
+    }
     Ok(())
 }

@@ -19,22 +19,22 @@ abbrev page_lines : ℕ → List (List ℕ)
 page_lines p = (codes "%%Page: " ++ decimal (p + 1) ++ codes " " ++ decimal (p + 1)) ∷ (codes "(" ++ decimal p ++ codes ") pop") ∷ codes "showpage" ∷ []
 
 -- a small document whose pages leave their number
-abbrev document_of_pages : ℕ → List ℕ
+abbrev pub document_of_pages : ℕ → List ℕ
 document_of_pages n =
     lines (codes "%!PS-Adobe-3.0" ∷ (codes "%%Pages: " ++ decimal n) ∷ codes "%%EndComments" ∷ [])
     ++ lines (flat_map page_lines (range_with_len 0 n))
     ++ lines (codes "%%Trailer" ∷ codes "%%EOF" ∷ [])
 
-abbrev read : ℕ → List (List WrittenItem) → Spec
+abbrev pub read : ℕ → List (List WrittenItem) → Spec
 read modulo groups = settled (written modulo groups)
 
-abbrev plain : ℕ → WrittenItem
+abbrev pub plain : ℕ → WrittenItem
 plain page = item false page []
 
 abbrev centimetres : ℤ → Measure
 centimetres number = measure number Cm
 
-abbrev a4 : Frame
+abbrev pub a4 : Frame
 a4 = record { paper = points 595 842; border = None }
 
 abbrev output_in : Frame → Spec → List ℕ → Result (List ℕ) DocumentFault
@@ -79,7 +79,7 @@ copy_has_273_bytes : length copy ≡ 273
 copy_has_273_bytes = refl
 
 -- `2:0L@.7(21cm,0)+1L@.7(21cm,14.85cm)`: two pages on a sheet, turned to the left, in full
-abbrev two_up : Spec
+abbrev pub two_up : Spec
 two_up =
     read 2
     ((item false 0 (Quarters 1 ∷ Scaled (pos 700_000_000) ∷ Moved (centimetres (pos 21_000_000_000)) (measure (pos 0) Pt) ∷ [])

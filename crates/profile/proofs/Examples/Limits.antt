@@ -7,7 +7,7 @@ use Rattle.std.proofs.lemmas.List.{length-replicate}
 use Rattle.std.proofs.lemmas.List.Elements.{All-nil, All-cons}
 use Rattle.profile.specs.Numbers.{number_of}
 use Rattle.profile.specs.Specification.{Spec, settled}
-use Rattle.profile.specs.Sheets.{blocks, sheets}
+use Rattle.profile.specs.Sheets.{blocks, page_at, sheets}
 use Rattle.profile.specs.Admissible.{Refuses, Takes, TooLong, most_slots}
 use Rattle.profile.specs.Units.{cut, ◌>>=◌}
 use Rattle.profile.specs.Parts.{NestedUnit, nested, pages}
@@ -15,16 +15,16 @@ use Rattle.profile.specs.Run.{refuse_if, of_block, document_of, InputTooLong, No
 use Rattle.profile.proofs.Examples.Written.{item, written}
 use Rattle.profile.proofs.Counts.{sheet_count, place_count}
 
-small : (m n : ℕ) → n ≤ m → nat_lt m n ≡ false
+pub small : (m n : ℕ) → n ≤ m → nat_lt m n ≡ false
 small m n h = search rules
 
-large : (m n : ℕ) → m < n → nat_lt m n ≡ true
+pub large : (m n : ℕ) → m < n → nat_lt m n ≡ true
 large m n h = search rules
 
-refused : {A E : Type 0} (b : Bool) (e : E) (next : Result A E) → b ≡ true → refuse_if b e next ≡ Err e
+pub refused : {A E : Type 0} (b : Bool) (e : E) (next : Result A E) → b ≡ true → refuse_if b e next ≡ Err e
 refused b e next h = rw h refl
 
-passed : {A E : Type 0} (b : Bool) (e : E) (next : Result A E) → b ≡ false → refuse_if b e next ≡ next
+pub passed : {A E : Type 0} (b : Bool) (e : E) (next : Result A E) → b ≡ false → refuse_if b e next ≡ next
 passed b e next h = rw h refl
 
 -- a specification of 65,537 bytes
@@ -78,8 +78,8 @@ most_places : (spec : Spec) (n : ℕ) → n ≤ 1_000_000 → blocks spec.modulo
     → blocks spec.modulo n * sum_by length spec.groups ≤ 4_000_000 → plan_of spec n ≡ Ok (sheets spec n)
 most_places spec n few sheets_few places_few =
     passed _ PlanTooManyPages _ (small 1_000_000 n few)
-    ∙ (passed _ TooManySheets _ (ap (nat_lt 1_000_000) (sheet_count spec n) ∙ small 1_000_000 (blocks spec.modulo n * length spec.groups) sheets_few)
-    ∙ passed _ TooManyPlaces _ (ap (nat_lt 4_000_000) (place_count spec n) ∙ small 4_000_000 (blocks spec.modulo n * sum_by length spec.groups) places_few))
+    ∙ (passed _ TooManySheets _ (ap (nat_lt 1_000_000) (sheet_count spec n (page_at n)) ∙ small 1_000_000 (blocks spec.modulo n * length spec.groups) sheets_few)
+    ∙ passed _ TooManyPlaces _ (ap (nat_lt 4_000_000) (place_count spec n (page_at n)) ∙ small 4_000_000 (blocks spec.modulo n * sum_by length spec.groups) places_few))
 
 -- pages are counted first
 too_many_pages : (spec : Spec) (n : ℕ) → 1_000_000 < n → plan_of spec n ≡ Err PlanTooManyPages
@@ -89,12 +89,12 @@ too_many_pages spec n many = refused _ PlanTooManyPages _ (large 1_000_000 n man
 too_many_sheets : (spec : Spec) (n : ℕ) → n ≤ 1_000_000 → 1_000_000 < blocks spec.modulo n * length spec.groups → plan_of spec n ≡ Err TooManySheets
 too_many_sheets spec n few many =
     passed _ PlanTooManyPages _ (small 1_000_000 n few)
-    ∙ refused _ TooManySheets _ (ap (nat_lt 1_000_000) (sheet_count spec n) ∙ large 1_000_000 (blocks spec.modulo n * length spec.groups) many)
+    ∙ refused _ TooManySheets _ (ap (nat_lt 1_000_000) (sheet_count spec n (page_at n)) ∙ large 1_000_000 (blocks spec.modulo n * length spec.groups) many)
 
 -- then places, blank ones among them
 too_many_places : (spec : Spec) (n : ℕ) → n ≤ 1_000_000 → blocks spec.modulo n * length spec.groups ≤ 1_000_000
     → 4_000_000 < blocks spec.modulo n * sum_by length spec.groups → plan_of spec n ≡ Err TooManyPlaces
 too_many_places spec n few sheets_few many =
     passed _ PlanTooManyPages _ (small 1_000_000 n few)
-    ∙ (passed _ TooManySheets _ (ap (nat_lt 1_000_000) (sheet_count spec n) ∙ small 1_000_000 (blocks spec.modulo n * length spec.groups) sheets_few)
-    ∙ refused _ TooManyPlaces _ (ap (nat_lt 4_000_000) (place_count spec n) ∙ large 4_000_000 (blocks spec.modulo n * sum_by length spec.groups) many))
+    ∙ (passed _ TooManySheets _ (ap (nat_lt 1_000_000) (sheet_count spec n (page_at n)) ∙ small 1_000_000 (blocks spec.modulo n * length spec.groups) sheets_few)
+    ∙ refused _ TooManyPlaces _ (ap (nat_lt 4_000_000) (place_count spec n (page_at n)) ∙ large 4_000_000 (blocks spec.modulo n * sum_by length spec.groups) many))
