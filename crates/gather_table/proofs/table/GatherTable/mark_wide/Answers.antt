@@ -1,15 +1,12 @@
-use Rattle.std.proofs.Common.{rules, arith, true, false, sym, ap, ◌∙◌, subst, ◌≡◌, ◌<◌, ◌≤◌, ◌+◌, ◌-◌, ◌*◌, ◌/◌, ◌%◌, ◌^◌, length, nat_lt, if◌then◌else◌}
+use Rattle.std.proofs.Common.{rules, arith, true, sym, ap, ◌∙◌, subst, ◌≡◌, ◌<◌, ◌+◌, ◌-◌, ◌*◌, ◌/◌, ◌%◌, ◌^◌, length, nat_lt, if◌then◌else◌}
 use Rattle.std.proofs.lemmas.Nat.{one_shl}
 use Rattle.profile.specs.Sheets.{Layout, layout as layout_of}
-use Rattle.gather_table.specs.declared.lane.Home.{Home}
-use Rattle.gather_table.specs.Table.{slot_count, is_wide, is_full, group_count, group_size, HasGroup, IsMarkable, IsClosable}
-use Rattle.gather_table.specs.Lanes.{lane, wide_at, group_word}
+use Rattle.gather_table.specs.Table.{slot_count, is_wide, IsMarkable}
 use Rattle.gather_table.specs.Homes.{IsHome}
 use Rattle.gather_table.specs.History.{after_history, IsLegal}
-use Rattle.gather_table.specs.Plays.{mark_of, wide_mark_of, close_of}
+use Rattle.gather_table.specs.Plays.{wide_mark_of}
 use Rattle.gather_table.proofs.Histories.{below_length}
-use Rattle.gather_table.proofs.Lanes.{inside, width_of, width_le, lane_below, blocks}
-use Rattle.gather_table.proofs.Sheets.{mark_moves, wide_mark_moves, close_moves, or_at, mark_told, close_told, wide_mark_told, few_groups, group_of_slot, wide_room, slim_le}
+use Rattle.gather_table.proofs.Sheets.{wide_mark_moves, or_at, wide_mark_told, group_of_slot, wide_room}
 use Rattle.histories.proofs.Alone.{stands_after}
 use Rattle.gather_table.proofs.Views.{made}
 use Rattle.gather_table.proofs.table.GatherTable.mark_wide.Goals as goal
