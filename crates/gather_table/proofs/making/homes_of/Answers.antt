@@ -1,7 +1,6 @@
-use Rattle.std.proofs.Common.{arith, ◌≡◌, ◌+◌, ◌<◌, List, length, refl, sym, ap, ◌∙◌, subst}
+use Rattle.std.proofs.Common.{arith, ◌+◌, ◌<◌, List, length, sym, ◌∙◌, subst}
 use Rattle.profile.specs.Sheets.{layout}
 use Rattle.gather_table.specs.declared.lane.Home.{Home}
-use Rattle.gather_table.specs.declared.lane.Lane.{Lane}
 use Rattle.gather_table.proofs.Blanks.{sheets_of, sound_of}
 use Rattle.gather_table.proofs.Placing.{Placed, more_placed, may_fit, lane_low, wide_fits, word_below}
 use Rattle.gather_table.proofs.making.homes_of.Goals as goal

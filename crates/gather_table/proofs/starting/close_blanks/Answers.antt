@@ -1,4 +1,4 @@
-use Rattle.std.proofs.Common.{arith, rules, ◌≡◌, ◌+◌, ◌<◌, length, List, ℕ, suc, sym, ap, ◌∙◌, subst, Bool, if◌then◌else◌}
+use Rattle.std.proofs.Common.{arith, ◌≡◌, ◌+◌, ◌<◌, length, ℕ, suc, sym, ◌∙◌, subst}
 use Rattle.profile.specs.Sheets.{layout}
 use Rattle.gather_table.specs.Homes.{closed_to}
 use Rattle.gather_table.specs.Rule.{Holds}

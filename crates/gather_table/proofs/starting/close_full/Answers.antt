@@ -1,4 +1,4 @@
-use Rattle.std.proofs.Common.{rules, arith, refl, sym, ap, ◌∙◌, ◌-◌, ◌^◌}
+use Rattle.std.proofs.Common.{rules, arith, refl}
 use Rattle.std.proofs.lemmas.Nat.{one_shl}
 use Rattle.profile.specs.Sheets.{layout}
 use Rattle.gather_table.proofs.FirstClosings.{groups_in, full_closed, open_kept}

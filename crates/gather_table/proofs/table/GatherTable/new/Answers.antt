@@ -1,4 +1,4 @@
-use Rattle.std.proofs.Common.{arith, rules, ◌≡◌, length, refl, sym, ap, ◌∙◌, subst}
+use Rattle.std.proofs.Common.{arith, ◌≡◌, length, refl, sym, ap, ◌∙◌, subst}
 use Rattle.profile.specs.Sheets.{Layout, layout as layout_of}
 use Rattle.histories.proofs.Alone.{stands_open}
 use Rattle.gather_table.specs.Counts.{KeepsCounts}
