@@ -1,18 +1,15 @@
 -- The closing words at the start: where the blank slots are marked, the groups of blank slots alone are closed.
-use Rattle.std.proofs.Common.{◌≡◌, ◌≢◌, ℕ, zero, suc, ◌+◌, ◌-◌, ◌*◌, ◌/◌, ◌<◌, ◌≤◌, ◌^◌, Bool, true, false, true≢false, ◌&&◌, ◌||◌, ◌==◌, ltb, List, length, set, get_or, refl, sym, ap, ◌∙◌, subst, arith, eq-eqb, ne_eqb}
+use Rattle.std.proofs.Common.{◌≡◌, ◌≢◌, ℕ, suc, ◌+◌, ◌-◌, ◌/◌, ◌<◌, ◌≤◌, ◌^◌, Bool, true, false, ◌&&◌, ◌==◌, ltb, List, length, set, refl, sym, ap, ◌∙◌, subst, arith, eq-eqb, ne_eqb}
 use Rattle.std.specs.Prelude.{slice_index, bit_and, bit_or, if◌then◌else◌}
-use mathlib.Core.Logic.{dite}
-use native.Mathlib.Decide.{ℕ_discrete}
-use Rattle.std.proofs.lemmas.Bool.{ltb-true, ltb-false, lt-ltb, le-ltb, eqb-true}
+use Rattle.std.proofs.lemmas.Bool.{lt-ltb}
 use Rattle.profile.specs.Sheets.{Layout}
 use Rattle.gather_table.specs.declared.lane.Home.{Home}
-use Rattle.gather_table.specs.Homes.{IsHome, comes_before, blanks_to, closed_to}
-use Rattle.gather_table.specs.Lanes.{wide_at, group_word, in_lane}
+use Rattle.gather_table.specs.Homes.{IsHome, blanks_to, closed_to}
+use Rattle.gather_table.specs.Lanes.{wide_at, group_word}
 use Rattle.gather_table.specs.Rule.{Holds}
-use Rattle.gather_table.specs.Table.{TableState, IsSound, slots, slot_count, is_wide, is_blank, blank_group, is_full, start, bits, in_group, all_below, group_count, group_size, with_mark, with_closed, HasGroup}
+use Rattle.gather_table.specs.Table.{TableState, IsSound, slots, is_blank, blank_group, is_full, start, in_group, group_count, group_size, with_closed, HasGroup}
 use Rattle.gather_table.proofs.Bits.{full_bits}
 use Rattle.gather_table.proofs.FirstWords.{holds_same, before_none, before_next, before_all, one_more, none_more}
-use Rattle.gather_table.proofs.Legal.{and_false}
 use Rattle.gather_table.proofs.Sheets.{closing_written, group_shown, low_bits, wide_room, few_groups}
 
 -- a group of a wide sheet is closed from the start where its slots are all blank

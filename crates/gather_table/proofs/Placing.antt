@@ -8,7 +8,6 @@ use Rattle.atomic_table.specs.Table.{opening}
 use Rattle.profile.specs.Sheets.{Layout}
 use Rattle.gather_table.specs.declared.lane.Home.{Home}
 use Rattle.gather_table.specs.declared.lane.Lane.{Lane}
-use Rattle.gather_table.specs.Counts.{KeepsCounts}
 use Rattle.gather_table.specs.Homes.{IsHome}
 use Rattle.gather_table.specs.Lanes.{width, lane, free, fitted, behind, wide_at}
 use Rattle.gather_table.specs.Rule.{Holds, Kept}

@@ -1,22 +1,24 @@
 //! Worked examples, on the table for one thread and on the shared one.
-ghost use Rattle.std.specs.Prelude.{◌≡◌, ◌<◌};
+ghost use Rattle.std.specs.Prelude.{◌≡◌, ◌<◌, IsTrue};
 ghost use Rattle.profile.specs.Sheets.{layout};
 ghost use Rattle.gather_table.specs.Shared.{IsSeatOf};
+ghost use Rattle.gather_table.specs.Table.{HasGroup};
 
-use crate::answers::{Published, Reply};
+use crate::answers::{Closing, Published, Reply};
 use crate::plain::PlainTable;
 use crate::seat::Seat;
 use crate::table::GatherTable;
 use pagespec::{Spec, read_spec};
 use sheet_plan::Plan;
-use std::alloc::Global;
+use std::alloc::{AllocError, Global};
 use std::marker::{Brand, PhantomData};
 use std::process::Abort;
 use std::test::Fail;
 use std::thread;
 use std::thread::Threads;
 
-// The four calls of a table, each None where its numbers are out of bounds, the slot is blank, or its page has no index.
+// The calls of a table, each None if its numbers are out of bounds, the slot is blank, its page has no index, the sheet isn't
+// wide, or a slot of the group to be closed is missing.
 trait Calls {
     fn publish(&mut self, page: u32, index: u32) -> Option<Published>;
 
@@ -25,6 +27,21 @@ trait Calls {
     fn look(&mut self, sheet: u32) -> Option<u64>;
 
     fn page_at(&mut self, page: u32) -> Option<Option<u32>>;
+
+    fn close_group(&mut self, sheet: u32, group: u8) -> Option<Closing>;
+
+    fn look_group(&mut self, sheet: u32, group: u8) -> Option<u64>;
+}
+
+// Whether the sheet is wide and has this group.
+fn has_group(plan: &Plan, sheet: u32, group: u8) -> bool
+    ensures { IsTrue result (HasGroup (layout plan.now) sheet group) }
+{
+    if sheet >= plan.sheets() {
+        return false;
+    }
+    let slots = plan.slots(sheet);
+    slots > 64 && 64 * u16::from(group) < slots
 }
 
 // The table for one thread, with its plan.
@@ -67,6 +84,20 @@ impl<'p> Calls for OneThread<'p> {
         }
         Some(self.table.page_at(page))
     }
+
+    fn close_group(&mut self, sheet: u32, group: u8) -> Option<Closing> {
+        if !has_group(self.plan, sheet, group) || self.table.look_group(sheet, group) != 0 {
+            return None;
+        }
+        Some(self.table.close_group(sheet, group))
+    }
+
+    fn look_group(&mut self, sheet: u32, group: u8) -> Option<u64> {
+        if !has_group(self.plan, sheet, group) {
+            return None;
+        }
+        Some(self.table.look_group(sheet, group))
+    }
 }
 
 // Marks a slot through a seat, where it isn't blank and the page has an index.
@@ -90,6 +121,24 @@ fn mark_checked(
     }
     table.page_at(seat, page)?;
     Some(table.mark(seat, sheet, slot))
+}
+
+// Closes a group through a seat, if none of its slots is missing.
+fn close_checked(
+    table: &GatherTable,
+    plan: &Plan,
+    seat: &mut Seat,
+    sheet: u32,
+    group: u8,
+) -> Option<Closing>
+    requires plan { table.now.layout ≡ layout plan.now }
+    requires seat { IsSeatOf table.now seat.old }
+    ensures { IsSeatOf table.now seat.new }
+{
+    if !has_group(plan, sheet, group) || table.look_group(seat, sheet, group) != 0 {
+        return None;
+    }
+    Some(table.close_group(seat, sheet, group))
 }
 
 // Publishes the page of a slot, where it has one, and marks the slot.
@@ -241,6 +290,17 @@ impl<'t, 's> Calls for Caller<'t, 's> {
         }
         Some(self.table.page_at(&mut self.seat, page))
     }
+
+    fn close_group(&mut self, sheet: u32, group: u8) -> Option<Closing> {
+        close_checked(self.table, self.plan, &mut self.seat, sheet, group)
+    }
+
+    fn look_group(&mut self, sheet: u32, group: u8) -> Option<u64> {
+        if !has_group(self.plan, sheet, group) {
+            return None;
+        }
+        Some(self.table.look_group(&mut self.seat, sheet, group))
+    }
 }
 
 fn spec_of<R: Abort>(rt: &R, alloc: Global, text: &str) -> Spec {
@@ -257,6 +317,18 @@ fn plan_of<'s, R: Abort>(rt: &R, alloc: Global, spec: &'s Spec, pages: u32) -> P
         panic!(rt; "a plan is refused")
     };
     plan
+}
+
+// A group of items that are all the same.
+fn same_items(alloc: Global, item: &str, count: u32) -> Result<String, AllocError> {
+    let mut text = String::new(alloc);
+    for at in 0..count {
+        if at > 0 {
+            text.push_str("+")?;
+        }
+        text.push_str(item)?;
+    }
+    Ok(text)
 }
 
 // One sheet with two pages: the calls of one caller, and what each answers.
@@ -282,6 +354,33 @@ fn brings_a_page_beside_a_blank<R: Abort, C: Calls>(rt: &R, table: &mut C) {
     assert_eq!(rt; table.mark(0, 1), Some(Reply::Completing));
     assert_eq!(rt; table.mark(0, 1), Some(Reply::Repeated));
     assert_eq!(rt; table.look(0), Some(0));
+}
+
+// One sheet with a page in each of its 65 slots, so one of two groups.
+fn brings_a_page_to_65_slots<R: Abort, C: Calls>(rt: &R, table: &mut C) {
+    assert_eq!(rt; table.look(0), Some(3));
+    assert_eq!(rt; table.publish(0, 0), Some(Published::Stored));
+    for slot in 0..63 {
+        assert_eq!(rt; table.mark(0, slot), Some(Reply::Fresh), "slot {slot}");
+    }
+    assert_eq!(rt; table.mark(0, 63), Some(Reply::Fills(0)));
+    assert_eq!(rt; table.look_group(0, 0), Some(0));
+    assert_eq!(rt; table.look(0), Some(3));
+    assert_eq!(rt; table.close_group(0, 0), Some(Closing::Closed));
+    assert_eq!(rt; table.close_group(0, 0), Some(Closing::Again));
+    assert_eq!(rt; table.look(0), Some(2));
+    assert_eq!(rt; table.mark(0, 64), Some(Reply::Fills(1)));
+    assert_eq!(rt; table.close_group(0, 1), Some(Closing::Completing));
+    assert_eq!(rt; table.look(0), Some(0));
+    assert_eq!(rt; table.mark(0, 64), Some(Reply::Repeated));
+}
+
+// One sheet with 64 blank slots and then a page.
+fn brings_a_page_behind_a_blank_group<R: Abort, C: Calls>(rt: &R, table: &mut C) {
+    assert_eq!(rt; table.look(0), Some(2));
+    assert_eq!(rt; table.publish(0, 0), Some(Published::Stored));
+    assert_eq!(rt; table.mark(0, 64), Some(Reply::Fills(1)));
+    assert_eq!(rt; table.close_group(0, 1), Some(Closing::Completing));
 }
 
 #[test]
@@ -321,6 +420,67 @@ fn a_blank_slot_counts_as_marked(rt: HostRuntime) -> Result<(), Fail> {
 }
 
 #[test]
+fn a_wide_sheet_is_completed_by_closings(rt: HostRuntime) -> Result<(), Fail> {
+    let text = same_items(rt.alloc(), "0", 65)?;
+    let spec = spec_of(&rt, rt.alloc(), text.as_str());
+    let plan = plan_of(&rt, rt.alloc(), &spec, 1);
+    let table = PlainTable::new(rt.alloc(), &plan)?;
+    brings_a_page_to_65_slots(&rt, &mut OneThread { table, plan: &plan });
+    let (table, seat) = GatherTable::new(rt.alloc(), &plan)?;
+    brings_a_page_to_65_slots(
+        &rt,
+        &mut Caller {
+            table: &table,
+            plan: &plan,
+            seat,
+        },
+    );
+    Ok(())
+}
+
+#[test]
+fn a_group_of_blank_slots_is_closed_from_the_start(rt: HostRuntime) -> Result<(), Fail> {
+    let blanks = same_items(rt.alloc(), "1", 64)?;
+    let text = format!(in rt.alloc(); "2:{}+0", blanks.as_str())?;
+    let spec = spec_of(&rt, rt.alloc(), text.as_str());
+    let plan = plan_of(&rt, rt.alloc(), &spec, 1);
+    let table = PlainTable::new(rt.alloc(), &plan)?;
+    brings_a_page_behind_a_blank_group(&rt, &mut OneThread { table, plan: &plan });
+    let (table, seat) = GatherTable::new(rt.alloc(), &plan)?;
+    brings_a_page_behind_a_blank_group(
+        &rt,
+        &mut Caller {
+            table: &table,
+            plan: &plan,
+            seat,
+        },
+    );
+    Ok(())
+}
+
+#[test]
+fn a_sheet_of_4096_slots_has_64_groups(rt: HostRuntime) -> Result<(), Fail> {
+    let text = same_items(rt.alloc(), "0", 4_096)?;
+    let spec = spec_of(&rt, rt.alloc(), text.as_str());
+    let plan = plan_of(&rt, rt.alloc(), &spec, 1);
+    let table = PlainTable::new(rt.alloc(), &plan)?;
+    let mut one = OneThread { table, plan: &plan };
+    assert_eq!(rt; one.look(0), Some(18_446_744_073_709_551_615));
+    assert_eq!(rt; one.look_group(0, 63), Some(18_446_744_073_709_551_615));
+    assert_eq!(rt; one.look_group(0, 64), None);
+    let (table, seat) = GatherTable::new(rt.alloc(), &plan)?;
+    let mut caller = Caller {
+        table: &table,
+        plan: &plan,
+        seat,
+    };
+    assert_eq!(rt; caller.look(0), Some(18_446_744_073_709_551_615));
+    assert_eq!(rt; caller.look_group(0, 63), Some(18_446_744_073_709_551_615));
+    assert_eq!(rt; caller.look_group(0, 64), None);
+    Ok(())
+}
+
+#[test]
 fn a_table_without_pages_has_a_seat(rt: HostRuntime) -> Result<(), Fail> {
     let spec = spec_of(&rt, rt.alloc(), "0");
     let plan = plan_of(&rt, rt.alloc(), &spec, 0);
@@ -333,8 +493,6 @@ fn a_table_without_pages_has_a_seat(rt: HostRuntime) -> Result<(), Fail> {
 
 #[test]
 fn lanes_follow_one_another(rt: HostRuntime) -> Result<(), Fail> {
-    let one_group =
-        "0+0+0+0+0+0+0+0+0+0+0+0+0+0+0+0+0+0+0+0+0+0+0+0+0+0+0+0+0+0+0+0+0+0+0+0+0+0+0+0+0+0+0+0+0+0+0+0+0+0+0+0+0+0+0+0+0+0+0+0+0+0+0+0";
     lanes_are(
         &rt,
         rt.alloc(),
@@ -349,7 +507,35 @@ fn lanes_follow_one_another(rt: HostRuntime) -> Result<(), Fail> {
         100,
         &[(40, (0, 60)), (41, (0, 62)), (42, (1, 0)), (43, (1, 2))],
     )?;
-    lanes_are(&rt, rt.alloc(), one_group, 2, &[(0, (0, 0)), (1, (1, 0))])
+    let one_group = same_items(rt.alloc(), "0", 64)?;
+    lanes_are(
+        &rt,
+        rt.alloc(),
+        one_group.as_str(),
+        2,
+        &[(0, (0, 0)), (1, (1, 0))],
+    )
+}
+
+// A sheet of 2 slots, one of 65, and one of 2, over and over: 16 times 4 bits are a word.
+#[test]
+fn wide_sheets_have_no_lane(rt: HostRuntime) -> Result<(), Fail> {
+    let wide = same_items(rt.alloc(), "0", 65)?;
+    let text = format!(in rt.alloc(); "2:0+1,{},0+1", wide.as_str())?;
+    lanes_are(
+        &rt,
+        rt.alloc(),
+        text.as_str(),
+        100,
+        &[
+            (0, (0, 0)),
+            (2, (0, 2)),
+            (3, (0, 4)),
+            (47, (0, 62)),
+            (48, (1, 0)),
+            (50, (1, 2)),
+        ],
+    )
 }
 
 // Which lanes some sheets of a plan have.
@@ -365,6 +551,7 @@ fn lanes_are<R: Abort>(
     let (table, _seat) = GatherTable::new(alloc, &plan)?;
     for (sheet, lane) in lanes {
         assert!(rt; *sheet < plan.sheets());
+        assert!(rt; plan.slots(*sheet) <= 64);
         assert_eq!(rt; table.lane_of(*sheet), *lane);
     }
     Ok(())

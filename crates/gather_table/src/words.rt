@@ -1,18 +1,19 @@
-//! What words stand for: the slots of a sheet, bit k for slot k, and the index of a page.
+//! What words stand for: the slots of a group, bit k for slot k of it, the groups of a wide sheet, and the index of a page.
 ghost use Rattle.std.specs.Prelude.{◌≡◌, ◌+◌, ◌-◌, ◌*◌, ◌/◌, ◌<◌, ◌≤◌, ◌^◌, nat_lt, if◌then◌else◌, length};
 ghost use Rattle.profile.specs.Sheets.{layout};
-ghost use Rattle.gather_table.specs.Table.{is_blank, bits, slots, slot_count, publish_reply, group_reply, closing_by};
+ghost use Rattle.gather_table.specs.Table.{is_blank, in_group, bits, slots, group_count, group_size, group_reply, closing_by, publish_reply};
 ghost use Rattle.gather_table.specs.Words.{index_in, reply_in};
 
 use crate::answers::{Closing, Published, Reply};
 use sheet_plan::Plan;
 
-// The blank slots of a sheet.
-pub(crate) fn blank_bits(plan: &Plan, sheet: u32) -> u64
-    requires { sheet < length plan.now.sheets }
-    ensures { result ≡ bits (is_blank (slots (layout plan.now) sheet)) (slot_count (layout plan.now) sheet) }
+// The blank slots of a group, counted from its first. A sheet of up to 64 slots is one group.
+pub(crate) fn blank_bits(plan: &Plan, sheet: u32, group: u8) -> u64
+    requires sheet { sheet < length plan.now.sheets }
+    requires group { group < group_count (layout plan.now) sheet }
+    ensures { result ≡ bits (in_group (is_blank (slots (layout plan.now) sheet)) group) (group_size (layout plan.now) sheet group) }
 {
-    full_bits(plan.slots(sheet)) - plan.missing_at_start(sheet)
+    full_bits(group_size(plan.slots(sheet), group)) - plan.missing_at_start(sheet, group)
 }
 
 // How many groups a sheet of so many slots has.
@@ -66,7 +67,7 @@ pub(crate) fn published_by(found: u64) -> Published
     }
 }
 
-// The answer of a mark, by the marked slots that it found, its own bit, and all slots.
+// What a bit is to those that it found, where all are `full`: it was there, it is the last one, or another.
 pub(crate) fn reply_by(found: u64, bit: u64, full: u64) -> Reply
     ensures { result ≡ reply_in found bit full }
 {

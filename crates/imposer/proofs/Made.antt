@@ -7,7 +7,7 @@ use Rattle.std.specs.List.{range_with_len}
 use Rattle.std.proofs.lemmas.List.{length-map}
 use Rattle.std.proofs.lemmas.List.FromFn.{length-range_with_len}
 use Rattle.profile.specs.Specification.{Spec}
-use Rattle.profile.specs.Admissible.{Takes}
+use Rattle.profile.specs.Admissible.{Takes, most_slots}
 use Rattle.profile.specs.Run.{document_of, plan_of}
 use Rattle.profile.specs.Sheets.{Plan, sheets, layout}
 use Rattle.profile.specs.Parts.{NestedUnit, pages}
@@ -25,7 +25,7 @@ use Rattle.imposer.specs.declared.outcome.RunError.{RunError}
 use Rattle.imposer.specs.declared.outcome.RunError.TheVariants as error
 use Rattle.imposer.specs.declared.outcome.Report.{Report}
 
-pub accepted_of : (r : Request) (s : Spec) (us : List NestedUnit) (n : ℕ) → AreOptions r.options → Takes 64 r.spec s → document_of r.input ≡ Ok us → n ≡ length (pages us)
+pub accepted_of : (r : Request) (s : Spec) (us : List NestedUnit) (n : ℕ) → AreOptions r.options → Takes most_slots r.spec s → document_of r.input ≡ Ok us → n ≡ length (pages us)
     → plan_of s n ≡ Ok (sheets s n) → IsAccepted r s us
 accepted_of r s us n options takes document count plan = record { options = options; takes = takes; document = document; plan = rw (← count) plan }
 

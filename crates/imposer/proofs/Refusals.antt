@@ -4,7 +4,7 @@ use Rattle.std.specs.Prelude.{Ok}
 use Rattle.profile.specs.Specification.{Spec}
 use Rattle.profile.specs.Run.{document_of}
 use Rattle.profile.specs.Parts.{NestedUnit, pages}
-use Rattle.profile.specs.Admissible.{Takes}
+use Rattle.profile.specs.Admissible.{Takes, most_slots}
 use Rattle.sheet_plan.specs.Refusals as plan_said
 use Rattle.imposer.specs.Workers.{AreOptions}
 use Rattle.imposer.specs.Outcomes.{of_plan}
@@ -12,7 +12,7 @@ use Rattle.imposer.specs.Runs.{Request, IsRefusal, IsUnwritten}
 use Rattle.sheet_plan.specs.declared.error.PlanError.{PlanError}
 use Rattle.sheet_plan.specs.declared.error.PlanError.TheVariants as plan
 
-pub refused_plan : (r : Request) (e : PlanError) (s : Spec) (us : List NestedUnit) (n : ℕ) → AreOptions r.options → Takes 64 r.spec s → document_of r.input ≡ Ok us → n ≡ length (pages us)
+pub refused_plan : (r : Request) (e : PlanError) (s : Spec) (us : List NestedUnit) (n : ℕ) → AreOptions r.options → Takes most_slots r.spec s → document_of r.input ≡ Ok us → n ≡ length (pages us)
     → plan_said.Refuses s n e → IsRefusal r (of_plan e) × IsUnwritten (of_plan e)
 refused_plan r plan.TooManyPages s us n w taken cut count fault = ((w, (s, us, taken, cut, rw (← count) fault)), tt)
 refused_plan r plan.TooManySheets s us n w taken cut count fault = ((w, (s, us, taken, cut, rw (← count) fault)), tt)

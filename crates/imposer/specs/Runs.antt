@@ -2,7 +2,7 @@
 use Rattle.std.specs.Io.KnownBytes.{Appends, Keeps}
 use Rattle.std.specs.Prelude.{Result, Ok, Err, IsSomeAnd, ⊤, ◌⊎◌, ◌≡◌, ℕ, ◌≤◌, ◌+◌, List, length, take, Option}
 use Rattle.profile.specs.Specification.{Spec}
-use Rattle.profile.specs.Admissible.{Takes, Refuses}
+use Rattle.profile.specs.Admissible.{Takes, Refuses, most_slots, most_spec_bytes}
 use Rattle.profile.specs.Sheets.{sheets, layout}
 use Rattle.profile.specs.Parts.{NestedUnit, pages}
 use Rattle.profile.specs.Output.{Frame, output}
@@ -35,7 +35,7 @@ request options spec input = record { options = options; spec = spec; input = in
 -- every check passes; the specification comes to this, and the input is cut into these units
 pub record IsAccepted (r : Request) (spec : Spec) (us : List NestedUnit) : Type 0 where
   pub options : AreOptions r.options
-  pub takes : Takes 64 r.spec spec
+  pub takes : Takes most_slots r.spec spec
   pub document : document_of r.input ≡ Ok us
   pub plan : plan_of spec (length (pages us)) ≡ Ok (sheets spec (length (pages us)))
 
@@ -47,14 +47,14 @@ Accepted r P = (spec : Spec) × (us : List NestedUnit) × IsAccepted r spec us �
 -- the checks that need none; a failed write comes after all of them
 abbrev pub IsRefusal : Request → RunError → Type 0
 IsRefusal r error.Options = AreOptions r.options → ⊥
-IsRefusal r (error.Spec e) = AreOptions r.options × IsSomeAnd (fault_named e) (λ f. Refuses 64 r.spec f)
+IsRefusal r (error.Spec e) = AreOptions r.options × IsSomeAnd (fault_named e) (λ f. Refuses most_slots r.spec f)
 IsRefusal r (error.Document e) =
-    AreOptions r.options × ((spec : Spec) × Takes 64 r.spec spec) × IsSomeAnd (dsc.fault_told e) (λ f. document_of r.input ≡ Err f)
+    AreOptions r.options × ((spec : Spec) × Takes most_slots r.spec spec) × IsSomeAnd (dsc.fault_told e) (λ f. document_of r.input ≡ Err f)
 IsRefusal r (error.Plan e) =
     AreOptions r.options
-    × ((spec : Spec) × (us : List NestedUnit) × Takes 64 r.spec spec × (document_of r.input ≡ Ok us)
+    × ((spec : Spec) × (us : List NestedUnit) × Takes most_slots r.spec spec × (document_of r.input ≡ Ok us)
     × IsSomeAnd (plan_fault_told e) (λ f. plan_of spec (length (pages us)) ≡ Err f))
-IsRefusal r (error.NoMemory written) = AreOptions r.options × (length r.spec ≤ 65_536)
+IsRefusal r (error.NoMemory written) = AreOptions r.options × (length r.spec ≤ most_spec_bytes)
 IsRefusal r (error.Write written) = Accepted r (λ spec us. ⊤)
 
 -- the first bytes of the output of an accepted request, as many as were written
@@ -102,7 +102,7 @@ IsUnwritten (error.Write written) = ⊥
 pub record IsGiven (r : Request) (chosen : Options) (given : Given) : Type 0 where
   pub same_options : r.options ≡ chosen
   pub options : AreOptions r.options
-  pub takes : Takes 64 r.spec given.spec
+  pub takes : Takes most_slots r.spec given.spec
   pub document : document_of r.input ≡ Ok given.document
 
 -- what a run answers: at Ok exactly the output was written; an error names the first check that fails, and as much of the

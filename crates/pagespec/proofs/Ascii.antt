@@ -11,7 +11,7 @@ use Rattle.std.proofs.lemmas.List.Elements.{All-head, All-tail}
 use Rattle.profile.specs.Numbers.{is_large, number_text, IsNumber, IsSign, IsFraction}
 use Rattle.profile.specs.Papers.{LengthUnit, Pt, Cm, Mm, In, Width, Height}
 use Rattle.profile.specs.Specification.{Measure, WrittenItem, WrittenSpec, Spec, Turn, Upright, Left, Half, Right, minus_text, unit_text, measure_text, turn_text, turn_of, quarters, scale, offset_x, offset_y, scale_part, is_one, offset_part, is_zero_points, item_text, joined_by, modulo_text, settled_item, settled, canonical}
-use Rattle.profile.specs.Admissible.{IsAdmissible, fault_of, has_large, items}
+use Rattle.profile.specs.Admissible.{IsAdmissible, fault_of, has_large, items, most_slots}
 use Rattle.profile.proofs.Digits.{IsDigit}
 use Rattle.profile.proofs.Printed.{number_text_is_number}
 use Rattle.pagespec.specs.Items.{group_text, groups_text}
@@ -113,14 +113,14 @@ ascii_group g small = ascii_joined 43 item_text settled_item large_item (omega a
 ascii_modulo : (m : ℕ) → m < 10 ^ 5 → IsAscii (modulo_text m)
 ascii_modulo m low = ascii_unless (m == 1) (decimal m ++ 58 ∷ []) (IsAscii-append (decimal m) (58 ∷ []) (IsAscii-decimal_wide m (omega (arith, low))) (ascii_one 58 (omega arith)))
 
-settled_ascii : (spec : WrittenSpec) → fault_of 64 spec ≡ None → IsAscii (canonical (settled spec))
+settled_ascii : (spec : WrittenSpec) → fault_of most_slots spec ≡ None → IsAscii (canonical (settled spec))
 settled_ascii spec none =
     let (modulo, small) = neither (nat_lt 99_999 spec.modulo) (list_any large_item (items spec)) (no_fault spec none) in
     IsAscii-append (modulo_text spec.modulo) (groups_text (settled spec).groups) (ascii_modulo spec.modulo (page_small spec.modulo modulo))
     (ascii_joined 44 group_text (λ g. map settled_item g) (λ g. list_any large_item g) (omega arith) ascii_group spec.groups (sym (any_row large_item spec.groups) ∙ small))
 
 -- the canonical text of an admissible specification is ASCII
-pub canonical_ascii : (spec : Spec) → IsAdmissible 64 spec → IsAscii (canonical spec)
+pub canonical_ascii : (spec : Spec) → IsAdmissible most_slots spec → IsAscii (canonical spec)
 canonical_ascii spec a =
     let (short, written, stands, faultless, settles) = a.taken in
     subst (λ s. IsAscii (canonical s)) (sym settles) (settled_ascii written faultless)

@@ -8,7 +8,7 @@ use Rattle.lengths.proofs.Numbers.{same_byte}
 use Rattle.profile.specs.Numbers.{is_large, number_text, IsNumber}
 use Rattle.profile.specs.Papers.{LengthUnit, Pt, Cm, Mm, In, Width, Height}
 use Rattle.profile.specs.Specification.{Measure, Modifier, Quarters, Scaled, Moved, WrittenItem, WrittenSpec, Spec, Turn, Upright, Left, Half, Right, IsJoined, IsDigits, IsMeasure, IsModifier, AreModifiers, IsItem, AreGroups, IsSpec, minus_text, unit_name, unit_text, measure_text, turn_text, turn_of, quarters, scale, offset_x, offset_y, zero_points, scale_part, is_one, offset_part, is_points, is_zero_points, item_text, joined_by, settled_item, settled, canonical}
-use Rattle.profile.specs.Admissible.{Fault, TooLarge, ModuloZero, PageOutOfBlock, ScaleZero, Repeated, TooManySlots, TooManyGroups, items, fault_of, else_first, only_if, at_lowest, any_too_large, has_large, is_flat, repeats, Takes}
+use Rattle.profile.specs.Admissible.{Fault, TooLarge, ModuloZero, PageOutOfBlock, ScaleZero, Repeated, TooManySlots, TooManyGroups, items, fault_of, else_first, only_if, at_lowest, any_too_large, has_large, is_flat, repeats, Takes, most_slots, most_groups}
 use Rattle.profile.proofs.Digits.{Writes, decimal_writes}
 use Rattle.profile.proofs.Printed.{number_text_is_number}
 use Rattle.pagespec.specs.Items.{group_text, groups_text}
@@ -131,7 +131,7 @@ all_groups : (t : List ℕ) (spec : WrittenSpec) → IsSpec t spec → (text : L
 all_groups t spec (inl (one, are)) = (t, are)
 all_groups t spec (inr (ds, rest, e, is, are)) = (rest, are)
 
-spec_written : (t : List ℕ) (spec : WrittenSpec) → IsSpec t spec → fault_of 64 spec ≡ None → IsSpec (canonical (settled spec)) (normal spec)
+spec_written : (t : List ℕ) (spec : WrittenSpec) → IsSpec t spec → fault_of most_slots spec ≡ None → IsSpec (canonical (settled spec)) (normal spec)
 spec_written t spec is none =
     let (modulo, small) = neither (nat_lt 99_999 spec.modulo) (list_any large_item (items spec)) (no_fault spec none) in
     let (text, are) = all_groups t spec is in
@@ -346,20 +346,20 @@ repeat_normal : (i : WrittenItem) → repeats i ≡ false → repeats (normal_it
 repeat_normal i e =
     repeat_few (turn_of (quarters i.modifiers)) (is_one (scale i.modifiers)) (is_zero_points (offset_x i.modifiers) && is_zero_points (offset_y i.modifiers)) (scale i.modifiers) (offset_x i.modifiers) (offset_y i.modifiers)
 
-long_made : (g : List WrittenItem) → nat_lt 64 (length g) ≡ false → nat_lt 64 (length (map normal_item g)) ≡ false
-long_made g e = ap (nat_lt 64) (length-map g normal_item) ∙ e
+long_made : (g : List WrittenItem) → nat_lt most_slots (length g) ≡ false → nat_lt most_slots (length (map normal_item g)) ≡ false
+long_made g e = ap (nat_lt most_slots) (length-map g normal_item) ∙ e
 
 check_same : {X Y : Type 0} (p : X → Bool) (q : Y → Bool) (xs : List X) (ys : List Y) (f : ℕ → Fault) → (list_any p xs ≡ false → list_any q ys ≡ false) → at_lowest (position p xs) f ≡ None → at_lowest (position q ys) f ≡ None
 check_same p q xs ys f same e = none_place (position q ys) f (none_placed q ys (same (placed_none p xs (place_none (position p xs) f e))))
 
-normal_faultless : (spec : WrittenSpec) → fault_of 64 spec ≡ None → fault_of 64 (normal spec) ≡ None
+normal_faultless : (spec : WrittenSpec) → fault_of most_slots spec ≡ None → fault_of most_slots (normal spec) ≡ None
 normal_faultless spec e =
     let (large, e1) = else_none (only_if (any_too_large spec) TooLarge) _ e in
     let (zero_, e2) = else_none (only_if (spec.modulo == 0) ModuloZero) _ e1 in
     let (pages, e3) = else_none (at_lowest (position (λ i. nat_le spec.modulo i.page) (items spec)) PageOutOfBlock) _ e2 in
     let (flats, e4) = else_none (at_lowest (position (λ i. list_any is_flat i.modifiers) (items spec)) ScaleZero) _ e3 in
     let (again, e5) = else_none (at_lowest (position repeats (items spec)) Repeated) _ e4 in
-    let (slots, groups) = else_none (at_lowest (position (λ g. nat_lt 64 (length g)) spec.groups) TooManySlots) _ e5 in
+    let (slots, groups) = else_none (at_lowest (position (λ g. nat_lt most_slots (length g)) spec.groups) TooManySlots) _ e5 in
     let (modulo, small) = neither (nat_lt 99_999 spec.modulo) (list_any large_item (items spec)) (no_fault spec e) in
     none_else (only_if (any_too_large (normal spec)) TooLarge) _ (none_if (any_too_large (normal spec)) TooLarge (neither_is (nat_lt 99_999 spec.modulo) _ modulo (items_made large_item large_normal spec small)))
     (none_else (only_if (spec.modulo == 0) ModuloZero) _ zero_
@@ -369,13 +369,13 @@ normal_faultless spec e =
     (check_same (λ i. list_any is_flat i.modifiers) (λ i. list_any is_flat i.modifiers) (items spec) (items (normal spec)) ScaleZero (λ h. items_made (λ i. list_any is_flat i.modifiers) flat_normal spec h) flats)
     (none_else (at_lowest (position repeats (items (normal spec))) Repeated) _
     (check_same repeats repeats (items spec) (items (normal spec)) Repeated (λ h. items_made repeats repeat_normal spec h) again)
-    (none_else (at_lowest (position (λ g. nat_lt 64 (length g)) (normal spec).groups) TooManySlots) _
-    (check_same (λ g. nat_lt 64 (length g)) (λ g. nat_lt 64 (length g)) spec.groups (normal spec).groups TooManySlots
-    (λ h. any_made (λ g. nat_lt 64 (length g)) (λ g. nat_lt 64 (length g)) (λ g. map normal_item g) long_made spec.groups h) slots)
-    (ap (λ n. only_if (nat_lt 10_000 n) TooManyGroups) (length-map spec.groups (λ g. map normal_item g)) ∙ groups))))))
+    (none_else (at_lowest (position (λ g. nat_lt most_slots (length g)) (normal spec).groups) TooManySlots) _
+    (check_same (λ g. nat_lt most_slots (length g)) (λ g. nat_lt most_slots (length g)) spec.groups (normal spec).groups TooManySlots
+    (λ h. any_made (λ g. nat_lt most_slots (length g)) (λ g. nat_lt most_slots (length g)) (λ g. map normal_item g) long_made spec.groups h) slots)
+    (ap (λ n. only_if (nat_lt most_groups n) TooManyGroups) (length-map spec.groups (λ g. map normal_item g)) ∙ groups))))))
 
 -- the canonical text of what a text comes to is taken, and comes to the same
-pub canonical_taken : (text : List ℕ) (spec : Spec) → Takes 64 text spec → Takes 64 (canonical spec) spec
+pub canonical_taken : (text : List ℕ) (spec : Spec) → Takes most_slots text spec → Takes most_slots (canonical spec) spec
 canonical_taken text spec (h, written, stands, right, e) =
-    subst (λ s. Takes 64 (canonical s) s) (sym e)
+    subst (λ s. Takes most_slots (canonical s) s) (sym e)
     (short_enough text written stands right h, normal written, spec_written text written stands right, normal_faultless written right, sym (spec_back written))

@@ -9,7 +9,7 @@ use Rattle.std.specs.List.{AllZip, list_any, position_or_len, prefix_len}
 use Rattle.std.specs.Prelude.{option_map}
 use Rattle.std.specs.Option.{option_or}
 use Rattle.profile.specs.Specification.{WrittenItem, WrittenSpec}
-use Rattle.profile.specs.Admissible.{items, has_large, is_flat, Fault, fault_of, else_first, only_if, at_lowest, TooLarge, ModuloZero, PageOutOfBlock, ScaleZero, Repeated, TooManySlots, TooManyGroups}
+use Rattle.profile.specs.Admissible.{items, has_large, is_flat, Fault, fault_of, else_first, only_if, at_lowest, TooLarge, ModuloZero, PageOutOfBlock, ScaleZero, Repeated, TooManySlots, TooManyGroups, most_slots, most_groups}
 use Rattle.pagespec.specs.Kept.{is_repeated, ItemShows}
 use Rattle.pagespec.specs.Groups.{AreKept}
 use Rattle.pagespec.specs.Faults.{fault_named, first_fault_of, has_too_large, where_fails}
@@ -85,7 +85,7 @@ found modulo pages zeros again long groups =
     (else_first (at_lowest zeros ScaleZero)
     (else_first (at_lowest again Repeated)
     (else_first (at_lowest long TooManySlots)
-    (only_if (nat_lt 10_000 groups) TooManyGroups)))))
+    (only_if (nat_lt most_groups groups) TooManyGroups)))))
 
 found_same : (m m' : ℕ) (p p' z z' a a' l l' : Option ℕ) (g g' : ℕ) → m ≡ m' → p ≡ p' → z ≡ z' → a ≡ a' → l ≡ l' → g ≡ g' → found m p z a l g ≡ found m' p' z' a' l' g'
 found_same m m' p p' z z' a a' l l' g g' em ep ez ea el eg =
@@ -95,19 +95,19 @@ found_same m m' p p' z z' a a' l l' g g' em ep ez ea el eg =
 abbrev kept_fault : ℕ → List KeptItem → List ℕ → Option Fault
 kept_fault modulo ls lengths =
     else_first (only_if (has_too_large modulo ls) TooLarge)
-    (found modulo (position (λ i. nat_le modulo i.page) ls) (position (λ i. i.modifiers.scale_zero) ls) (position (λ i. i.modifiers.repeated) ls) (position (λ n. nat_lt 64 n) lengths) (length lengths))
+    (found modulo (position (λ i. nat_le modulo i.page) ls) (position (λ i. i.modifiers.scale_zero) ls) (position (λ i. i.modifiers.repeated) ls) (position (λ n. nat_lt most_slots n) lengths) (length lengths))
 
 -- what the code finds on what it keeps is the first fault of the tree
 kept_is_fault : (tree : WrittenSpec) (modulo : ℕ) (ls : List KeptItem) → AllZip (λ l i. ItemShows i l) ls (items tree) → modulo ≡ min 100_000 tree.modulo
-    → kept_fault modulo ls (map length tree.groups) ≡ fault_of 64 tree
+    → kept_fault modulo ls (map length tree.groups) ≡ fault_of most_slots tree
 kept_is_fault tree modulo ls zip m =
     let first : has_too_large modulo ls ≡ (nat_lt 99_999 tree.modulo || list_any (λ i. nat_lt 99_999 i.page || list_any has_large i.modifiers) (items tree)) =
     ap (λ b. b || list_any (λ i. nat_lt 99_999 i.page || i.modifiers.too_large) ls) (capped_test modulo tree.modulo m)
     ∙ ap (λ b. nat_lt 99_999 tree.modulo || b) (any_zip (λ l i. ItemShows i l) (λ l. nat_lt 99_999 l.page || l.modifiers.too_large) (λ i. nat_lt 99_999 i.page || list_any has_large i.modifiers) large_same ls (items tree) zip) in
-    ap (λ b. else_first (only_if b TooLarge) (found modulo (position (λ i. nat_le modulo i.page) ls) (position (λ i. i.modifiers.scale_zero) ls) (position (λ i. i.modifiers.repeated) ls) (position (λ n. nat_lt 64 n) (map length tree.groups)) (length (map length tree.groups)))) first ∙ by_first _ refl
+    ap (λ b. else_first (only_if b TooLarge) (found modulo (position (λ i. nat_le modulo i.page) ls) (position (λ i. i.modifiers.scale_zero) ls) (position (λ i. i.modifiers.repeated) ls) (position (λ n. nat_lt most_slots n) (map length tree.groups)) (length (map length tree.groups)))) first ∙ by_first _ refl
   where
     by_first : (b : Bool) → (nat_lt 99_999 tree.modulo || list_any (λ i. nat_lt 99_999 i.page || list_any has_large i.modifiers) (items tree)) ≡ b
-        → else_first (only_if (nat_lt 99_999 tree.modulo || list_any (λ i. nat_lt 99_999 i.page || list_any has_large i.modifiers) (items tree)) TooLarge) (found modulo (position (λ i. nat_le modulo i.page) ls) (position (λ i. i.modifiers.scale_zero) ls) (position (λ i. i.modifiers.repeated) ls) (position (λ n. nat_lt 64 n) (map length tree.groups)) (length (map length tree.groups))) ≡ fault_of 64 tree
+        → else_first (only_if (nat_lt 99_999 tree.modulo || list_any (λ i. nat_lt 99_999 i.page || list_any has_large i.modifiers) (items tree)) TooLarge) (found modulo (position (λ i. nat_le modulo i.page) ls) (position (λ i. i.modifiers.scale_zero) ls) (position (λ i. i.modifiers.repeated) ls) (position (λ n. nat_lt most_slots n) (map length tree.groups)) (length (map length tree.groups))) ≡ fault_of most_slots tree
     by_first true e = rw e refl
     by_first false e =
         let n = neither _ _ e in
@@ -116,7 +116,7 @@ kept_is_fault tree modulo ls zip m =
         let pages = position_zip Small (λ l. nat_le tree.modulo l.page) (λ i. nat_le tree.modulo i.page) (λ l i s. ap (nat_le tree.modulo) s.page) ls (items tree) z in
         let zeros = position_zip Small (λ l. l.modifiers.scale_zero) (λ i. list_any is_flat i.modifiers) (λ l i s. (s.shows.modifiers.known s.large).scale_zero) ls (items tree) z in
         let again = position_zip Small (λ l. l.modifiers.repeated) (λ i. is_repeated i.modifiers) (λ l i s. (s.shows.modifiers.known s.large).repeated) ls (items tree) z in
-        let long = position_zip (λ n g. n ≡ length g) (λ n. nat_lt 64 n) (λ g. nat_lt 64 (length g)) (λ n g e. ap (nat_lt 64) e) (map length tree.groups) tree.groups (position-map length (λ n. nat_lt 64 n) tree.groups) in
+        let long = position_zip (λ n g. n ≡ length g) (λ n. nat_lt most_slots n) (λ g. nat_lt most_slots (length g)) (λ n g e. ap (nat_lt most_slots) e) (map length tree.groups) tree.groups (position-map length (λ n. nat_lt most_slots n) tree.groups) in
         ap (λ r. else_first (only_if (nat_lt 99_999 tree.modulo || list_any (λ i. nat_lt 99_999 i.page || list_any has_large i.modifiers) (items tree)) TooLarge) r)
         (found_same _ _ _ _ _ _ _ _ _ _ _ _ mm (ap (λ k. position (λ (i : KeptItem). nat_le k i.page) ls) mm ∙ pages) zeros again long (length-map tree.groups length))
 
@@ -145,12 +145,12 @@ told_first modulo ls lengths =
     (told_or _ _ _ _ (told_place (position (λ i. nat_le modulo i.page) ls) error.PageOutOfBlock PageOutOfBlock (λ i. refl))
     (told_or _ _ _ _ (told_place (position (λ i. i.modifiers.scale_zero) ls) error.ScaleZero ScaleZero (λ i. refl))
     (told_or _ _ _ _ (told_place (position (λ i. i.modifiers.repeated) ls) error.Repeated Repeated (λ i. refl))
-    (told_or _ _ _ _ (told_place (position (λ n. nat_lt 64 n) lengths) error.TooManySlots TooManySlots (λ i. refl))
-    (told_where (nat_lt 10_000 (length lengths)) error.TooManyGroups TooManyGroups refl))))))
+    (told_or _ _ _ _ (told_place (position (λ n. nat_lt most_slots n) lengths) error.TooManySlots TooManySlots (λ i. refl))
+    (told_where (nat_lt most_groups (length lengths)) error.TooManyGroups TooManyGroups refl))))))
 
 -- what the code tells is the first fault of what the text stands for
 pub told_fault : (spec : WrittenSpec) (modulo : ℕ) (ls : List KeptItem) (lengths : List ℕ) → AreKept ls (items spec) → lengths ≡ map length spec.groups → modulo ≡ min 100_000 spec.modulo
-    → option_map fault_named (first_fault_of modulo ls lengths) ≡ option_map (λ x. Some x) (fault_of 64 spec)
+    → option_map fault_named (first_fault_of modulo ls lengths) ≡ option_map (λ x. Some x) (fault_of most_slots spec)
 told_fault spec modulo ls lengths zip e m =
     told_first modulo ls lengths ∙ ap (option_map (λ x. Some x)) (ap (λ n. kept_fault modulo ls n) e ∙ kept_is_fault spec modulo ls zip m)
 
@@ -159,7 +159,7 @@ large_told true later h e = cc
 large_told false later h e = cc
 
 -- no fault was told: the items are as they are kept, with no number too large
-pub no_fault : (spec : WrittenSpec) → fault_of 64 spec ≡ None → (nat_lt 99_999 spec.modulo || list_any (λ i. nat_lt 99_999 i.page || list_any has_large i.modifiers) (items spec)) ≡ false
+pub no_fault : (spec : WrittenSpec) → fault_of most_slots spec ≡ None → (nat_lt 99_999 spec.modulo || list_any (λ i. nat_lt 99_999 i.page || list_any has_large i.modifiers) (items spec)) ≡ false
 no_fault spec e = by_first _ refl
   where
     by_first : (b : Bool) → (nat_lt 99_999 spec.modulo || list_any (λ i. nat_lt 99_999 i.page || list_any has_large i.modifiers) (items spec)) ≡ b

@@ -4,8 +4,8 @@ use Rattle.std.specs.Prelude.{flat_map, option_map, ◌==◌, nat_lt, nat_le, po
 use Rattle.std.specs.List.{list_any}
 use Rattle.std.proofs.lemmas.List.{length-append, length-map, append-nil}
 use Rattle.std.proofs.lemmas.Slice.Zip.{AllZip-long}
-use Rattle.profile.specs.Specification.{WrittenItem, WrittenSpec, Item, Spec, IsSpec, IsItem, IsJoined, AreGroups, settled, canonical}
-use Rattle.profile.specs.Admissible.{Fault, TooLong, Syntax, TooLarge, ModuloZero, PageOutOfBlock, ScaleZero, Repeated, TooManySlots, TooManyGroups, items, fault_of, else_first, only_if, at_lowest, any_too_large, is_flat, repeats, Refuses, Takes, IsAdmissible}
+use Rattle.profile.specs.Specification.{WrittenItem, WrittenSpec, Item, Spec, IsSpec, IsItem, IsJoined, AreGroups, settled}
+use Rattle.profile.specs.Admissible.{Fault, TooLong, Syntax, TooLarge, ModuloZero, PageOutOfBlock, ScaleZero, Repeated, TooManySlots, TooManyGroups, items, fault_of, else_first, only_if, at_lowest, any_too_large, is_flat, repeats, Refuses, Takes, IsAdmissible, most_slots, most_spec_bytes, most_groups}
 use Rattle.pagespec.specs.Reading.{spec_at}
 use Rattle.pagespec.specs.Groups.{AreKept}
 use Rattle.pagespec.specs.Faults.{fault_named, first_fault_of}
@@ -22,9 +22,8 @@ use Rattle.pagespec.proofs.Joined.{few_parts}
 use Rattle.pagespec.proofs.Texts.{IsGroup, spec_found, no_tree}
 use Rattle.pagespec.proofs.Faults.{told_fault, no_fault, neither, small_items, capped_small}
 use Rattle.pagespec.proofs.Settling.{groups_settle, kept_fit}
-use Rattle.pagespec.proofs.Short.{short_enough}
 
-pub syntax_refused : (t bytes : List ℕ) → length t ≤ 65_536 → bytes ≡ t → spec_at bytes ≡ None → Refuses 64 t Syntax
+pub syntax_refused : (t bytes : List ℕ) → length t ≤ most_spec_bytes → bytes ≡ t → spec_at bytes ≡ None → Refuses most_slots t Syntax
 syntax_refused t bytes h b e = (h, λ spec is. no_tree t (ap spec_at (sym b) ∙ e) spec is)
 
 -- a text that was read, and what was kept of it
@@ -67,10 +66,10 @@ few_groups_in : (t : List ℕ) (spec : WrittenSpec) → IsSpec t spec → length
 few_groups_in t spec (inl (m, are)) = few_groups t spec.groups are
 few_groups_in t spec (inr (ds, rest, e, is, are)) = omega (arith, few_groups rest spec.groups are, ap length e, length-append ds (58 ∷ rest))
 
-pub few_kept : (t : List ℕ) (modulo : ℕ) (ks : List KeptItem) (ns : List ℕ) → Read t modulo ks ns → length t ≤ 65_536 → length ks < 2 ^ 32
+pub few_kept : (t : List ℕ) (modulo : ℕ) (ks : List KeptItem) (ns : List ℕ) → Read t modulo ks ns → length t ≤ most_spec_bytes → length ks < 2 ^ 32
 few_kept t modulo ks ns read h = omega (arith, h, AllZip-long (λ k i. ItemShows i k) ks (items read.spec) read.shows, few_items_in t read.spec read.stands)
 
-pub few_lengths : (t : List ℕ) (modulo : ℕ) (ks : List KeptItem) (ns : List ℕ) → Read t modulo ks ns → length t ≤ 65_536 → length ns < 2 ^ 32
+pub few_lengths : (t : List ℕ) (modulo : ℕ) (ks : List KeptItem) (ns : List ℕ) → Read t modulo ks ns → length t ≤ most_spec_bytes → length ns < 2 ^ 32
 few_lengths t modulo ks ns read h = omega (arith, h, ap length read.counted, length-map read.spec.groups length, few_groups_in t read.spec read.stands)
 
 -- a fault of what a text stands for is none of the text itself
@@ -98,17 +97,17 @@ of_place : (o : Option ℕ) (f : ℕ → Fault) → ((i : ℕ) → OfSpec (Some 
 of_place None f h = tt
 of_place (Some i) f h = h i
 
-of_spec : (spec : WrittenSpec) → OfSpec (fault_of 64 spec)
+of_spec : (spec : WrittenSpec) → OfSpec (fault_of most_slots spec)
 of_spec spec =
     of_else (only_if (any_too_large spec) TooLarge) _ (of_if (any_too_large spec) TooLarge tt)
     (of_else (only_if (spec.modulo == 0) ModuloZero) _ (of_if (spec.modulo == 0) ModuloZero tt)
     (of_else (at_lowest (position (λ i. nat_le spec.modulo i.page) (items spec)) PageOutOfBlock) _ (of_place (position (λ i. nat_le spec.modulo i.page) (items spec)) PageOutOfBlock (λ i. tt))
     (of_else (at_lowest (position (λ i. list_any is_flat i.modifiers) (items spec)) ScaleZero) _ (of_place (position (λ i. list_any is_flat i.modifiers) (items spec)) ScaleZero (λ i. tt))
     (of_else (at_lowest (position repeats (items spec)) Repeated) _ (of_place (position repeats (items spec)) Repeated (λ i. tt))
-    (of_else (at_lowest (position (λ g. nat_lt 64 (length g)) spec.groups) TooManySlots) _ (of_place (position (λ g. nat_lt 64 (length g)) spec.groups) TooManySlots (λ i. tt))
-    (of_if (nat_lt 10_000 (length spec.groups)) TooManyGroups tt))))))
+    (of_else (at_lowest (position (λ g. nat_lt most_slots (length g)) spec.groups) TooManySlots) _ (of_place (position (λ g. nat_lt most_slots (length g)) spec.groups) TooManySlots (λ i. tt))
+    (of_if (nat_lt most_groups (length spec.groups)) TooManyGroups tt))))))
 
-refused_by : (t : List ℕ) (spec : WrittenSpec) (f : Fault) → length t ≤ 65_536 → IsSpec t spec → fault_of 64 spec ≡ Some f → OfSpec (Some f) → Refuses 64 t f
+refused_by : (t : List ℕ) (spec : WrittenSpec) (f : Fault) → length t ≤ most_spec_bytes → IsSpec t spec → fault_of most_slots spec ≡ Some f → OfSpec (Some f) → Refuses most_slots t f
 refused_by t spec TooLong h is e o = absurd o
 refused_by t spec Syntax h is e o = absurd o
 refused_by t spec TooLarge h is e o = (h, spec, is, e)
@@ -119,14 +118,14 @@ refused_by t spec (Repeated i) h is e o = (h, spec, is, e)
 refused_by t spec (TooManySlots g) h is e o = (h, spec, is, e)
 refused_by t spec TooManyGroups h is e o = (h, spec, is, e)
 
-named_refused : (t : List ℕ) (spec : WrittenSpec) (named : Option Fault) (f : Option Fault) → length t ≤ 65_536 → IsSpec t spec → fault_of 64 spec ≡ f → Some named ≡ option_map (λ x. Some x) f → NamesFault t named
+named_refused : (t : List ℕ) (spec : WrittenSpec) (named : Option Fault) (f : Option Fault) → length t ≤ most_spec_bytes → IsSpec t spec → fault_of most_slots spec ≡ f → Some named ≡ option_map (λ x. Some x) f → NamesFault t named
 named_refused t spec named None h is e told = absurd (cc (told))
 named_refused t spec named (Some f) h is e told =
     subst (NamesFault t) (sym (some_same named (Some f) told)) (refused_by t spec f h is e (subst OfSpec e (of_spec spec)))
 
-pub fault_refused : (t : List ℕ) (modulo : ℕ) (ks : List KeptItem) (ns : List ℕ) (e : SpecError) → Read t modulo ks ns → length t ≤ 65_536 → Some e ≡ first_fault_of modulo ks ns → IsRefusal t e
+pub fault_refused : (t : List ℕ) (modulo : ℕ) (ks : List KeptItem) (ns : List ℕ) (e : SpecError) → Read t modulo ks ns → length t ≤ most_spec_bytes → Some e ≡ first_fault_of modulo ks ns → IsRefusal t e
 fault_refused t modulo ks ns e read h told =
-    named_refused t read.spec (fault_named e) (fault_of 64 read.spec) h read.stands refl
+    named_refused t read.spec (fault_named e) (fault_of most_slots read.spec) h read.stands refl
     (ap (option_map fault_named) told ∙ told_fault read.spec modulo ks ns read.shows read.counted read.modulo_is)
 
 -- a text that was read has no syntax fault
@@ -142,7 +141,7 @@ no_syntax_fault t modulo ks ns (error.TooManySlots g) read refused = tt
 no_syntax_fault t modulo ks ns error.TooManyGroups read refused = tt
 no_syntax_fault t modulo ks ns error.NoMemory read refused = tt
 
-pub fault_placed : (t : List ℕ) (modulo : ℕ) (ks : List KeptItem) (ns : List ℕ) (e : SpecError) → Read t modulo ks ns → length t ≤ 65_536 → Some e ≡ first_fault_of modulo ks ns → IsPlaced t e
+pub fault_placed : (t : List ℕ) (modulo : ℕ) (ks : List KeptItem) (ns : List ℕ) (e : SpecError) → Read t modulo ks ns → length t ≤ most_spec_bytes → Some e ≡ first_fault_of modulo ks ns → IsPlaced t e
 fault_placed t modulo ks ns e read h told = no_syntax_fault t modulo ks ns e read (fault_refused t modulo ks ns e read h told)
 
 none_told : (f : Option Fault) (o : Option SpecError) → None ≡ o → option_map fault_named o ≡ option_map (λ x. Some x) f → f ≡ None
@@ -150,7 +149,7 @@ none_told None o e told = refl
 none_told (Some f) None e told = absurd (cc (told))
 none_told (Some f) (Some x) e told = absurd (cc (e))
 
-pub faultless : (t : List ℕ) (modulo : ℕ) (ks : List KeptItem) (ns : List ℕ) (read : Read t modulo ks ns) → None ≡ first_fault_of modulo ks ns → fault_of 64 read.spec ≡ None
+pub faultless : (t : List ℕ) (modulo : ℕ) (ks : List KeptItem) (ns : List ℕ) (read : Read t modulo ks ns) → None ≡ first_fault_of modulo ks ns → fault_of most_slots read.spec ≡ None
 faultless t modulo ks ns read e = none_told _ _ e (told_fault read.spec modulo ks ns read.shows read.counted read.modulo_is)
 
 pub lengths_right : (t : List ℕ) (modulo : ℕ) (ks : List KeptItem) (ns : List ℕ) → Read t modulo ks ns → AreLengths ns ks
@@ -169,12 +168,12 @@ comes_to t modulo ks ns groups read none e =
     same_spec _ _ _ _ (capped_small modulo read.spec.modulo read.modulo_is small.0)
     (e ∙ groups_settle ks read.spec.groups ns (small_items ks (items read.spec) read.shows small.1) read.counted)
 
-pub admissible : (t : List ℕ) (modulo : ℕ) (ks : List KeptItem) (ns : List ℕ) (groups : List (List Item)) → Read t modulo ks ns → length t ≤ 65_536 → None ≡ first_fault_of modulo ks ns
-    → groups ≡ split_by ns (map settled_kept ks) → IsAdmissible 64 (spec_of modulo groups)
+pub admissible : (t : List ℕ) (modulo : ℕ) (ks : List KeptItem) (ns : List ℕ) (groups : List (List Item)) → Read t modulo ks ns → length t ≤ most_spec_bytes → None ≡ first_fault_of modulo ks ns
+    → groups ≡ split_by ns (map settled_kept ks) → IsAdmissible most_slots (spec_of modulo groups)
 admissible t modulo ks ns groups read h none e = record { text = t; taken = (h, read.spec, read.stands, faultless t modulo ks ns read none, comes_to t modulo ks ns groups read none e) }
 
-pub taken : (t : List ℕ) (modulo : ℕ) (ks : List KeptItem) (ns : List ℕ) (groups : List (List Item)) (result : Spec) → Read t modulo ks ns → length t ≤ 65_536 → None ≡ first_fault_of modulo ks ns
-    → groups ≡ split_by ns (map settled_kept ks) → result ≡ spec_of modulo groups → Takes 64 t result
+pub taken : (t : List ℕ) (modulo : ℕ) (ks : List KeptItem) (ns : List ℕ) (groups : List (List Item)) (result : Spec) → Read t modulo ks ns → length t ≤ most_spec_bytes → None ≡ first_fault_of modulo ks ns
+    → groups ≡ split_by ns (map settled_kept ks) → result ≡ spec_of modulo groups → Takes most_slots t result
 taken t modulo ks ns groups result read h none e is =
     (h, read.spec, read.stands, faultless t modulo ks ns read none, is ∙ comes_to t modulo ks ns groups read none e)
 

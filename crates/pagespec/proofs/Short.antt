@@ -8,7 +8,7 @@ use Rattle.std.proofs.lemmas.Fmt.{length-decimal-le_wide}
 use Rattle.profile.specs.Numbers.{is_large, number_text}
 use Rattle.profile.specs.Papers.{LengthUnit, Pt, Cm, Mm, In, Width, Height}
 use Rattle.profile.specs.Specification.{Measure, Modifier, Quarters, Scaled, Moved, WrittenItem, WrittenSpec, Turn, Upright, Left, Half, Right, IsJoined, IsDigits, IsMeasure, AreModifiers, IsItem, IsBareItem, AreGroups, IsSpec, minus_text, unit_name, unit_text, measure_text, turn_text, turn_of, quarters, scale, offset_x, offset_y, scale_part, is_one, offset_part, is_zero_points, item_text, joined_by, modulo_text, settled_item, settled, canonical}
-use Rattle.profile.specs.Admissible.{fault_of, has_large, items}
+use Rattle.profile.specs.Admissible.{fault_of, has_large, items, most_slots, most_spec_bytes}
 use Rattle.pagespec.proofs.Letters.{turn_letter}
 use Rattle.pagespec.proofs.Faults.{no_fault, neither}
 use Rattle.pagespec.proofs.Texts.{IsGroup}
@@ -193,11 +193,11 @@ modulo_short m k h = unless (m == 1) (decimal m ++ 58 ∷ []) (suc k) (omega (ar
 canonical_length : (spec : WrittenSpec) → length (canonical (settled spec)) ≡ length (modulo_text spec.modulo) + length (groups_text spec.groups)
 canonical_length spec = length-append (modulo_text spec.modulo) (groups_text spec.groups)
 
-either_fits : (a b t : ℕ) → (a ≤ t) ⊎ (a ≤ 60) → b ≤ 65_000 → t + b ≤ 65_536 → a + b ≤ 65_536
+either_fits : (a b t : ℕ) → (a ≤ t) ⊎ (a ≤ 60) → b ≤ 65_000 → t + b ≤ most_spec_bytes → a + b ≤ most_spec_bytes
 either_fits a b t (inl h) few fits = omega (arith, h, fits)
 either_fits a b t (inr h) few fits = omega (arith, h, few)
 
-pub short_enough : (t : List ℕ) (spec : WrittenSpec) → IsSpec t spec → fault_of 64 spec ≡ None → length t ≤ 65_536 → length (canonical (settled spec)) ≤ 65_536
+pub short_enough : (t : List ℕ) (spec : WrittenSpec) → IsSpec t spec → fault_of most_slots spec ≡ None → length t ≤ most_spec_bytes → length (canonical (settled spec)) ≤ most_spec_bytes
 short_enough t spec (inl (one, are)) none h =
     let (modulo, small) = neither (nat_lt 99_999 spec.modulo) (list_any large_item (items spec)) (no_fault spec none) in
     let nothing : length (modulo_text spec.modulo) ≡ 0 = ap (λ m. length (modulo_text m)) one in

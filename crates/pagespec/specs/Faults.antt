@@ -33,5 +33,5 @@ first_fault_of modulo items lengths =
     (option_or (option_map PageOutOfBlock (position (λ i. nat_le modulo i.page) items))
     (option_or (option_map ScaleZero (position (λ i. i.modifiers.scale_zero) items))
     (option_or (option_map Repeated (position (λ i. i.modifiers.repeated) items))
-    (option_or (option_map TooManySlots (position (λ n. nat_lt 64 n) lengths))
-    (where_fails (nat_lt 10_000 (length lengths)) TooManyGroups))))))
+    (option_or (option_map TooManySlots (position (λ n. nat_lt profile.most_slots n) lengths))
+    (where_fails (nat_lt profile.most_groups (length lengths)) TooManyGroups))))))

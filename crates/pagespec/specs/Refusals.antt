@@ -1,14 +1,14 @@
 -- What a refusal to read a specification says.
 use Rattle.std.specs.Prelude.{◌≤◌, ℕ, List, length, Option, Some, None}
-use Rattle.profile.specs.Admissible.{Refuses, Fault}
+use Rattle.profile.specs.Admissible.{Refuses, Fault, most_slots, most_spec_bytes}
 use Rattle.pagespec.specs.declared.error.SpecError.{SpecError}
 use Rattle.pagespec.specs.declared.error.SpecError.TheVariants.{Syntax}
 use Rattle.pagespec.specs.Faults.{fault_named}
 
 -- this fault is the text's first; want of memory says only that the text isn't too long
 abbrev pub NamesFault : List ℕ → Option Fault → Type 0
-NamesFault text None = length text ≤ 65_536
-NamesFault text (Some fault) = Refuses 64 text fault
+NamesFault text None = length text ≤ most_spec_bytes
+NamesFault text (Some fault) = Refuses most_slots text fault
 
 abbrev pub IsRefusal : List ℕ → SpecError → Type 0
 IsRefusal text e = NamesFault text (fault_named e)

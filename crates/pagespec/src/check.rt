@@ -2,13 +2,14 @@
 ghost use Rattle.std.specs.Prelude.{◌≡◌, ◌<◌, ◌^◌, ◌||◌, length, position, nat_lt, nat_le, option_map, if◌then◌else◌, Some};
 ghost use Rattle.std.specs.Option.{ForSome};
 ghost use Rattle.std.specs.List.{list_any};
+ghost use Rattle.profile.specs.Admissible.{most_slots};
 ghost use Rattle.pagespec.specs.Faults.{first_fault_of, has_too_large};
 
 use crate::error::SpecError;
 use crate::kept::KeptItem;
 
 /// The most items that a group may have.
-const MOST_SLOTS: usize = 64;
+const MOST_SLOTS: usize = 4_096;
 /// The most groups.
 const MOST_GROUPS: usize = 10_000;
 /// The greatest modulo, page number and integer part.
@@ -80,7 +81,7 @@ fn repeated(items: &[KeptItem]) -> Option<usize>
 
 /// The lowest group with too many items.
 fn too_many_slots(lengths: &[usize]) -> Option<usize>
-    ensures place { result ≡ position (λ n. nat_lt 64 n) lengths.now }
+    ensures place { result ≡ position (λ n. nat_lt most_slots n) lengths.now }
     ensures below { ForSome result (λ i. i < length lengths.now) }
 {
     lengths.iter().position(|n| MOST_SLOTS < *n)

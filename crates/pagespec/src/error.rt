@@ -25,7 +25,7 @@ pub enum SpecError {
     /// The item has a second scale or a second offset.
     #[error("specification: item {0}: modifier repeated")]
     Repeated(u32),
-    /// The group has over 64 items.
+    /// The group has over 4,096 items.
     #[error("specification: group {0}: too many items")]
     TooManySlots(u32),
     /// There are over 10,000 groups.

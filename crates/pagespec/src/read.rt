@@ -1,6 +1,6 @@
 //! Reading a specification.
 ghost use Rattle.std.specs.Prelude.{◌≡◌, ◌≤◌, length, IfOk, IfErr, MatchResult};
-ghost use Rattle.profile.specs.Admissible.{Takes};
+ghost use Rattle.profile.specs.Admissible.{Takes, most_slots};
 ghost use Rattle.pagespec.specs.Reading.{spec_at, past_modulo};
 ghost use Rattle.pagespec.specs.Groups.{IsStop};
 ghost use Rattle.pagespec.specs.Written.{WrittenRead, ModuloRead};
@@ -24,7 +24,7 @@ const MOST_BYTES: usize = 65_536;
 /// The checks are made one after the other, each over the whole text, and the first one that fails is named, with the lowest
 /// item or group at fault. The text is gone over once.
 pub fn read_spec(alloc: Global, text: &str) -> Result<Spec, SpecError>
-    ensures taken { IfOk result (λ spec. Takes 64 text.now spec) }
+    ensures taken { IfOk result (λ spec. Takes most_slots text.now spec) }
     ensures refused { IfErr result (IsRefusal text.now) }
     ensures placed { IfErr result (IsPlaced text.now) }
 {

@@ -1,6 +1,6 @@
 //! An admissible specification.
 ghost use Rattle.std.specs.Prelude.{◌≡◌};
-ghost use Rattle.profile.specs.Admissible.{IsAdmissible};
+ghost use Rattle.profile.specs.Admissible.{IsAdmissible, most_slots};
 ghost use Rattle.pagespec.specs.Items.{groups_of};
 
 use crate::item::Item;
@@ -19,18 +19,18 @@ impl Model for Spec {
 
     ghost Value = { Spec };
 
-    ghost use Rattle.profile.specs.Admissible.{IsAdmissible};
+    ghost use Rattle.profile.specs.Admissible.{IsAdmissible, most_slots};
     ghost use Rattle.pagespec.specs.Items.{groups_of};
 
     ghost view = { λ s. record { modulo = s.modulo; groups = groups_of s.groups.items } };
 
-    ghost invariant = { λ s. IsAdmissible 64 (record { modulo = s.modulo; groups = groups_of s.groups.items }) };
+    ghost invariant = { λ s. IsAdmissible most_slots (record { modulo = s.modulo; groups = groups_of s.groups.items }) };
 }
 
 impl Spec {
     /// The specification of this modulo and these groups.
     pub(crate) fn new(modulo: u32, groups: Vec<Vec<Item>>) -> Spec
-        requires { IsAdmissible 64 (record { modulo = modulo; groups = groups_of groups.items }) }
+        requires { IsAdmissible most_slots (record { modulo = modulo; groups = groups_of groups.items }) }
         ensures { result ≡ record { modulo = modulo; groups = groups_of groups.items } }
     {
         Spec { modulo, groups }
@@ -39,7 +39,7 @@ impl Spec {
     /// How many pages a block has, at least 1.
     pub fn modulo(&self) -> u32
         ensures value { result ≡ self.now.modulo }
-        ensures admissible { IsAdmissible 64 self.now }
+        ensures admissible { IsAdmissible most_slots self.now }
     {
         self.modulo
     }
@@ -47,7 +47,7 @@ impl Spec {
     /// The groups in order; each is one sheet of every block, and has its items in the order in which they are drawn.
     pub fn groups(&self) -> &[Vec<Item>]
         ensures items { groups_of result.now ≡ self.now.groups }
-        ensures admissible { IsAdmissible 64 self.now }
+        ensures admissible { IsAdmissible most_slots self.now }
     {
         self.groups.as_slice()
     }

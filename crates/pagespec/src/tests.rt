@@ -117,10 +117,11 @@ fn items(alloc: Global, count: usize, between: &str) -> Result<String, AllocErro
 }
 
 #[test]
-fn sixty_four_slots_and_ten_thousand_groups(rt: HostRuntime) {
+fn most_slots_and_most_groups(rt: HostRuntime) {
     let limits = [
-        (64, "+", None),
-        (65, "+", Some(SpecError::TooManySlots(0))),
+        (65, "+", None),
+        (4_096, "+", None),
+        (4_097, "+", Some(SpecError::TooManySlots(0))),
         (10_000, ",", None),
         (10_001, ",", Some(SpecError::TooManyGroups)),
     ];

@@ -2,7 +2,7 @@
 ghost use Rattle.std.specs.Prelude.{◌≡◌, ◌&&◌, ◌∷◌, ◌++◌, [], ◌≤◌, decimal, map, flat_map, IfOk, OnOk, string_bytes};
 ghost use Rattle.std.specs.Str.{IsAscii};
 ghost use Rattle.profile.specs.Bytes.{comma, plus_sign};
-ghost use Rattle.profile.specs.Admissible.{Takes};
+ghost use Rattle.profile.specs.Admissible.{Takes, most_slots};
 ghost use Rattle.profile.specs.Specification as profile;
 ghost use Rattle.pagespec.specs.Items.{measure_of, turn_of, item_of, groups_of, group_text, groups_text};
 ghost use Rattle.lengths.specs.Units.{length_unit};
@@ -17,7 +17,7 @@ use std::alloc::{AllocError, Global};
 /// where it isn't 1, page numbers without leading zeros, one letter for a turn, and no scale, offset or unit that changes nothing.
 pub fn write_spec(alloc: Global, spec: &Spec) -> Result<String, AllocError>
     ensures canonical { IfOk result (λ text. string_bytes text ≡ profile.canonical spec.now) }
-    ensures taken { IfOk result (λ text. Takes 64 (string_bytes text) spec.now) }
+    ensures taken { IfOk result (λ text. Takes most_slots (string_bytes text) spec.now) }
 {
     let mut out = Vec::new(alloc);
     append_modulo(spec.modulo(), &mut out)?;

@@ -10,6 +10,7 @@ use Rattle.std.proofs.lemmas.Nat.{mul-le}
 use Rattle.std.proofs.lemmas.Option.{slice_get-map, get_or_from_slice_get, slice_get_within}
 use Rattle.pagespec.specs.declared.item.Item.{Item as PageItem}
 use Rattle.pagespec.specs.Items.{groups_of, item_of}
+use Rattle.profile.specs.Admissible.{most_groups, most_slots}
 use Rattle.profile.specs.Specification.{Spec, Item}
 use Rattle.profile.specs.Sheets.{Plan, sheets, place, page_at, blocks}
 use Rattle.profile.proofs.Counts.{sheet_count}
@@ -81,11 +82,11 @@ page_blank spec n count plan s k item at here e is le = page_shown spec n count 
     hidden : (x n : ℕ) → n ≤ x → page_at n x ≡ None
     hidden x n le = grind (arith, nat_tests)
 
--- a block has at most 640,000 slots
-pub few_in_block : (spec : Spec) → IsBounded spec → sum_by length spec.groups ≤ 640_000
+-- a block has at most so many slots
+pub few_in_block : (spec : Spec) → IsBounded spec → sum_by length spec.groups ≤ most_groups * most_slots
 few_in_block spec b =
-    let s = sum_by-le length 64 spec.groups b.narrow in
-    let m = mul-le (length spec.groups) 64 10_000 64 b.few_groups (omega arith) in
+    let s = sum_by-le length most_slots spec.groups b.few_slots in
+    let m = mul-le (length spec.groups) most_slots most_groups most_slots b.few_groups (omega arith) in
     omega arith
 
 -- a vector's length, read off a slice of vectors

@@ -7,7 +7,7 @@ use Rattle.std.proofs.lemmas.List.Sums.{fails_before_first}
 use Rattle.std.proofs.lemmas.List.Elements.{All-nil, All-cons, All-map}
 use Rattle.profile.specs.Bytes.{comma, plus_sign}
 use Rattle.profile.specs.Specification.{IsJoined, IsItem, IsSpec, AreGroups, WrittenSpec, WrittenItem, Spec, settled, settled_item}
-use Rattle.profile.specs.Admissible.{Takes, Fault, TooLarge, ModuloZero, PageOutOfBlock, ScaleZero, Repeated, TooManySlots, TooManyGroups, IsAdmissible, fault_of, else_first, only_if, at_lowest, any_too_large, items, repeats, is_flat}
+use Rattle.profile.specs.Admissible.{Takes, Fault, TooLarge, ModuloZero, PageOutOfBlock, ScaleZero, Repeated, TooManySlots, TooManyGroups, IsAdmissible, fault_of, else_first, only_if, at_lowest, any_too_large, items, repeats, is_flat, most_slots, most_groups}
 use Rattle.std.specs.List.{list_any, position_or_len}
 
 -- a list of checks without a fault
@@ -54,8 +54,8 @@ of_flat P (g ∷ gs) h =
 -- the bounds of an admissible specification
 pub record IsBounded (spec : Spec) : Type 0 where
   pub modulo : 0 < spec.modulo
-  pub few_groups : length spec.groups ≤ 10_000
-  pub narrow : All (λ g. length g ≤ 64) spec.groups
+  pub few_groups : length spec.groups ≤ most_groups
+  pub few_slots : All (λ g. length g ≤ most_slots) spec.groups
   pub paged : All (λ g. All (λ i. i.page < spec.modulo) g) spec.groups
 
 map_all : {X Y : Type 0} (P : Y → Type 0) (f : X → Y) (xs : List X) → All (λ x. P (f x)) xs → All P (map f xs)
@@ -65,10 +65,10 @@ abbrev page_fault : WrittenSpec → Option ℕ
 page_fault w = position (λ i. nat_le w.modulo i.page) (items w)
 
 abbrev wide_fault : WrittenSpec → Option ℕ
-wide_fault w = position (λ g. nat_lt 64 (length g)) w.groups
+wide_fault w = position (λ g. nat_lt most_slots (length g)) w.groups
 
 abbrev from_groups : WrittenSpec → Option Fault
-from_groups w = else_first (at_lowest (wide_fault w) TooManySlots) (only_if (nat_lt 10_000 (length w.groups)) TooManyGroups)
+from_groups w = else_first (at_lowest (wide_fault w) TooManySlots) (only_if (nat_lt most_groups (length w.groups)) TooManyGroups)
 
 abbrev from_repeats : WrittenSpec → Option Fault
 from_repeats w = else_first (at_lowest (position repeats (items w)) Repeated) (from_groups w)
@@ -82,28 +82,28 @@ from_pages w = else_first (at_lowest (page_fault w) PageOutOfBlock) (from_scales
 abbrev from_zero : WrittenSpec → Option Fault
 from_zero w = else_first (only_if (w.modulo == 0) ModuloZero) (from_pages w)
 
-bounded_written : (w : WrittenSpec) → fault_of 64 w ≡ None → IsBounded (settled w)
+bounded_written : (w : WrittenSpec) → fault_of most_slots w ≡ None → IsBounded (settled w)
 bounded_written w e =
     let past_large : from_zero w ≡ None = later_none (only_if (any_too_large w) TooLarge) (from_zero w) e in
     let past_zero : from_pages w ≡ None = later_none (only_if (w.modulo == 0) ModuloZero) (from_pages w) past_large in
     let past_page : from_scales w ≡ None = later_none (at_lowest (page_fault w) PageOutOfBlock) (from_scales w) past_zero in
     let past_scale : from_repeats w ≡ None = later_none (at_lowest (position (λ i. list_any is_flat i.modifiers) (items w)) ScaleZero) (from_repeats w) past_page in
     let past_repeat : from_groups w ≡ None = later_none (at_lowest (position repeats (items w)) Repeated) (from_groups w) past_scale in
-    let wide : wide_fault w ≡ None = not_found (wide_fault w) TooManySlots (first_none (at_lowest (wide_fault w) TooManySlots) (only_if (nat_lt 10_000 (length w.groups)) TooManyGroups) past_repeat) in
-    let many : nat_lt 10_000 (length w.groups) ≡ false = not_met (nat_lt 10_000 (length w.groups)) TooManyGroups (later_none (at_lowest (wide_fault w) TooManySlots) (only_if (nat_lt 10_000 (length w.groups)) TooManyGroups) past_repeat) in
+    let wide : wide_fault w ≡ None = not_found (wide_fault w) TooManySlots (first_none (at_lowest (wide_fault w) TooManySlots) (only_if (nat_lt most_groups (length w.groups)) TooManyGroups) past_repeat) in
+    let many : nat_lt most_groups (length w.groups) ≡ false = not_met (nat_lt most_groups (length w.groups)) TooManyGroups (later_none (at_lowest (wide_fault w) TooManySlots) (only_if (nat_lt most_groups (length w.groups)) TooManyGroups) past_repeat) in
     let zero : (w.modulo == 0) ≡ false = not_met (w.modulo == 0) ModuloZero (first_none (only_if (w.modulo == 0) ModuloZero) (from_pages w) past_large) in
     let page : page_fault w ≡ None = not_found (page_fault w) PageOutOfBlock (first_none (at_lowest (page_fault w) PageOutOfBlock) (from_scales w) past_zero) in
-    let many_groups : length w.groups ≤ 10_000 = at_most 10_000 (length w.groups) many in
-    let wide_none : All (λ (g : List WrittenItem). nat_lt 64 (length g) ≡ false) w.groups = none_passes (λ (g : List WrittenItem). nat_lt 64 (length g)) w.groups wide in
+    let many_groups : length w.groups ≤ most_groups = at_most most_groups (length w.groups) many in
+    let wide_none : All (λ (g : List WrittenItem). nat_lt most_slots (length g) ≡ false) w.groups = none_passes (λ (g : List WrittenItem). nat_lt most_slots (length g)) w.groups wide in
     let page_none : All (λ (i : WrittenItem). nat_le w.modulo i.page ≡ false) (items w) = none_passes (λ (i : WrittenItem). nat_le w.modulo i.page) (items w) page in
     record {
       modulo = grind (arith, nat_tests);
       few_groups = let l = length-map w.groups (λ g. map settled_item g) in omega arith;
-      narrow = map_all (λ g. length g ≤ 64) (λ g. map settled_item g) w.groups (λ k d lt. let l = length-map (get_or w.groups k d) settled_item in let b = at_most _ _ (wide_none k d lt) in omega arith);
+      few_slots = map_all (λ g. length g ≤ most_slots) (λ g. map settled_item g) w.groups (λ k d lt. let l = length-map (get_or w.groups k d) settled_item in let b = at_most _ _ (wide_none k d lt) in omega arith);
       paged = map_all (λ g. All (λ i. i.page < w.modulo) g) (λ g. map settled_item g) w.groups (λ k d lt. map_all (λ i. i.page < w.modulo) settled_item (get_or w.groups k d) (λ j c lt'. below _ _ (of_flat (λ i. nat_le w.modulo i.page ≡ false) w.groups page_none k d lt j c lt')));
     }
 
-pub bounded : (spec : Spec) → IsAdmissible 64 spec → IsBounded spec
+pub bounded : (spec : Spec) → IsAdmissible most_slots spec → IsBounded spec
 bounded spec a =
     let (short, written, stands, faultless, settles) = a.taken in
     subst IsBounded (sym settles) (bounded_written written faultless)
@@ -132,8 +132,8 @@ written_some text w (inr (digits, rest, is, number, groups)) = groups_some rest 
 filled_written : (text : List ℕ) (w : WrittenSpec) → IsSpec text w → All (λ g. 0 < length g) (settled w).groups
 filled_written text w s = map_all (λ g. 0 < length g) (λ g. map settled_item g) w.groups (λ k d lt. let h = written_some text w s k d lt in let l = length-map (get_or w.groups k d) settled_item in omega arith)
 
-pub filled : (spec : Spec) → IsAdmissible 64 spec → All (λ g. 0 < length g) spec.groups
+pub filled : (spec : Spec) → IsAdmissible most_slots spec → All (λ g. 0 < length g) spec.groups
 filled spec a = from_text a.text spec a.taken
   where
-    from_text : (text : List ℕ) (spec : Spec) → Takes 64 text spec → All (λ g. 0 < length g) spec.groups
+    from_text : (text : List ℕ) (spec : Spec) → Takes most_slots text spec → All (λ g. 0 < length g) spec.groups
     from_text text spec (short, written, stands, faultless, settles) = subst (λ (s : Spec). All (λ g. 0 < length g) s.groups) (sym settles) (filled_written text written stands)

@@ -1,5 +1,5 @@
 -- Which slots have no page.
-use Rattle.std.proofs.Common.{arith, ◌≡◌, ℕ, zero, suc, ◌+◌, ◌*◌, ◌^◌, ◌%◌, ◌<◌, ◌≤◌, List, [], ◌∷◌, ◌++◌, length, take, refl, sym, ap, ◌∙◌, subst, Option, Some, None, true, false, Bool, inl, inr, cond}
+use Rattle.std.proofs.Common.{arith, ◌≡◌, ℕ, zero, suc, ◌+◌, ◌-◌, ◌*◌, ◌^◌, ◌%◌, ◌<◌, ◌≤◌, List, [], ◌∷◌, ◌++◌, length, take, refl, sym, ap, ◌∙◌, subst, Option, Some, None, true, false, Bool, inl, inr, cond, min}
 use Rattle.std.specs.Prelude.{if◌then◌else◌, slice_get, is_none, is_some, bit_or, filter}
 use Rattle.std.specs.List.{list_all, range_with_len}
 use Rattle.std.proofs.lemmas.List.{map-id, append-nil}
@@ -32,49 +32,58 @@ page_breaks (suc k) p (Some q ∷ xs) e = refl
 abbrev bit_of : List (Option ℕ) → ℕ → ℕ
 bit_of xs k = if is_page (slice_get xs k) then 1 else 0
 
--- the bits of the slots below k are told, and no others are set
-pub record IsMarked (xs : List (Option ℕ)) (k word : ℕ) : Type 0 where
-  pub told : (j : ℕ) → j < k → bit_at word j ≡ bit_of xs j
-  pub rest : (j : ℕ) → k ≤ j → bit_at word j ≡ 0
+-- the slots from the first one of a group up to k are told by the bits, and no other bits are set
+pub record IsMarked (xs : List (Option ℕ)) (first k word : ℕ) : Type 0 where
+  pub begun : first ≤ k
+  pub told : (j : ℕ) → first + j < k → bit_at word j ≡ bit_of xs (first + j)
+  pub rest : (j : ℕ) → k ≤ first + j → bit_at word j ≡ 0
 
-pub marked_none : (xs : List (Option ℕ)) → IsMarked xs 0 0
-marked_none xs = record { told = λ j lt. absurd (omega arith); rest = λ j le. bit_at-zero j }
+pub marked_none : (xs : List (Option ℕ)) (first : ℕ) → IsMarked xs first first 0
+marked_none xs first = record { begun = omega arith; told = λ j lt. absurd (omega arith); rest = λ j le. bit_at-zero j }
 
-pub marked_page : (xs : List (Option ℕ)) (k p word : ℕ) → IsMarked xs k word → k < 64 → slice_get xs k ≡ Some (Some p) → IsMarked xs (k + 1) (bit_or word (1 * 2 ^ k % 2 ^ 64))
-marked_page xs k p word m in64 e =
+pub marked_page : (xs : List (Option ℕ)) (first k p word : ℕ) → IsMarked xs first k word → k < first + 64 → slice_get xs k ≡ Some (Some p)
+    → IsMarked xs first (k + 1) (bit_or word (1 * 2 ^ (k - first) % 2 ^ 64))
+marked_page xs first k p word m in64 e =
     record {
-      told = λ j lt. elim (cases_eq j k) [
+      begun = let b = m.begun in omega arith;
+      told = λ j lt. elim (cases_eq (first + j) k) [
         | inl same ↦ at_k j same
-        | inr other ↦ bit_at_set_other w64 word k in64 j other ∙ m.told j (less j k (omega arith) other)
+        | inr other ↦ bit_at_set_other w64 word (k - first) low j (λ same. let b = m.begun in other (omega arith)) ∙ m.told j (less (first + j) k (omega arith) other)
       ];
-      rest = λ j le. bit_at_set_other w64 word k in64 j (λ same. omega arith) ∙ m.rest j (omega arith);
+      rest = λ j le. bit_at_set_other w64 word (k - first) low j (λ same. let b = m.begun in omega arith) ∙ m.rest j (omega arith);
     }
   where
+    low : k - first < 64
+    low = let b = m.begun in omega arith
+
     less : (a b : ℕ) → a ≤ b → (a ≡ b → ⊥) → a < b
     less a b le ne = elim (cases_lt a b) [ inl lt ↦ lt | inr ge ↦ absurd (ne (omega arith)) ]
 
-    at_k : (j : ℕ) → j ≡ k → bit_at (bit_or word (1 * 2 ^ k % 2 ^ 64)) j ≡ bit_of xs j
+    at_k : (j : ℕ) → first + j ≡ k → bit_at (bit_or word (1 * 2 ^ (k - first) % 2 ^ 64)) j ≡ bit_of xs (first + j)
     at_k j same =
-        ap (bit_at (bit_or word (1 * 2 ^ k % 2 ^ 64))) same ∙ bit_at_set_same w64 word k in64
+        let here : j ≡ k - first = omega arith in
+        ap (bit_at (bit_or word (1 * 2 ^ (k - first) % 2 ^ 64))) here ∙ bit_at_set_same w64 word (k - first) low
         ∙ sym (ap (bit_of xs) same ∙ ap (λ o. if is_page o then 1 else 0) e)
 
-pub marked_blank : (xs : List (Option ℕ)) (k word : ℕ) → IsMarked xs k word → slice_get xs k ≡ Some None → IsMarked xs (k + 1) word
-marked_blank xs k word m e =
+pub marked_blank : (xs : List (Option ℕ)) (first k word : ℕ) → IsMarked xs first k word → slice_get xs k ≡ Some None → IsMarked xs first (k + 1) word
+marked_blank xs first k word m e =
     record {
-      told = λ j lt. elim (cases_lt j k) [
+      begun = let b = m.begun in omega arith;
+      told = λ j lt. elim (cases_lt (first + j) k) [
         | inl low ↦ m.told j low
         | inr high ↦ at_k j (omega arith)
       ];
       rest = λ j le. m.rest j (omega arith);
     }
   where
-    at_k : (j : ℕ) → j ≡ k → bit_at word j ≡ bit_of xs j
+    at_k : (j : ℕ) → first + j ≡ k → bit_at word j ≡ bit_of xs (first + j)
     at_k j same = m.rest j (omega arith) ∙ sym (ap (bit_of xs) same ∙ ap (λ o. if is_page o then 1 else 0) e)
 
-pub marked_all : (xs : List (Option ℕ)) (k word : ℕ) → IsMarked xs k word → length xs ≤ k → (j : ℕ) → bit_at word j ≡ bit_of xs j
-marked_all xs k word m le j = elim (cases_lt j k) [
+-- up to the end of the group or of the sheet
+pub marked_all : (xs : List (Option ℕ)) (first k end word : ℕ) → IsMarked xs first k word → end ≡ min (length xs) (first + 64) → end ≤ k → (j : ℕ) → j < 64 → bit_at word j ≡ bit_of xs (first + j)
+marked_all xs first k end word m is le j in64 = elim (cases_lt (first + j) k) [
   | inl low ↦ m.told j low
-  | inr high ↦ m.rest j high ∙ sym (ap (λ o. if is_page o then 1 else 0) (slice_get_past xs j (omega arith)))
+  | inr high ↦ m.rest j high ∙ sym (ap (λ o. if is_page o then 1 else 0) (slice_get_past xs (first + j) (omega arith)))
 ]
 
 -- ---- by the test of a slot
@@ -86,13 +95,14 @@ pub some_breaks : (k : ℕ) (o : Option ℕ) (xs : List (Option ℕ)) → slice_
 some_breaks k None xs e b = cc
 some_breaks k (Some p) xs e b = page_breaks k p xs e
 
-pub marked_some : (xs : List (Option ℕ)) (k word : ℕ) (o : Option ℕ) → IsMarked xs k word → k < 64 → slice_get xs k ≡ Some o → is_some o ≡ true → IsMarked xs (k + 1) (bit_or word (1 * 2 ^ k % 2 ^ 64))
-marked_some xs k word None m in64 e b = cc
-marked_some xs k word (Some p) m in64 e b = marked_page xs k p word m in64 e
+pub marked_some : (xs : List (Option ℕ)) (first k word : ℕ) (o : Option ℕ) → IsMarked xs first k word → k < first + 64 → slice_get xs k ≡ Some o → is_some o ≡ true
+    → IsMarked xs first (k + 1) (bit_or word (1 * 2 ^ (k - first) % 2 ^ 64))
+marked_some xs first k word None m in64 e b = cc
+marked_some xs first k word (Some p) m in64 e b = marked_page xs first k p word m in64 e
 
-pub unmarked : (xs : List (Option ℕ)) (k word : ℕ) (o : Option ℕ) → IsMarked xs k word → slice_get xs k ≡ Some o → is_some o ≡ false → IsMarked xs (k + 1) word
-unmarked xs k word None m e b = marked_blank xs k word m e
-unmarked xs k word (Some p) m e b = cc
+pub unmarked : (xs : List (Option ℕ)) (first k word : ℕ) (o : Option ℕ) → IsMarked xs first k word → slice_get xs k ≡ Some o → is_some o ≡ false → IsMarked xs first (k + 1) word
+unmarked xs first k word None m e b = marked_blank xs first k word m e
+unmarked xs first k word (Some p) m e b = cc
 
 -- ---- the sheets born complete
 more : (p : ℕ → Bool) (n : ℕ) → filter p (range_with_len 0 (n + 1)) ≡ filter p (range_with_len 0 n) ++ cond (p n) (n ∷ []) []

@@ -63,11 +63,11 @@ sound spec n a =
       few_pages = a.few_pages;
       few_sheets = a.few_sheets;
       few_places = a.few_places;
-      narrow = λ s lt.
+      few_slots = λ s lt.
           let at = is_sheet spec n s lt in
           let count = slot_count spec n s lt in
           let filled = a.filled (s % length spec.groups) [] at.group in
-          let thin = b.narrow (s % length spec.groups) [] at.group in
+          let thin = b.few_slots (s % length spec.groups) [] at.group in
           (omega arith, omega arith);
       paged = paged_at spec n;
     }

@@ -8,7 +8,7 @@ use Rattle.std.proofs.lemmas.List.{length-map}
 use Rattle.pagespec.specs.declared.item.Item.{Item as PageItem}
 use Rattle.pagespec.specs.Items.{groups_of, item_of}
 use Rattle.profile.specs.Specification.{Spec}
-use Rattle.profile.specs.Admissible.{IsAdmissible}
+use Rattle.profile.specs.Admissible.{IsAdmissible, most_slots, most_groups}
 use Rattle.profile.specs.Sheets.{Slot, sheets, blocks}
 use Rattle.profile.specs.Run.{plan_of, refuse_if, PlanFault, PlanTooManyPages, TooManySheets, TooManyPlaces}
 use Rattle.profile.proofs.Counts.{sheet_count}
@@ -62,12 +62,12 @@ pub record IsCounted (spec : Spec) (n modulo many : ℕ) (groups : List (Vec Pag
   pub same : spec_of modulo groups ≡ spec
   pub ceil : many ≡ blocks modulo n
   pub few_blocks : many ≤ n
-  pub few_groups : length groups ≤ 10_000
-  pub few_slots : sum_by length (groups_of groups) ≤ 640_000
+  pub few_groups : length groups ≤ most_groups
+  pub few_slots : sum_by length (groups_of groups) ≤ most_groups * most_slots
   pub sheet_total : many * length groups ≡ length (sheets spec n)
   pub place_total : many * sum_by length (groups_of groups) ≡ sum_by length (sheets spec n)
 
-counted_fields : (n modulo many : ℕ) (groups : List (Vec PageItem Global)) → IsAdmissible 64 (spec_of modulo groups) → many ≡ n / modulo + min 1 (n % modulo) → IsCounted (spec_of modulo groups) n modulo many groups
+counted_fields : (n modulo many : ℕ) (groups : List (Vec PageItem Global)) → IsAdmissible most_slots (spec_of modulo groups) → many ≡ n / modulo + min 1 (n % modulo) → IsCounted (spec_of modulo groups) n modulo many groups
 counted_fields n modulo many groups admissible is =
     let spec = spec_of modulo groups in
     let b = bounded spec admissible in
@@ -87,11 +87,11 @@ counted_fields n modulo many groups admissible is =
 same_fields : (spec : Spec) (modulo : ℕ) (groups : List (Vec PageItem Global)) → modulo ≡ spec.modulo → groups_of groups ≡ spec.groups → spec_of modulo groups ≡ spec
 same_fields spec modulo groups m g = ap (λ k. record { modulo = k; groups = groups_of groups }) m ∙ ap (λ gs. record { modulo = spec.modulo; groups = gs }) g
 
-pub counted : (spec : Spec) (n modulo many : ℕ) (groups : List (Vec PageItem Global)) → modulo ≡ spec.modulo → groups_of groups ≡ spec.groups → IsAdmissible 64 spec → many ≡ n / modulo + min 1 (n % modulo) → IsCounted spec n modulo many groups
+pub counted : (spec : Spec) (n modulo many : ℕ) (groups : List (Vec PageItem Global)) → modulo ≡ spec.modulo → groups_of groups ≡ spec.groups → IsAdmissible most_slots spec → many ≡ n / modulo + min 1 (n % modulo) → IsCounted spec n modulo many groups
 counted spec n modulo many groups m g admissible is =
     let same = same_fields spec modulo groups m g in
-    subst (λ s. IsCounted s n modulo many groups) same (counted_fields n modulo many groups (subst (IsAdmissible 64) (sym same) admissible) is)
+    subst (λ s. IsCounted s n modulo many groups) same (counted_fields n modulo many groups (subst (IsAdmissible most_slots) (sym same) admissible) is)
 
 -- an accepted specification, by its fields
-pub accepted_fields : (spec : Spec) (n modulo : ℕ) (groups : List (Vec PageItem Global)) → spec_of modulo groups ≡ spec → IsAdmissible 64 spec → All (λ g. 0 < length g) spec.groups → n ≤ 1_000_000 → length (sheets spec n) ≤ 1_000_000 → sum_by length (sheets spec n) ≤ 4_000_000 → IsAccepted (spec_of modulo groups) n
+pub accepted_fields : (spec : Spec) (n modulo : ℕ) (groups : List (Vec PageItem Global)) → spec_of modulo groups ≡ spec → IsAdmissible most_slots spec → All (λ g. 0 < length g) spec.groups → n ≤ 1_000_000 → length (sheets spec n) ≤ 1_000_000 → sum_by length (sheets spec n) ≤ 4_000_000 → IsAccepted (spec_of modulo groups) n
 accepted_fields spec n modulo groups same admissible filled le few fit = subst (λ s. IsAccepted s n) (sym same) (record { admissible = admissible; filled = filled; few_pages = le; few_sheets = few; few_places = fit })

@@ -1,7 +1,7 @@
 -- What is read off a plan, and what every plan keeps to.
-use Rattle.std.specs.Prelude.{◌≡◌, ℕ, ◌<◌, ◌≤◌, Bool, true, false, List, [], length, map, Option, Some, None, slice_get, slice_index_or, sum_by}
+use Rattle.std.specs.Prelude.{◌≡◌, ℕ, ◌+◌, ◌/◌, ◌<◌, ◌≤◌, Bool, true, false, List, [], length, map, Option, Some, None, slice_get, slice_index_or, sum_by}
 use Rattle.profile.specs.Specification.{Spec, Item}
-use Rattle.profile.specs.Admissible.{IsAdmissible}
+use Rattle.profile.specs.Admissible.{IsAdmissible, most_slots}
 use Rattle.profile.specs.Sheets.{Plan, sheets, layout}
 
 -- the plan of a specification on n pages
@@ -16,6 +16,10 @@ pages_on plan s = slice_index_or (layout plan).sheets s []
 abbrev pub items_on : Plan → ℕ → List Item
 items_on plan s = map (λ slot. slot.item) (slice_index_or plan.sheets s [])
 
+-- how many slot groups a sheet has: one for each 64 slots, and a last one for those that are left
+abbrev pub slot_groups : Plan → ℕ → ℕ
+slot_groups plan s = (length (pages_on plan s) + 63) / 64
+
 abbrev pub is_page : Option (Option ℕ) → Bool
 is_page None = false
 is_page (Some None) = false
@@ -25,16 +29,16 @@ is_page (Some (Some p)) = true
 abbrev pub needs_page : Plan → (sheet k : ℕ) → Bool
 needs_page plan s k = is_page (slice_get (pages_on plan s) k)
 
--- the limits of every plan: a sheet has 1 to 64 slots, and each slot that isn't blank has one of the plan's pages
+-- the limits of every plan: a sheet has 1 to `most_slots` slots, and each slot that isn't blank has one of the plan's pages
 pub record IsSound (plan : Plan) : Type 0 where
   pub few_pages : plan.pages ≤ 1_000_000
   pub few_sheets : length plan.sheets ≤ 1_000_000
   pub few_places : sum_by length plan.sheets ≤ 4_000_000
-  pub narrow : (s : ℕ) → s < length plan.sheets → (0 < length (pages_on plan s)) × (length (pages_on plan s) ≤ 64)
+  pub few_slots : (s : ℕ) → s < length plan.sheets → (0 < length (pages_on plan s)) × (length (pages_on plan s) ≤ most_slots)
   pub paged : (s k p : ℕ) → s < length plan.sheets → slice_get (pages_on plan s) k ≡ Some (Some p) → p < plan.pages
 
 -- some admissible specification has these sheets on the plan's pages
 pub record IsOfSpec (plan : Plan) : Type 0 where
   pub spec : Spec
-  pub admissible : IsAdmissible 64 spec
+  pub admissible : IsAdmissible most_slots spec
   pub same : plan ≡ planned spec plan.pages

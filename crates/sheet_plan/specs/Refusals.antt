@@ -1,7 +1,7 @@
 -- Which specifications are planned, and why the others are refused.
 use Rattle.std.specs.Prelude.{◌≡◌, ℕ, ◌<◌, ◌≤◌, Ok, Err, length, sum_by, All}
 use Rattle.profile.specs.Specification.{Spec}
-use Rattle.profile.specs.Admissible.{IsAdmissible}
+use Rattle.profile.specs.Admissible.{IsAdmissible, most_slots}
 use Rattle.profile.specs.Sheets.{sheets}
 use Rattle.profile.specs.Run.{plan_of, PlanTooManyPages}
 use Rattle.profile.specs.Run as profile
@@ -17,7 +17,7 @@ Refuses spec n NoMemory = plan_of spec n ≡ Ok (sheets spec n)
 
 -- the specification is admissible, and the limits of a plan hold on n pages
 pub record IsAccepted (spec : Spec) (n : ℕ) : Type 0 where
-  pub admissible : IsAdmissible 64 spec
+  pub admissible : IsAdmissible most_slots spec
   pub filled : All (λ g. 0 < length g) spec.groups
   pub few_pages : n ≤ 1_000_000
   pub few_sheets : length (sheets spec n) ≤ 1_000_000

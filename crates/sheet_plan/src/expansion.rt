@@ -1,5 +1,6 @@
 //! A specification expanded over a number of pages, from either end. Nothing of the sheets is stored: each slot is computed.
 ghost use Rattle.std.specs.Prelude.{◌≡◌, ◌≢◌, ℕ, ◌+◌, ◌-◌, ◌*◌, ◌^◌, ◌<◌, ◌≤◌, length, map, Some, Err, IfOk, IfErr, slice_get, slice_index_or, sum_by, [], ◌%◌};
+ghost use Rattle.profile.specs.Admissible.{most_groups, most_slots};
 ghost use Rattle.profile.specs.Run.{plan_of};
 ghost use Rattle.profile.specs.Sheets.{blocks as blocks_of, place};
 ghost use Rattle.pagespec.specs.Items.{item_of, groups_of};
@@ -56,7 +57,7 @@ fn slots_in_block(groups: &[Vec<Item>]) -> u64
 /// The item of a slot: a group has one sheet in each block.
 fn item_at<'s>(groups: &'s [Vec<Item>], sheet: u32, slot: u16) -> &'s Item
     requires some { 0 < length groups.now }
-    requires few { length groups.now ≤ 10_000 }
+    requires few { length groups.now ≤ most_groups }
     requires slot { slot < length (slice_index_or (groups_of groups.now) (sheet % length groups.now) []) }
     ensures { slice_get (slice_index_or (groups_of groups.now) (sheet % length groups.now) []) slot ≡ Some (item_of result.now) }
 {
@@ -125,7 +126,7 @@ impl<'s> Expansion<'s> {
         requires { sheet < length self.now.sheets }
         ensures value { result ≡ length (pages_on self.now sheet) }
         ensures some { 0 < result }
-        ensures few { result ≤ 64 }
+        ensures few { result ≤ most_slots }
     {
         self.groups[(sheet % self.groups.len() as u32) as usize].len() as u16
     }

@@ -1,11 +1,12 @@
 //! The plan of a specification on a number of pages.
-ghost use Rattle.std.specs.Prelude.{◌≡◌, ℕ, ◌<◌, ◌≤◌, if◌then◌else◌, length, map, Ok, OnOk, IfOk, IfErr, Some, slice_get};
+ghost use Rattle.std.specs.Prelude.{◌≡◌, ℕ, ◌+◌, ◌*◌, ◌<◌, ◌≤◌, if◌then◌else◌, length, map, Ok, OnOk, IfOk, IfErr, Some, slice_get};
 ghost use Rattle.std.specs.Int.{bit_at};
 ghost use Rattle.std.specs.List.{range_with_len};
+ghost use Rattle.profile.specs.Admissible.{most_slots};
 ghost use Rattle.profile.specs.Run.{plan_of};
 ghost use Rattle.profile.specs.Sheets.{layout, sheets};
 ghost use Rattle.pagespec.specs.Items.{item_of};
-ghost use Rattle.sheet_plan.specs.Plans.{planned, pages_on, items_on, needs_page, IsSound, IsOfSpec};
+ghost use Rattle.sheet_plan.specs.Plans.{planned, pages_on, items_on, slot_groups, needs_page, IsSound, IsOfSpec};
 ghost use Rattle.sheet_plan.specs.Places.{places_of, born_complete};
 ghost use Rattle.sheet_plan.specs.Refusals.{Refuses};
 
@@ -78,12 +79,12 @@ impl<'s> Plan<'s> {
         self.expansion.sheets()
     }
 
-    /// How many slots a sheet has, blank ones counted: 1 to 64.
+    /// How many slots a sheet has, blank ones counted: 1 to 4,096.
     pub fn slots(&self, sheet: u32) -> u16
         requires { sheet < length self.now.sheets }
         ensures value { result ≡ length (pages_on self.now sheet) }
         ensures some { 0 < result }
-        ensures few { result ≤ 64 }
+        ensures few { result ≤ most_slots }
     {
         self.expansion.slots(sheet)
     }
@@ -106,15 +107,19 @@ impl<'s> Plan<'s> {
         self.expansion.item_of(sheet, slot)
     }
 
-    /// The slots of a sheet that aren't blank: bit k is set for slot k.
-    pub fn missing_at_start(&self, sheet: u32) -> u64
-        requires { sheet < length self.now.sheets }
-        ensures bits { (k : ℕ) → bit_at result k ≡ (if needs_page self.now sheet k then 1 else 0) }
+    /// The slots of a slot group that aren't blank: bit j is set for slot `64 * group + j`. A sheet has a slot group
+    /// for each 64 slots, and a last one for those that are left; so one of up to 64 slots has group 0 alone.
+    pub fn missing_at_start(&self, sheet: u32, group: u8) -> u64
+        requires sheet { sheet < length self.now.sheets }
+        requires group { group < slot_groups self.now sheet }
+        ensures bits { (j : ℕ) → j < 64 → bit_at result j ≡ (if needs_page self.now sheet (64 * group + j) then 1 else 0) }
     {
+        let first = 64 * u16::from(group);
+        let end = self.slots(sheet).min(first + 64);
         let mut missing = 0u64;
-        for slot in 0..self.slots(sheet) {
+        for slot in first..end {
             if self.page_of(sheet, slot).is_some() {
-                missing |= 1 << slot;
+                missing |= 1 << (slot - first);
             }
         }
         missing

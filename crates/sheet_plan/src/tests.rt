@@ -75,13 +75,53 @@ fn blank_slots(rt: HostRuntime) -> Result<(), Fail> {
     let plan = Plan::new(alloc, &booklet, 5)?;
     assert_eq!(rt; plan.sheets(), 4);
     for (sheet, missing) in [(0, 2), (1, 1), (2, 3), (3, 2)] {
-        assert_eq!(rt; plan.missing_at_start(sheet), missing, "sheet {sheet}");
+        assert_eq!(rt; plan.missing_at_start(sheet, 0), missing, "sheet {sheet}");
     }
     assert_eq!(rt; plan.born_complete().len(), 0);
 
     let four = read_spec(alloc, "4:0,1,2,3")?;
     let plan = Plan::new(alloc, &four, 5)?;
     assert_eq!(rt; plan.born_complete(), [5, 6, 7].as_slice());
+    Ok(())
+}
+
+/// So many times this, a plus behind each, and then the last item.
+fn joined(alloc: Global, front: &str, many: usize, item: &str, last: &str) -> Result<String, AllocError> {
+    let mut text = String::from_str(alloc, front)?;
+    for _ in 0..many {
+        text.push_str(item)?;
+        text.push_str("+")?;
+    }
+    text.push_str(last)?;
+    Ok(text)
+}
+
+#[test]
+fn slot_groups(rt: HostRuntime) -> Result<(), Fail> {
+    let alloc = rt.alloc();
+    let text = joined(alloc, "2:", 64, "1", "0")?;
+    let spec = read_spec(alloc, text.as_str())?;
+    let plan = Plan::new(alloc, &spec, 1)?;
+    assert_eq!(rt; plan.sheets(), 1);
+    assert_eq!(rt; plan.slots(0), 65);
+    assert_eq!(rt; plan.missing_at_start(0, 0), 0);
+    assert_eq!(rt; plan.missing_at_start(0, 1), 1);
+    assert_eq!(rt; plan.slots_of_page(0), [(0, 64)].as_slice());
+    assert_eq!(rt; plan.born_complete().len(), 0);
+    Ok(())
+}
+
+#[test]
+fn most_slots(rt: HostRuntime) -> Result<(), Fail> {
+    let alloc = rt.alloc();
+    let text = joined(alloc, "", 4_095, "0", "0")?;
+    let spec = read_spec(alloc, text.as_str())?;
+    let plan = Plan::new(alloc, &spec, 1)?;
+    assert_eq!(rt; plan.sheets(), 1);
+    assert_eq!(rt; plan.slots(0), 4_096);
+    for group in 0..64 {
+        assert_eq!(rt; plan.missing_at_start(0, group), u64::MAX, "group {group}");
+    }
     Ok(())
 }
 

@@ -8,7 +8,7 @@ use Rattle.std.proofs.lemmas.List.Elements.{All-nil, All-cons}
 use Rattle.profile.specs.Numbers.{number_of}
 use Rattle.profile.specs.Specification.{Spec, settled}
 use Rattle.profile.specs.Sheets.{blocks, sheets}
-use Rattle.profile.specs.Admissible.{Refuses, Takes, TooLong}
+use Rattle.profile.specs.Admissible.{Refuses, Takes, TooLong, most_slots}
 use Rattle.profile.specs.Units.{cut, ◌>>=◌}
 use Rattle.profile.specs.Parts.{NestedUnit, nested, pages}
 use Rattle.profile.specs.Run.{refuse_if, of_block, document_of, InputTooLong, NotPostScript, with_pages, InputTooManyPages, NoPages, plan_of, PlanTooManyPages, TooManySheets, TooManyPlaces}
@@ -28,11 +28,11 @@ passed : {A E : Type 0} (b : Bool) (e : E) (next : Result A E) → b ≡ false �
 passed b e next h = rw h refl
 
 -- a specification of 65,537 bytes
-long_specification : (text : List ℕ) → length text ≡ 65_537 → Refuses 64 text TooLong
+long_specification : (text : List ℕ) → length text ≡ 65_537 → Refuses most_slots text TooLong
 long_specification text h = omega (arith, h)
 
 -- one of 65,536 isn't too long
-longest_specification : (text : List ℕ) → length text ≡ 65_536 → Refuses 64 text TooLong → ⊥
+longest_specification : (text : List ℕ) → length text ≡ 65_536 → Refuses most_slots text TooLong → ⊥
 longest_specification text h long = omega (arith, h, long)
 
 -- one of 65,536 zeros is taken, and comes to page 0
@@ -47,7 +47,7 @@ zeros_value (suc n) = zeros_value n
 zeros_some : (n : ℕ) → 0 < n → replicate {A = ℕ} n 48 ≢ []
 zeros_some n h e = omega (arith, h, length-replicate {A = ℕ} n 48, ap length e)
 
-longest_taken : (n : ℕ) → n ≡ 65_536 → Takes 64 (replicate n 48) (settled (written 1 ((item false 0 [] ∷ []) ∷ [])))
+longest_taken : (n : ℕ) → n ≡ 65_536 → Takes most_slots (replicate n 48) (settled (written 1 ((item false 0 [] ∷ []) ∷ [])))
 longest_taken n h = (
   omega (arith, h, length-replicate {A = ℕ} n 48),
   written 1 ((item false 0 [] ∷ []) ∷ []),

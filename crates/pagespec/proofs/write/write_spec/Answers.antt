@@ -1,5 +1,5 @@
 use Rattle.std.proofs.Common.{subst, sym, ◌∙◌}
-use Rattle.profile.specs.Admissible.{Takes}
+use Rattle.profile.specs.Admissible.{Takes, most_slots}
 use Rattle.pagespec.proofs.Canonical.{canonical_taken}
 use Rattle.std.specs.Str.{IsAscii}
 use Rattle.pagespec.proofs.Ascii.{canonical_ascii}
@@ -14,7 +14,7 @@ ascii_text-requires c =
 
 pub returns-clause-taken : goal.returns-clause-taken
 returns-clause-taken c =
-    subst (λ t. Takes 64 t c.args.spec.now)
+    subst (λ t. Takes most_slots t c.args.spec.now)
     (sym (c.ascii_text.ensures
     ∙ canonical_is c.args.spec.now _ _ _ _ _ c.new-out.ensures.items c.in_ok-append_modulo.ensures c.in_ok-append_groups.ensures c.modulo.ensures.value c.groups.ensures.items))
     (canonical_taken c.modulo.ensures.admissible.text c.args.spec.now c.modulo.ensures.admissible.taken)

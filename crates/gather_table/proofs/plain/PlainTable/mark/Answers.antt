@@ -1,19 +1,35 @@
-use Rattle.std.proofs.Common.{refl, ◌^◌}
+use Rattle.std.proofs.Common.{arith, rules, ◌/◌, ◌%◌}
 use Rattle.std.proofs.lemmas.Nat.{one_shl}
-use Rattle.gather_table.proofs.Stored.{slot_narrow, still_plain, state_marked, replied}
+use Rattle.gather_table.proofs.Stored.{in_row, word_at, plain_marked, marked_state, mark_told}
 use Rattle.gather_table.proofs.plain.PlainTable.mark.Goals as goal
+
+pub overflow_add-word : goal.overflow_add-word
+overflow_add-word c =
+    let k = in_row _ _ _ c.self.view_is c.self.invariant _ c.requires.sheet _ c.requires.slot in
+    let w = (word_at _ _ _ c.self.view_is c.self.invariant _ c.requires.sheet _ c.index.ensures (c.args.slot / 64) (omega arith)).1 in
+    search rules
+
+pub index-marked-requires : goal.index-marked-requires
+index-marked-requires c =
+    let k = in_row _ _ _ c.self.view_is c.self.invariant _ c.requires.sheet _ c.requires.slot in
+    let w = (word_at _ _ _ c.self.view_is c.self.invariant _ c.requires.sheet _ c.index.ensures (c.args.slot / 64) (omega arith)).0 in
+    omega arith
+
+pub index_mut-requires : goal.index_mut-requires
+index_mut-requires c =
+    let k = in_row _ _ _ c.self.view_is c.self.invariant _ c.requires.sheet _ c.requires.slot in
+    let w = (word_at _ _ _ c.self.view_is c.self.invariant _ c.requires.sheet _ c.index.ensures (c.args.slot / 64) (omega arith)).0 in
+    omega arith
 
 pub invariant_of-self : goal.invariant_of-self
 invariant_of-self c =
-    let narrow = slot_narrow _ _ _ _ c.self.view_is c.self.invariant _ c.requires.sheet _ _ c.slots.result c.index-marked.ensures c.slots.ensures.value c.full_bits-full.ensures _ (2 ^ c.args.slot) c.requires.slot refl in
-    still_plain _ _ _ _ c.self.view_is c.self.invariant _ c.requires.sheet _ _ c.slots.result c.index-marked.ensures c.slots.ensures.value c.full_bits-full.ensures _ _ c.requires.slot (one_shl c.args.slot 64 narrow)
+    plain_marked _ _ _ c.self.view_is c.self.invariant _ c.requires.sheet _ c.index.ensures _ _ _ c.requires.slot c.index-marked.ensures (one_shl (c.args.slot % 64) 64 (omega arith))
 
 pub returns-clause-reply : goal.returns-clause-reply
 returns-clause-reply c =
-    let narrow = slot_narrow _ _ _ _ c.self.view_is c.self.invariant _ c.requires.sheet _ _ c.slots.result c.index-marked.ensures c.slots.ensures.value c.full_bits-full.ensures _ (2 ^ c.args.slot) c.requires.slot refl in
-    replied _ _ _ _ c.self.view_is c.self.invariant _ c.requires.sheet _ _ c.slots.result c.index-marked.ensures c.slots.ensures.value c.full_bits-full.ensures _ _ c.requires.slot (one_shl c.args.slot 64 narrow) _ c.reply_by.ensures
+    mark_told _ _ _ c.self.view_is c.self.invariant _ c.requires.sheet _ c.index.ensures _ _ _ c.requires.slot c.index-marked.ensures (one_shl (c.args.slot % 64) 64 (omega arith))
+    _ _ _ _ _ c.slots-slots.ensures.value c.group_size.ensures c.full_bits-full.ensures c.reply_by.ensures c.reply_for.ensures
 
 pub returns-clause-state : goal.returns-clause-state
 returns-clause-state c =
-    let narrow = slot_narrow _ _ _ _ c.self.view_is c.self.invariant _ c.requires.sheet _ _ c.slots.result c.index-marked.ensures c.slots.ensures.value c.full_bits-full.ensures _ (2 ^ c.args.slot) c.requires.slot refl in
-    state_marked _ _ _ _ c.self.view_is c.self.invariant _ c.requires.sheet _ _ c.slots.result c.index-marked.ensures c.slots.ensures.value c.full_bits-full.ensures _ _ c.requires.slot (one_shl c.args.slot 64 narrow)
+    marked_state _ _ _ c.self.view_is c.self.invariant _ c.requires.sheet _ c.index.ensures _ _ _ c.requires.slot c.index-marked.ensures (one_shl (c.args.slot % 64) 64 (omega arith))

@@ -1,15 +1,11 @@
-use Rattle.std.proofs.Common.{rules, arith, true, false, sym, ap, ◌∙◌, subst, ◌≡◌, ◌<◌, ◌≤◌, ◌+◌, ◌-◌, ◌*◌, ◌/◌, ◌%◌, ◌^◌, length}
+use Rattle.std.proofs.Common.{arith, sym, ap, ◌∙◌, subst, ◌+◌, ◌-◌, ◌/◌, ◌^◌}
 use Rattle.std.proofs.lemmas.Nat.{one_shl}
 use Rattle.profile.specs.Sheets.{Layout, layout as layout_of}
-use Rattle.gather_table.specs.declared.lane.Home.{Home}
-use Rattle.gather_table.specs.Table.{slot_count, is_wide, is_full, group_count, group_size, HasGroup, IsMarkable, IsClosable}
-use Rattle.gather_table.specs.Lanes.{lane, wide_at, group_word}
+use Rattle.gather_table.specs.Table.{HasGroup, IsClosable}
 use Rattle.gather_table.specs.Homes.{IsHome}
 use Rattle.gather_table.specs.History.{after_history, IsLegal}
-use Rattle.gather_table.specs.Plays.{mark_of, wide_mark_of, close_of}
-use Rattle.gather_table.proofs.Histories.{below_length}
-use Rattle.gather_table.proofs.Lanes.{inside, width_of, width_le, lane_below, blocks}
-use Rattle.gather_table.proofs.Sheets.{mark_moves, wide_mark_moves, close_moves, or_at, mark_told, close_told, wide_mark_told, few_groups, group_of_slot, wide_room, slim_le}
+use Rattle.gather_table.specs.Plays.{close_of}
+use Rattle.gather_table.proofs.Sheets.{close_moves, or_at, close_told, few_groups, wide_room}
 use Rattle.histories.proofs.Alone.{stands_after}
 use Rattle.gather_table.proofs.Views.{made}
 use Rattle.gather_table.proofs.table.GatherTable.close_as.Goals as goal
@@ -28,9 +24,12 @@ fetch_or-found-requires g c =
     let room = wide_room layout c.args.sheet _ has.wide has.sheet c.self.invariant.room in
     let few = few_groups layout c.self.invariant.sound.narrow in
     let most = few c.args.sheet has.sheet in
-    let low = has.group in
-    (ours, omega arith, or_at layout _ _ _ _ _ _ _ _ _ word (one_shl c.args.group 64 (omega arith)) (c.requires.entry ∙ ap (λ (p : Layout). close_of p c.args.sheet c.args.group) (sym same))
-      (close_moves layout _ _ _ c.args.sheet c.args.group few c.seat.invariant.1.held.some_share may))
+    let low = has.group in (
+      ours,
+      omega arith,
+      or_at layout _ _ _ _ _ _ _ _ _ word (one_shl c.args.group 64 (omega arith)) (c.requires.entry ∙ ap (λ (p : Layout). close_of p c.args.sheet c.args.group) (sym same))
+          (close_moves layout _ _ _ c.args.sheet c.args.group few c.seat.invariant.1.held.some_share may),
+    )
 
 pub returns : goal.returns
 returns g c =
@@ -43,7 +42,7 @@ returns g c =
     let low = has.group in
     made _ _ _ _ _ _ _ c.fetch_or-found.ensures.2.1 c.seat.invariant.1.held c.fetch_or-found.ensures.0
     (ap (λ (f : _). f c.fetch_or-found.result) (c.requires.entry ∙ ap (λ (p : Layout). close_of p c.args.sheet c.args.group) (sym same))
-      ∙ close_told layout c.args.sheet c.args.group c.fetch_or-found.result _ c.full_bits-groups.result c.reply_by.result c.closing_by.result full (one_shl c.args.group 64 (omega arith)) c.reply_by.ensures c.closing_by.ensures)
+    ∙ close_told layout c.args.sheet c.args.group c.fetch_or-found.result _ c.full_bits-groups.result c.reply_by.result c.closing_by.result full (one_shl c.args.group 64 (omega arith)) c.reply_by.ensures c.closing_by.ensures)
     c.seat.view_is
 
 pub invariant_of-seat : goal.invariant_of-seat

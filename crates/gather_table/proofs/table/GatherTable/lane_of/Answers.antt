@@ -1,4 +1,4 @@
-use Rattle.std.proofs.Common.{arith, false, sym, ap, ◌∙◌, subst, ◌≡◌, ◌<◌, ◌+◌, ◌-◌, length}
+use Rattle.std.proofs.Common.{arith, false, sym, ap, subst, ◌≡◌, ◌<◌, ◌-◌, length}
 use Rattle.profile.specs.Sheets.{Layout, layout as layout_of}
 use Rattle.gather_table.specs.Homes.{IsHome}
 use Rattle.gather_table.specs.Lanes.{lane}

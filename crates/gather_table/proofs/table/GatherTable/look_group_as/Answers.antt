@@ -1,15 +1,10 @@
-use Rattle.std.proofs.Common.{rules, arith, true, false, sym, ap, ◌∙◌, subst, ◌≡◌, ◌<◌, ◌≤◌, ◌+◌, ◌-◌, ◌*◌, ◌/◌, ◌%◌, ◌^◌, length, nat_lt, if◌then◌else◌}
-use Rattle.std.proofs.lemmas.Nat.{one_shl}
+use Rattle.std.proofs.Common.{arith, sym, ap, ◌∙◌, subst, ◌+◌, ◌-◌, ◌*◌, ◌^◌, nat_lt, if◌then◌else◌}
 use Rattle.profile.specs.Sheets.{Layout, layout as layout_of}
-use Rattle.gather_table.specs.declared.lane.Home.{Home}
-use Rattle.gather_table.specs.Table.{slot_count, is_wide, is_full, group_count, group_size, HasGroup, IsMarkable, IsClosable}
-use Rattle.gather_table.specs.Lanes.{lane, wide_at, group_word}
+use Rattle.gather_table.specs.Table.{HasGroup}
 use Rattle.gather_table.specs.Homes.{IsHome}
-use Rattle.gather_table.specs.History.{after_history, IsLegal}
-use Rattle.gather_table.specs.Plays.{look_of, wide_look_of, look_group_of}
-use Rattle.gather_table.proofs.Histories.{below_length}
-use Rattle.gather_table.proofs.Lanes.{inside, width_of, width_le, lane_below, blocks}
-use Rattle.gather_table.proofs.Sheets.{look_moves, wide_look_moves, look_group_moves, load_at, look_told, wide_look_told, look_group_told, few_groups, group_of_slot, wide_room, size_pos, slim_le, wide_lt}
+use Rattle.gather_table.specs.History.{IsLegal}
+use Rattle.gather_table.specs.Plays.{look_group_of}
+use Rattle.gather_table.proofs.Sheets.{look_group_moves, load_at, look_group_told, wide_room}
 use Rattle.histories.proofs.Alone.{stands_after}
 use Rattle.gather_table.proofs.Views.{made}
 use Rattle.gather_table.proofs.table.GatherTable.look_group_as.Goals as goal
@@ -36,7 +31,7 @@ returns g c =
     let full = c.full_bits-full.ensures ∙ ap (λ (n : _). 2 ^ n - 1) size in
     made _ _ _ _ _ _ _ c.load-found.ensures.2.1 c.seat.invariant.1.held c.load-found.ensures.0
     (ap (λ (f : _). f c.load-found.result) (c.requires.entry ∙ ap (λ (p : Layout). look_group_of p c.args.sheet c.args.group) (sym same))
-      ∙ look_group_told layout c.args.sheet c.args.group c.load-found.result c.full_bits-full.result full)
+    ∙ look_group_told layout c.args.sheet c.args.group c.load-found.result c.full_bits-full.result full)
     c.seat.view_is
 
 pub invariant_of-seat : goal.invariant_of-seat

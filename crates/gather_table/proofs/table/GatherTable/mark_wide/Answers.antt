@@ -1,15 +1,12 @@
-use Rattle.std.proofs.Common.{rules, arith, true, false, sym, ap, ◌∙◌, subst, ◌≡◌, ◌<◌, ◌≤◌, ◌+◌, ◌-◌, ◌*◌, ◌/◌, ◌%◌, ◌^◌, length, nat_lt, if◌then◌else◌}
+use Rattle.std.proofs.Common.{rules, arith, true, sym, ap, ◌∙◌, subst, ◌≡◌, ◌<◌, ◌+◌, ◌-◌, ◌*◌, ◌/◌, ◌%◌, ◌^◌, length, nat_lt, if◌then◌else◌}
 use Rattle.std.proofs.lemmas.Nat.{one_shl}
 use Rattle.profile.specs.Sheets.{Layout, layout as layout_of}
-use Rattle.gather_table.specs.declared.lane.Home.{Home}
-use Rattle.gather_table.specs.Table.{slot_count, is_wide, is_full, group_count, group_size, HasGroup, IsMarkable, IsClosable}
-use Rattle.gather_table.specs.Lanes.{lane, wide_at, group_word}
+use Rattle.gather_table.specs.Table.{slot_count, is_wide, IsMarkable}
 use Rattle.gather_table.specs.Homes.{IsHome}
 use Rattle.gather_table.specs.History.{after_history, IsLegal}
-use Rattle.gather_table.specs.Plays.{mark_of, wide_mark_of, close_of}
+use Rattle.gather_table.specs.Plays.{wide_mark_of}
 use Rattle.gather_table.proofs.Histories.{below_length}
-use Rattle.gather_table.proofs.Lanes.{inside, width_of, width_le, lane_below, blocks}
-use Rattle.gather_table.proofs.Sheets.{mark_moves, wide_mark_moves, close_moves, or_at, mark_told, close_told, wide_mark_told, few_groups, group_of_slot, wide_room, slim_le}
+use Rattle.gather_table.proofs.Sheets.{wide_mark_moves, or_at, wide_mark_told, group_of_slot, wide_room}
 use Rattle.histories.proofs.Alone.{stands_after}
 use Rattle.gather_table.proofs.Views.{made}
 use Rattle.gather_table.proofs.table.GatherTable.mark_wide.Goals as goal
@@ -22,15 +19,18 @@ fetch_or-found-requires g c =
     let below : c.args.sheet < length layout.sheets = subst (λ p. c.args.sheet < length p.sheets) (sym same) c.requires.sheet in
     let wide : is_wide layout c.args.sheet ≡ true = subst (λ (p : Layout). is_wide p c.args.sheet ≡ true) (sym same) c.requires.wide in
     let markable : IsMarkable layout (after_history layout c.seat.inside.seat.me.0.mine.front) c.args.sheet c.args.slot =
-        subst (λ (f : _). IsMarkable layout (after_history layout f) c.args.sheet c.args.slot) (sym (ap (λ t. t.front) c.seat.view_is))
-        (subst (λ (p : Layout). IsMarkable p (after_history p c.args.seat.now.front) c.args.sheet c.args.slot) (sym same) c.requires.slot) in
+    subst (λ (f : _). IsMarkable layout (after_history layout f) c.args.sheet c.args.slot) (sym (ap (λ t. t.front) c.seat.view_is))
+    (subst (λ (p : Layout). IsMarkable p (after_history p c.args.seat.now.front) c.args.sheet c.args.slot) (sym same) c.requires.slot) in
     let in_sheet : c.args.slot < slot_count layout c.args.sheet = below_length _ c.args.slot _ markable.needed in
     let home : IsHome layout c.args.sheet c.index-home.result.now = subst (IsHome layout c.args.sheet) (sym c.index-home.ensures) (c.self.invariant.homes_are c.args.sheet _ below) in
     let word = home.wide wide in
     let room = wide_room layout c.args.sheet _ wide below c.self.invariant.room in
-    let group = group_of_slot layout c.args.sheet c.args.slot in_sheet in
-    (ours, omega arith, or_at layout _ _ _ _ _ _ _ _ _ (omega arith) (one_shl (c.args.slot % 64) 64 (omega arith)) (c.requires.entry ∙ ap (λ (p : Layout). wide_mark_of p c.args.sheet c.args.slot) (sym same))
-      (wide_mark_moves layout _ _ _ c.args.sheet c.args.slot wide below c.seat.invariant.1.held.some_share markable))
+    let group = group_of_slot layout c.args.sheet c.args.slot in_sheet in (
+      ours,
+      omega arith,
+      or_at layout _ _ _ _ _ _ _ _ _ (omega arith) (one_shl (c.args.slot % 64) 64 (omega arith)) (c.requires.entry ∙ ap (λ (p : Layout). wide_mark_of p c.args.sheet c.args.slot) (sym same))
+          (wide_mark_moves layout _ _ _ c.args.sheet c.args.slot wide below c.seat.invariant.1.held.some_share markable),
+    )
 
 pub overflow_cast-group : goal.overflow_cast-group
 overflow_cast-group g c =
@@ -52,7 +52,7 @@ returns g c =
     let full = c.full_bits-full.ensures ∙ ap (λ (n : _). 2 ^ n - 1) size in
     made _ _ _ _ _ _ _ c.fetch_or-found.ensures.2.1 c.seat.invariant.1.held c.fetch_or-found.ensures.0
     (ap (λ (f : _). f c.fetch_or-found.result) (c.requires.entry ∙ ap (λ (p : Layout). wide_mark_of p c.args.sheet c.args.slot) (sym same))
-      ∙ wide_mark_told layout c.args.sheet c.args.slot c.fetch_or-found.result _ c.full_bits-full.result c.reply_by.result c.group_reply.result full (one_shl (c.args.slot % 64) 64 (omega arith)) c.reply_by.ensures c.group_reply.ensures)
+    ∙ wide_mark_told layout c.args.sheet c.args.slot c.fetch_or-found.result _ c.full_bits-full.result c.reply_by.result c.group_reply.result full (one_shl (c.args.slot % 64) 64 (omega arith)) c.reply_by.ensures c.group_reply.ensures)
     c.seat.view_is
 
 pub invariant_of-seat : goal.invariant_of-seat

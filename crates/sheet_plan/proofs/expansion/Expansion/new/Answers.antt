@@ -1,5 +1,6 @@
 use Rattle.std.proofs.Common.{arith, ◌*◌, length, sym, ap, ◌∙◌, Ok}
 use Rattle.std.proofs.lemmas.Nat.{mul-le}
+use Rattle.profile.specs.Admissible.{most_groups, most_slots}
 use Rattle.profile.specs.Specification.{Spec}
 use Rattle.profile.specs.Sheets.{sheets}
 use Rattle.sheet_plan.proofs.Admitted.{filled}
@@ -11,7 +12,7 @@ overflow_mul-from c =
     let k = counted c.args.spec.now c.args.pages c.modulo-modulo.result c.div_ceil-blocks.result c.groups-groups.result.now c.modulo-modulo.ensures.value c.groups-groups.ensures.items c.groups-groups.ensures.admissible c.div_ceil-blocks.ensures in
     let few = k.few_groups in
     let blocks = k.few_blocks in
-    let most = mul-le c.from.result (length c.groups-groups.result.now) 1_000_000 10_000 (omega arith) (omega arith) in
+    let most = mul-le c.from.result (length c.groups-groups.result.now) 1_000_000 most_groups (omega arith) (omega arith) in
     omega arith
 
 pub returns-then-from-groups-gt-MOST_SHEETS-clause-refused : goal.returns-then-from-groups-gt-MOST_SHEETS-clause-refused
@@ -30,7 +31,7 @@ overflow_mul-from-2 c =
     let k = counted c.args.spec.now c.args.pages c.modulo-modulo.result c.div_ceil-blocks.result c.groups-groups.result.now c.modulo-modulo.ensures.value c.groups-groups.ensures.items c.groups-groups.ensures.admissible c.div_ceil-blocks.ensures in
     let few = k.few_slots in
     let blocks = k.few_blocks in
-    let most = mul-le c.from-2.result c.slots_in_block.result 1_000_000 640_000 (omega arith) (omega arith) in
+    let most = mul-le c.from-2.result c.slots_in_block.result 1_000_000 (most_groups * most_slots) (omega arith) (omega arith) in
     omega arith
 
 pub returns-then-from-slots_in_block-gt-MOST_PLACES-clause-refused : goal.returns-then-from-slots_in_block-gt-MOST_PLACES-clause-refused

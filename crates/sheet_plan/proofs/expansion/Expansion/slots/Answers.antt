@@ -12,7 +12,7 @@ pub overflow_cast-result : goal.overflow_cast-result
 overflow_cast-result c =
     let at = at_sheet _ _ _ _ c.self.view_is c.args.sheet c.requires in
     let len = group_len c.self.inside.groups.now _ c.len.result c.index-self-sheet.result at.group c.index-self-sheet.is c.len.ensures in
-    let narrow = (sound_of _ _ _ _ c.self.view_is c.self.invariant.0).narrow c.args.sheet c.requires in
+    let few = (sound_of _ _ _ _ c.self.view_is c.self.invariant.0).few_slots c.args.sheet c.requires in
     omega arith
 
 pub returns-clause-value : goal.returns-clause-value
@@ -25,7 +25,7 @@ pub returns-clause-some : goal.returns-clause-some
 returns-clause-some c =
     let at = at_sheet _ _ _ _ c.self.view_is c.args.sheet c.requires in
     let len = group_len c.self.inside.groups.now _ c.len.result c.index-self-sheet.result at.group c.index-self-sheet.is c.len.ensures in
-    let narrow = (sound_of _ _ _ _ c.self.view_is c.self.invariant.0).narrow c.args.sheet c.requires in
+    let few = (sound_of _ _ _ _ c.self.view_is c.self.invariant.0).few_slots c.args.sheet c.requires in
     let slots = at.slots in
     omega arith
 
@@ -33,6 +33,6 @@ pub returns-clause-few : goal.returns-clause-few
 returns-clause-few c =
     let at = at_sheet _ _ _ _ c.self.view_is c.args.sheet c.requires in
     let len = group_len c.self.inside.groups.now _ c.len.result c.index-self-sheet.result at.group c.index-self-sheet.is c.len.ensures in
-    let narrow = (sound_of _ _ _ _ c.self.view_is c.self.invariant.0).narrow c.args.sheet c.requires in
+    let few = (sound_of _ _ _ _ c.self.view_is c.self.invariant.0).few_slots c.args.sheet c.requires in
     let slots = at.slots in
     omega arith
