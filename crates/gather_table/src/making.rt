@@ -1,8 +1,7 @@
 //! How the shared table is made.
-ghost use Rattle.std.specs.Prelude.{◌≡◌, ℕ, ◌+◌, ◌/◌, ◌<◌, ◌≤◌, nat_lt, if◌then◌else◌, length, slice_index_or, IfOk};
+ghost use Rattle.std.specs.Prelude.{◌≡◌, ◌+◌, ◌/◌, ◌<◌, ◌≤◌, nat_lt, if◌then◌else◌, length, IfOk};
 ghost use Rattle.profile.specs.Sheets.{layout};
-ghost use Rattle.gather_table.specs.declared.lane.Home.{Home};
-ghost use Rattle.gather_table.specs.Homes.{IsHome};
+ghost use Rattle.gather_table.specs.Homes.{AreHomes};
 ghost use Rattle.gather_table.specs.Lanes.{fitted, free, wide_at};
 ghost use Rattle.gather_table.specs.Shared.{opening_seat};
 
@@ -46,8 +45,7 @@ impl<'s> GatherTable<'s> {
 
 // Where the bits of each sheet stand, and how many words that takes.
 fn homes_of(alloc: Global, plan: &Plan) -> Result<(Vec<Home>, u32), AllocError>
-    ensures count { IfOk result (λ made. length made.0.items ≡ length (layout plan.now).sheets) }
-    ensures homes { IfOk result (λ made. (s : ℕ) (d : Home) → s < length (layout plan.now).sheets → IsHome (layout plan.now) s (slice_index_or made.0.items s d)) }
+    ensures homes { IfOk result (λ made. AreHomes (layout plan.now) made.0.items) }
     ensures words { IfOk result (λ made. made.1 ≡ wide_at (layout plan.now) (length (layout plan.now).sheets)) }
 {
     let pages = plan.pages();
