@@ -1,5 +1,5 @@
 //! Worked examples, on the table for one thread and on the shared one.
-ghost use Rattle.std.specs.Prelude.{◌≡◌, ◌<◌, IsTrue};
+ghost use Rattle.std.specs.Prelude.{◌≡◌, ◌<◌, true};
 ghost use Rattle.profile.specs.Sheets.{layout};
 ghost use Rattle.gather_table.specs.Shared.{IsSeatOf};
 ghost use Rattle.gather_table.specs.Table.{HasGroup};
@@ -35,7 +35,7 @@ trait Calls {
 
 // Whether the sheet is wide and has this group.
 fn has_group(plan: &Plan, sheet: u32, group: u8) -> bool
-    ensures { IsTrue result (HasGroup (layout plan.now) sheet group) }
+    ensures { result ≡ true → HasGroup (layout plan.now) sheet group }
 {
     if sheet >= plan.sheets() {
         return false;
@@ -383,6 +383,13 @@ fn brings_a_page_behind_a_blank_group<R: Abort, C: Calls>(rt: &R, table: &mut C)
     assert_eq!(rt; table.close_group(0, 1), Some(Closing::Completing));
 }
 
+// One sheet with a page in each of its 4,096 slots.
+fn shows_64_groups<R: Abort, C: Calls>(rt: &R, table: &mut C) {
+    assert_eq!(rt; table.look(0), Some(18_446_744_073_709_551_615));
+    assert_eq!(rt; table.look_group(0, 63), Some(18_446_744_073_709_551_615));
+    assert_eq!(rt; table.look_group(0, 64), None);
+}
+
 #[test]
 fn one_caller_brings_two_pages(rt: HostRuntime) -> Result<(), Fail> {
     let spec = spec_of(&rt, rt.alloc(), "2:0+1");
@@ -464,19 +471,16 @@ fn a_sheet_of_4096_slots_has_64_groups(rt: HostRuntime) -> Result<(), Fail> {
     let spec = spec_of(&rt, rt.alloc(), text.as_str());
     let plan = plan_of(&rt, rt.alloc(), &spec, 1);
     let table = PlainTable::new(rt.alloc(), &plan)?;
-    let mut one = OneThread { table, plan: &plan };
-    assert_eq!(rt; one.look(0), Some(18_446_744_073_709_551_615));
-    assert_eq!(rt; one.look_group(0, 63), Some(18_446_744_073_709_551_615));
-    assert_eq!(rt; one.look_group(0, 64), None);
+    shows_64_groups(&rt, &mut OneThread { table, plan: &plan });
     let (table, seat) = GatherTable::new(rt.alloc(), &plan)?;
-    let mut caller = Caller {
-        table: &table,
-        plan: &plan,
-        seat,
-    };
-    assert_eq!(rt; caller.look(0), Some(18_446_744_073_709_551_615));
-    assert_eq!(rt; caller.look_group(0, 63), Some(18_446_744_073_709_551_615));
-    assert_eq!(rt; caller.look_group(0, 64), None);
+    shows_64_groups(
+        &rt,
+        &mut Caller {
+            table: &table,
+            plan: &plan,
+            seat,
+        },
+    );
     Ok(())
 }
 
