@@ -85,7 +85,8 @@ pub fn gather<'j, 'd, R: Threads + Wait + Sync, G: Gate + Sync, S: Sink>(
     ensures handed_back { MatchResult result.outcome (λ _. IsSomeAnd result.tokens (λ t. ⊤)) (λ e. HandsBackTokens e result.tokens) }
     ensures whole { IfSome result.tokens (λ t. AreWhole table.now ready.now t.0 t.1) }
 
-    // One publish for each page, one mark for each needed slot, and exactly one completing mark for each sheet that has pages.
+    // One publish for each page, one mark for each needed slot, one closing for each group of a wide sheet that has such a
+    // slot, and exactly one completing call for each sheet that has pages.
     ensures gathered { OnOk result.outcome (IsNone result.unshelved → IfSome result.tokens (λ t. IsGathered table.now.layout t.0.front)) }
 
     // A token that comes back is that of an entry of this shelf.
