@@ -2,4 +2,5 @@ pub mod HeaderRun
 pub mod Guarding
 pub mod Gluing
 pub mod TheGuard
+pub mod Sizes
 pub mod Examples

@@ -1,8 +1,8 @@
 -- What stays as it is if lines are put into a document.
-use Rattle.std.specs.Prelude.{◌≡◌, ℕ, ◌<◌, ◌≤◌, List, [], ◌∷◌, ◌++◌, length, take, map, Option, Some, Ok}
+use Rattle.std.specs.Prelude.{◌≡◌, ℕ, ◌<◌, ◌≤◌, List, [], ◌∷◌, ◌++◌, length, take, map, Option, Some, Ok, IfSome, IsTrue}
 use Rattle.profile.specs.Units.{TextUnit}
 use Rattle.profile.specs.Parts.{NestedUnit, nested, begins_page, pages, trailer}
-use Rattle.profile.specs.Papers.{Paper}
+use Rattle.profile.specs.Papers.{Paper, is_paper}
 use Rattle.profile.specs.Run.{document_of}
 use Rattle.dsc.specs.Units.{units_of}
 use Rattle.seams.specs.Seams.{joined, passes, AreLines, line_unit}
@@ -36,3 +36,12 @@ abbrev pub GuardStays : Type 0
 GuardStays =
     (sheet : Option Paper) (text : List ℕ) (us : List NestedUnit) → document_of text ≡ Ok us → length (guarded sheet text) ≤ 1_073_741_824
     → (document_of (guarded sheet text) ≡ Ok (units_of (guarded sheet text))) × ChangesPreambleAlone (guard_lines sheet) text us (units_of (guarded sheet text))
+
+-- each line has at most so many bytes
+abbrev pub AreShort : ℕ → List (List ℕ) → Type 0
+AreShort most [] = Unit {0}
+AreShort most (l ∷ ls) = (length l ≤ most) × AreShort most ls
+
+-- DSC allows 255 bytes
+abbrev pub GuardIsShort : Type 0
+GuardIsShort = (sheet : Option Paper) → IfSome sheet (λ p. IsTrue (is_paper p.width p.height)) → AreShort 255 (guard_lines sheet)

@@ -1,7 +1,6 @@
 //! Documents with the guard put in, with memory to spare.
 use crate::{guarded, laws};
-use lengths::{Paper, Unit, paper_by_name, read_number, to_grains};
-use std::process::Abort;
+use lengths::paper_by_name;
 use std::test::Fail;
 
 const DOCUMENT: &[u8] =
@@ -46,25 +45,6 @@ fn a_paper_adds_the_line_that_sets_the_page_size(rt: HostRuntime) -> Result<(), 
     Ok(())
 }
 
-/// The paper whose sides print with the most digits.
-fn longest_paper(rt: &impl Abort) -> Paper {
-    let (side, _) = read_number(b"99999.87654").expect(rt, "a number");
-    let a4 = paper_by_name("a4").expect(rt, "a4 is a paper");
-    let grains = to_grains(side, Unit::In, &a4);
-    Paper::new(grains, grains).expect(rt, "a paper")
-}
-
-#[test]
-fn no_line_has_more_than_255_bytes(rt: HostRuntime) -> Result<(), Fail> {
-    let paper = longest_paper(&rt);
-    let text = guarded(rt.alloc(), b"%!\n", Some(&paper))?;
-    for line in text.as_slice().split(|byte| *byte == b'\n') {
-        assert!(rt; line.len() <= 255);
-        assert!(rt; !line.contains(&b'\r'));
-    }
-    Ok(())
-}
-
 #[test]
 fn any_text_is_taken(rt: HostRuntime) -> Result<(), Fail> {
     let guard = guarded(rt.alloc(), b"", None)?;
@@ -81,4 +61,5 @@ fn any_text_is_taken(rt: HostRuntime) -> Result<(), Fail> {
 fn laws_are_called(_: HostRuntime) {
     laws::lines_stay();
     laws::guard_stays();
+    laws::guard_is_short();
 }
