@@ -135,7 +135,7 @@ id_text c f id Q how t values no_groups named reads passes = go (matched_of f id
     go (Some x) e found = step x (rw e at found) (entry_by_id (EntryPasses c) f.entries.items id x values e)
 
 module _ (c : Command) (m : ArgMatches) (is : app_of c ≡ pstops) (p : IsParsedFrom c m) (k : ℕ) (d : Arg) (lt : k < length (args_of c))
-    (low high : ℕ) (few : high < 2 ^ 32) (ranged : (get_or (args_of c) k d).value_parser ≡ Some (Signed (pos low) (pos high))) where
+    (least most : ℕ) (few : most < 2 ^ 32) (ranged : (get_or (args_of c) k d).value_parser ≡ Some (Signed (pos least) (pos most))) where
   rules_are : map rule_of (args_of c) ≡ rules
   rules_are = ap (λ a. a.top.rules) is ∙ pstops_has_rules
 
@@ -152,12 +152,12 @@ module _ (c : Command) (m : ArgMatches) (is : app_of c ≡ pstops) (p : IsParsed
       (p.from.plain (all, plain.groups)).1
 
   one_with_id : (j : ℕ) (x : Arg) → j < length (args_of p.built) → get_or (args_of p.built) j x ≡ x
-      → bytes_eq x.id.now (get_or (args_of c) k d).id.now ≡ true → x.value_parser ≡ Some (Signed (pos low) (pos high))
+      → bytes_eq x.id.now (get_or (args_of c) k d).id.now ≡ true → x.value_parser ≡ Some (Signed (pos least) (pos most))
   one_with_id j x high at same =
       let rules = same_rules_by_id c m p k d lt (λ i e low met. apart i k d e low lt met) (each k d lt).3 j x high at same in
-      rules.parser (Signed (pos low) (pos high)) ranged
+      rules.parser (Signed (pos least) (pos most)) ranged
 
-  accepted : (w : List ℕ) → PassesArg p.built (get_or (args_of c) k d).id.now w → IsSignedIn (pos low) (pos high) w
+  accepted : (w : List ℕ) → PassesArg p.built (get_or (args_of c) k d).id.now w → IsSignedIn (pos least) (pos most) w
   accepted w (j, x, high, at, (same, pass)) =
       subst (λ q. Accepts x.ignore_case (parser_of_value q) w) (one_with_id j x high at same) pass
 
@@ -165,16 +165,16 @@ module _ (c : Command) (m : ArgMatches) (is : app_of c ≡ pstops) (p : IsParsed
   read_so r (j, x, high, at, (same, reading)) = sym reading ∙ ap (λ q. reading_of (parser_of_value q)) (one_with_id j x high at same)
 
   found_text : (t : List ℕ) → one_text (found_of m) (get_or (args_of c) k d).id.now ≡ Some t
-      → (text : List ℕ) × (t ≡ without_minus text) × IsSignedIn (pos low) (pos high) text
+      → (text : List ℕ) × (t ≡ without_minus text) × IsSignedIn (pos least) (pos most) text
   found_text t =
       let parsed = p.parsed (p.from.globals ∙ (plain_fields c (ap (λ a. a.top.is_plain) is ∙ pstops_is_plain)).globals) in
-      id_text p.built (found_of m) (get_or (args_of c) k d).id.now (IsSignedIn (pos low) (pos high)) WithoutMinus t parsed.values no_groups
+      id_text p.built (found_of m) (get_or (args_of c) k d).id.now (IsSignedIn (pos least) (pos most)) WithoutMinus t parsed.values no_groups
       (each k d lt).2 read_so accepted
 
-  number_found : (t : List ℕ) → one_text (found_of m) (get_or (args_of c) k d).id.now ≡ Some t → (n : ℕ) × (number_of t ≡ Some n) × (low ≤ n) × (n ≤ high)
+  number_found : (t : List ℕ) → one_text (found_of m) (get_or (args_of c) k d).id.now ≡ Some t → (n : ℕ) × (number_of t ≡ Some n) × (least ≤ n) × (n ≤ most)
   number_found t e =
       let text = found_text t e in
-      let n = in_range low high text.0 few text.2 in
+      let n = in_range least most text.0 few text.2 in
       (n.0, ap number_of text.1 ∙ n.1, n.2, n.3)
 
 -- ---- the numbers of workers
