@@ -8,11 +8,12 @@ use Rattle.std.proofs.lemmas.List.{length-map}
 use Rattle.std.proofs.lemmas.List.FromFn.{length-range_with_len}
 use Rattle.profile.specs.Specification.{Spec}
 use Rattle.profile.specs.Admissible.{Takes, most_slots}
-use Rattle.profile.specs.Run.{document_of, plan_of}
-use Rattle.profile.specs.Sheets.{Plan, sheets, layout}
+use Rattle.profile.specs.Run.{document_of, plan_in}
+use Rattle.profile.specs.Sheets.{Plan, layout}
+use Rattle.profile.specs.Signatures.{sheets_in}
 use Rattle.profile.specs.Parts.{NestedUnit, pages}
 use Rattle.profile.specs.Output.{Frame, output}
-use Rattle.sheet_plan.specs.Plans.{planned}
+use Rattle.sheet_plan.specs.Plans.{planned_in}
 use Rattle.sheet_plan.specs.Places.{born_complete, is_blank}
 use Rattle.imposer.specs.Jobs.{JobView, output_of}
 use Rattle.imposer.specs.Workers.{AreOptions}
@@ -26,7 +27,7 @@ use Rattle.imposer.specs.declared.outcome.RunError.TheVariants as error
 use Rattle.imposer.specs.declared.outcome.Report.{Report}
 
 pub accepted_of : (r : Request) (s : Spec) (us : List NestedUnit) (n : ℕ) → AreOptions r.options → Takes most_slots r.spec s → document_of r.input ≡ Ok us → n ≡ length (pages us)
-    → plan_of s n ≡ Ok (sheets s n) → IsAccepted r s us
+    → plan_in r.options.sides s n ≡ Ok (sheets_in r.options.sides s n) → IsAccepted r s us
 accepted_of r s us n options takes document count plan = record { options = options; takes = takes; document = document; plan = rw (← count) plan }
 
 -- a row that keeps some of n entries has at most n
@@ -67,7 +68,7 @@ refused_answers r told n e refusal none = (refusal, unwritten_kept r told e none
 
 -- what a job that was made of an accepted request answers is the request's answer
 pub job_answers : (r : Request) (chosen : Options) (given : Given) (plan : Plan) (n : ℕ) (job : JobView) (old new : Option (List ℕ)) (before after : ℕ) (result : Result Report RunError)
-    → IsGiven r chosen given → n ≡ length (pages given.document) → plan ≡ planned given.spec n → plan_of given.spec n ≡ Ok (sheets given.spec n)
+    → IsGiven r chosen given → n ≡ length (pages given.document) → plan ≡ planned_in chosen.sides given.spec n → plan_in chosen.sides given.spec n ≡ Ok (sheets_in chosen.sides given.spec n)
     → job ≡ record { plan = plan; units = given.document; frame = frame_of chosen }
     → Answers job old new before after result → AnswersRequest r old new before after result
 job_answers r chosen given plan n job old new before after result is count plan_is accepted job_is = by_result result
@@ -78,14 +79,14 @@ job_answers r chosen given plan n job old new before after result is count plan_
     frame : Frame
     frame = frame_of r.options
 
-    here : job ≡ record { plan = planned given.spec (length (pages us)); units = us; frame = frame }
-    here = job_is ∙ ap (λ p. record { plan = p; units = us; frame = frame_of chosen }) (plan_is ∙ ap (λ k. planned given.spec k) count) ∙ ap (λ o. record { plan = planned given.spec (length (pages us)); units = us; frame = frame_of o }) (sym is.same_options)
+    here : job ≡ record { plan = planned_in r.options.sides given.spec (length (pages us)); units = us; frame = frame }
+    here = job_is ∙ ap (λ p. record { plan = p; units = us; frame = frame_of chosen }) (plan_is ∙ ap (λ k. planned_in chosen.sides given.spec k) count) ∙ ap (λ (o : Options). record { plan = planned_in o.sides given.spec (length (pages us)); units = us; frame = frame_of o }) (sym is.same_options)
 
-    whole : output_of job ≡ output frame given.spec us
+    whole : output_of job ≡ output frame r.options.sides given.spec us
     whole = ap output_of here
 
     taken : IsAccepted r given.spec us
-    taken = accepted_of r given.spec us n is.options is.takes is.document count accepted
+    taken = accepted_of r given.spec us n is.options is.takes is.document count (subst (λ (o : Options). plan_in o.sides given.spec n ≡ Ok (sheets_in o.sides given.spec n)) (sym is.same_options) accepted)
 
     part : (w : ℕ) → WroteFirst job old new w → WrotePart r old new w
     part w wrote = (given.spec, us, taken, subst (λ t. (w ≤ length t) × Appends old new (take w t)) whole wrote)
@@ -118,7 +119,7 @@ job_answers r chosen given plan n job old new before after result is count plan_
 
 -- the clauses of a run, one by one
 pub says_finished : (r : Request) (old new : Option (List ℕ)) (before after : ℕ) (result : Result Report RunError) → AnswersRequest r old new before after result
-    → IfOk result (λ report. Accepted r (λ spec us. Appends old new (output (frame_of r.options) spec us) × Reports (frame_of r.options) spec us report))
+    → IfOk result (λ report. Accepted r (λ spec us. Appends old new (output (frame_of r.options) r.options.sides spec us) × Reports (frame_of r.options) r.options.sides spec us report))
 says_finished r old new before after (Ok report) answers = answers.0
 says_finished r old new before after (Err e) answers = tt
 

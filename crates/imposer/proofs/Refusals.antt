@@ -13,7 +13,7 @@ use Rattle.sheet_plan.specs.declared.error.PlanError.{PlanError}
 use Rattle.sheet_plan.specs.declared.error.PlanError.TheVariants as plan
 
 pub refused_plan : (r : Request) (e : PlanError) (s : Spec) (us : List NestedUnit) (n : ℕ) → AreOptions r.options → Takes most_slots r.spec s → document_of r.input ≡ Ok us → n ≡ length (pages us)
-    → plan_said.Refuses s n e → IsRefusal r (of_plan e) × IsUnwritten (of_plan e)
+    → plan_said.RefusesIn r.options.sides s n e → IsRefusal r (of_plan e) × IsUnwritten (of_plan e)
 refused_plan r plan.TooManyPages s us n w taken cut count fault = ((w, (s, us, taken, cut, rw (← count) fault)), tt)
 refused_plan r plan.TooManySheets s us n w taken cut count fault = ((w, (s, us, taken, cut, rw (← count) fault)), tt)
 refused_plan r plan.TooManyPlaces s us n w taken cut count fault = ((w, (s, us, taken, cut, rw (← count) fault)), tt)

@@ -3,14 +3,15 @@ use Rattle.std.specs.Io.KnownBytes.{Appends, Keeps}
 use Rattle.std.specs.Prelude.{Result, Ok, Err, IsSomeAnd, ⊤, ◌⊎◌, ◌≡◌, ℕ, ◌≤◌, ◌+◌, List, length, take, Option}
 use Rattle.profile.specs.Specification.{Spec}
 use Rattle.profile.specs.Admissible.{Takes, Refuses, most_slots, most_spec_bytes}
-use Rattle.profile.specs.Sheets.{sheets, layout}
+use Rattle.profile.specs.Sheets.{layout}
+use Rattle.profile.specs.Signatures.{sheets_in}
 use Rattle.profile.specs.Parts.{NestedUnit, pages}
 use Rattle.profile.specs.Output.{Frame, output}
-use Rattle.profile.specs.Run.{document_of, plan_of}
+use Rattle.profile.specs.Run.{document_of, plan_in}
 use Rattle.dsc.specs.Faults as dsc
 use Rattle.imposer.specs.Workers.{AreOptions}
 use Rattle.pagespec.specs.Faults.{fault_named}
-use Rattle.sheet_plan.specs.Plans.{planned}
+use Rattle.sheet_plan.specs.Plans.{planned_in}
 use Rattle.sheet_plan.specs.Places.{born_complete}
 use Rattle.imposer.specs.Faults.{plan_fault_told}
 use Rattle.imposer.specs.declared.outcome.RunError.{RunError}
@@ -37,7 +38,7 @@ pub record IsAccepted (r : Request) (spec : Spec) (us : List NestedUnit) : Type 
   pub options : AreOptions r.options
   pub takes : Takes most_slots r.spec spec
   pub document : document_of r.input ≡ Ok us
-  pub plan : plan_of spec (length (pages us)) ≡ Ok (sheets spec (length (pages us)))
+  pub plan : plan_in r.options.sides spec (length (pages us)) ≡ Ok (sheets_in r.options.sides spec (length (pages us)))
 
 -- the request is accepted, and this holds of what it comes to
 abbrev pub Accepted : Request → (Spec → List NestedUnit → Type 0) → Type 0
@@ -53,14 +54,14 @@ IsRefusal r (error.Document e) =
 IsRefusal r (error.Plan e) =
     AreOptions r.options
     × ((spec : Spec) × (us : List NestedUnit) × Takes most_slots r.spec spec × (document_of r.input ≡ Ok us)
-    × IsSomeAnd (plan_fault_told e) (λ f. plan_of spec (length (pages us)) ≡ Err f))
+    × IsSomeAnd (plan_fault_told e) (λ f. plan_in r.options.sides spec (length (pages us)) ≡ Err f))
 IsRefusal r (error.NoMemory written) = AreOptions r.options × (length r.spec ≤ most_spec_bytes)
 IsRefusal r (error.Write written) = Accepted r (λ spec us. ⊤)
 
 -- the first bytes of the output of an accepted request, as many as were written
 abbrev pub WrotePart : Request → Option (List ℕ) → Option (List ℕ) → ℕ → Type 0
 WrotePart r old new written =
-    Accepted r (λ spec us. let whole = output (frame_of r.options) spec us in (written ≤ length whole) × Appends old new (take written whole))
+    Accepted r (λ spec us. let whole = output (frame_of r.options) r.options.sides spec us in (written ≤ length whole) × Appends old new (take written whole))
 
 -- what the sink has taken after an error
 abbrev pub HasWritten : Request → Option (List ℕ) → Option (List ℕ) → RunError → Type 0
@@ -82,12 +83,12 @@ FailedIn (error.NoMemory written) before after = (after ≡ before) ⊎ (after �
 FailedIn (error.Write written) before after = after ≡ before + 1
 
 -- the numbers of a report
-pub record Reports (frame : Frame) (spec : Spec) (us : List NestedUnit) (report : Report) : Type 0 where
+pub record Reports (frame : Frame) (sides : Option ℕ) (spec : Spec) (us : List NestedUnit) (report : Report) : Type 0 where
   pub page_count : report.pages ≡ length (pages us)
-  pub sheet_count : report.sheets ≡ length (sheets spec (length (pages us)))
-  pub born_blank : report.born ≡ length (born_complete (layout (planned spec (length (pages us)))))
+  pub sheet_count : report.sheets ≡ length (sheets_in sides spec (length (pages us)))
+  pub born_blank : report.born ≡ length (born_complete (layout (planned_in sides spec (length (pages us)))))
   pub swept_within : report.swept ≤ report.sheets
-  pub byte_count : report.bytes ≡ length (output frame spec us)
+  pub byte_count : report.bytes ≡ length (output frame sides spec us)
 
 -- nothing was written
 abbrev pub IsUnwritten : RunError → Type 0
@@ -109,5 +110,5 @@ pub record IsGiven (r : Request) (chosen : Options) (given : Given) : Type 0 whe
 -- output was written as it says
 abbrev pub AnswersRequest : Request → (old new : Option (List ℕ)) → (before after : ℕ) → Result Report RunError → Type 0
 AnswersRequest r old new before after (Ok report) =
-    Accepted r (λ spec us. Appends old new (output (frame_of r.options) spec us) × Reports (frame_of r.options) spec us report) × (after ≡ before)
+    Accepted r (λ spec us. Appends old new (output (frame_of r.options) r.options.sides spec us) × Reports (frame_of r.options) r.options.sides spec us report) × (after ≡ before)
 AnswersRequest r old new before after (Err e) = IsRefusal r e × HasWritten r old new e × FailedIn e before after

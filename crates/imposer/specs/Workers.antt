@@ -1,5 +1,6 @@
 -- Which options a run takes.
 use Rattle.std.specs.Prelude.{◌≡◌, ◌≤◌, ℤ, pos, int_lt, Bool, true, Option, Some, None}
+use Rattle.profile.specs.Signatures.{AreSidesIfGiven}
 use Rattle.imposer.specs.declared.options.Workers.{Workers}
 use Rattle.imposer.specs.declared.options.Options.{Options}
 
@@ -17,4 +18,4 @@ is_border (Some width) = int_lt (pos 0) width
 
 -- the options are taken
 abbrev pub AreOptions : Options → Type 0
-AreOptions options = AreWorkers options.workers × (is_border options.border ≡ true)
+AreOptions options = AreWorkers options.workers × (is_border options.border ≡ true) × AreSidesIfGiven options.sides

@@ -1,8 +1,10 @@
 //! What a run is told beside its specification.
 ghost use Rattle.std.specs.Prelude.{◌≡◌, ◌↔◌, IsTrue};
+ghost use Rattle.profile.specs.Signatures.{AreSidesIfGiven};
 ghost use Rattle.imposer.specs.Workers.{AreWorkers, AreOptions, is_border};
 
 use lengths::{Grains, Paper};
+use sheet_plan::are_sides;
 
 /// How many threads prepare pages and how many impose sheets, from 1 to 16 each.
 #[derive(Clone, Copy, Debug, PartialEq, Eq)]
@@ -20,12 +22,14 @@ impl Workers {
     }
 }
 
-/// The paper that pages are made for, the width of a border round each placed page, where one is asked for, and the
-/// numbers of workers.
+/// The paper that pages are made for, the width of a border round each placed page, if one is asked for, the number of sides
+/// of a signature, if the pages are to be put into signatures, and the numbers of workers. A signature has a positive multiple
+/// of four sides, at most 1,000,000.
 #[derive(Clone, Copy, Debug, PartialEq, Eq)]
 pub struct Options {
     pub paper: Paper,
     pub border: Option<Grains>,
+    pub sides: Option<u32>,
     pub workers: Workers,
 }
 
@@ -39,9 +43,19 @@ fn is_border_valid(border: Option<Grains>) -> bool
     }
 }
 
-/// Both numbers of workers and the border are in range.
+/// A signature may have the number of sides that is given.
+fn are_sides_valid(sides: Option<u32>) -> bool
+    ensures { IsTrue result ↔ AreSidesIfGiven sides }
+{
+    match sides {
+        Some(sides) => are_sides(sides),
+        None => true,
+    }
+}
+
+/// The numbers of workers, the border and the sides of a signature are in range.
 pub(crate) fn are_valid(options: &Options) -> bool
     ensures { IsTrue result ↔ AreOptions options.now }
 {
-    options.workers.are_valid() && is_border_valid(options.border)
+    options.workers.are_valid() && is_border_valid(options.border) && are_sides_valid(options.sides)
 }

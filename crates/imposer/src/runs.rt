@@ -1,7 +1,11 @@
 //! A run from bytes to bytes.
-ghost use Rattle.std.specs.Prelude.{◌≡◌, ℕ, ◌+◌, ◌<◌, IfOk, IfErr, OnOk};
+ghost use Rattle.std.specs.Prelude.{◌≡◌, ℕ, ◌+◌, ◌<◌, IfOk, IfErr, OnOk, Ok};
 ghost use Rattle.std.specs.Io.KnownBytes.{Appends};
 ghost use Rattle.profile.specs.Output.{output};
+ghost use Rattle.profile.specs.Run.{plan_in};
+ghost use Rattle.profile.specs.Signatures.{AreSidesIfGiven, sheets_in};
+ghost use Rattle.sheet_plan.specs.Plans.{planned_in};
+ghost use Rattle.sheet_plan.specs.Refusals.{RefusesIn};
 ghost use Rattle.imposer.specs.Gathering.{Answers};
 ghost use Rattle.imposer.specs.Workers.{AreOptions, AreWorkers};
 ghost use Rattle.imposer.specs.Runs.{Request, request, frame_of, Accepted, IsRefusal, HasWritten, Reports, FailedIn, IsUnwritten, IsGiven, AnswersRequest};
@@ -16,7 +20,7 @@ use dsc::Document;
 use gather_table::GatherTable;
 use handover::{Ready, Shelf};
 use pagespec::{Spec, read_spec};
-use sheet_plan::Plan;
+use sheet_plan::{Plan, PlanError};
 use std::alloc::Global;
 use std::sync::Wait;
 use std::thread::Threads;
@@ -41,7 +45,7 @@ pub fn run<R: Threads + Wait + Sync, G: Gate + Sync, S: Sink>(
     requires countable { S.failures sink.old < u64.MAX }
     // Exactly the output was appended, and the report has its numbers.
     ensures finished { IfOk result (λ report. Accepted (request options.now spec.now input.now) (λ spec us.
-        Appends (S.told sink.old) (S.told sink.new) (output (frame_of options.now) spec us) × Reports (frame_of options.now) spec us report)) }
+        Appends (S.told sink.old) (S.told sink.new) (output (frame_of options.now) options.now.sides spec us) × Reports (frame_of options.now) options.now.sides spec us report)) }
     // An error names the first check that fails.
     ensures refused { IfErr result (λ e. IsRefusal (request options.now spec.now input.now) e) }
     // After an error the sink has taken as much of the output as the error says, and nothing after a refusal.
@@ -96,12 +100,30 @@ fn run_read<R: Threads + Wait + Sync, G: Gate + Sync, S: Sink>(
     requires countable { S.failures sink.old < u64.MAX }
     ensures { (r : Request) → IsGiven r options.now given.now → AnswersRequest r (S.told sink.old) (S.told sink.new) (S.failures sink.old) (S.failures sink.new) result }
 {
-    let plan = match Plan::new(alloc, &given.spec, given.document.pages()) {
+    let plan = match plan_pages(alloc, &given.spec, given.document.pages(), options.sides) {
         Ok(plan) => plan,
         Err(error) => return Err(RunError::from(error)),
     };
     let job = Job::new(&plan, &given.document, options.paper, options.border);
     run_job(rt, alloc, &job, options.workers, gate, sink)
+}
+
+/// Plans the pages in their order, or in signatures if a number of sides is given.
+fn plan_pages<'s>(
+    alloc: Global,
+    spec: &'s Spec,
+    pages: u32,
+    sides: Option<u32>,
+) -> Result<Plan<'s>, PlanError>
+    requires { AreSidesIfGiven sides }
+    ensures planned { IfOk result (λ plan. plan ≡ planned_in sides spec.entry.now pages) }
+    ensures accepted { OnOk result (plan_in sides spec.entry.now pages ≡ Ok (sheets_in sides spec.entry.now pages)) }
+    ensures refused { IfErr result (RefusesIn sides spec.entry.now pages) }
+{
+    match sides {
+        Some(sides) => Plan::with_signatures(alloc, spec, pages, sides),
+        None => Plan::new(alloc, spec, pages),
+    }
 }
 
 /// Makes what the workers share, and gathers.

@@ -4,6 +4,7 @@ mod gates;
 mod impositions;
 mod many_pages;
 mod refusals;
+mod signatures;
 mod sinks;
 mod sweeping;
 mod wide_sheets;
@@ -59,6 +60,7 @@ fn workers(rt: &impl Abort, preparers: u32, imposers: u32) -> Options {
     Options {
         paper: a4(rt),
         border: None,
+        sides: None,
         workers: Workers {
             preparers,
             imposers,
@@ -70,6 +72,7 @@ fn bordered(rt: &impl Abort, border: i128) -> Options {
     Options {
         paper: a4(rt),
         border: Grains::new(border),
+        sides: None,
         workers: Workers {
             preparers: 1,
             imposers: 1,

@@ -1,11 +1,11 @@
 -- Command lines whose words are written out, with what comes of them.
-use Rattle.std.proofs.Common.{◌≡◌, refl, [], ◌∷◌, Some, Err}
+use Rattle.std.proofs.Common.{◌≡◌, refl, [], ◌∷◌, Some, None, Err}
 use Rattle.std.specs.Prelude.{codes}
 use Rattle.clap.specs.Words.{fault_of, first_of, matches_of}
 use Rattle.clap.specs.declared.error.kind.ErrorKind.TheVariants.{ArgumentConflict, InvalidValue, MissingRequiredArgument, UnknownArgument, ValueValidation}
 use Rattle.lengths.specs.Reading.{number_at}
 use Rattle.clap.proofs.OnLiterals.{clap_on_literals}
-use Rattle.pstops_cli.specs.Command.{Takes, options_found, pstops, workers_found}
+use Rattle.pstops_cli.specs.Command.{Takes, options_found, pstops, sides_found, workers_found}
 use Rattle.pstops_cli.specs.Values.{letter_w, options_named}
 use Rattle.pstops_cli.specs.declared.command.CommandFault.TheVariants.{BadLength, UnknownPaper}
 
@@ -115,3 +115,38 @@ plus_taken = refl
 pub zero_before : workers_found (matches_of pstops (codes "-j" ∷ codes "03" ∷ codes "0" ∷ [])) ≡ record { preparers = 3; imposers = 2 }
 unfolding clap_on_literals pstops
 zero_before = refl
+
+-- ---- the number of sides
+
+pub no_sides : sides_found (matches_of pstops (codes "0" ∷ [])) ≡ None
+unfolding clap_on_literals pstops
+no_sides = refl
+
+pub eight_sides : sides_found (matches_of pstops (codes "-s" ∷ codes "8" ∷ codes "0" ∷ [])) ≡ Some 8
+unfolding clap_on_literals pstops
+eight_sides = refl
+
+-- a run refuses what is no multiple of four
+pub six_sides : sides_found (matches_of pstops (codes "-s6" ∷ codes "0" ∷ [])) ≡ Some 6
+unfolding clap_on_literals pstops
+six_sides = refl
+
+pub six_taken : Takes (codes "-s6" ∷ codes "0" ∷ [])
+unfolding clap_on_literals pstops
+six_taken = refl
+
+pub million_taken : Takes (codes "-s" ∷ codes "1000000" ∷ codes "0" ∷ [])
+unfolding clap_on_literals pstops
+million_taken = refl
+
+pub zero_sides : fault_of pstops (codes "-s" ∷ codes "0" ∷ codes "0" ∷ []) ≡ ValueValidation ∷ []
+unfolding clap_on_literals pstops
+zero_sides = refl
+
+pub three_sides : fault_of pstops (codes "-s" ∷ codes "3" ∷ codes "0" ∷ []) ≡ ValueValidation ∷ []
+unfolding clap_on_literals pstops
+three_sides = refl
+
+pub million_and_one : fault_of pstops (codes "-s" ∷ codes "1000001" ∷ codes "0" ∷ []) ≡ ValueValidation ∷ []
+unfolding clap_on_literals pstops
+million_and_one = refl

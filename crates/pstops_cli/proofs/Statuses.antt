@@ -52,7 +52,7 @@ run_status-above (run.Write written) = lit< tt
 
 -- so at status 0 the output was appended
 pub finished_at_zero : (a : Request) (told told' : Option (List ℕ)) (ended : Result Report RunError) → outcome_status ended ≡ 0
-    → IfOk ended (λ r. Accepted a (λ spec us. Appends told told' (output (frame_of a.options) spec us) × Reports (frame_of a.options) spec us r))
-    → Accepted a (λ spec us. Appends told told' (output (frame_of a.options) spec us))
+    → IfOk ended (λ r. Accepted a (λ spec us. Appends told told' (output (frame_of a.options) a.options.sides spec us) × Reports (frame_of a.options) a.options.sides spec us r))
+    → Accepted a (λ spec us. Appends told told' (output (frame_of a.options) a.options.sides spec us))
 finished_at_zero a told told' (Ok report) zero finished = (finished.0, finished.1, finished.2, finished.3.0)
 finished_at_zero a told told' (Err e) zero finished = let above = run_status-above e in absurd (omega (arith, above, zero))

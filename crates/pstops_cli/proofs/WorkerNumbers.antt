@@ -1,5 +1,6 @@
--- The numbers of workers that are found lie from 1 to 16: clap took no other values for them.
-use Rattle.std.proofs.Common.{◌≡◌, ◌∙◌, ◌<◌, ◌≤◌, ◌&&◌, ap, refl, sym, subst, true, false, Bool, map, List, [], ◌∷◌, ℕ, zero, suc, length, arith, get_or, inl, inr, Option, Some, None, nat_lt, lt-ltb, ltb-true, unwrap_or}
+-- The numbers of workers that are found lie from 1 to 16, and that of sides from 4 to 1,000,000: clap took no other values for
+-- them.
+use Rattle.std.proofs.Common.{◌≡◌, ◌∙◌, ◌<◌, ◌≤◌, ◌&&◌, ◌^◌, ap, refl, sym, subst, true, false, Bool, map, List, [], ◌∷◌, ℕ, zero, suc, length, arith, get_or, inl, inr, Option, Some, None, nat_lt, lt-ltb, ltb-true, unwrap_or}
 use Rattle.std.specs.Prelude.{codes, pos, ⊤, option_map, slice_get}
 use Rattle.std.specs.Borrow.{Bor}
 use Rattle.std.specs.List.{All, list_all}
@@ -30,8 +31,8 @@ use Rattle.clap.proofs.CallerReads.{signed_reads}
 use Rattle.clap.proofs.SimpleLemmas.{plain_fields}
 use Rattle.clap.proofs.WalkLemmas.{both, one_text-rows}
 use Rattle.imposer.specs.Workers.{AreWorkers}
-use Rattle.pstops_cli.specs.Command.{are_distinct, counted_rule, fits, pstops, rules, workers_found}
-use Rattle.pstops_cli.specs.Values.{count_named, letter_j, letter_k, number_of}
+use Rattle.pstops_cli.specs.Command.{are_distinct, counted_rule, fits, pstops, ranged_rule, rules, sides_found, workers_found}
+use Rattle.pstops_cli.specs.Values.{AreInRange, count_named, letter_j, letter_k, letter_s, number_of, sides_named}
 use Rattle.pstops_cli.proofs.Chain.{distinct, each_fits}
 use Rattle.pstops_cli.proofs.Pstops.{each_rule_fits, pstops_has_rules, pstops_is_plain, rules_are_distinct}
 
@@ -67,9 +68,9 @@ reads_number t = go (is_number (without_leading_plus t)) refl
               cc,
         )
 
-in_range : (text : List ℕ) → IsSignedIn (pos 1) (pos 16) text → (n : ℕ) × (number_of (without_minus text) ≡ Some n) × (1 ≤ n) × (n ≤ 16)
-in_range text passed =
-    signed_reads ⊤ (λ bs r. ParsesUnsigned 32 10 bs r) 32 1 16 text (number_of (without_minus text)) (reads_number (without_minus text)) (λ u x g. g) (omega arith) passed
+in_range : (low high : ℕ) (text : List ℕ) → high < 2 ^ 32 → IsSignedIn (pos low) (pos high) text → (n : ℕ) × (number_of (without_minus text) ≡ Some n) × (low ≤ n) × (n ≤ high)
+in_range low high text fits passed =
+    signed_reads ⊤ (λ bs r. ParsesUnsigned 32 10 bs r) 32 low high text (number_of (without_minus text)) (reads_number (without_minus text)) (λ u x g. g) fits passed
 
 -- ---- an argument of the program by its place
 
@@ -79,7 +80,7 @@ rule_at (x ∷ xs) zero d r lt = refl
 rule_at (x ∷ xs) (suc k) d r lt = rule_at xs k d r (omega arith)
 
 pub some_arg : (xs : List Arg) → map rule_of xs ≡ rules → Arg
-some_arg [] e = let bad : 0 ≡ 10 = ap length e in absurd (omega (arith, bad))
+some_arg [] e = let bad : 0 ≡ 11 = ap length e in absurd (omega (arith, bad))
 some_arg (x ∷ xs) e = x
 
 -- ---- what is found of an argument with a range
@@ -134,7 +135,7 @@ id_text c f id Q how t values no_groups named reads passes = go (matched_of f id
     go (Some x) e found = step x (rw e at found) (entry_by_id (EntryPasses c) f.entries.items id x values e)
 
 module _ (c : Command) (m : ArgMatches) (is : app_of c ≡ pstops) (p : IsParsedFrom c m) (k : ℕ) (d : Arg) (lt : k < length (args_of c))
-    (ranged : (get_or (args_of c) k d).value_parser ≡ Some (Signed (pos 1) (pos 16))) where
+    (least most : ℕ) (few : most < 2 ^ 32) (ranged : (get_or (args_of c) k d).value_parser ≡ Some (Signed (pos least) (pos most))) where
   rules_are : map rule_of (args_of c) ≡ rules
   rules_are = ap (λ a. a.top.rules) is ∙ pstops_has_rules
 
@@ -151,12 +152,12 @@ module _ (c : Command) (m : ArgMatches) (is : app_of c ≡ pstops) (p : IsParsed
       (p.from.plain (all, plain.groups)).1
 
   one_with_id : (j : ℕ) (x : Arg) → j < length (args_of p.built) → get_or (args_of p.built) j x ≡ x
-      → bytes_eq x.id.now (get_or (args_of c) k d).id.now ≡ true → x.value_parser ≡ Some (Signed (pos 1) (pos 16))
+      → bytes_eq x.id.now (get_or (args_of c) k d).id.now ≡ true → x.value_parser ≡ Some (Signed (pos least) (pos most))
   one_with_id j x high at same =
       let rules = same_rules_by_id c m p k d lt (λ i e low met. apart i k d e low lt met) (each k d lt).3 j x high at same in
-      rules.parser (Signed (pos 1) (pos 16)) ranged
+      rules.parser (Signed (pos least) (pos most)) ranged
 
-  accepted : (w : List ℕ) → PassesArg p.built (get_or (args_of c) k d).id.now w → IsSignedIn (pos 1) (pos 16) w
+  accepted : (w : List ℕ) → PassesArg p.built (get_or (args_of c) k d).id.now w → IsSignedIn (pos least) (pos most) w
   accepted w (j, x, high, at, (same, pass)) =
       subst (λ q. Accepts x.ignore_case (parser_of_value q) w) (one_with_id j x high at same) pass
 
@@ -164,42 +165,60 @@ module _ (c : Command) (m : ArgMatches) (is : app_of c ≡ pstops) (p : IsParsed
   read_so r (j, x, high, at, (same, reading)) = sym reading ∙ ap (λ q. reading_of (parser_of_value q)) (one_with_id j x high at same)
 
   found_text : (t : List ℕ) → one_text (found_of m) (get_or (args_of c) k d).id.now ≡ Some t
-      → (text : List ℕ) × (t ≡ without_minus text) × IsSignedIn (pos 1) (pos 16) text
+      → (text : List ℕ) × (t ≡ without_minus text) × IsSignedIn (pos least) (pos most) text
   found_text t =
       let parsed = p.parsed (p.from.globals ∙ (plain_fields c (ap (λ a. a.top.is_plain) is ∙ pstops_is_plain)).globals) in
-      id_text p.built (found_of m) (get_or (args_of c) k d).id.now (IsSignedIn (pos 1) (pos 16)) WithoutMinus t parsed.values no_groups
+      id_text p.built (found_of m) (get_or (args_of c) k d).id.now (IsSignedIn (pos least) (pos most)) WithoutMinus t parsed.values no_groups
       (each k d lt).2 read_so accepted
 
-  count_found : (1 ≤ count_named (one_text (found_of m) (get_or (args_of c) k d).id.now)) × (count_named (one_text (found_of m) (get_or (args_of c) k d).id.now) ≤ 16)
-  count_found = go (one_text (found_of m) (get_or (args_of c) k d).id.now) refl
-    where
-      go : (o : Option (List ℕ)) → one_text (found_of m) (get_or (args_of c) k d).id.now ≡ o → (1 ≤ count_named o) × (count_named o ≤ 16)
-      go None e = (omega arith, omega arith)
-      go (Some t) e =
-          let text = found_text t e in
-          let n = in_range text.0 text.2 in
-          let is : count_named (Some t) ≡ n.0 = ap (λ u. unwrap_or (number_of u) 2) text.1 ∙ ap (λ o. unwrap_or o 2) n.1 in
-          (omega (arith, is, n.2), omega (arith, is, n.3))
+  number_found : (t : List ℕ) → one_text (found_of m) (get_or (args_of c) k d).id.now ≡ Some t → (n : ℕ) × (number_of t ≡ Some n) × (least ≤ n) × (n ≤ most)
+  number_found t e =
+      let text = found_text t e in
+      let n = in_range least most text.0 few text.2 in
+      (n.0, ap number_of text.1 ∙ n.1, n.2, n.3)
 
--- ---- both of them
+-- ---- the numbers of workers
 
-counted : (c : Command) (m : ArgMatches) → app_of c ≡ pstops → IsParsedFrom c m → (k letter : ℕ) (id : Text) → k < 10
-    → get_or rules k (counted_rule id letter) ≡ counted_rule id letter
-    → (1 ≤ count_named (one_of id (rows_of (found_of m)))) × (count_named (one_of id (rows_of (found_of m))) ≤ 16)
-counted c m is p k letter id low at =
+-- an argument with a range: the number that is found of it lies in the range
+ranged : (c : Command) (m : ArgMatches) → app_of c ≡ pstops → IsParsedFrom c m → (k low high letter : ℕ) (id : Text) → k < 11 → high < 2 ^ 32
+    → get_or rules k (ranged_rule low high id letter) ≡ ranged_rule low high id letter
+    → (t : List ℕ) → one_of id (rows_of (found_of m)) ≡ Some t → (n : ℕ) × (number_of t ≡ Some n) × (low ≤ n) × (n ≤ high)
+ranged c m is p k low high letter id under few at t found =
     let all : map rule_of (args_of c) ≡ rules = ap (λ a. a.top.rules) is ∙ pstops_has_rules in
     let d = some_arg (args_of c) all in
-    let many : length (args_of c) ≡ 10 = sym (length-map (args_of c) rule_of) ∙ ap length all in
-    let lt : k < length (args_of c) = omega (arith, low, many) in
-    let rule : rule_of (get_or (args_of c) k d) ≡ counted_rule id letter
-    = rule_at (args_of c) k d (counted_rule id letter) lt ∙ ap (λ l. get_or l k (counted_rule id letter)) all ∙ at in
-    let found = count_found c m is p k d lt (ap (λ r. r.parser) rule) in
+    let many : length (args_of c) ≡ 11 = sym (length-map (args_of c) rule_of) ∙ ap length all in
+    let lt : k < length (args_of c) = omega (arith, under, many) in
+    let rule : rule_of (get_or (args_of c) k d) ≡ ranged_rule low high id letter
+    = rule_at (args_of c) k d (ranged_rule low high id letter) lt ∙ ap (λ l. get_or l k (ranged_rule low high id letter)) all ∙ at in
     let same : one_text (found_of m) (get_or (args_of c) k d).id.now ≡ one_of id (rows_of (found_of m))
     = ap (λ r. one_text (found_of m) r.id) rule ∙ one_text-rows (found_of m) id in
-    subst (λ o. (1 ≤ count_named o) × (count_named o ≤ 16)) same found
+    number_found c m is p k d lt low high few (ap (λ r. r.parser) rule) t (same ∙ found)
+
+counted : (c : Command) (m : ArgMatches) → app_of c ≡ pstops → IsParsedFrom c m → (k letter : ℕ) (id : Text) → k < 11
+    → get_or rules k (counted_rule id letter) ≡ counted_rule id letter
+    → (1 ≤ count_named (one_of id (rows_of (found_of m)))) × (count_named (one_of id (rows_of (found_of m))) ≤ 16)
+counted c m is p k letter id under at = go (one_of id (rows_of (found_of m))) refl
+  where
+    go : (o : Option (List ℕ)) → one_of id (rows_of (found_of m)) ≡ o → (1 ≤ count_named o) × (count_named o ≤ 16)
+    go None e = (omega arith, omega arith)
+    go (Some t) e =
+        let n = ranged c m is p k 1 16 letter id under (omega arith) at t e in
+        let is_n : count_named (Some t) ≡ n.0 = ap (λ o. unwrap_or o 2) n.1 in
+        (omega (arith, is_n, n.2), omega (arith, is_n, n.3))
 
 pub workers_in_range : (c : Command) (m : ArgMatches) → app_of c ≡ pstops → IsParsedFrom c m → AreWorkers (workers_found (rows_of (found_of m)))
 workers_in_range c m is p =
     let preparers = counted c m is p 8 letter_j (codes "preparers") (omega arith) refl in
     let imposers = counted c m is p 9 letter_k (codes "imposers") (omega arith) refl in
     record { a_preparer = preparers.0; few_preparers = preparers.1; an_imposer = imposers.0; few_imposers = imposers.1 }
+
+-- ---- the number of sides
+
+pub sides_in_range : (c : Command) (m : ArgMatches) → app_of c ≡ pstops → IsParsedFrom c m → AreInRange (sides_found (rows_of (found_of m)))
+sides_in_range c m is p = go (one_of (codes "sides") (rows_of (found_of m))) refl
+  where
+    go : (o : Option (List ℕ)) → one_of (codes "sides") (rows_of (found_of m)) ≡ o → AreInRange (sides_named o)
+    go None e = tt
+    go (Some t) e =
+        let n = ranged c m is p 10 4 1_000_000 letter_s (codes "sides") (omega arith) (omega arith) refl t e in
+        subst AreInRange (sym n.1) (n.2, n.3)

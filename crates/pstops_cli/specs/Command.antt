@@ -1,5 +1,5 @@
 -- The command line:
--- pstops [-q] [-p paper] [-w W] [-h H] [-d width] [-j preparers] [-k imposers] SPECS [INFILE [OUTFILE]].
+-- pstops [-q] [-s sides] [-p paper] [-w W] [-h H] [-d width] [-j preparers] [-k imposers] SPECS [INFILE [OUTFILE]].
 use Rattle.std.specs.Prelude.{◌≡◌, ◌≢◌, ◌∷◌, ◌&&◌, Bool, true, false, not, List, [], Some, None, Option, Result, Ok, Err, codes, string_bytes, ℕ, ⊤, is_some, map, option_map, pos}
 use Rattle.std.specs.List.{list_any}
 use Rattle.std.specs.Str.{bytes_eq}
@@ -17,7 +17,7 @@ use Rattle.imposer.specs.Workers.{AreWorkers}
 use Rattle.pstops_cli.specs.declared.command.Request.{Request}
 use Rattle.pstops_cli.specs.declared.command.CommandFault.{CommandFault}
 use Rattle.pstops_cli.specs.declared.command.CommandFault.TheVariants.{BadLength, BadWords, NoMemory, UnknownPaper}
-use Rattle.pstops_cli.specs.Values.{letter_d, letter_h, letter_j, letter_k, letter_p, letter_w, options_named, workers_named}
+use Rattle.pstops_cli.specs.Values.{AreInRange, letter_d, letter_h, letter_j, letter_k, letter_p, letter_s, letter_w, options_named, sides_named, workers_named}
 
 -- ---- the command
 
@@ -31,9 +31,13 @@ flag_rule id letter = record (new_rule id) { short = Some letter; action = Some 
 abbrev pub valued_rule : Text → (letter : ℕ) → Rule
 valued_rule id letter = record (new_rule id) { short = Some letter; action = Some Set }
 
+-- an option with a whole number in this range
+abbrev pub ranged_rule : (low high : ℕ) → Text → (letter : ℕ) → Rule
+ranged_rule low high id letter = record (valued_rule id letter) { parser = Some (Signed (pos low) (pos high)) }
+
 -- an option with a whole number from 1 to 16
 abbrev pub counted_rule : Text → (letter : ℕ) → Rule
-counted_rule id letter = record (valued_rule id letter) { parser = Some (Signed (pos 1) (pos 16)) }
+counted_rule id letter = ranged_rule 1 16 id letter
 
 abbrev pub letter_q : ℕ
 letter_q = 113
@@ -51,6 +55,7 @@ rules =
     ∷ valued_rule (codes "border") letter_d
     ∷ counted_rule (codes "preparers") letter_j
     ∷ counted_rule (codes "imposers") letter_k
+    ∷ ranged_rule 4 1_000_000 (codes "sides") letter_s
     ∷ []
 
 -- no word is the program's name, and -h, --help, -V and --version aren't added
@@ -76,11 +81,15 @@ has_true (Some text) = bytes_eq text (codes "true")
 abbrev pub workers_found : (found : List Row) → Workers
 workers_found found = workers_named (one_of (codes "preparers") found) (one_of (codes "imposers") found)
 
+-- as many sides as the number found of -s says, if it is there
+abbrev pub sides_found : (found : List Row) → Option ℕ
+sides_found found = sides_named (one_of (codes "sides") found)
+
 -- what the values found name, or the fault of the first of -p, -w, -h and -d, in this order, that names nothing
 abbrev pub options_found : (found : List Row) → Result Options CommandFault
 options_found found =
     options_named (first_of (codes "paper") found) (first_of (codes "width") found) (first_of (codes "height") found) (first_of (codes "border") found)
-    (workers_found found)
+    (sides_found found) (workers_found found)
 
 -- the request is what was found
 pub record Reads (found : List Row) (r : Request) : Type 0 where
@@ -113,11 +122,13 @@ ParseRefuses words UnknownPaper = ⊥
 ParseRefuses words (BadLength letter) = ⊥
 ParseRefuses words NoMemory = ⊤
 
--- these are the words' matches, SPECS is among them, and the numbers of workers lie from 1 to 16
+-- these are the words' matches, SPECS is among them, the numbers of workers lie from 1 to 16, and that of sides from 4 to
+-- 1,000,000
 pub record Finds (words : List Text) (m : ArgMatches) : Type 0 where
   pub rows : rows_of (found_of m) ≡ matches_of pstops words
   pub specs : is_some (first_value (found_of m) (codes "specs")) ≡ true
   pub workers : AreWorkers (workers_found (rows_of (found_of m)))
+  pub sides : AreInRange (sides_found (rows_of (found_of m)))
 
 -- the id is neither empty nor one that clap adds
 abbrev pub is_own_id : Text → Bool

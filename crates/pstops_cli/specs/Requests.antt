@@ -17,7 +17,7 @@ asked_by r input = request r.options (string_bytes r.spec) input
 -- each error
 pub record Ends (a : runs.Request) (told told' : Option (List ℕ)) (failures failures' : ℕ) (ended : Result Report RunError) : Type 0 where
   -- at Ok exactly the output was appended, and the report has its numbers
-  pub finished : IfOk ended (λ r. Accepted a (λ spec us. Appends told told' (output (frame_of a.options) spec us) × Reports (frame_of a.options) spec us r))
+  pub finished : IfOk ended (λ r. Accepted a (λ spec us. Appends told told' (output (frame_of a.options) a.options.sides spec us) × Reports (frame_of a.options) a.options.sides spec us r))
   -- a refusal names the first check that fails
   pub refused : IfErr ended (λ e. IsRefusal a e)
   -- after an error the sink has the first bytes of the output, as many as the error says, and none after a refusal

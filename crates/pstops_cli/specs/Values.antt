@@ -1,5 +1,5 @@
 -- What the values of the options stand for.
-use Rattle.std.specs.Prelude.{◌≡◌, ◌↔◌, ◌++◌, ◌^◌, ◌&&◌, ℕ, ℤ, false, pos, int_le, nat_lt, unwrap_or, ok_or, option_map, option_and_then, if◌then◌else◌, List, [], Option, Some, None, Result, Ok, Err, codes}
+use Rattle.std.specs.Prelude.{⊤, ◌≤◌, ◌≡◌, ◌↔◌, ◌++◌, ◌^◌, ◌&&◌, ℕ, ℤ, false, pos, int_le, nat_lt, unwrap_or, ok_or, option_map, option_and_then, if◌then◌else◌, List, [], Option, Some, None, Result, Ok, Err, codes}
 use Rattle.std.specs.Str.{bytes_eq}
 use Rattle.std.specs.Str.Parse.{digits_value, without_leading_plus}
 use Rattle.clap.specs.ValueTests.{is_numeral}
@@ -66,7 +66,7 @@ abbrev pub border_named : Paper → Option (List ℕ) → Option (Option ℤ)
 border_named paper None = Some None
 border_named paper (Some text) = option_and_then border_of (length_named paper text)
 
--- ---- the numbers of workers
+-- ---- the numbers of workers and of sides
 
 -- a whole number of 32 bits, in digits with or without a plus before them
 abbrev pub number_of : List ℕ → Option ℕ
@@ -77,6 +77,15 @@ number_of text =
 -- as many workers as the text says, 2 where there is none. The command takes no text but a number from 1 to 16
 abbrev pub count_named : Option (List ℕ) → ℕ
 count_named text = unwrap_or (option_and_then number_of text) 2
+
+-- as many sides as the text says, if there is one. The command takes no text but a number from 4 to 1,000,000
+abbrev pub sides_named : Option (List ℕ) → Option ℕ
+sides_named text = option_and_then number_of text
+
+-- if a number of sides is asked for, it lies from 4 to 1,000,000
+abbrev pub AreInRange : (sides : Option ℕ) → Type 0
+AreInRange None = ⊤
+AreInRange (Some n) = (4 ≤ n) × (n ≤ 1_000_000)
 
 abbrev pub workers_named : (preparers imposers : Option (List ℕ)) → Workers
 workers_named preparers imposers = record { preparers = count_named preparers; imposers = count_named imposers }
@@ -106,12 +115,15 @@ letter_j = 106
 abbrev pub letter_k : ℕ
 letter_k = 107
 
--- what the values of -p, -w, -h and -d name beside these workers, or the fault of the first, in this order, that names no
--- paper or no length that its option takes
-unfoldable pub options_named : (paper width height border : Option (List ℕ)) → Workers → Result Options CommandFault
-options_named paper width height border workers =
+abbrev pub letter_s : ℕ
+letter_s = 115
+
+-- what the values of -p, -w, -h and -d name beside these sides of a signature and workers, or the fault of the first, in this
+-- order, that names no paper or no length that its option takes
+unfoldable pub options_named : (paper width height border : Option (List ℕ)) → (signature : Option ℕ) → Workers → Result Options CommandFault
+options_named paper width height border signature workers =
     and_then (ok_or (paper_or_a4 paper) UnknownPaper) (λ named.
     and_then (ok_or (with_width named width) (BadLength letter_w)) (λ wide.
     and_then (ok_or (with_height wide height) (BadLength letter_h)) (λ sides.
     and_then (ok_or (border_named sides border) (BadLength letter_d)) (λ around.
-    Ok (record { paper = sides; border = around; workers = workers })))))
+    Ok (record { paper = sides; border = around; sides = signature; workers = workers })))))

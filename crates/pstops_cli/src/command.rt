@@ -2,7 +2,8 @@
 ghost use Rattle.std.specs.Prelude.{◌≡◌, IfOk, IfErr, codes, is_some, map, option_map, true, string_bytes};
 ghost use Rattle.clap.specs.Words.{first_of, first_value, found_of, is_simple, matches_of, one_of, rows_of, rule_of};
 ghost use Rattle.imposer.specs.Workers.{AreWorkers};
-ghost use Rattle.pstops_cli.specs.Command.{Finds, IsChain, ParseRefuses, Reads, RefusesFound, Refuses, Takes, counted_rule, flag_rule, has_true, options_found, positional_rule, pstops, rules, valued_rule, workers_found};
+ghost use Rattle.pstops_cli.specs.Command.{Finds, IsChain, ParseRefuses, Reads, RefusesFound, Refuses, Takes, counted_rule, flag_rule, has_true, options_found, positional_rule, pstops, ranged_rule, rules, sides_found, valued_rule, workers_found};
+ghost use Rattle.pstops_cli.specs.Values.{AreInRange};
 ghost use Rattle.pstops_cli.specs.Values as meaning;
 ghost use Rattle.pstops_cli.specs.declared.command.CommandFault.TheVariants.{NoMemory};
 
@@ -49,23 +50,25 @@ impl From<AllocError> for CommandFault {
 }
 
 /// The request that the words after the program's name make:
-/// `[-q] [-p paper] [-w W] [-h H] [-d width] [-j preparers] [-k imposers] SPECS [INFILE [OUTFILE]]`, as in pstops(1) but for
-/// `-j` and `-k`.
+/// `[-q] [-s sides] [-p paper] [-w W] [-h H] [-d width] [-j preparers] [-k imposers] SPECS [INFILE [OUTFILE]]`, as in pstops(1)
+/// but for `-j` and `-k`, and for `-s`, which is that of psbook(1).
 ///
-/// `-q` leaves the report line out, and SPECS is a page specification, which isn't looked at here. `-p` names the paper,
+/// `-q` leaves the report line out, and SPECS is a page specification, which isn't looked at here. `-s` asks for signatures of so
+/// many sides, a whole number from 4 to 1,000,000; that it is a multiple of four isn't looked at here either. `-p` names the paper,
 /// which is a4 where none is named; `-w` replaces its width and `-h` its height. `-d` asks for a border of this width round
 /// each page, and a width of 0 for none. A length is a number and its unit, `pt`, `cm`, `mm` or `in`, without which it is
 /// in points. `-j` and `-k` are how many threads prepare pages and how many impose sheets: whole numbers from 1 to 16, 2
 /// where they aren't named.
 ///
-/// Words that the command doesn't take are `BadWords`, and so are other values of `-j` and `-k`. Among words that it takes, a paper without a name comes first as
-/// `UnknownPaper`, then as `BadLength` the values of `-w` and `-h`, which are lengths above zero, and of `-d`, which isn't
+/// Words that the command doesn't take are `BadWords`, and so are other values of `-s`, `-j` and `-k`. Among words that it
+/// takes, a paper without a name comes first as `UnknownPaper`, then as `BadLength` the values of `-w` and `-h`, which are lengths above zero, and of `-d`, which isn't
 /// below zero, whatever order they stand in.
 #[tactic(auto, using(crate::proofs::Pstops::pstops_is_simple))]
 pub fn read_command(alloc: Global, words: &[String]) -> Result<Request, CommandFault>
     ensures taken { IfOk result (λ _. Takes (map string_bytes words.now)) }
     ensures read { IfOk result (Reads (matches_of pstops (map string_bytes words.now))) }
     ensures workers { IfOk result (λ request. AreWorkers request.options.workers) }
+    ensures sides { IfOk result (λ request. AreInRange request.options.sides) }
     // BadWords comes only where the command doesn't take the words, and another refusal only where a value is no paper or
     // no length.
     ensures refused { IfErr result (Refuses (map string_bytes words.now)) }
@@ -124,6 +127,7 @@ fn options_of(matches: &ArgMatches<'_>) -> Result<Options, CommandFault>
         text_of(matches, "width"),
         text_of(matches, "height"),
         text_of(matches, "border"),
+        sides_of(matches),
         workers_of(matches),
     )
 }
@@ -138,11 +142,25 @@ fn workers_of(matches: &ArgMatches<'_>) -> Workers
     }
 }
 
+// As many sides of a signature as the matches name.
+fn sides_of(matches: &ArgMatches<'_>) -> Option<u32>
+    ensures { result ≡ sides_found (rows_of (found_of matches.now)) }
+{
+    number_at(matches, "sides")
+}
+
 // The number of workers that an argument names, 2 where it isn't there.
 fn count_of(matches: &ArgMatches<'_>, id: &str) -> u32
     ensures { result ≡ meaning.count_named (one_of id.now (rows_of (found_of matches.now))) }
 {
-    matches.get_one::<u32>(id).unwrap_or(2)
+    number_at(matches, id).unwrap_or(2)
+}
+
+// The whole number that an argument names.
+fn number_at(matches: &ArgMatches<'_>, id: &str) -> Option<u32>
+    ensures { result ≡ meaning.sides_named (one_of id.now (rows_of (found_of matches.now))) }
+{
+    matches.get_one::<u32>(id)
 }
 
 // The command. Its own help and version options are switched off, so that their letters are free.
@@ -171,6 +189,7 @@ fn args<'a>(alloc: Global) -> Result<Vec<Arg<'a>>, AllocError>
         valued(alloc, "border", 'd'),
         counted(alloc, "preparers", 'j'),
         counted(alloc, "imposers", 'k'),
+        sided(alloc, "sides", 's'),
     ]?;
     Ok(args)
 }
@@ -199,6 +218,13 @@ fn counted<'a>(alloc: Global, id: &'a str, short: char) -> Arg<'a>
     ensures { rule_of result ≡ counted_rule id.entry.now short }
 {
     valued(alloc, id, short).value_parser(value_parser!(u32).range(1..=16))
+}
+
+// An option with a whole number from 4 to 1,000,000.
+fn sided<'a>(alloc: Global, id: &'a str, short: char) -> Arg<'a>
+    ensures { rule_of result ≡ ranged_rule 4 1_000_000 id.entry.now short }
+{
+    valued(alloc, id, short).value_parser(value_parser!(u32).range(4..=1_000_000))
 }
 
 // The value of an argument as text.

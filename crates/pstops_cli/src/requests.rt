@@ -33,7 +33,7 @@ pub fn run_request<R: Threads + Wait + Sync, S: Sink>(
         × IsTold request.now.quiet ended result.0 result.1.items }
     // Status 0 comes only where exactly the output was written.
     ensures finished { result.0 ≡ 0 → Accepted (asked_by request.now input.now) (λ spec us.
-        Appends (S.told sink.old) (S.told sink.new) (output (frame_of request.now.options) spec us)) }
+        Appends (S.told sink.old) (S.told sink.new) (output (frame_of request.now.options) request.now.options.sides spec us)) }
 {
     let ended = run(
         rt,

@@ -7,17 +7,18 @@ use crate::command::CommandFault;
 use imposer::{Options, Workers};
 use lengths::{Grains, Paper, Unit, paper_by_name, read_number, to_grains};
 
-// The options that the values of `-p`, `-w`, `-h` and `-d` name, beside these workers. The first in this order that names
-// none is the fault.
+// The options that the values of `-p`, `-w`, `-h` and `-d` name, beside these sides of a signature and workers. The first in
+// this order that names none is the fault.
 pub(crate) fn options_named(
     paper: Option<&str>,
     width: Option<&str>,
     height: Option<&str>,
     border: Option<&str>,
+    signature: Option<u32>,
     workers: Workers,
 ) -> Result<Options, CommandFault>
     ensures { result ≡ meaning.options_named (option_map (λ s. s.now) paper.entry) (option_map (λ s. s.now) width.entry)
-        (option_map (λ s. s.now) height.entry) (option_map (λ s. s.now) border.entry) workers }
+        (option_map (λ s. s.now) height.entry) (option_map (λ s. s.now) border.entry) signature workers }
 {
     let named = paper_or_a4(paper).ok_or(CommandFault::UnknownPaper)?;
     let wide = with_width(named, width).ok_or(CommandFault::BadLength('w'))?;
@@ -26,6 +27,7 @@ pub(crate) fn options_named(
     Ok(Options {
         paper: sides,
         border,
+        sides: signature,
         workers,
     })
 }

@@ -38,7 +38,7 @@ abbrev pub a4 : Frame
 a4 = record { paper = points 595 842; border = None }
 
 abbrev output_in : Frame → Spec → List ℕ → Result (List ℕ) DocumentFault
-output_in frame spec text = document_of text >>= λ us. Ok (output frame spec us)
+output_in frame spec text = document_of text >>= λ us. Ok (output frame None spec us)
 
 -- how many bytes are written
 abbrev bytes_in : Frame → Spec → List ℕ → Result ℕ DocumentFault

@@ -78,6 +78,25 @@ fn workers_that_are_asked_for(rt: HostRuntime) -> Result<(), Fail> {
 }
 
 #[test]
+fn sides_that_are_asked_for(rt: HostRuntime) -> Result<(), Fail> {
+    let rows = [
+        ("0", None),
+        ("-s 4 0", Some(4u32)),
+        ("0 -s8", Some(8)),
+        ("-qs16 0", Some(16)),
+        ("-s 1000000 0", Some(1_000_000)),
+        // A run refuses what is no multiple of four.
+        ("-s 6 0", Some(6)),
+        ("-s +8 0", Some(8)),
+        ("-s 08 0", Some(8)),
+    ];
+    for (line, sides) in rows {
+        assert_eq!(rt; read(rt.alloc(), line)?.options.sides, sides, "at {line}");
+    }
+    Ok(())
+}
+
+#[test]
 fn words_that_are_refused(rt: HostRuntime) {
     let lines = [
         "",
@@ -101,7 +120,6 @@ fn words_that_are_refused(rt: HostRuntime) {
         "-V 0",
         "--help",
         "--quiet 0",
-        "-s 8 0",
         // There are whole numbers from 1 to 16 of workers.
         "-j 17 0",
         "-j 0 0",
@@ -116,6 +134,16 @@ fn words_that_are_refused(rt: HostRuntime) {
         "-j1 -j2 0",
         "-k2 -k2 0",
         "0 -k",
+        // There are whole numbers from 4 to 1,000,000 of sides.
+        "-s 0 0",
+        "-s 3 0",
+        "-s 1000001 0",
+        "-s x 0",
+        "-s8.0 0",
+        "-s '' 0",
+        "-s -8 0",
+        "-s4 -s4 0",
+        "0 -s",
         // That comes before any fault of another value.
         "-p b9 -w x -k 17 0",
     ];

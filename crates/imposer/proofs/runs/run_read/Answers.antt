@@ -1,4 +1,6 @@
 use Rattle.std.proofs.Common.{sym, subst}
+use Rattle.sheet_plan.specs.Refusals.{RefusesIn}
+use Rattle.imposer.specs.declared.options.Options.{Options}
 use Rattle.imposer.specs.Outcomes.{of_plan}
 use Rattle.imposer.specs.Runs.{AnswersRequest}
 use Rattle.std.specs.Prelude.{Err}
@@ -8,12 +10,16 @@ use Rattle.imposer.proofs.runs.run_read.Goals as goal
 
 pub returns-in-Err : goal.returns-in-Err
 returns-in-Err g c = λ r is.
-    let said = refused_plan r c.in-Err.error c.args.given.now.spec c.args.given.now.document _ is.options is.takes is.document c.pages.ensures.count c.in-Err.ensures.refused in
+    let refused = subst (λ (o : Options). RefusesIn o.sides c.args.given.now.spec c.pages.result c.in-Err.error) (sym is.same_options) c.in-Err.ensures.refused in
+    let said = refused_plan r c.in-Err.error c.args.given.now.spec c.args.given.now.document _ is.options is.takes is.document c.pages.ensures.count refused in
     subst (λ e. AnswersRequest r (g.S.Sink.told c.args.sink.now) (g.S.Sink.told c.args.sink.now) (g.S.Sink.failures c.args.sink.now) (g.S.Sink.failures c.args.sink.now) (Err e)) (sym c.from.ensures)
     (refused_answers r (g.S.Sink.told c.args.sink.now) (g.S.Sink.failures c.args.sink.now) (of_plan c.in-Err.error) said.0 said.1)
 
 pub new-job-requires-clause-border : goal.new-job-requires-clause-border
 new-job-requires-clause-border g c = c.requires.options.1
+
+pub plan_pages-requires : goal.plan_pages-requires
+plan_pages-requires g c = c.requires.options.2
 
 pub run_job-requires-clause-workers : goal.run_job-requires-clause-workers
 run_job-requires-clause-workers g c κs within = c.requires.options.0

@@ -12,7 +12,7 @@ use Rattle.clap.specs.declared.parser.matches.ArgMatches.{ArgMatches}
 use Rattle.pstops_cli.specs.Command.{IsChain, are_distinct, fits, positional_rule, pstops, rules}
 use Rattle.pstops_cli.proofs.Chain.{chain_app, distinct, each_fits, takes_a_value}
 use Rattle.pstops_cli.proofs.Pstops.{each_rule_fits, pstops_is_free, pstops_is_made, pstops_is_simple, rules_are_distinct}
-use Rattle.pstops_cli.proofs.WorkerNumbers.{some_arg, workers_in_range}
+use Rattle.pstops_cli.proofs.WorkerNumbers.{sides_in_range, some_arg, workers_in_range}
 use Rattle.pstops_cli.proofs.command.parse.Goals as goal
 use Rattle.pstops_cli.proofs.command.parse.Goals.{in-Some-2, in-None-2}
 
@@ -23,7 +23,7 @@ abbrev first_rule : Rule
 first_rule = record (positional_rule (codes "specs")) { required = true }
 
 first_is : (xs : List Arg) (d : Arg) → map rule_of xs ≡ rules → (0 < length xs) × TakesValue (get_or xs 0 d) × ((get_or xs 0 d).id.now ≡ codes "specs")
-first_is [] d e = let bad : 0 ≡ 10 = ap length e in absurd (omega (arith, bad))
+first_is [] d e = let bad : 0 ≡ 11 = ap length e in absurd (omega (arith, bad))
 first_is (x ∷ xs) d e =
     let is : rule_of x ≡ first_rule = ap (λ l. get_or l 0 first_rule) e in
     (omega arith, takes_a_value x (ap (λ r. r.required) is) (ap (λ r. r.action) is) (ap (λ r. r.range) is) (ap fits is), ap (λ r. r.id) is)
@@ -48,6 +48,7 @@ returns-in-Ok-clause-found c =
       rows = (c.in-Ok.ensures.matches (ap is_simple is ∙ pstops_is_simple)).0 ∙ ap (λ a. matches_of a (map string_bytes c.args.words.now)) is;
       specs = has_specs c.in_ok-command.command c.in-Ok.matches c.in_ok-command.ensures c.in-Ok.ensures.parsed;
       workers = workers_in_range c.in_ok-command.command c.in-Ok.matches is c.in-Ok.ensures.parsed;
+      sides = sides_in_range c.in_ok-command.command c.in-Ok.matches is c.in-Ok.ensures.parsed;
     }
 
 no_kind : (e : ErrorKind) (ks : List ErrorKind) → IsAmong e ks → ks ≡ [] → ⊥

@@ -4,7 +4,8 @@ use Rattle.std.proofs.lemmas.Result.{IfErr-weaker, IfOk-weaker}
 use Rattle.clap.specs.Words.{found_of, rows_of}
 use Rattle.imposer.specs.Workers.{AreWorkers}
 use Rattle.pstops_cli.specs.Command.{Reads, Refuses}
-use Rattle.pstops_cli.proofs.ValueFaults.{refuses_words, workers_stay}
+use Rattle.pstops_cli.specs.Values.{AreInRange}
+use Rattle.pstops_cli.proofs.ValueFaults.{refuses_words, sides_stay, workers_stay}
 use Rattle.pstops_cli.proofs.command.read_command.Goals as goal
 
 pub returns-clause-refused : goal.returns-clause-refused
@@ -18,3 +19,9 @@ returns-clause-workers c =
     let found = rows_of (found_of c.in_ok-matches.matches) in
     IfOk-weaker c.request_of.result (Reads found) (λ r. AreWorkers r.options.workers)
     (λ r reads. subst AreWorkers (sym (workers_stay found r.options reads.options)) c.in_ok-matches.ensures.found.workers) c.request_of.ensures.read
+
+pub returns-clause-sides : goal.returns-clause-sides
+returns-clause-sides c =
+    let found = rows_of (found_of c.in_ok-matches.matches) in
+    IfOk-weaker c.request_of.result (Reads found) (λ r. AreInRange r.options.sides)
+    (λ r reads. subst AreInRange (sym (sides_stay found r.options reads.options)) c.in_ok-matches.ensures.found.sides) c.request_of.ensures.read

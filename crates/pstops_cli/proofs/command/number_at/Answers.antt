@@ -4,9 +4,9 @@ use Rattle.std.specs.Str.Parse.{ExplainsUnsignedError, HasUnsignedDigitsIfOk, Pa
 use Rattle.clap.specs.ValueTests.{is_numeral}
 use Rattle.clap.specs.Words.{ReadsOne, found_of, one_text}
 use Rattle.clap.proofs.WalkLemmas.{both, one_text-rows}
-use Rattle.pstops_cli.specs.Values.{count_named, number_of}
+use Rattle.pstops_cli.specs.Values.{number_of, sides_named}
 use Rattle.pstops_cli.proofs.WorkerNumbers.{digits_from, digits_pass, is_number}
-use Rattle.pstops_cli.proofs.command.count_of.Goals as goal
+use Rattle.pstops_cli.proofs.command.number_at.Goals as goal
 
 -- what `u32` reads of a text
 number_read : (E : Type 0) (G : List ℕ → Result ℕ E → Type 0) (t : List ℕ) (r : Option ℕ) → ((r : Result ℕ E) → G t r → ParsesUnsigned 32 10 t r) → ReadsOne G t r → r ≡ number_of t
@@ -27,7 +27,7 @@ pub returns : goal.returns
 returns c =
     let f = found_of c.args.matches.now in
     let id = c.args.id.now in
-    c.unwrap_or.ensures ∙ ap (λ o. unwrap_or o 2) (go (one_text f id) refl) ∙ ap count_named (one_text-rows f id)
+    go (one_text f id) refl ∙ ap sides_named (one_text-rows f id)
   where
     go : (o : Option (List ℕ)) → one_text (found_of c.args.matches.now) c.args.id.now ≡ o → c.get_one.result ≡ option_and_then number_of o
     go None e = c.get_one.ensures.none e
