@@ -1,4 +1,4 @@
-use Rattle.std.proofs.Common.{◌≡◌, ◌∙◌, sym, ap, subst, ℕ}
+use Rattle.std.proofs.Common.{subst, ℕ}
 use Rattle.profile.specs.Sheets.{Layout}
 use Rattle.gather_table.specs.Table.{IsClosable}
 use Rattle.gather_table.specs.History.{LookGroup, after_history}
