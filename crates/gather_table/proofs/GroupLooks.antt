@@ -3,7 +3,8 @@ use Rattle.std.proofs.Common.{◌≡◌, ℕ, ◌-◌, ◌^◌, Bool, true, not,
 use Rattle.profile.specs.Sheets.{Layout}
 use Rattle.gather_table.specs.Table.{TableState, group_size, in_group, HasGroup, all_below, bits, missing_in, start, IsClosable}
 use Rattle.gather_table.specs.History.{Entry, LookGroup, after_history}
-use Rattle.gather_table.specs.Shared.{SeatView, Made}
+use Rattle.gather_table.specs.Shared.{SeatView}
+use Rattle.gather_table.specs.Seating.{LookedMayBeClosed}
 use Rattle.gather_table.proofs.Bits.{bits_not, full_bits}
 use Rattle.gather_table.proofs.Calls.{legal_made}
 use Rattle.gather_table.proofs.Histories.{AllFit_back, after_history_push}
@@ -14,7 +15,7 @@ none_lack f n z = let b = bits_not f n in sym (full_bits f n) ∙ eq-eqb (bits f
 pub none_missing_in : (layout : Layout) (t : TableState) (s g : ℕ) → HasGroup layout s g → 0 ≡ missing_in layout t s g → IsClosable layout t s g
 none_missing_in layout t s g has none = record { group = has; full = none_lack (in_group (t.marked s) g) (group_size layout s g) none }
 
-pub looked_may_be_closed : (old new : SeatView) (s g : ℕ) → Made old (LookGroup s g 0) new → IsClosable old.layout (after_history old.layout new.front) s g
+pub looked_may_be_closed : LookedMayBeClosed
 looked_may_be_closed old new s g m =
     let log : List Entry = old.front ++ m.between in
     let fits = (AllFit_back old.layout (start old.layout) log (LookGroup s g 0 ∷ []) (legal_made old new (LookGroup s g 0) m)).0 in

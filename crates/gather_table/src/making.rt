@@ -1,8 +1,7 @@
 //! How the shared table is made.
-ghost use Rattle.std.specs.Prelude.{◌≡◌, ℕ, ◌+◌, ◌/◌, ◌<◌, ◌≤◌, nat_lt, if◌then◌else◌, length, slice_index_or, IfOk};
+ghost use Rattle.std.specs.Prelude.{◌≡◌, ◌+◌, ◌/◌, ◌<◌, ◌≤◌, nat_lt, if◌then◌else◌, length, IfOk};
 ghost use Rattle.profile.specs.Sheets.{layout};
-ghost use Rattle.gather_table.specs.declared.lane.Home.{Home};
-ghost use Rattle.gather_table.specs.Homes.{IsHome};
+ghost use Rattle.gather_table.specs.Homes.{AreHomes};
 ghost use Rattle.gather_table.specs.Lanes.{fitted, free, wide_at};
 ghost use Rattle.gather_table.specs.Shared.{opening_seat};
 
@@ -16,12 +15,12 @@ use sheet_plan::Plan;
 use std::alloc::{AllocError, Global};
 
 impl<'s> GatherTable<'s> {
-    /// A table for a plan, and the seat that has all its shares. Blank slots count as marked from the start, and groups of blank
-    /// slots alone as closed.
+    /// A table for a plan, and the seat that has all its shares. Blank slots count as marked from the start, and
+    /// groups of blank slots alone as closed.
     ///
-    /// One word a page holds its index. The bits of a sheet of up to 64 slots stand in a lane of neighbouring bits of one word: a
-    /// sheet takes the next free bits of the current word where they suffice, else the first bits of the next word. A wide sheet
-    /// has words of its own behind the lanes, a closing word and then one word a group.
+    /// One word a page holds its index. The bits of a sheet of up to 64 slots stand in a lane of neighbouring bits
+    /// of one word: a sheet takes the next free bits of the current word if they suffice, else the first bits of
+    /// the next word. A wide sheet has words of its own behind the lanes, a closing word and then one word a group.
     pub fn new(alloc: Global, plan: &Plan<'s>) -> Result<(GatherTable<'s>, Seat), AllocError>
         ensures layout { IfOk result (λ made. made.0.layout ≡ layout plan.now) }
         ensures seat { IfOk result (λ made. made.1 ≡ opening_seat made.0) }
@@ -46,8 +45,7 @@ impl<'s> GatherTable<'s> {
 
 // Where the bits of each sheet stand, and how many words that takes.
 fn homes_of(alloc: Global, plan: &Plan) -> Result<(Vec<Home>, u32), AllocError>
-    ensures count { IfOk result (λ made. length made.0.items ≡ length (layout plan.now).sheets) }
-    ensures homes { IfOk result (λ made. (s : ℕ) (d : Home) → s < length (layout plan.now).sheets → IsHome (layout plan.now) s (slice_index_or made.0.items s d)) }
+    ensures homes { IfOk result (λ made. AreHomes (layout plan.now) made.0.items) }
     ensures words { IfOk result (λ made. made.1 ≡ wide_at (layout plan.now) (length (layout plan.now).sheets)) }
 {
     let pages = plan.pages();

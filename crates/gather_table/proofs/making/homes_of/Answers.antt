@@ -47,5 +47,5 @@ loop-sheet-preserved c =
     let shape = layout c.args.plan.now in
     let end = c.sheets-sheet-end.ensures.value ∙ sym (sheets_of c.args.plan.now) in
     let lt : c.loop-sheet.sheet < length shape.sheets = let t = c.loop-sheet-test.true in omega arith in
-    subst (λ (homes : List Home). Placed shape (c.loop-sheet.sheet + 1) homes (record { word = c.fit-next.result.word; first = c.fit-next.result.first + c.lane_width-width.result }) (c.loop-sheet.wide + c.own_words-wide.result)) (sym c.in_ok-push.ensures.items)
+    subst (λ (homes : List Home). Placed shape (c.loop-sheet.sheet + 1) homes (record { word = c.fit-next.result.word; first = c.fit-next.result.first + c.lane_width-width.result }) (c.loop-sheet.wide + c.own_words-wide.result)) (sym {A = List Home} c.in_ok-push.ensures.items)
     (more_placed shape c.loop-sheet.sheet _ _ _ _ _ _ _ _ _ lt c.loop-sheet.invariant c.pages-pages.ensures.value c.slots-slots.ensures.value c.lane_width-width.ensures c.fit-next.ensures c.home_at.ensures c.own_words-wide.ensures)

@@ -14,4 +14,4 @@ loop-group-preserved c =
     let lt : s < length shape.sheets = let end = c.sheets-sheet-end.ensures.value ∙ sym (sheets_of c.args.plan.now) in let t = c.loop-sheet-test.true in omega arith in
     let one : suc g ≡ g + 1 = omega arith in
     subst (λ (k : ℕ). Holds shape (closed_to shape s k) c.close_full.new.words) one
-    (group_more shape c.close_full.new.words s g (has_group shape s g _ _ (c.requires.homes s _ lt) lt c.closing_bits-group-end.ensures (omega arith)) (c.close_full.ensures.closed (closed_to shape s g) c.loop-group.invariant))
+    (group_more shape c.close_full.new.words s g (has_group shape s g _ _ (c.requires.homes.each s _ lt) lt c.closing_bits-group-end.ensures (omega arith)) (c.close_full.ensures.closed (closed_to shape s g) c.loop-group.invariant))

@@ -21,8 +21,8 @@ invariant_of-result c =
       sound = sound_of c.args.plan.now c.pages-pages.ensures.sound;
       pages = c.pages-pages.ensures.value;
       room = let room = c.in_ok-words.ensures.room in omega arith;
-      count = c.in_ok-homes.ensures.count;
-      homes_are = c.in_ok-homes.ensures.homes;
+      count = c.in_ok-homes.ensures.homes.count;
+      homes_are = c.in_ok-homes.ensures.homes.each;
     })
 
 pub invariant_of-result-2 : goal.invariant_of-result-2
