@@ -85,8 +85,14 @@ fn blank_slots(rt: HostRuntime) -> Result<(), Fail> {
     Ok(())
 }
 
-/// So many times this, a plus behind each, and then the last item.
-fn joined(alloc: Global, front: &str, many: usize, item: &str, last: &str) -> Result<String, AllocError> {
+/// A specification of one group: the front, so many times an item, and then the last one.
+fn joined(
+    alloc: Global,
+    front: &str,
+    many: usize,
+    item: &str,
+    last: &str,
+) -> Result<String, AllocError> {
     let mut text = String::from_str(alloc, front)?;
     for _ in 0..many {
         text.push_str(item)?;

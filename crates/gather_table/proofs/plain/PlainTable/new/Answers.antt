@@ -1,4 +1,4 @@
-use Rattle.std.proofs.Common.{rules, arith, replicate, ap, sym, ◌∙◌, subst, ◌+◌}
+use Rattle.std.proofs.Common.{rules, arith, replicate, ap, sym, ◌∙◌, subst, ◌+◌, List, ℕ}
 use Rattle.std.specs.Prelude.{None}
 use Rattle.gather_table.proofs.Blanks.{sheets_of, sound_of}
 use Rattle.profile.specs.Sheets.{layout}
@@ -15,8 +15,8 @@ loop-sheet-preserved c =
     let len = c.len.ensures in
     record {
       marks = c.in_ok-mark_blanks.ensures.blanks;
-      begins = subst (AreFirst (first_group plan) (c.loop-sheet.sheet + 1)) (sym c.in_ok-push.ensures.items) (one_more (first_group plan) c.loop-sheet.sheet _ _ before.begins (omega arith));
-      closes = subst (AreFirst (λ s. blank_groups plan s (group_count plan s)) (c.loop-sheet.sheet + 1)) (sym c.in_ok-push-2.ensures.items)
+      begins = subst (AreFirst (first_group plan) (c.loop-sheet.sheet + 1)) (sym {A = List ℕ} c.in_ok-push.ensures.items) (one_more (first_group plan) c.loop-sheet.sheet _ _ before.begins (omega arith));
+      closes = subst (AreFirst (λ s. blank_groups plan s (group_count plan s)) (c.loop-sheet.sheet + 1)) (sym {A = List ℕ} c.in_ok-push-2.ensures.items)
           (one_more (λ s. blank_groups plan s (group_count plan s)) c.loop-sheet.sheet _ _ before.closes c.in_ok-mark_blanks.ensures.closed);
     }
 
