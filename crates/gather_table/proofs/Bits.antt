@@ -4,7 +4,7 @@ use Rattle.std.specs.Prelude.{if◌then◌else◌, ◌==◌, bit_and, bit_or}
 use mathlib.Core.Logic.{dite}
 use native.Mathlib.Decide.{ℕ_discrete}
 use Rattle.std.proofs.Math.Nat.{two-pow-succ}
-use Rattle.std.proofs.lemmas.Nat.{or_block, pow_pos, pow_below, mod-pow-add, shr-shr, shr_high, mod_low}
+use Rattle.std.proofs.lemmas.Nat.{or_block, pow_pos, pow_below, mod-pow-add, shr-shr, mod_low}
 use Rattle.std.specs.Int.Bits.{or_zero_r, or_add_and}
 use Rattle.gather_table.specs.Table.{bits, with_mark, all_below}
 use Rattle.gather_table.specs.Words.{has_bit}
@@ -181,10 +181,6 @@ bits_tell f g (suc n) e k lt =
 pub bit_of_bits : (f : ℕ → Bool) (n k : ℕ) → k < n → has_bit (bits f n) k ≡ f k
 bit_of_bits f n k lt = bits_tell (has_bit (bits f n)) f n (bits_of (bits f n) n ∙ cut_bits f n) k lt
 
--- numbers that agree up to 2 ^ m have the same bits below m
-pub same_low : (a b m : ℕ) → a % 2 ^ m ≡ b % 2 ^ m → (k : ℕ) → k < m → has_bit a k ≡ has_bit b k
-same_low a b m e k lt = bits_tell (has_bit a) (has_bit b) m (bits_of a m ∙ e ∙ sym (bits_of b m)) k lt
-
 pub has_later : (n i k : ℕ) → has_bit (n / 2 ^ i) k ≡ has_bit n (i + k)
 has_later n i k = ap (λ (x : ℕ). x % 2 == 1) (shr-shr n i k)
 
@@ -196,13 +192,3 @@ bit_or_at n j i small lj li =
     let whole : bits (has_bit n) 64 ≡ n = bits_of n 64 ∙ sym (ap (λ (k : ℕ). k % 2 ^ 64) z) ∙ low in
     let e : bit_or n (2 ^ j) ≡ bits (with_mark (has_bit n) j) 64 = ap (λ (x : ℕ). bit_or x (2 ^ j)) (sym whole) ∙ or_bits (has_bit n) 64 j lj in
     ap (λ (x : ℕ). has_bit x i) e ∙ bit_of_bits (with_mark (has_bit n) j) 64 i li
-
--- a word on top of the bits below first
-pub bit_above : (hi first lo k : ℕ) → lo < 2 ^ first → has_bit (hi * 2 ^ first + lo) (first + k) ≡ has_bit hi k
-bit_above hi first lo k lt = sym (has_later (hi * 2 ^ first + lo) first k) ∙ ap (λ (x : ℕ). has_bit x k) (shr_high hi first lo lt)
-
-pub bit_below : (hi first lo k : ℕ) → lo < 2 ^ first → k < first → has_bit (hi * 2 ^ first + lo) k ≡ has_bit lo k
-bit_below hi first lo k lt less = same_low (hi * 2 ^ first + lo) lo first (mod_low hi first lo lt ∙ sym (sym (ap (λ (x : ℕ). x % 2 ^ first) z) ∙ mod_low 0 first lo lt)) k less
-  where
-    z : 0 * 2 ^ first + lo ≡ lo
-    z = omega arith

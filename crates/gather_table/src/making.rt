@@ -15,12 +15,12 @@ use sheet_plan::Plan;
 use std::alloc::{AllocError, Global};
 
 impl<'s> GatherTable<'s> {
-    /// A table for a plan, and the seat that has all its shares. Blank slots count as marked from the start, and groups of blank
-    /// slots alone as closed.
+    /// A table for a plan, and the seat that has all its shares. Blank slots count as marked from the start, and
+    /// groups of blank slots alone as closed.
     ///
-    /// One word a page holds its index. The bits of a sheet of up to 64 slots stand in a lane of neighbouring bits of one word: a
-    /// sheet takes the next free bits of the current word where they suffice, else the first bits of the next word. A wide sheet
-    /// has words of its own behind the lanes, a closing word and then one word a group.
+    /// One word a page holds its index. The bits of a sheet of up to 64 slots stand in a lane of neighbouring bits
+    /// of one word: a sheet takes the next free bits of the current word if they suffice, else the first bits of
+    /// the next word. A wide sheet has words of its own behind the lanes, a closing word and then one word a group.
     pub fn new(alloc: Global, plan: &Plan<'s>) -> Result<(GatherTable<'s>, Seat), AllocError>
         ensures layout { IfOk result (λ made. made.0.layout ≡ layout plan.now) }
         ensures seat { IfOk result (λ made. made.1 ≡ opening_seat made.0) }
