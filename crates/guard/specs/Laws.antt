@@ -12,10 +12,11 @@ use Rattle.guard.specs.Guard.{guard_lines, guarded}
 -- lines that can be put in: the first isn't empty, none begins a page or data, and the depth is 0 behind them
 abbrev pub CanBePutIn : List (List ℕ) → Type 0
 CanBePutIn [] = ⊥
-CanBePutIn (first ∷ more) = (0 < length first) × AreLines (first ∷ more) × (passes begins_page 0 (map line_unit (first ∷ more)) ≡ Some 0)
+CanBePutIn (first ∷ more) =
+    (0 < length first) × AreLines (first ∷ more) × (passes begins_page 0 (map line_unit (first ∷ more)) ≡ Some 0)
 
--- The text has the units `us`, and with the lines put in it has the units `changed`: these are the lines' own, put in behind
--- those of the header comments. Pages and trailer stay.
+-- The text has the units `us`, and with the lines put in it has the units `changed`: to the others the lines' own are added,
+-- behind those of the header comments. Pages and trailer stay.
 pub record ChangesPreambleAlone (lines : List (List ℕ)) (text : List ℕ) (us changed : List NestedUnit) : Type 0 where
   pub front : List TextUnit
   pub back : List TextUnit
@@ -28,14 +29,18 @@ pub record ChangesPreambleAlone (lines : List (List ℕ)) (text : List ℕ) (us 
 -- a document is accepted with lines put in too, unless it is too long then; and they change the preamble alone
 abbrev pub LinesStay : Type 0
 LinesStay =
-    (lines : List (List ℕ)) (text : List ℕ) (us : List NestedUnit) → CanBePutIn lines → document_of text ≡ Ok us → length (put_in lines text) ≤ 1_073_741_824
-    → (document_of (put_in lines text) ≡ Ok (units_of (put_in lines text))) × ChangesPreambleAlone lines text us (units_of (put_in lines text))
+    (lines : List (List ℕ)) (text : List ℕ) (us : List NestedUnit)
+    → CanBePutIn lines → document_of text ≡ Ok us → length (put_in lines text) ≤ 1_073_741_824
+    → (document_of (put_in lines text) ≡ Ok (units_of (put_in lines text)))
+    × ChangesPreambleAlone lines text us (units_of (put_in lines text))
 
 -- so it is with the guard, for every paper of the sheet
 abbrev pub GuardStays : Type 0
 GuardStays =
-    (sheet : Option Paper) (text : List ℕ) (us : List NestedUnit) → document_of text ≡ Ok us → length (guarded sheet text) ≤ 1_073_741_824
-    → (document_of (guarded sheet text) ≡ Ok (units_of (guarded sheet text))) × ChangesPreambleAlone (guard_lines sheet) text us (units_of (guarded sheet text))
+    (sheet : Option Paper) (text : List ℕ) (us : List NestedUnit)
+    → document_of text ≡ Ok us → length (guarded sheet text) ≤ 1_073_741_824
+    → (document_of (guarded sheet text) ≡ Ok (units_of (guarded sheet text)))
+    × ChangesPreambleAlone (guard_lines sheet) text us (units_of (guarded sheet text))
 
 -- each line has at most so many bytes
 abbrev pub AreShort : ℕ → List (List ℕ) → Type 0
@@ -44,4 +49,5 @@ AreShort most (l ∷ ls) = (length l ≤ most) × AreShort most ls
 
 -- DSC allows 255 bytes
 abbrev pub GuardIsShort : Type 0
-GuardIsShort = (sheet : Option Paper) → IfSome sheet (λ p. IsTrue (is_paper p.width p.height)) → AreShort 255 (guard_lines sheet)
+GuardIsShort =
+    (sheet : Option Paper) → IfSome sheet (λ p. IsTrue (is_paper p.width p.height)) → AreShort 255 (guard_lines sheet)

@@ -64,7 +64,8 @@ pub fn guarded(alloc: Global, text: &[u8], sheet: Option<&Paper>) -> Result<Vec<
 
 /// Appends the guard.
 fn append_guard(sheet: Option<&Paper>, out: &mut Vec<u8>) -> Result<(), AllocError>
-    ensures { OnOk result (out.new.items ≡ out.old.items ++ flat_map line (guard_lines (option_map (λ p. p.now) sheet.entry))) }
+    ensures { OnOk result (out.new.items ≡
+        out.old.items ++ flat_map line (guard_lines (option_map (λ p. p.now) sheet.entry))) }
 {
     out.extend_from_slice(FIRST_LINES)?;
     append_page_size(sheet, out)?;
@@ -74,7 +75,8 @@ fn append_guard(sheet: Option<&Paper>, out: &mut Vec<u8>) -> Result<(), AllocErr
 
 /// Appends the line that sets the page size to a paper, if there is one.
 fn append_page_size(sheet: Option<&Paper>, out: &mut Vec<u8>) -> Result<(), AllocError>
-    ensures { OnOk result (out.new.items ≡ out.old.items ++ flat_map line (page_size_lines (option_map (λ p. p.now) sheet.entry))) }
+    ensures { OnOk result (out.new.items ≡
+        out.old.items ++ flat_map line (page_size_lines (option_map (λ p. p.now) sheet.entry))) }
 {
     match sheet {
         None => Ok(()),

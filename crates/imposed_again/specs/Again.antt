@@ -33,9 +33,9 @@ AreShut [] = Unit {0}
 AreShut (text ∷ []) = Unit {0}
 AreShut (text ∷ next ∷ more) = (depth_behind (units_of text) ≡ 0) × AreShut (next ∷ more)
 
--- The units `again` are those of what was written of a document with these sheets. Preamble and trailer are the texts that were
--- written. The pages are the texts of the sheets if each of these but the last leaves no embedded document open; and only then
--- are there as many. If the document's last page leaves none open, nor does the last page of what was written.
+-- The units `again` are those of what was written of a document with these sheets. Preamble and trailer are the texts that
+-- were written. The pages are the texts of the sheets if each of these but the last leaves no embedded document open; and
+-- only then are there as many. If the document's last page leaves none open, nor does the last page of what was written.
 pub record IsAgain (frame : Frame) (all : List (List Slot)) (us again : List NestedUnit) : Type 0 where
   pub before : bytes_of (preamble again) ≡ preamble_text (length all) us
   pub sheets_are : AreShut (sheet_texts frame (pages us) all) → pages again ≡ sheet_texts frame (pages us) all
@@ -49,7 +49,8 @@ abbrev pub WrittenIsDocument : Type 0
 WrittenIsDocument =
     (frame : Frame) (all : List (List Slot)) (text : List ℕ) (us : List NestedUnit)
     → document_of text ≡ Ok us → 0 < length all → length all ≤ 1_000_000 → length (written frame all us) ≤ 1_073_741_824
-    → (document_of (written frame all us) ≡ Ok (units_of (written frame all us))) × IsAgain frame all us (units_of (written frame all us))
+    → (document_of (written frame all us) ≡ Ok (units_of (written frame all us)))
+    × IsAgain frame all us (units_of (written frame all us))
 
 -- if the document's last page leaves no embedded document open, no sheet does
 abbrev pub SheetsShut : Type 0
@@ -59,17 +60,21 @@ SheetsShut =
 
 -- if a document has a trailer, its last page leaves no embedded document open
 abbrev pub TrailerShuts : Type 0
-TrailerShuts = (text : List ℕ) (us : List NestedUnit) → document_of text ≡ Ok us → 0 < length (trailer us) → depth_behind (page_run us) ≡ 0
+TrailerShuts =
+    (text : List ℕ) (us : List NestedUnit)
+    → document_of text ≡ Ok us → 0 < length (trailer us) → depth_behind (page_run us) ≡ 0
 
 -- an admissible specification makes at least one sheet of pages
 abbrev pub MakesSheets : Type 0
 MakesSheets = (most_slots : ℕ) (spec : Spec) (n : ℕ) → IsAdmissible most_slots spec → 0 < n → 0 < length (sheets spec n)
 
--- the output of an accepted document, an admissible specification and an accepted plan is a document again, unless it is too
--- long; and if the document's last page leaves no embedded document open, its pages are the sheets
+-- the output of an accepted document, an admissible specification and an accepted plan is a document again, unless it is
+-- too long; and if the document's last page leaves no embedded document open, its pages are the sheets
 abbrev pub ImposedAgain : Type 0
 ImposedAgain =
     (most_slots : ℕ) (frame : Frame) (spec : Spec) (text : List ℕ) (us : List NestedUnit) (all : List (List Slot))
-    → document_of text ≡ Ok us → IsAdmissible most_slots spec → plan_of spec (length (pages us)) ≡ Ok all → length (output frame spec us) ≤ 1_073_741_824
-    → (document_of (output frame spec us) ≡ Ok (units_of (output frame spec us))) × IsAgain frame all us (units_of (output frame spec us))
+    → document_of text ≡ Ok us → IsAdmissible most_slots spec → plan_of spec (length (pages us)) ≡ Ok all
+    → length (output frame spec us) ≤ 1_073_741_824
+    → (document_of (output frame spec us) ≡ Ok (units_of (output frame spec us)))
+    × IsAgain frame all us (units_of (output frame spec us))
     × (depth_behind (page_run us) ≡ 0 → pages (units_of (output frame spec us)) ≡ sheet_texts frame (pages us) all)

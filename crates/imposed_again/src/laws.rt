@@ -1,8 +1,9 @@
 //! Laws of what a run wrote, read again. The functions do nothing.
 ghost use Rattle.imposed_again.specs.Again.{ImposedAgain, MakesSheets, SheetsShut, TrailerShuts, WrittenIsDocument};
 
-/// What is written of an accepted document, with any sheets, is accepted again, unless it is too long: its preamble and trailer
-/// are those that were written, and its pages are the sheets exactly if each sheet but the last leaves no embedded document open.
+/// What is written of an accepted document, with any sheets, is accepted again, unless it is too long: its preamble and
+/// trailer are those that were written, and its pages are the sheets exactly if each sheet but the last leaves no embedded
+/// document open.
 pub fn written_is_document()
     ensures { WrittenIsDocument }
 {}
@@ -22,8 +23,8 @@ pub fn makes_sheets()
     ensures { MakesSheets }
 {}
 
-/// The output of an accepted document, an admissible specification and an accepted plan is accepted again, unless it is too
-/// long; if the document's last page leaves no embedded document open, the pages of the output are the sheets.
+/// The output of an accepted document, an admissible specification and an accepted plan is accepted again, unless it is
+/// too long; if the document's last page leaves no embedded document open, the pages of the output are the sheets.
 pub fn imposed_again()
     ensures { ImposedAgain }
 {}

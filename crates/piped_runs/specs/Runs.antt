@@ -12,14 +12,16 @@ use Rattle.imposer.specs.declared.outcome.Report.{Report}
 use Rattle.imposer.specs.declared.outcome.RunError.TheVariants as error
 use Rattle.imposed_again.specs.Again.{depth_behind, IsAgain}
 
--- a run on this request answered Ok with this report, and appended these bytes to none: what `run` says of an Ok with a sink that
--- was empty
+-- a run on this request answered Ok with this report, and appended these bytes to none: what `run` says of an Ok, if the
+-- sink was empty
 abbrev pub HasRun : Request → Report → List ℕ → Type 0
 HasRun r report written =
-    Accepted r (λ spec us. Appends (Some []) (Some written) (output (frame_of r.options) spec us) × Reports (frame_of r.options) spec us report)
+    Accepted r (λ spec us.
+    Appends (Some []) (Some written) (output (frame_of r.options) spec us)
+    × Reports (frame_of r.options) spec us report)
 
--- what was written is a document, and if the last page of the run's input leaves no embedded document open, it has as many pages
--- as the report has sheets
+-- what was written is a document, and if the last page of the run's input leaves no embedded document open, it has as many
+-- pages as the report has sheets
 abbrev pub RunIsDocument : Type 0
 RunIsDocument =
     (r : Request) (report : Report) (written : List ℕ) → HasRun r report written → report.bytes ≤ 1_073_741_824
@@ -31,4 +33,5 @@ RunIsDocument =
 -- a run on what a run wrote isn't refused for the document
 abbrev pub RunsGoOn : Type 0
 RunsGoOn =
-    (r next : Request) (report : Report) (e : DscError) → HasRun r report next.input → report.bytes ≤ 1_073_741_824 → IsRefusal next (error.Document e) → ⊥
+    (r next : Request) (report : Report) (e : DscError)
+    → HasRun r report next.input → report.bytes ≤ 1_073_741_824 → IsRefusal next (error.Document e) → ⊥

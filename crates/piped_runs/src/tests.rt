@@ -7,8 +7,12 @@ use std::process::Abort;
 use std::test::Fail;
 
 /// Eight pages. Lines end in each of the three ways, and the last one doesn't end.
-const EIGHT_PAGES: &str =
-    "%!PS-Adobe-3.0\r\n%%Pages: 8\r\n%%EndComments\r\n%%Page: 1 1\n(a)\n%%Page: 2 2\r(b)\r%%PageFonts: x\n\n%%Page: 3 3\n%%BeginDocument: x\n%%Page: 1 1\n%%EndDocument\n%%Page: 4 4\n%%BeginBinary: 12\n%%Page: 1 1\n%%Page: 5 5\n(e)\n%%Page: 6 6\n(f)\n%%Page: 7 7\n(g)\n%%Page: 8 8\n(h)";
+const EIGHT_PAGES: &str = "%!PS-Adobe-3.0\r\n%%Pages: 8\r\n%%EndComments\r\n\
+    %%Page: 1 1\n(a)\n\
+    %%Page: 2 2\r(b)\r%%PageFonts: x\n\n\
+    %%Page: 3 3\n%%BeginDocument: x\n%%Page: 1 1\n%%EndDocument\n\
+    %%Page: 4 4\n%%BeginBinary: 12\n%%Page: 1 1\n\
+    %%Page: 5 5\n(e)\n%%Page: 6 6\n(f)\n%%Page: 7 7\n(g)\n%%Page: 8 8\n(h)";
 
 /// Its only page leaves an embedded document open.
 const OPEN_PAGE: &str = "%!\n%%Page: 1 1\n%%BeginDocument: a\n";

@@ -40,26 +40,36 @@ abbrev pub AreLines : List (List ℕ) → Type 0
 AreLines [] = Unit {0}
 AreLines (c ∷ cs) = IsLine c × AreLines cs
 
--- a unit that ends within x is the same if other bytes stand behind x: these begin with no line feed, unless the first ones did;
--- and if nothing stood behind x, then x ends with a line end
+-- a unit that ends within x is the same if other bytes stand behind x: these begin with no line feed, unless the first ones
+-- did; and if nothing stood behind x, then x ends with a line end
 abbrev pub UnitStays : Type 0
 UnitStays =
-    (x behind other : List ℕ) (u : TextUnit) → first_unit (x ++ behind) ≡ Ok u → length u.bytes ≤ length x → (lf other ≡ true → lf behind ≡ true) → (behind ≡ [] → ends x ≡ true)
+    (x behind other : List ℕ) (u : TextUnit)
+    → first_unit (x ++ behind) ≡ Ok u → length u.bytes ≤ length x
+    → (lf other ≡ true → lf behind ≡ true) → (behind ≡ [] → ends x ≡ true)
     → first_unit (x ++ other) ≡ Ok u
 
--- the units of two texts, put together, are the units of the texts put together, if the first ends with a line end and the second begins with no line feed
+-- the units of two texts, put together, are the units of the texts put together, if the first text ends with a line end and
+-- the second begins with no line feed
 abbrev pub UnitsJoin : Type 0
 UnitsJoin =
-    (a b : List ℕ) (us vs : List TextUnit) → cut a ≡ Ok us → cut b ≡ Ok vs → (0 < length a → ends a ≡ true) → lf b ≡ false → cut (a ++ b) ≡ Ok (us ++ vs)
+    (a b : List ℕ) (us vs : List TextUnit)
+    → cut a ≡ Ok us → cut b ≡ Ok vs
+    → (0 < length a → ends a ≡ true) → lf b ≡ false → cut (a ++ b) ≡ Ok (us ++ vs)
 
--- lines put in behind units, and before others: the units are these with the lines put in, if the first line isn't empty
+-- lines put in behind units and before others: the units are these with the lines put in, if the first line isn't empty
 abbrev pub LinesPutIn : Type 0
 LinesPutIn =
-    (front back : List TextUnit) (first : List ℕ) (more : List (List ℕ)) → cut (joined (front ++ back)) ≡ Ok (front ++ back) → 0 < length back → 0 < length first → AreLines (first ∷ more)
-    → cut (joined front ++ (flat_map line (first ∷ more) ++ joined back)) ≡ Ok (front ++ (map line_unit (first ∷ more) ++ back))
+    (front back : List TextUnit) (first : List ℕ) (more : List (List ℕ))
+    → cut (joined (front ++ back)) ≡ Ok (front ++ back)
+    → 0 < length back → 0 < length first → AreLines (first ∷ more)
+    → cut (joined front ++ (flat_map line (first ∷ more) ++ joined back))
+    ≡ Ok (front ++ (map line_unit (first ∷ more) ++ back))
 
 -- lines put in before the first page, which begin none and leave the depth as it was: pages and trailer are the same
 abbrev pub PagesStay : Type 0
 PagesStay =
-    (front lines back : List TextUnit) (d : ℕ) → passes begins_page 0 front ≡ Some d → passes begins_page d lines ≡ Some d
-    → (pages (nested (front ++ (lines ++ back))) ≡ pages (nested (front ++ back))) × (trailer (nested (front ++ (lines ++ back))) ≡ trailer (nested (front ++ back)))
+    (front lines back : List TextUnit) (d : ℕ)
+    → passes begins_page 0 front ≡ Some d → passes begins_page d lines ≡ Some d
+    → (pages (nested (front ++ (lines ++ back))) ≡ pages (nested (front ++ back)))
+    × (trailer (nested (front ++ (lines ++ back))) ≡ trailer (nested (front ++ back)))
