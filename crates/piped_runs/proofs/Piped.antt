@@ -30,7 +30,7 @@ says r spec us report a b l =
     let frame : Frame = frame_of r.options in
     let all : List (List Slot) = sheets spec (length (pages us)) in
     let size = b.byte_count in
-    let i = imposed_again 64 frame spec r.input us all a.document (record { text = r.spec; taken = a.takes }) a.plan (omega (arith, size, l)) in
+    let i = imposed_again _ frame spec r.input us all a.document (record { text = r.spec; taken = a.takes }) a.plan (omega (arith, size, l)) in
     (i.0, i.1, λ h. ap length (i.2 h) ∙ as_many (λ (s, slots). sheet_text frame (pages us) s slots) 0 all ∙ sym b.sheet_count)
 
 pub run_is_document : RunIsDocument
