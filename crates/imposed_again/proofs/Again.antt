@@ -11,10 +11,12 @@ use Rattle.profile.specs.Parts.{NestedUnit, depth_after, nested_from, nested, be
 use Rattle.profile.specs.Filters.{ended, kept, drops_in_header, with_count, preamble_text, trailer_text}
 use Rattle.profile.specs.Specification.{Spec, WrittenSpec, WrittenItem, IsSpec, AreGroups, settled_item}
 use Rattle.profile.specs.Admissible.{IsAdmissible, Fault, fault_of, any_too_large, else_first, only_if, TooLarge, ModuloZero}
-use Rattle.profile.specs.Sheets.{Slot, sheets, blocks}
+use Rattle.profile.specs.Sheets.{Slot, blocks}
+use Rattle.profile.specs.Signatures.{AreSides, AreSidesIfGiven, row_len, entry_in, sheets_in}
 use Rattle.profile.specs.Output.{Frame, sheet_text, output}
-use Rattle.profile.specs.Run.{document_of, PlanFault, PlanTooManyPages, TooManySheets, TooManyPlaces, plan_of}
+use Rattle.profile.specs.Run.{document_of, PlanFault, PlanTooManyPages, TooManySheets, TooManyPlaces, plan_in}
 use Rattle.profile.proofs.Counts.{sheet_count}
+use Rattle.profile.proofs.Signatures.{whole_signatures}
 use Rattle.dsc.specs.Units.{or_none, units_of}
 use Rattle.dsc.proofs.Reading.{accepted_cut, accepted_opening}
 use Rattle.dsc.proofs.PartMarks.{exclusive}
@@ -230,11 +232,11 @@ done frame all us s m l k = let p : Parts us = parts us l in done_by frame all u
 
 -- Accepted documents, plans and specifications.
 
-planned : (spec : Spec) (n : ℕ) (all : List (List Slot)) → plan_of spec n ≡ Ok all → (length (sheets spec n) ≤ 1_000_000) × (sheets spec n ≡ all)
-planned spec n all h =
+planned : (sides : Option ℕ) (spec : Spec) (n : ℕ) (all : List (List Slot)) → plan_in sides spec n ≡ Ok all → (length (sheets_in sides spec n) ≤ 1_000_000) × (sheets_in sides spec n ≡ all)
+planned sides spec n all h =
     let a = let_through _ PlanTooManyPages _ all h in
     let b = let_through _ TooManySheets _ all a.1 in
-    let c = let_through _ TooManyPlaces (Ok (sheets spec n)) all b.1 in
+    let c = let_through _ TooManyPlaces (Ok (sheets_in sides spec n)) all b.1 in
     (ltb-false _ _ b.0, taken_same c.1)
   where
     taken_same : {xs ys : List (List Slot)} → ◌≡◌ {A = Result (List (List Slot)) PlanFault} (Ok xs) (Ok ys) → xs ≡ ys
@@ -272,16 +274,24 @@ map_size : {X Y : Type 0} (f : X → Y) (xs : List X) → length (map f xs) ≡ 
 map_size f [] = refl
 map_size f (x ∷ xs) = ap suc (map_size f xs)
 
-pub some_sheets : (most : ℕ) (spec : Spec) (n : ℕ) → IsAdmissible most spec → 0 < n → 0 < length (sheets spec n)
-some_sheets most spec n a l =
+-- a row of pages has an entry
+some_entry : (sides : Option ℕ) (n : ℕ) → AreSidesIfGiven sides → 0 < n → 0 < row_len sides n
+some_entry None n are l = l
+some_entry (Some s) n are l =
+    let whole = whole_signatures s n in
+    let some = product_some (blocks s n) s (block_some s n are.0 l) are.0 in
+    omega (arith, whole, some)
+
+pub some_sheets : (most : ℕ) (sides : Option ℕ) (spec : Spec) (n : ℕ) → AreSidesIfGiven sides → IsAdmissible most spec → 0 < n → 0 < length (sheets_in sides spec n)
+some_sheets most sides spec n are a l =
     let t = a.taken in
     let w : WrittenSpec = t.1 in
     let modulo : 0 < spec.modulo = subst (λ k. 0 < k) (sym (ap (λ s. s.modulo) t.4)) (modulo_some most w t.3) in
     let size : length spec.groups ≡ length w.groups = ap (λ s. length s.groups) t.4 ∙ map_size (λ g. map settled_item g) w.groups in
     let written = spec_some a.text w t.2 in
     let groups : 0 < length spec.groups = omega (arith, size, written) in
-    let count = sheet_count spec n in
-    let some = product_some (blocks spec.modulo n) (length spec.groups) (block_some spec.modulo n modulo l) groups in
+    let count = sheet_count spec (row_len sides n) (entry_in sides n) in
+    let some = product_some (blocks spec.modulo (row_len sides n)) (length spec.groups) (block_some spec.modulo (row_len sides n) modulo (some_entry sides n are l)) groups in
     omega (arith, count, some)
 
 -- what is written of an accepted document
@@ -338,14 +348,14 @@ trailer_shuts text us d =
 pub makes_sheets : MakesSheets
 makes_sheets = some_sheets
 
-abbrev Again : (frame : Frame) (spec : Spec) → List NestedUnit → List (List Slot) → Type 0
-Again frame spec us all =
-    (document_of (output frame spec us) ≡ Ok (units_of (output frame spec us))) × IsAgain frame all us (units_of (output frame spec us))
-    × (depth_behind (page_run us) ≡ 0 → pages (units_of (output frame spec us)) ≡ sheet_texts frame (pages us) all)
+abbrev Again : (frame : Frame) (sides : Option ℕ) (spec : Spec) → List NestedUnit → List (List Slot) → Type 0
+Again frame sides spec us all =
+    (document_of (output frame sides spec us) ≡ Ok (units_of (output frame sides spec us))) × IsAgain frame all us (units_of (output frame sides spec us))
+    × (depth_behind (page_run us) ≡ 0 → pages (units_of (output frame sides spec us)) ≡ sheet_texts frame (pages us) all)
 
 pub imposed_again : ImposedAgain
-imposed_again most frame spec text us all d a p l =
+imposed_again most frame sides spec text us all d are a p l =
     let n : ℕ = length (pages us) in
-    let w = planned spec n all p in
-    let r = written_is_document frame (sheets spec n) text us d (some_sheets most spec n a (some_pages text us d)) w.0 l in
-    subst (Again frame spec us) w.1 (r.0, r.1, λ h. r.1.sheets_are (sheets_shut frame (sheets spec n) text us d h))
+    let w = planned sides spec n all p in
+    let r = written_is_document frame (sheets_in sides spec n) text us d (some_sheets most sides spec n are a (some_pages text us d)) w.0 l in
+    subst (Again frame sides spec us) w.1 (r.0, r.1, λ h. r.1.sheets_are (sheets_shut frame (sheets_in sides spec n) text us d h))

@@ -32,7 +32,7 @@ Document = Result (List NestedUnit) DocumentFault
 
 -- what a run writes of a document, read again
 abbrev again : Spec → List NestedUnit → Document
-again spec us = document_of (output frame spec us)
+again spec us = document_of (output frame None spec us)
 
 abbrev sheets_of : Spec → List NestedUnit → List (List ℕ)
 sheets_of spec us = sheet_texts frame (pages us) (sheets spec (length (pages us)))

@@ -1,13 +1,14 @@
 -- What a run wrote, read again as a document.
-use Rattle.std.specs.Prelude.{◌≡◌, ℕ, ◌<◌, ◌≤◌, List, [], ◌∷◌, ◌++◌, length, map, flat_map, Ok}
+use Rattle.std.specs.Prelude.{◌≡◌, ℕ, ◌<◌, ◌≤◌, List, [], ◌∷◌, ◌++◌, length, map, flat_map, Option, Ok}
 use Rattle.std.specs.List.{enumerate_from}
 use Rattle.profile.specs.Parts.{NestedUnit, depth_after, preamble, page_run, pages, trailer, bytes_of}
 use Rattle.profile.specs.Filters.{preamble_text, trailer_text}
 use Rattle.profile.specs.Specification.{Spec}
 use Rattle.profile.specs.Admissible.{IsAdmissible}
-use Rattle.profile.specs.Sheets.{Slot, sheets}
+use Rattle.profile.specs.Sheets.{Slot}
+use Rattle.profile.specs.Signatures.{AreSidesIfGiven, sheets_in}
 use Rattle.profile.specs.Output.{Frame, sheet_text, output}
-use Rattle.profile.specs.Run.{document_of, plan_of}
+use Rattle.profile.specs.Run.{document_of, plan_in}
 use Rattle.dsc.specs.Units.{units_of}
 
 -- the depth behind units, that is how many embedded documents they leave open; behind none it is 0
@@ -64,17 +65,17 @@ TrailerShuts =
     (text : List ℕ) (us : List NestedUnit)
     → document_of text ≡ Ok us → 0 < length (trailer us) → depth_behind (page_run us) ≡ 0
 
--- an admissible specification makes at least one sheet of pages
+-- an admissible specification makes at least one sheet of pages, in signatures or not
 abbrev pub MakesSheets : Type 0
-MakesSheets = (most_slots : ℕ) (spec : Spec) (n : ℕ) → IsAdmissible most_slots spec → 0 < n → 0 < length (sheets spec n)
+MakesSheets = (most_slots : ℕ) (sides : Option ℕ) (spec : Spec) (n : ℕ) → AreSidesIfGiven sides → IsAdmissible most_slots spec → 0 < n → 0 < length (sheets_in sides spec n)
 
 -- the output of an accepted document, an admissible specification and an accepted plan is a document again, unless it is
 -- too long; and if the document's last page leaves no embedded document open, its pages are the sheets
 abbrev pub ImposedAgain : Type 0
 ImposedAgain =
-    (most_slots : ℕ) (frame : Frame) (spec : Spec) (text : List ℕ) (us : List NestedUnit) (all : List (List Slot))
-    → document_of text ≡ Ok us → IsAdmissible most_slots spec → plan_of spec (length (pages us)) ≡ Ok all
-    → length (output frame spec us) ≤ 1_073_741_824
-    → (document_of (output frame spec us) ≡ Ok (units_of (output frame spec us)))
-    × IsAgain frame all us (units_of (output frame spec us))
-    × (depth_behind (page_run us) ≡ 0 → pages (units_of (output frame spec us)) ≡ sheet_texts frame (pages us) all)
+    (most_slots : ℕ) (frame : Frame) (sides : Option ℕ) (spec : Spec) (text : List ℕ) (us : List NestedUnit) (all : List (List Slot))
+    → document_of text ≡ Ok us → AreSidesIfGiven sides → IsAdmissible most_slots spec → plan_in sides spec (length (pages us)) ≡ Ok all
+    → length (output frame sides spec us) ≤ 1_073_741_824
+    → (document_of (output frame sides spec us) ≡ Ok (units_of (output frame sides spec us)))
+    × IsAgain frame all us (units_of (output frame sides spec us))
+    × (depth_behind (page_run us) ≡ 0 → pages (units_of (output frame sides spec us)) ≡ sheet_texts frame (pages us) all)

@@ -1,7 +1,7 @@
 -- What a run wrote, read as a document, and run on.
 use Rattle.std.specs.Io.KnownBytes.{Appends}
 use Rattle.std.specs.Prelude.{◌≡◌, ℕ, ◌≤◌, List, [], length, Some, Ok}
-use Rattle.profile.specs.Sheets.{sheets}
+use Rattle.profile.specs.Signatures.{sheets_in}
 use Rattle.profile.specs.Parts.{page_run, pages}
 use Rattle.profile.specs.Output.{output}
 use Rattle.profile.specs.Run.{document_of}
@@ -17,8 +17,8 @@ use Rattle.imposed_again.specs.Again.{depth_behind, IsAgain}
 abbrev pub HasRun : Request → Report → List ℕ → Type 0
 HasRun r report written =
     Accepted r (λ spec us.
-    Appends (Some []) (Some written) (output (frame_of r.options) spec us)
-    × Reports (frame_of r.options) spec us report)
+    Appends (Some []) (Some written) (output (frame_of r.options) r.options.sides spec us)
+    × Reports (frame_of r.options) r.options.sides spec us report)
 
 -- what was written is a document, and if the last page of the run's input leaves no embedded document open, it has as many
 -- pages as the report has sheets
@@ -27,7 +27,7 @@ RunIsDocument =
     (r : Request) (report : Report) (written : List ℕ) → HasRun r report written → report.bytes ≤ 1_073_741_824
     → (document_of written ≡ Ok (units_of written))
     × Accepted r (λ spec us.
-    IsAgain (frame_of r.options) (sheets spec (length (pages us))) us (units_of written)
+    IsAgain (frame_of r.options) (sheets_in r.options.sides spec (length (pages us))) us (units_of written)
     × (depth_behind (page_run us) ≡ 0 → length (pages (units_of written)) ≡ report.sheets))
 
 -- a run on what a run wrote isn't refused for the document
