@@ -210,19 +210,26 @@ pub fn sides_in(
     Ok(groups)
 }
 
-/// One group of one page, as it is.
+/// One group of the first page, as it is.
 pub fn alone(alloc: Global) -> Result<Vec<Vec<Item>>, AllocError>
     ensures { IfOk result (λ groups. groups_of groups.items ≡ (alone_of 0 ∷ []) ∷ []) }
 {
+    let mut groups = Vec::new(alloc);
+    groups.push(page_alone(alloc, 0)?)?;
+    Ok(groups)
+}
+
+/// A page alone, as it is; it is counted from 0.
+pub fn page_alone(alloc: Global, k: u32) -> Result<Vec<Item>, AllocError>
+    ensures { IfOk result (λ items. map item_of items.items ≡ alone_of k ∷ []) }
+{
     let mut items = Vec::new(alloc);
     items.push(Item {
-        page: 0,
+        page: k,
         from_end: false,
         turn: Turn::None,
         scale: Number::ONE,
         offset: (Measure::ZERO, Measure::ZERO),
     })?;
-    let mut groups = Vec::new(alloc);
-    groups.push(items)?;
-    Ok(groups)
+    Ok(items)
 }
