@@ -1,6 +1,6 @@
 -- Worked examples.
 use Rattle.std.proofs.Common.{◌≡◌, refl}
-use Rattle.std.specs.Prelude.{codes, true, false, List, [], ◌∷◌, None, Some}
+use Rattle.std.specs.Prelude.{codes, true, false, [], ◌∷◌, None, Some}
 use Rattle.std.specs.Fmt.{digits}
 use Rattle.profile.specs.Papers.{points}
 use Rattle.profile.specs.Specification.{canonical}

@@ -10,8 +10,8 @@ pub enum LayoutError {
     /// A side of the pages' paper or of the sheet's has 100,000 points or more.
     #[error("a paper's side is 100,000 points or more")]
     SideTooLong,
-    /// The sheet of a booklet is wider than high, or upright pages side by side would be larger on it: the fold would be
-    /// parallel to its longer edge.
+    /// The sheet of a booklet is wider than high, or upright pages side by side would be larger on it: the fold would
+    /// be parallel to its longer edge.
     #[error("a booklet would fold along the longer edge of the sheet")]
     FoldOnLongEdge,
     /// The scale of the pages would be 0, or above 99,999.

@@ -1,7 +1,8 @@
 //! Laws of the definitions. The functions do nothing.
 ghost use Rattle.layouts.specs.Placed.{StandsWherePut};
 ghost use Rattle.layouts.specs.Selections.{SheetsAreRow};
-ghost use Rattle.layouts.specs.Laws.{GridIsInside, GridIsApart, GridIsInOrder, BestHasCells, BestIsLarge, BackIsInside, BackIsInOrder, BackIsHalfTurn, PrintedAsItIs};
+ghost use Rattle.layouts.specs.Laws.{GridIsInside, GridIsApart, GridIsInOrder, BestHasCells, BestIsLarge};
+ghost use Rattle.layouts.specs.Laws.{BackIsInside, BackIsInOrder, BackIsHalfTurn, PrintedAsItIs};
 
 /// A whole point of a page stands where its item puts it.
 pub fn stands_where_put()

@@ -16,7 +16,8 @@ use std::alloc::{AllocError, Global};
 /// The most pages of a selection: a specification has no more groups.
 const MOST_SELECTED: usize = 10_000;
 
-/// The pages that ranges name, of which some are kept. It stops at the range with which they are more than a selection has.
+/// The pages that ranges name, of which some are kept. It stops at the range with which they are more than a
+/// selection has.
 pub fn row_named(
     alloc: Global,
     ranges: &[Standing],

@@ -37,8 +37,8 @@ impl Area {
     }
 }
 
-/// A placed page, as its printed matrix says: where it stands on the sheet, where as one holds the sheet to read it, its scale
-/// in 10^-9, and its turn in quarters.
+/// A placed page, as its printed matrix says: where it stands on the sheet, where as one holds the sheet to read it,
+/// its scale in 10^-9, and its turn in quarters.
 #[derive(Clone, Copy)]
 struct Placed {
     on_sheet: Area,
