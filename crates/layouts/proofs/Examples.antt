@@ -1,12 +1,16 @@
 -- Worked examples.
 use Rattle.std.proofs.Common.{◌≡◌, refl}
-use Rattle.std.specs.Prelude.{codes, true, false, None, Some}
+use Rattle.std.specs.Prelude.{codes, true, false, [], ◌∷◌, None, Some}
 use Rattle.std.specs.Fmt.{digits}
 use Rattle.profile.specs.Papers.{points}
 use Rattle.profile.specs.Specification.{canonical}
 use Rattle.layouts.specs.declared.error.LayoutError.TheVariants.{FoldOnLongEdge}
 use Rattle.layouts.specs.Grids.{n_up, best_grid, scale_in}
 use Rattle.layouts.specs.Refusals.{why_no_booklet}
+use Rattle.pagespec.specs.Reading.{joined_at}
+use Rattle.layouts.specs.declared.select.Which.TheVariants.{All, Odd}
+use Rattle.layouts.specs.Selections.{One, FromTo, From, row_of, misses}
+use Rattle.layouts.specs.Reading.{ranges_at, range_at}
 
 two_on_a4 : best_grid (points 595 842) (points 595 842) 2 ≡ record { rows = 1; columns = 2; turned = true }
 two_on_a4 = refl
@@ -38,3 +42,22 @@ more_than_twice_as_high = refl
 
 wider_than_high : why_no_booklet (points 842 595) (points 842 595) ≡ Some FoldOnLongEdge
 wider_than_high = refl
+
+-- selections
+
+text_of_ranges : ranges_at (codes "9-7,08-,3") ≡ Some (FromTo 9 7 ∷ From 8 ∷ One 3 ∷ [])
+unfolding joined_at range_at
+text_of_ranges = refl
+
+no_text_of_ranges : ranges_at (codes "1-2-3") ≡ None
+unfolding joined_at range_at
+no_text_of_ranges = refl
+
+down_and_to_the_last : row_of All 9 (FromTo 9 7 ∷ From 8 ∷ One 3 ∷ []) ≡ 9 ∷ 8 ∷ 7 ∷ 8 ∷ 9 ∷ 3 ∷ []
+down_and_to_the_last = refl
+
+odd_ones : row_of Odd 6 (From 1 ∷ []) ≡ 1 ∷ 3 ∷ 5 ∷ []
+odd_ones = refl
+
+page_after_the_last : misses 4 (From 5 ∷ []) ≡ true
+page_after_the_last = refl

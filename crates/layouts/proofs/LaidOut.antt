@@ -15,7 +15,7 @@ use Rattle.layouts.proofs.Sides.{inside_upright}
 use Rattle.layouts.proofs.InGrid.{both_true, with_sides, grid_inside, grid_in_order}
 use Rattle.layouts.proofs.Apart.{grid_apart}
 use Rattle.layouts.proofs.Large.{best_has_cells, best_is_large, allowed}
-use Rattle.layouts.proofs.Backs.{back_inside, back_in_order}
+use Rattle.layouts.proofs.Backs.{back_inside, back_in_order, back_is_half_turn}
 use Rattle.layouts.proofs.Printing.{placed_exact, printed_as_it_is}
 use Rattle.layouts.proofs.Writable.{all_made}
 
@@ -180,6 +180,7 @@ sides_are page sheet true is on = (
   refl,
   refl,
   refl,
+  (back_is_half_turn page sheet (beside true) 2 0 (omega arith), (back_is_half_turn page sheet (beside true) 2 1 (omega arith), tt)),
   grid_laid_out page sheet (beside true) 2 is on (omega arith),
   backs_laid_out page sheet is on,
 )

@@ -10,3 +10,6 @@ mod Backs
 mod LaidOut
 mod Printing
 mod Possible
+mod ReadRanges
+mod Selected
+mod NamedRanges

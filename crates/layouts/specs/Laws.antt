@@ -1,6 +1,6 @@
 -- What holds of the pages in a grid.
 use Rattle.std.specs.Prelude.{◌≡◌, ◌≢◌, ℕ, ◌+◌, ◌*◌, ◌/◌, ◌%◌, ◌<◌, ◌≤◌, ◌⊎◌, nat_abs, pos, ◌*ℤ◌, ◌-ℤ◌, Bool, true, false, List, [], ◌∷◌, map, ⊤, IsTrue}
-use Rattle.std.specs.List.{AllByRecursion, range_with_len}
+use Rattle.std.specs.List.{AllByRecursion, AllZip, range_with_len}
 use Rattle.profile.specs.Papers.{Paper, is_paper}
 use Rattle.profile.specs.Specification.{Item, Spec, Turn, Upright, Left, Right}
 use Rattle.profile.specs.Placement.{Point, matrix_of}
@@ -122,7 +122,7 @@ abbrev pub AreSides : (page sheet : Paper) → (long_edge : Bool) → (scale : �
 AreSides page sheet false scale spec =
     (front : List Item) × (spec.modulo ≡ 2) × (spec.groups ≡ front ∷ []) × ArePages 0 2 front × IsLaidOut page sheet Left scale 2 front
 AreSides page sheet true scale spec =
-    (front back : List Item) × (spec.modulo ≡ 4) × (spec.groups ≡ front ∷ back ∷ []) × ArePages 0 2 front × ArePages 2 2 back
+    (front back : List Item) × (spec.modulo ≡ 4) × (spec.groups ≡ front ∷ back ∷ []) × ArePages 0 2 front × ArePages 2 2 back × AllZip (IsHalfTurnOf page sheet) front back
     × IsLaidOut page sheet Left scale 2 front × IsLaidOut page sheet Right scale 2 back
 
 -- two pages side by side on each side of a leaf, as large as any two side by side; the fold is parallel to the shorter edge, as

@@ -1,13 +1,14 @@
 //! Which grid takes the largest pages.
 ghost use Rattle.std.specs.Prelude.{◌≡◌, ◌<◌, ◌≤◌};
-ghost use Rattle.layouts.specs.Grids.{better as better_of, best_columns as best_columns_of, best_of as best_of_turn, larger as larger_of, best_grid as best_grid_of};
+ghost use Rattle.layouts.specs.Grids.{better as better_of, best_columns as best_columns_of, best_of as best_of_turn};
+ghost use Rattle.layouts.specs.Grids.{larger as larger_of, best_grid as best_grid_of};
 
 use super::grid::Grid;
 use super::scale::scale_in;
 use lengths::Paper;
 
-/// The grid of n cells, upright or turned, that takes the largest pages: upright where both take as large ones, and with the
-/// fewest columns where several do.
+/// The grid of n cells, upright or turned, that takes the largest pages: upright where both take as large ones, and
+/// with the fewest columns where several do.
 pub fn best_grid(page: &Paper, sheet: &Paper, n: u32) -> Grid
     requires some { 0 < n }
     ensures { result ≡ best_grid_of page.now sheet.now n }

@@ -4,8 +4,8 @@ ghost use Rattle.layouts.specs.Grids.{grid, beside as beside_of};
 
 use std::marker::Model;
 
-/// Rows and columns of a sheet, as one holds it to read it: there is one of each at least. The pages are turned to the left,
-/// or upright. Contracts see it as the definitions' grid.
+/// Rows and columns of a sheet, as one holds it to read it: there is one of each at least. The pages are turned to
+/// the left, or upright. Contracts see it as the definitions' grid.
 #[derive(Clone, Copy, Debug, PartialEq, Eq)]
 pub struct Grid {
     pub rows: u32,

@@ -2,7 +2,9 @@
 ghost use Rattle.std.specs.Prelude.{◌≡◌, ◌+◌, ◌-◌, ◌*◌, ◌/◌, ◌%◌, pos, IfOk, ◌<◌, ◌≤◌, nat_abs, IsTrue, map, ◌∷◌, []};
 ghost use Rattle.std.specs.List.{range_with_len};
 ghost use Rattle.pagespec.specs.Items.{item_of, measure_of, groups_of, turn_of};
-ghost use Rattle.layouts.specs.Grids.{alone as alone_of, in_grid, item_in as item_of_grid, back_in as back_of_grid, in_points, margin as margin_of, margin_x, margin_y, cell_width, cell_height, turn_in, to_right as to_right_of, to_top as to_top_of, scale_in as scale_of};
+ghost use Rattle.layouts.specs.Grids.{alone as alone_of, in_grid, item_in as item_of_grid, back_in as back_of_grid};
+ghost use Rattle.layouts.specs.Grids.{in_points, margin as margin_of, margin_x, margin_y, cell_width, cell_height};
+ghost use Rattle.layouts.specs.Grids.{turn_in, to_right as to_right_of, to_top as to_top_of, scale_in as scale_of};
 ghost use Rattle.layouts.specs.Refusals.{are_reached, is_scale};
 
 use super::grid::Grid;
@@ -143,7 +145,8 @@ pub fn items_in(
     requires places { n ≤ grid.rows * grid.columns }
     requires reached { IsTrue (are_reached sheet.now) }
     requires scaled { IsTrue (is_scale (scale_of page.now sheet.now grid)) }
-    ensures { IfOk result (λ items. map item_of items.items ≡ map (item_of_grid page.now sheet.now grid) (range_with_len 0 n)) }
+    ensures { IfOk result (λ items.
+        map item_of items.items ≡ map (item_of_grid page.now sheet.now grid) (range_with_len 0 n)) }
 {
     let mut items = Vec::new(alloc);
     for k in 0..n {
@@ -182,7 +185,8 @@ fn backs_in(
     requires pages { n < 50_000 }
     requires reached { IsTrue (are_reached sheet.now) }
     requires scaled { IsTrue (is_scale (scale_of page.now sheet.now grid)) }
-    ensures { IfOk result (λ items. map item_of items.items ≡ map (back_of_grid page.now sheet.now grid n) (range_with_len 0 n)) }
+    ensures { IfOk result (λ items.
+        map item_of items.items ≡ map (back_of_grid page.now sheet.now grid n) (range_with_len 0 n)) }
 {
     let mut items = Vec::new(alloc);
     for k in 0..n {
@@ -202,7 +206,8 @@ pub fn sides_in(
     requires reached { IsTrue (are_reached sheet.now) }
     requires scaled { IsTrue (is_scale (scale_of page.now sheet.now grid)) }
     ensures { IfOk result (λ groups. groups_of groups.items ≡
-        map (item_of_grid page.now sheet.now grid) (range_with_len 0 2) ∷ map (back_of_grid page.now sheet.now grid 2) (range_with_len 0 2) ∷ []) }
+        map (item_of_grid page.now sheet.now grid) (range_with_len 0 2)
+        ∷ map (back_of_grid page.now sheet.now grid 2) (range_with_len 0 2) ∷ []) }
 {
     let mut groups = Vec::new(alloc);
     groups.push(items_in(alloc, page, sheet, grid, 2)?)?;
@@ -210,19 +215,26 @@ pub fn sides_in(
     Ok(groups)
 }
 
-/// One group of one page, as it is.
+/// One group of the first page, as it is.
 pub fn alone(alloc: Global) -> Result<Vec<Vec<Item>>, AllocError>
     ensures { IfOk result (λ groups. groups_of groups.items ≡ (alone_of 0 ∷ []) ∷ []) }
 {
+    let mut groups = Vec::new(alloc);
+    groups.push(page_alone(alloc, 0)?)?;
+    Ok(groups)
+}
+
+/// A page alone, as it is; it is counted from 0.
+pub fn page_alone(alloc: Global, k: u32) -> Result<Vec<Item>, AllocError>
+    ensures { IfOk result (λ items. map item_of items.items ≡ alone_of k ∷ []) }
+{
     let mut items = Vec::new(alloc);
     items.push(Item {
-        page: 0,
+        page: k,
         from_end: false,
         turn: Turn::None,
         scale: Number::ONE,
         offset: (Measure::ZERO, Measure::ZERO),
     })?;
-    let mut groups = Vec::new(alloc);
-    groups.push(items)?;
-    Ok(groups)
+    Ok(items)
 }

@@ -1,6 +1,8 @@
 //! Laws of the definitions. The functions do nothing.
 ghost use Rattle.layouts.specs.Placed.{StandsWherePut};
-ghost use Rattle.layouts.specs.Laws.{GridIsInside, GridIsApart, GridIsInOrder, BestHasCells, BestIsLarge, BackIsInside, BackIsInOrder, BackIsHalfTurn, PrintedAsItIs};
+ghost use Rattle.layouts.specs.Selections.{SheetsAreRow};
+ghost use Rattle.layouts.specs.Laws.{GridIsInside, GridIsApart, GridIsInOrder, BestHasCells, BestIsLarge};
+ghost use Rattle.layouts.specs.Laws.{BackIsInside, BackIsInOrder, BackIsHalfTurn, PrintedAsItIs};
 
 /// A whole point of a page stands where its item puts it.
 pub fn stands_where_put()
@@ -50,4 +52,9 @@ pub fn back_is_half_turn()
 /// The matrix that is written for a page in a cell is the item's own: nothing of its shift is rounded.
 pub fn printed_as_it_is()
     ensures { PrintedAsItIs }
+{}
+
+/// Sheet k of a selection has the k-th page of its row, alone and as it is.
+pub fn sheets_are_row()
+    ensures { SheetsAreRow }
 {}

@@ -6,10 +6,14 @@ mod error;
 mod grid;
 mod item;
 pub mod laws;
+mod ranges;
+mod row;
 mod scale;
+mod select;
 mod sheet;
 
 pub use error::LayoutError;
+pub use select::{Which, selection};
 pub use sheet::{booklet, nup};
 
 #[cfg(test)]

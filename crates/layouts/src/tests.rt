@@ -1,5 +1,5 @@
 //! Known layouts, the laws on printed matrices by the tests' own arithmetic, and each public call once.
-use crate::{LayoutError, booklet, laws, nup};
+use crate::{LayoutError, Which, booklet, laws, nup, selection};
 use lengths::{Grains, Paper, paper_by_name};
 use pagespec::{Item, Spec, write_spec};
 use placement::{matrix_of, matrix_text};
@@ -37,8 +37,8 @@ impl Area {
     }
 }
 
-/// A placed page, as its printed matrix says: where it stands on the sheet, where as one holds the sheet to read it, its scale
-/// in 10^-9, and its turn in quarters.
+/// A placed page, as its printed matrix says: where it stands on the sheet, where as one holds the sheet to read it,
+/// its scale in 10^-9, and its turn in quarters.
 #[derive(Clone, Copy)]
 struct Placed {
     on_sheet: Area,
@@ -544,6 +544,23 @@ fn refusals_are_told(rt: HostRuntime) -> Result<(), Fail> {
             LayoutError::ScaleOutOfRange,
             "the pages would be too small or too large: their scale must be from 0.000000001 to 99999",
         ),
+        (
+            LayoutError::DocumentTooLong,
+            "the document has more than 99,999 pages",
+        ),
+        (
+            LayoutError::Syntax(3),
+            "page ranges: syntax error at byte 3",
+        ),
+        (
+            LayoutError::PageNotInDocument(0),
+            "page ranges: no such page at byte 0",
+        ),
+        (
+            LayoutError::TooManyPages(7),
+            "page ranges: more than 10,000 pages at byte 7",
+        ),
+        (LayoutError::NoPages, "page ranges: no page is selected"),
         (LayoutError::NoMemory, "out of memory"),
     ] {
         assert_eq!(rt; format!(in rt.alloc(); "{error}")?.as_str(), line);
@@ -563,4 +580,62 @@ fn laws_are_calls(_rt: HostRuntime) {
     laws::back_is_in_order();
     laws::back_is_half_turn();
     laws::printed_as_it_is();
+    laws::sheets_are_row();
+}
+
+#[test]
+fn pages_that_are_selected(rt: HostRuntime) -> Result<(), Fail> {
+    for (text, which, wanted) in [
+        ("3", Which::All, "9:2"),
+        ("1-3,7", Which::All, "9:0,1,2,6"),
+        ("9-7,7-", Which::All, "9:8,7,6,6,7,8"),
+        ("0005-5,5", Which::All, "9:4,4"),
+        ("1-", Which::Odd, "9:0,2,4,6,8"),
+        ("9-1,2", Which::Even, "9:7,5,3,1,1"),
+    ] {
+        let spec = selection(rt.alloc(), text, which, 9)?;
+        assert_eq!(rt; write_spec(rt.alloc(), &spec)?.as_str(), wanted, "{text}");
+    }
+    Ok(())
+}
+
+#[test]
+fn selections_that_are_refused(rt: HostRuntime) {
+    for (text, which, pages, wanted) in [
+        ("1", Which::All, 100_000, LayoutError::DocumentTooLong),
+        ("", Which::All, 9, LayoutError::Syntax(0)),
+        ("1,", Which::All, 9, LayoutError::Syntax(2)),
+        ("1, 2", Which::All, 9, LayoutError::Syntax(2)),
+        ("-5", Which::All, 9, LayoutError::Syntax(0)),
+        ("1-2-3", Which::All, 9, LayoutError::Syntax(3)),
+        ("10,x", Which::All, 9, LayoutError::Syntax(3)),
+        ("1,0", Which::All, 9, LayoutError::PageNotInDocument(2)),
+        ("1,2-10", Which::All, 9, LayoutError::PageNotInDocument(2)),
+        ("4,10-", Which::All, 9, LayoutError::PageNotInDocument(2)),
+        (
+            "1,18446744073709551617",
+            Which::All,
+            9,
+            LayoutError::PageNotInDocument(2),
+        ),
+        ("1-", Which::All, 0, LayoutError::PageNotInDocument(0)),
+        (
+            "1-5000,1-5000,7",
+            Which::All,
+            5_000,
+            LayoutError::TooManyPages(14),
+        ),
+        (
+            "1-5000,1-5000,0",
+            Which::All,
+            5_000,
+            LayoutError::PageNotInDocument(14),
+        ),
+        ("1-99999", Which::Odd, 99_999, LayoutError::TooManyPages(0)),
+        ("2,4", Which::Odd, 9, LayoutError::NoPages),
+    ] {
+        let error = selection(rt.alloc(), text, which, pages).err();
+        assert_eq!(rt; error, Some(wanted), "{text}");
+    }
+    assert!(rt; selection(rt.alloc(), "1-5000,1-5000", Which::All, 5_000).is_ok());
 }

@@ -37,8 +37,8 @@ impl Spec {
         Spec { modulo, groups }
     }
 
-    /// The specification of this modulo and these groups, for programs that make one and don't read it. That it passes every
-    /// check is the caller's to show.
+    /// The specification of this modulo and these groups, for programs that make one and don't read it. That it passes
+    /// every check is the caller's to show.
     pub fn of_groups(modulo: u32, groups: Vec<Vec<Item>>) -> Spec
         requires { IsWritable most_slots (record { modulo = modulo; groups = groups_of groups.items }) }
         ensures { result ≡ record { modulo = modulo; groups = groups_of groups.items } }
