@@ -8,7 +8,9 @@ use super::deliveries::{deliver_page, look_at};
 use super::many_pages::document_of;
 use super::{ONE_PAGE, a4, workers};
 use crate::imposing::is_complete;
-use crate::{DeliverError, Delivered, Job, MemorySink, Open, Report, deliver, impose, run, sheet_text};
+use crate::{
+    DeliverError, Delivered, Job, MemorySink, Open, Report, deliver, impose, run, sheet_text,
+};
 use dsc::Document;
 use gather_table::{Closing, GatherTable, Published, Reply, Seat};
 use handover::{Pass, Prepared, Ready, Shelf};
@@ -76,7 +78,16 @@ fn complete_by_closing<'d, R: Wait + Abort>(
 {
     assert_eq!(rt; look_at(table, job.plan, seat, 0), Some(3));
     let first = deliver_page(
-        rt, alloc, seat, pass, table, shelf, ready, job.plan, job.document, 0,
+        rt,
+        alloc,
+        seat,
+        pass,
+        table,
+        shelf,
+        ready,
+        job.plan,
+        job.document,
+        0,
     )?;
     assert_fills(rt, &first);
     assert_eq!(rt; ready.take(rt, pass), Some(0));
@@ -85,7 +96,16 @@ fn complete_by_closing<'d, R: Wait + Abort>(
     let imposed = impose(alloc, seat, job, table, shelf, 0)?;
     assert_eq!(rt; imposed.text, sheet_text(alloc, job, 0)?);
     let second = deliver_page(
-        rt, alloc, seat, pass, table, shelf, ready, job.plan, job.document, 0,
+        rt,
+        alloc,
+        seat,
+        pass,
+        table,
+        shelf,
+        ready,
+        job.plan,
+        job.document,
+        0,
     )?;
     assert_eq!(rt; second.published, Published::Held(first.receipt.index()));
     assert!(rt; second.replies.iter().all(|reply| *reply == Reply::Repeated));
@@ -160,7 +180,10 @@ fn a_hundred_pages_make_a_contact_sheet(rt: HostRuntime) -> Result<(), Fail> {
         let options = workers(&rt, preparers, imposers);
         let report = run(&rt, rt.alloc(), input, &text, &options, &Open {}, &mut sink)?;
         assert!(rt; sink.bytes() == first.bytes());
-        assert_eq!(rt; (report.pages, report.sheets, report.born, report.swept), (100, 1, 0, 0));
+        assert_eq!(rt;
+            (report.pages, report.sheets, report.born, report.swept),
+            (100, 1, 0, 0)
+        );
     }
     Ok(())
 }
@@ -217,8 +240,12 @@ fn deliver_in_two_threads<'d, R: Threads + Wait + Sync>(
     let other_pass = ready.split(pass, 1);
     thread::join(
         rt,
-        move || deliver_first(rt, alloc, seat, one_pass, table, shelf, ready, plan, document),
-        move || deliver_first(rt, alloc, other_seat, other_pass, table, shelf, ready, plan, document),
+        move || deliver_first(
+            rt, alloc, seat, one_pass, table, shelf, ready, plan, document,
+        ),
+        move || deliver_first(
+            rt, alloc, other_seat, other_pass, table, shelf, ready, plan, document,
+        ),
     )
 }
 
@@ -258,7 +285,10 @@ fn two_threads_complete_a_wide_sheet_once(rt: HostRuntime) -> Result<(), Fail> {
     assert_eq!(rt; replies_of(one, other, Reply::Repeated), 65);
     assert_eq!(rt; closed.len().saturating_add(also_closed.len()), 2);
     let last = closed.iter().filter(|c| **c == Closing::Completing).count();
-    let other_last = also_closed.iter().filter(|c| **c == Closing::Completing).count();
+    let other_last = also_closed
+        .iter()
+        .filter(|c| **c == Closing::Completing)
+        .count();
     assert_eq!(rt; last.saturating_add(other_last), 1);
     assert_eq!(rt; ready.take(&rt, &mut pass), Some(0));
     assert_eq!(rt; ready.take(&rt, &mut pass), None);
