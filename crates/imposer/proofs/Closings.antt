@@ -23,7 +23,7 @@ filled_once layout log s g legal has needed marked =
     let none : digit (is_full layout s g (is_blank (slots layout s))) ≡ 0 = ap digit needed in
     let full : digit (is_full layout s g at_end) ≡ 1 =
     ap digit (all_of (in_group at_end g) (group_size layout s g)
-        (λ j low. marked (64 * g + j) (in_sheet layout s g j low))) in
+    (λ j low. marked (64 * g + j) (in_sheet layout s g j low))) in
     omega arith
 
 -- a group of blank slots alone never is

@@ -48,7 +48,12 @@ pub(super) fn deliver_page<'d, R: Wait>(
 }
 
 /// The missing slots of a sheet. None for a sheet that isn't there.
-pub(super) fn look_at(table: &GatherTable<'_>, plan: &Plan<'_>, seat: &mut Seat, sheet: u32) -> Option<u64>
+pub(super) fn look_at(
+    table: &GatherTable<'_>,
+    plan: &Plan<'_>,
+    seat: &mut Seat,
+    sheet: u32,
+) -> Option<u64>
     requires seat { IsSeatOf table.now seat.old }
     requires plan { table.now.layout ≡ layout plan.now }
     ensures { IsSeatOf table.now seat.new }
