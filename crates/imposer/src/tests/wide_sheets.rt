@@ -69,6 +69,74 @@ fn assert_repeats<R: Abort>(rt: &R, delivered: &Delivered<'_>) {
     assert!(rt; delivered.closings.is_empty());
 }
 
+/// Delivers the first page, which fills both groups of the sheet: its index.
+fn deliver_filling<'d, R: Wait + Abort>(
+    rt: &R,
+    alloc: Global,
+    seat: &mut Seat,
+    pass: &mut Pass,
+    table: &GatherTable<'_>,
+    shelf: &Shelf<'d>,
+    ready: &Ready,
+    job: &Job<'_, 'd>,
+) -> Result<u32, AllocError>
+    requires seat { IsSeatOf table.now seat.old }
+    requires pass { IsPassOf ready.now pass.old }
+    requires plan { table.now.layout ≡ layout job.now.plan }
+    ensures seat { IsSeatOf table.now seat.new }
+    ensures pass { IsPassOf ready.now pass.new }
+{
+    let delivered = deliver_page(
+        rt,
+        alloc,
+        seat,
+        pass,
+        table,
+        shelf,
+        ready,
+        job.plan,
+        job.document,
+        0,
+    )?;
+    assert_fills(rt, &delivered);
+    Ok(delivered.receipt.index())
+}
+
+/// Delivers it again: it keeps its index.
+fn deliver_repeating<'d, R: Wait + Abort>(
+    rt: &R,
+    alloc: Global,
+    seat: &mut Seat,
+    pass: &mut Pass,
+    table: &GatherTable<'_>,
+    shelf: &Shelf<'d>,
+    ready: &Ready,
+    job: &Job<'_, 'd>,
+    index: u32,
+) -> Result<(), AllocError>
+    requires seat { IsSeatOf table.now seat.old }
+    requires pass { IsPassOf ready.now pass.old }
+    requires plan { table.now.layout ≡ layout job.now.plan }
+    ensures seat { IsSeatOf table.now seat.new }
+    ensures pass { IsPassOf ready.now pass.new }
+{
+    let delivered = deliver_page(
+        rt,
+        alloc,
+        seat,
+        pass,
+        table,
+        shelf,
+        ready,
+        job.plan,
+        job.document,
+        0,
+    )?;
+    assert_eq!(rt; delivered.published, Published::Held(index));
+    assert_repeats(rt, &delivered);
+    Ok(())
+}
+
 /// Delivers a page that fills both groups of a sheet, imposes the sheet, and delivers the page again.
 fn complete_by_closing<'d, R: Wait + Abort>(
     rt: &R,
@@ -85,38 +153,14 @@ fn complete_by_closing<'d, R: Wait + Abort>(
     requires plan { table.now.layout ≡ layout job.now.plan }
 {
     assert_eq!(rt; look_at(table, job.plan, seat, 0), Some(3));
-    let first = deliver_page(
-        rt,
-        alloc,
-        seat,
-        pass,
-        table,
-        shelf,
-        ready,
-        job.plan,
-        job.document,
-        0,
-    )?;
-    assert_fills(rt, &first);
+    let index = deliver_filling(rt, alloc, seat, pass, table, shelf, ready, job)?;
     assert_eq!(rt; ready.take(rt, pass), Some(0));
     assert!(rt; 0 < job.plan.sheets());
     assert!(rt; is_complete(seat, table, 0));
     let imposed = impose(alloc, seat, job, table, shelf, 0)?;
-    assert_eq!(rt; imposed.text, sheet_text(alloc, job, 0)?);
-    let second = deliver_page(
-        rt,
-        alloc,
-        seat,
-        pass,
-        table,
-        shelf,
-        ready,
-        job.plan,
-        job.document,
-        0,
-    )?;
-    assert_eq!(rt; second.published, Published::Held(first.receipt.index()));
-    assert_repeats(rt, &second);
+    let text = sheet_text(alloc, job, 0)?;
+    assert!(rt; imposed.text.as_slice() == text.as_slice());
+    deliver_repeating(rt, alloc, seat, pass, table, shelf, ready, job, index)?;
     assert_eq!(rt; ready.take(rt, pass), None);
     Ok(())
 }
