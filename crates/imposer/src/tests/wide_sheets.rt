@@ -61,6 +61,82 @@ fn assert_fills<R: Abort>(rt: &R, delivered: &Delivered<'_>) {
     assert!(rt; delivered.handed_back.is_empty());
 }
 
+/// Each mark finds its slot marked, and nothing is closed.
+fn assert_repeats<R: Abort>(rt: &R, delivered: &Delivered<'_>) {
+    for reply in delivered.replies.iter() {
+        assert_eq!(rt; *reply, Reply::Repeated);
+    }
+    assert!(rt; delivered.closings.is_empty());
+}
+
+/// Delivers the first page, which fills both groups of the sheet: its index.
+fn deliver_filling<'d, R: Wait + Abort>(
+    rt: &R,
+    alloc: Global,
+    seat: &mut Seat,
+    pass: &mut Pass,
+    table: &GatherTable<'_>,
+    shelf: &Shelf<'d>,
+    ready: &Ready,
+    job: &Job<'_, 'd>,
+) -> Result<u32, AllocError>
+    requires seat { IsSeatOf table.now seat.old }
+    requires pass { IsPassOf ready.now pass.old }
+    requires plan { table.now.layout ≡ layout job.now.plan }
+    ensures seat { IsSeatOf table.now seat.new }
+    ensures pass { IsPassOf ready.now pass.new }
+{
+    let delivered = deliver_page(
+        rt,
+        alloc,
+        seat,
+        pass,
+        table,
+        shelf,
+        ready,
+        job.plan,
+        job.document,
+        0,
+    )?;
+    assert_fills(rt, &delivered);
+    Ok(delivered.receipt.index())
+}
+
+/// Delivers it again: it keeps its index.
+fn deliver_repeating<'d, R: Wait + Abort>(
+    rt: &R,
+    alloc: Global,
+    seat: &mut Seat,
+    pass: &mut Pass,
+    table: &GatherTable<'_>,
+    shelf: &Shelf<'d>,
+    ready: &Ready,
+    job: &Job<'_, 'd>,
+    index: u32,
+) -> Result<(), AllocError>
+    requires seat { IsSeatOf table.now seat.old }
+    requires pass { IsPassOf ready.now pass.old }
+    requires plan { table.now.layout ≡ layout job.now.plan }
+    ensures seat { IsSeatOf table.now seat.new }
+    ensures pass { IsPassOf ready.now pass.new }
+{
+    let delivered = deliver_page(
+        rt,
+        alloc,
+        seat,
+        pass,
+        table,
+        shelf,
+        ready,
+        job.plan,
+        job.document,
+        0,
+    )?;
+    assert_eq!(rt; delivered.published, Published::Held(index));
+    assert_repeats(rt, &delivered);
+    Ok(())
+}
+
 /// Delivers a page that fills both groups of a sheet, imposes the sheet, and delivers the page again.
 fn complete_by_closing<'d, R: Wait + Abort>(
     rt: &R,
@@ -77,39 +153,14 @@ fn complete_by_closing<'d, R: Wait + Abort>(
     requires plan { table.now.layout ≡ layout job.now.plan }
 {
     assert_eq!(rt; look_at(table, job.plan, seat, 0), Some(3));
-    let first = deliver_page(
-        rt,
-        alloc,
-        seat,
-        pass,
-        table,
-        shelf,
-        ready,
-        job.plan,
-        job.document,
-        0,
-    )?;
-    assert_fills(rt, &first);
+    let index = deliver_filling(rt, alloc, seat, pass, table, shelf, ready, job)?;
     assert_eq!(rt; ready.take(rt, pass), Some(0));
     assert!(rt; 0 < job.plan.sheets());
     assert!(rt; is_complete(seat, table, 0));
     let imposed = impose(alloc, seat, job, table, shelf, 0)?;
-    assert_eq!(rt; imposed.text, sheet_text(alloc, job, 0)?);
-    let second = deliver_page(
-        rt,
-        alloc,
-        seat,
-        pass,
-        table,
-        shelf,
-        ready,
-        job.plan,
-        job.document,
-        0,
-    )?;
-    assert_eq!(rt; second.published, Published::Held(first.receipt.index()));
-    assert!(rt; second.replies.iter().all(|reply| *reply == Reply::Repeated));
-    assert!(rt; second.closings.is_empty());
+    let text = sheet_text(alloc, job, 0)?;
+    assert!(rt; imposed.text.as_slice() == text.as_slice());
+    deliver_repeating(rt, alloc, seat, pass, table, shelf, ready, job, index)?;
     assert_eq!(rt; ready.take(rt, pass), None);
     Ok(())
 }
@@ -249,11 +300,44 @@ fn deliver_in_two_threads<'d, R: Threads + Wait + Sync>(
     )
 }
 
-/// How many of the marks of both were answered so.
-fn replies_of(one: &[Reply], other: &[Reply], reply: Reply) -> usize {
-    let here = one.iter().filter(|r| **r == reply).count();
-    let there = other.iter().filter(|r| **r == reply).count();
-    here.saturating_add(there)
+/// How many of the marks were answered so.
+fn count_of(replies: &[Reply], reply: Reply) -> usize {
+    let mut count = 0usize;
+    for answer in replies {
+        if *answer == reply {
+            count = count.saturating_add(1);
+        }
+    }
+    count
+}
+
+/// Of both threads' marks each group was filled by one, and each slot was new to one.
+fn assert_filled_once<R: Abort>(rt: &R, one: &[Reply], other: &[Reply]) {
+    for (reply, times) in [
+        (Reply::Fills(0), 1),
+        (Reply::Fills(1), 1),
+        (Reply::Fresh, 63),
+        (Reply::Repeated, 65),
+    ] {
+        let both = count_of(one, reply).saturating_add(count_of(other, reply));
+        assert_eq!(rt; both, times);
+    }
+}
+
+/// Of both threads' closings one completed the sheet, and the other one didn't.
+fn assert_completed_once<R: Abort>(rt: &R, one: &[Closing], other: &[Closing]) {
+    let mut completing = 0usize;
+    for closing in one {
+        if *closing == Closing::Completing {
+            completing = completing.saturating_add(1);
+        }
+    }
+    for closing in other {
+        if *closing == Closing::Completing {
+            completing = completing.saturating_add(1);
+        }
+    }
+    assert_eq!(rt; (completing, one.len().saturating_add(other.len())), (1, 2));
 }
 
 #[test]
@@ -278,18 +362,8 @@ fn two_threads_complete_a_wide_sheet_once(rt: HostRuntime) -> Result<(), Fail> {
     );
     let (one, closed) = one?;
     let (other, also_closed) = other?;
-    let (one, other) = (one.as_slice(), other.as_slice());
-    assert_eq!(rt; replies_of(one, other, Reply::Fills(0)), 1);
-    assert_eq!(rt; replies_of(one, other, Reply::Fills(1)), 1);
-    assert_eq!(rt; replies_of(one, other, Reply::Fresh), 63);
-    assert_eq!(rt; replies_of(one, other, Reply::Repeated), 65);
-    assert_eq!(rt; closed.len().saturating_add(also_closed.len()), 2);
-    let last = closed.iter().filter(|c| **c == Closing::Completing).count();
-    let other_last = also_closed
-        .iter()
-        .filter(|c| **c == Closing::Completing)
-        .count();
-    assert_eq!(rt; last.saturating_add(other_last), 1);
+    assert_filled_once(&rt, one.as_slice(), other.as_slice());
+    assert_completed_once(&rt, closed.as_slice(), also_closed.as_slice());
     assert_eq!(rt; ready.take(&rt, &mut pass), Some(0));
     assert_eq!(rt; ready.take(&rt, &mut pass), None);
     Ok(())
