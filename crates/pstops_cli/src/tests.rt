@@ -76,7 +76,7 @@ struct Failing {
 
 impl Read for Failing {
     fn read(&mut self, _buffer: &mut [u8]) -> io::Result<usize> {
-        self.calls += 1;
+        self.calls = self.calls.saturating_add(1);
         Err(io::Error::from(self.cause))
     }
 }

@@ -71,7 +71,7 @@ struct Failing {
 
 impl Write for Failing {
     fn write(&mut self, _bytes: &[u8]) -> io::Result<usize> {
-        self.calls += 1;
+        self.calls = self.calls.saturating_add(1);
         Err(io::Error::from(self.cause))
     }
 

@@ -137,7 +137,7 @@ fn deliver_repeating<'d, R: Wait + Abort>(
     Ok(())
 }
 
-/// Delivers a page that fills both groups of a sheet, imposes the sheet, and delivers the page again.
+/// Delivers a page that fills both groups of a sheet, delivers it again, and imposes the sheet.
 fn complete_by_closing<'d, R: Wait + Abort>(
     rt: &R,
     alloc: Global,
@@ -155,13 +155,13 @@ fn complete_by_closing<'d, R: Wait + Abort>(
     assert_eq!(rt; look_at(table, job.plan, seat, 0), Some(3));
     let index = deliver_filling(rt, alloc, seat, pass, table, shelf, ready, job)?;
     assert_eq!(rt; ready.take(rt, pass), Some(0));
+    deliver_repeating(rt, alloc, seat, pass, table, shelf, ready, job, index)?;
+    assert_eq!(rt; ready.take(rt, pass), None);
     assert!(rt; 0 < job.plan.sheets());
     assert!(rt; is_complete(seat, table, 0));
     let imposed = impose(alloc, seat, job, table, shelf, 0)?;
     let text = sheet_text(alloc, job, 0)?;
     assert!(rt; imposed.text.as_slice() == text.as_slice());
-    deliver_repeating(rt, alloc, seat, pass, table, shelf, ready, job, index)?;
-    assert_eq!(rt; ready.take(rt, pass), None);
     Ok(())
 }
 
