@@ -15,7 +15,7 @@ block_fault_told (cut_fault.BadCount at) = Some (faulty_block at block.BadCount)
 block_fault_told (cut_fault.ShortData at) = Some (faulty_block at block.ShortData)
 block_fault_told cut_fault.NoMemory = None
 
--- want of memory tells no fault
+-- out of memory tells no fault
 abbrev pub fault_told : DscError → Option DocumentFault
 fault_told fault.TooLong = Some InputTooLong
 fault_told fault.NotPostScript = Some NotPostScript
@@ -35,7 +35,7 @@ abbrev pub PassedFirstChecks : DscError → List ℕ → Type 0
 PassedFirstChecks fault.NoMemory text = (length text ≤ 1_073_741_824) × (starts_with nat_eq text (codes "%!") ≡ true)
 PassedFirstChecks other text = Unit {0}
 
--- how a page is refused: with its first faulty block, or for want of memory
+-- how a page is refused: with its first faulty block, or because memory ran out
 abbrev pub page_fault_told : DscError → Option FaultyBlock
 page_fault_told (fault.BadCount at) = Some (faulty_block at block.BadCount)
 page_fault_told (fault.ShortData at) = Some (faulty_block at block.ShortData)

@@ -1,4 +1,4 @@
--- What an error of a plan tells. Want of memory tells of no fault.
+-- What an error of a plan tells. Out of memory tells of no fault.
 use Rattle.std.specs.Prelude.{Option, Some, None}
 use Rattle.profile.specs.Run.{PlanFault}
 use Rattle.profile.specs.Run as run

@@ -33,7 +33,7 @@ pub record ReportsOf (job : JobView) (report : Report) : Type 0 where
   pub swept_within : report.swept ≤ report.sheets
   pub byte_count : report.bytes ≡ length (output_of job)
 
--- want of memory and a failed write are the only errors, and as much of the output was written as they say
+-- out of memory and a failed write are the only errors, and as much of the output was written as they say
 abbrev pub WrotePartOf : JobView → (old new : Option (List ℕ)) → RunError → Type 0
 WrotePartOf job old new error.Options = ⊥
 WrotePartOf job old new (error.Spec e) = ⊥
@@ -42,7 +42,7 @@ WrotePartOf job old new (error.Plan e) = ⊥
 WrotePartOf job old new (error.NoMemory written) = WroteFirst job old new written
 WrotePartOf job old new (error.Write written) = WroteFirst job old new written
 
--- the tokens come back, but after want of memory
+-- the tokens come back, but after out of memory
 abbrev pub HandsBackTokens : {T : Type 0} → RunError → Option T → Type 0
 HandsBackTokens error.Options tokens = ⊥
 HandsBackTokens (error.Spec e) tokens = ⊥
@@ -65,7 +65,7 @@ pub record AreWhole (table : TableView) (queue : QueueView) (its_seat : SeatView
   pub seat_share : its_seat.share ≡ whole_share
   pub pass_share : its_pass.share ≡ whole_share
 
--- how a run answers whose workers have ended, wherever its collector began: their tokens come back, but after want of memory
+-- how a run answers whose workers have ended, wherever its collector began: their tokens come back, but after out of memory
 pub record Concludes (job : JobView) (old new : Option (List ℕ)) (before after : ℕ) (p : Progress) (ended : Ended Overflow) (gathered : Gathered) : Type 0 where
   pub answers : (start : Option (List ℕ)) (first : ℕ) → Stands job start old first before p → Answers job start new first after gathered.outcome
   pub tokens : MatchResult gathered.outcome (λ _. IsSomeAnd gathered.tokens (λ t. ⊤)) (λ e. HandsBackTokens e gathered.tokens)

@@ -44,7 +44,7 @@ pub record IsAccepted (r : Request) (spec : Spec) (us : List NestedUnit) : Type 
 abbrev pub Accepted : Request → (Spec → List NestedUnit → Type 0) → Type 0
 Accepted r P = (spec : Spec) × (us : List NestedUnit) × IsAccepted r spec us × P spec us
 
--- what an error says of the checks. A refusal names one that fails, and each before it passes; want of memory comes after
+-- what an error says of the checks. A refusal names one that fails, and each before it passes; out of memory comes after
 -- the checks that need none; a failed write comes after all of them
 abbrev pub IsRefusal : Request → RunError → Type 0
 IsRefusal r error.Options = AreOptions r.options → ⊥
@@ -72,7 +72,7 @@ HasWritten r old new (error.Plan e) = Keeps old new
 HasWritten r old new (error.NoMemory written) = ((written ≡ 0) × Keeps old new) ⊎ WrotePart r old new written
 HasWritten r old new (error.Write written) = WrotePart r old new written
 
--- how often the sink had failed before a run that ended so, and after it: a failed write is one failure, and want of memory
+-- how often the sink had failed before a run that ended so, and after it: a failed write is one failure, and out of memory
 -- may have met one too
 abbrev pub FailedIn : RunError → (before after : ℕ) → Type 0
 FailedIn error.Options before after = after ≡ before

@@ -40,11 +40,11 @@ use std::thread::Threads;
 /// What a run is when all its workers have ended.
 #[derive(Drop)]
 pub struct Gathered<'d> {
-    /// What the run answers: of the errors, want of memory and a failed write alone.
+    /// What the run answers; out of memory and a failed write are its only errors.
     pub outcome: Result<Report, RunError>,
-    /// The token of one page for which the shelf gave no receipt, where there was one.
+    /// The token of one page for which the shelf gave no receipt, if there was one; none after out of memory.
     pub unshelved: Option<Overflow<'d>>,
-    /// The joined seats and passes of all workers; none after want of memory.
+    /// The joined seats and passes of all workers; none after out of memory.
     pub tokens: Option<(Seat, Pass)>,
 }
 
@@ -81,7 +81,7 @@ pub fn gather<'j, 'd, R: Threads + Wait + Sync, G: Gate + Sync, S: Sink>(
     ensures steady { OnOk result.outcome (S.failures sink.new ≡ S.failures sink.old) }
     ensures failed { IfErr result.outcome (λ e. FailedIn e (S.failures sink.old) (S.failures sink.new)) }
 
-    // Seat and pass come back whole, but after want of memory.
+    // Seat and pass come back whole, but after out of memory.
     ensures handed_back { MatchResult result.outcome (λ _. IsSomeAnd result.tokens (λ t. ⊤)) (λ e. HandsBackTokens e result.tokens) }
     ensures whole { IfSome result.tokens (λ t. AreWhole table.now ready.now t.0 t.1) }
 
@@ -211,7 +211,7 @@ fn out_of_memory<'d>(written: u64) -> Gathered<'d>
     }
 }
 
-/// Answers when all workers have ended: want of memory where one of them met it, else what the collector came to.
+/// Answers when all workers have ended: out of memory if one of them met it, else what the collector came to.
 fn finish<'d, S: Sink>(
     alloc: Global,
     job: &Job<'_, 'd>,

@@ -23,7 +23,7 @@ pub struct Report {
 /// Why a run didn't finish, in the order of its checks.
 #[derive(Clone, Copy, Debug, PartialEq, Eq, Error)]
 pub enum RunError {
-    /// A worker count outside 1 to 16, or a border that isn't above zero.
+    /// A worker count outside 1 to 16, a border that isn't above zero, or a number of sides that no signature has.
     #[error("bad options")]
     Options,
     #[error(transparent)]
@@ -40,7 +40,7 @@ pub enum RunError {
     Write { written: u64 },
 }
 
-// Want of memory, wherever it is met before anything was written, is the run's own.
+// Out of memory, wherever it is met before anything was written, is the run's own answer.
 
 impl From<SpecError> for RunError {
     ghost use Rattle.std.specs.Prelude.{◌≡◌};

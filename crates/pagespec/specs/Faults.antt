@@ -7,7 +7,7 @@ use Rattle.pagespec.specs.declared.error.SpecError.{SpecError}
 use Rattle.pagespec.specs.declared.error.SpecError.TheVariants.{TooLong, Syntax, TooLarge, ModuloZero, PageOutOfBlock, ScaleZero, Repeated, TooManySlots, TooManyGroups, NoMemory}
 use Rattle.pagespec.specs.declared.kept.KeptItem.{KeptItem}
 
--- the fault that a refusal names, but for want of memory
+-- the fault that a refusal names, but for out of memory
 abbrev pub fault_named : SpecError → Option profile.Fault
 fault_named TooLong = Some profile.TooLong
 fault_named (Syntax at) = Some profile.Syntax

@@ -5,7 +5,7 @@ use Rattle.pagespec.specs.declared.error.SpecError.{SpecError}
 use Rattle.pagespec.specs.declared.error.SpecError.TheVariants.{Syntax}
 use Rattle.pagespec.specs.Faults.{fault_named}
 
--- this fault is the text's first; want of memory says only that the text isn't too long
+-- this fault is the text's first; out of memory says only that the text isn't too long
 abbrev pub NamesFault : List ℕ → Option Fault → Type 0
 NamesFault text None = length text ≤ most_spec_bytes
 NamesFault text (Some fault) = Refuses most_slots text fault
