@@ -9,6 +9,7 @@
  *   read         a read fails          (EIO)        read-interrupted   (EINTR)     read-short    it moves one byte
  *   write        a write fails         (ENOSPC)     write-interrupted  (EINTR)     write-short   it moves one byte
  *   write-none   a write moves no byte and doesn't fail
+ *   write-torn   a write moves half of its bytes, and those behind it fail (ENOSPC), as on a device that gets full
  *   open         a file isn't opened   (EMFILE)     open-memory        (ENOMEM)
  *   thread       a thread isn't started (EAGAIN)
  */
@@ -63,7 +64,8 @@ __attribute__((constructor)) static void begin(void) {
     dl_iterate_phdr(find_program, 0);
 }
 
-static int refused(const char *name, const void *caller) {
+/* The place of a call among those that are refused, from 1; 0 if it isn't refused. */
+static unsigned long refused(const char *name, const void *caller) {
     uintptr_t from = (uintptr_t)caller;
     if (told < 0 || from < program_start || from >= program_end || strcmp(kind, name) != 0)
         return 0;
@@ -71,7 +73,7 @@ static int refused(const char *name, const void *caller) {
     if (number < first || (count != 0 && number >= first + count))
         return 0;
     syscall(SYS_write, told, "x", 1);
-    return 1;
+    return number - first + 1;
 }
 
 #define REFUSED(name) refused(name, __builtin_return_address(0))
@@ -117,6 +119,13 @@ ssize_t write(int file, const void *from, size_t size) {
     }
     if (REFUSED("write-none"))
         return 0;
+    unsigned long torn = REFUSED("write-torn");
+    if (torn > 1) {
+        errno = ENOSPC;
+        return -1;
+    }
+    if (torn == 1)
+        size = (size + 1) / 2;
     if (size > 1 && REFUSED("write-short"))
         size = 1;
     return syscall(SYS_write, file, from, size);
