@@ -1,9 +1,9 @@
-/* Refuses calls of the C library that a program makes. It is loaded before the program by LD_PRELOAD; examples/refusals builds
- * and uses it.
+/* Refuses calls of the C library that a program makes. It is loaded before the program by LD_PRELOAD;
+ * examples/refusals builds and uses it.
  *
- * REFUSE is "KIND FIRST COUNT": of the calls of this kind, counted from 1, those from FIRST on are refused, COUNT of them, or all
- * if COUNT is 0. Each refusal writes a byte to the file that REFUSE_TOLD names. Only calls by the program itself are counted,
- * not those that the library makes for its own use.
+ * REFUSE is "KIND FIRST COUNT": of the calls of this kind, counted from 1, those from FIRST on are refused, COUNT of
+ * them, or all if COUNT is 0. Each refusal writes a byte to the file that REFUSE_TOLD names. Only calls by the program
+ * itself are counted, not those that the library makes for its own use.
  *
  *   alloc        malloc and realloc give no memory
  *   read         a read fails          (EIO)        read-interrupted   (EINTR)     read-short    it moves one byte
@@ -147,11 +147,13 @@ int open(const char *path, int flags, ...) {
     return syscall(SYS_openat, AT_FDCWD, path, flags, mode);
 }
 
+typedef int (*starts)(pthread_t *, const pthread_attr_t *, void *(*)(void *), void *);
+
 int pthread_create(pthread_t *thread, const pthread_attr_t *attributes, void *(*start)(void *), void *argument) {
-    static int (*next)(pthread_t *, const pthread_attr_t *, void *(*)(void *), void *);
+    static starts next;
     if (REFUSED("thread"))
         return EAGAIN;
     if (!next)
-        next = (int (*)(pthread_t *, const pthread_attr_t *, void *(*)(void *), void *))dlsym(RTLD_NEXT, "pthread_create");
+        next = (starts)dlsym(RTLD_NEXT, "pthread_create");
     return next(thread, attributes, start, argument);
 }
