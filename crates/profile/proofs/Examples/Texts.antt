@@ -57,7 +57,7 @@ small_right : IsTurn (codes "r") 3
 small_right = inr (inr (refl, inr refl))
 
 -- two of each unit
-two : IsNumber (codes "2") (pos 2_000_000_000)
+pub two : IsNumber (codes "2") (pos 2_000_000_000)
 two = (false, [], codes "2", [], [], refl, refl, search rules, refl, search rules, (λ e. cc), refl)
 
 two_points : IsMeasure (codes "2pt") (measure (pos 2_000_000_000) Pt)
