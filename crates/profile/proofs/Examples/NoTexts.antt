@@ -189,12 +189,19 @@ turn_to_the_left = (codes "L", [], refl, inl (refl, inl refl), refl)
 row_stops : (t r u : List ℕ) (ms ks : List Modifier) → AreModifiers t ms → AreModifiers u ks → ends_item r ≡ true → t ++ r ≡ u → r ≡ []
 row_stops t r u ms ks g h e f = (one_row t u r [] ms ks g h e refl (f ∙ sym (append-nil u))).1
 
-left_no_bare : (rest : List ℕ) (b : Bool) (ms : List Modifier) → codes "L,0" ≡ minus_text b ++ rest → AreModifiers rest ms → ⊥
-left_no_bare rest true ms e g = absurd (omega (arith, same_head 76 45 (codes ",0") rest e))
-left_no_bare rest false ms e g = some_left 44 (codes "0") (row_stops (codes "L") (codes ",0") rest (Quarters 1 ∷ []) ms turn_to_the_left g refl e)
+left_no_bare : (b : ℕ) (more rest : List ℕ) (from_end : Bool) (ms : List Modifier) → ends_item (b ∷ more) ≡ true → 76 ∷ b ∷ more ≡ minus_text from_end ++ rest → AreModifiers rest ms → ⊥
+left_no_bare b more rest true ms ends e g = absurd (omega (arith, same_head 76 45 (b ∷ more) rest e))
+left_no_bare b more rest false ms ends e g = some_left b more (row_stops (codes "L") (b ∷ more) rest (Quarters 1 ∷ []) ms turn_to_the_left g ends e)
+
+left_out_before : (b : ℕ) (more : List ℕ) → ends_item (b ∷ more) ≡ true → (spec : WrittenSpec) → IsSpec (76 ∷ b ∷ more) spec → ⊥
+left_out_before b more ends spec (inl (m, inl h)) = let a = groups_front (76 ∷ b ∷ more) spec.groups h in true≢false (sym (begins_item 76 (b ∷ more) a.digits (a.rest ++ a.tail) a.page a.from_end a.number a.parts))
+left_out_before b more ends spec (inl (m, inr (i, e, (rest, p, z, some, g)))) = left_no_bare b more rest i.from_end i.modifiers ends p g
+left_out_before b more ends spec (inr ([], rest, e, d, h)) = d.1 refl
+left_out_before b more ends spec (inr (x ∷ digits, rest, e, d, h)) = true≢false (sym (head_passes x digits d.0) ∙ ap is_ascii_digit (sym (same_head 76 x _ _ e)))
 
 left_out_before_comma : (spec : WrittenSpec) → IsSpec (codes "L,0") spec → ⊥
-left_out_before_comma spec (inl (m, inl h)) = let a = groups_front (codes "L,0") spec.groups h in true≢false (sym (begins_item 76 (codes ",0") a.digits (a.rest ++ a.tail) a.page a.from_end a.number a.parts))
-left_out_before_comma spec (inl (m, inr (i, e, (rest, p, z, some, g)))) = left_no_bare rest i.from_end i.modifiers p g
-left_out_before_comma spec (inr ([], rest, e, d, h)) = d.1 refl
-left_out_before_comma spec (inr (x ∷ digits, rest, e, d, h)) = true≢false (sym (head_passes x digits d.0) ∙ ap is_ascii_digit (sym (same_head 76 x _ _ e)))
+left_out_before_comma spec h = left_out_before 44 (codes "0") refl spec h
+
+-- nor is `L+0`
+left_out_before_plus : (spec : WrittenSpec) → IsSpec (codes "L+0") spec → ⊥
+left_out_before_plus spec h = left_out_before 43 (codes "0") refl spec h
