@@ -145,6 +145,16 @@ no_closing_lines = each (
 close_no_document : filter closes_document no_closing_lines ≡ []
 close_no_document = refl
 
+-- 300 documents in one another: a page begins behind the last of 300 ends, and none behind 299
+abbrev nested_documents : (ends : ℕ) → List ℕ
+nested_documents ends = lines (codes "%!PS" ∷ replicate 300 (codes "%%BeginDocument: a") ++ replicate ends (codes "%%EndDocument") ++ codes "%%Page: 1 1" ∷ [])
+
+all_documents_closed : pages_in (nested_documents 300) ≡ 1
+all_documents_closed = refl
+
+one_document_open : pages_in (nested_documents 299) ≡ 0
+one_document_open = refl
+
 -- ---- blocks of data
 -- the line and one byte behind it are one unit
 abbrev begins_block : List ℕ → Bool
