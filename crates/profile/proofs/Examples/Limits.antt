@@ -8,7 +8,7 @@ use Rattle.std.proofs.lemmas.List.Elements.{All-nil, All-cons}
 use Rattle.profile.specs.Numbers.{number_of}
 use Rattle.profile.specs.Specification.{Spec, settled}
 use Rattle.profile.specs.Sheets.{blocks, page_at, sheets}
-use Rattle.profile.specs.Admissible.{Refuses, Takes, TooLong, most_slots}
+use Rattle.profile.specs.Admissible.{Refuses, Takes, TooLong, Syntax, TooLarge, most_slots}
 use Rattle.profile.specs.Units.{cut, ◌>>=◌}
 use Rattle.profile.specs.Parts.{NestedUnit, nested, pages}
 use Rattle.profile.specs.Run.{refuse_if, of_block, document_of, InputTooLong, NotPostScript, with_pages, InputTooManyPages, NoPages, plan_of, PlanTooManyPages, TooManySheets, TooManyPlaces}
@@ -34,6 +34,13 @@ long_specification text h = omega (arith, h)
 -- one of 65,536 isn't too long
 longest_specification : (text : List ℕ) → length text ≡ 65_536 → Refuses most_slots text TooLong → ⊥
 longest_specification text h long = omega (arith, h, long)
+
+-- what is too long is told as nothing else, whether it is of the grammar or not
+length_before_syntax : (text : List ℕ) → length text ≡ 65_537 → Refuses most_slots text Syntax → ⊥
+length_before_syntax text h (short, none) = omega (arith, h, short)
+
+length_before_checks : (text : List ℕ) → length text ≡ 65_537 → Refuses most_slots text TooLarge → ⊥
+length_before_checks text h (short, spec, is, fault) = omega (arith, h, short)
 
 -- one of 65,536 zeros is taken, and comes to page 0
 zeros_pass : (n : ℕ) → AllPass is_ascii_digit (replicate n 48)

@@ -22,6 +22,21 @@ minus_zero = (true, codes "-", codes "0", codes ".0", codes "0", refl, (refl, re
 ten_decimals : IsNumber (codes "+00.1234567899") (pos 123_456_789)
 ten_decimals = (false, codes "+", codes "00", codes ".1234567899", codes "1234567899", refl, (refl, refl), search rules, (refl, refl), search rules, (λ e. cc), refl)
 
+-- also if nine zeros stand before it; the ninth decimal is 10^-9
+tenth_decimal_alone : IsNumber (codes ".0000000009") (pos 0)
+tenth_decimal_alone = (false, [], [], codes ".0000000009", codes "0000000009", refl, refl, search rules, (refl, refl), search rules, (λ e. cc), refl)
+
+ninth_decimal_alone : IsNumber (codes ".000000001") (pos 1)
+ninth_decimal_alone = (false, [], [], codes ".000000001", codes "000000001", refl, refl, search rules, (refl, refl), search rules, (λ e. cc), refl)
+
+-- the tenth decimal does not round the ninth up
+ten_nines : IsNumber (codes "-.9999999999") (neg_ℤ (pos 999_999_999))
+ten_nines = (true, codes "-", [], codes ".9999999999", codes "9999999999", refl, (refl, refl), search rules, (refl, refl), search rules, (λ e. cc), refl)
+
+-- fewer than nine decimals are tenths, hundredths and so on
+two_decimals : IsNumber (codes "1.05") (pos 1_050_000_000)
+two_decimals = (false, [], codes "1", codes ".05", codes "05", refl, refl, search rules, (refl, refl), search rules, (λ e. cc), refl)
+
 -- a turn to the left, half a turn, a turn to the right, in capitals and small letters
 left : IsTurn (codes "L") 1
 left = inl (refl, inl refl)
@@ -42,7 +57,7 @@ small_right : IsTurn (codes "r") 3
 small_right = inr (inr (refl, inr refl))
 
 -- two of each unit
-two : IsNumber (codes "2") (pos 2_000_000_000)
+pub two : IsNumber (codes "2") (pos 2_000_000_000)
 two = (false, [], codes "2", [], [], refl, refl, search rules, refl, search rules, (λ e. cc), refl)
 
 two_points : IsMeasure (codes "2pt") (measure (pos 2_000_000_000) Pt)
