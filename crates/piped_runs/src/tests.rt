@@ -21,6 +21,7 @@ fn options(rt: &impl Abort) -> Options {
     Options {
         paper: paper_by_name("a4").expect(rt, "a4 is a paper"),
         border: None,
+        sides: None,
         workers: Workers {
             preparers: 1,
             imposers: 1,
