@@ -2,14 +2,17 @@
 use Rattle.std.specs.Prelude.{Result, Ok, Err, not}
 use Rattle.std.proofs.Common.{append_assoc, append-nil, Bool, true, false, if◌then◌else◌, ◌≡◌, ℕ, suc, ◌+◌, ◌-◌, ◌<◌, List, [], ◌∷◌, ◌++◌, length, take, drop, get_or, refl, ap, arith, sym, ◌∙◌}
 use Rattle.std.proofs.Math.Seq.{take-add}
-use Rattle.profile.specs.Units.{TextUnit, is_end, first_unit, FaultyBlock, cut}
-use Rattle.profile.specs.Parts.{NestedUnit, depth_after, nested_from, nested, bytes_of}
+use Rattle.profile.specs.Units.{TextUnit, is_end, FaultyBlock, cut}
+use Rattle.profile.specs.Parts.{NestedUnit, nested, bytes_of}
 use Rattle.profile.specs.Filters.{kept_after, kept, drops_in_header, ended}
 use Rattle.dsc.specs.Units.{or_none, units_of}
 use Rattle.dsc.specs.Filters.{drops_of, is_dropped, of_units, filter_on}
 use Rattle.dsc.specs.declared.filters.Drops.{Drops}
 use Rattle.dsc.specs.declared.filters.Drops.TheVariants.{DocumentSetup}
-use Rattle.dsc.proofs.Cut.{cut_at, cut_step, of_units-more}
+use Rattle.dsc.specs.Views.{at_depth}
+use Rattle.dsc.specs.Walks.{Place, behind, IsPieceOf}
+use Rattle.dsc.proofs.PlainUnits.{plain_kept}
+use Rattle.dsc.proofs.Walking.{Follows, piece_on, piece_front}
 
 pub run_grows : (kept run : List ℕ) (n m : ℕ) → kept ++ take (n + m) run ≡ (kept ++ take n run) ++ take m (drop n run)
 run_grows kept run n m = ap (λ t. kept ++ t) (take-add n m run) ∙ sym (append_assoc kept (take n run) (take m (drop n run)))
@@ -31,22 +34,39 @@ kept_step drops was u us front true e =
 kept_step drops was u us front false e =
     append_assoc front u.unit.bytes (bytes_of (kept_after false (drops_of drops) us)) ∙ ap (λ t. front ++ t) (sym (kept_bytes drops was u us [] false e))
 
+-- what was kept, and whether the unit before was dropped
+record Sifted : Type 0 where
+  pub front : List ℕ
+  pub was : Bool
+
+abbrev makes : Drops → Sifted → List NestedUnit → List ℕ
+makes drops s us = s.front ++ bytes_of (kept_after s.was (drops_of drops) us)
+
+abbrev next : Drops → Sifted → NestedUnit → Sifted
+next drops s u = let t = is_dropped drops s.was u in record { front = s.front ++ (if t then [] else u.unit.bytes); was = t }
+
+abbrev pass : Sifted → List ℕ → Sifted
+pass s bytes = record { front = s.front ++ bytes; was = false }
+
+follows : (drops : Drops) → Follows (makes drops) (next drops) pass
+follows drops = record {
+  one = λ s u us. kept_step drops s.was u us s.front (is_dropped drops s.was u) refl;
+  plain = λ s u h. ap (λ t. record { front = s.front ++ (if t then [] else u.unit.bytes); was = t }) (plain_kept drops s.was u h);
+  both = λ s a b. ap (λ t. record { front = t; was = false }) (append_assoc s.front a b);
+}
+
 -- as a loop has it: one more unit is kept or dropped
-pub filter_more : (drops : Drops) (was dropped : Bool) (front new : List ℕ) (depth deep at next : ℕ) (rest after : List ℕ) (p : TextUnit) (whole : Result (List ℕ) FaultyBlock)
-    → 0 < length rest → first_unit rest ≡ Ok p → after ≡ drop (length p.bytes) rest → next ≡ at + length p.bytes → deep ≡ depth_after depth p
-    → dropped ≡ is_dropped drops was (record { depth = depth; unit = p })
-    → new ≡ front ++ (if dropped then [] else p.bytes)
-    → filter_on drops front was depth at rest ≡ whole → filter_on drops new dropped deep next after ≡ whole
-filter_more drops was dropped front new depth deep at next [] after p whole some w a n d dr nw i = absurd (omega (arith, some))
-filter_more drops was dropped front new depth deep at next (b ∷ bs) after p whole some w a n d dr nw i =
-    ap (λ t. filter_on drops new dropped deep next t) a ∙ ap (λ k. filter_on drops new dropped deep k (drop (length p.bytes) (b ∷ bs))) n
-    ∙ ap (λ k. filter_on drops new dropped k (at + length p.bytes) (drop (length p.bytes) (b ∷ bs))) d
-    ∙ ap (λ t. filter_on drops t dropped (depth_after depth p) (at + length p.bytes) (drop (length p.bytes) (b ∷ bs))) nw
-    ∙ of_units-more (λ ps. front ++ bytes_of (kept_after was (drops_of drops) (nested_from depth ps)))
-    (λ ps. (front ++ (if dropped then [] else p.bytes)) ++ bytes_of (kept_after dropped (drops_of drops) (nested_from (depth_after depth p) ps)))
-    p (cut_at (at + length p.bytes) (drop (length p.bytes) (b ∷ bs)))
-    (λ ps. kept_step drops was (record { depth = depth; unit = p }) (nested_from (depth_after depth p) ps) front dropped (sym dr))
-    ∙ ap (of_units (λ ps. front ++ bytes_of (kept_after was (drops_of drops) (nested_from depth ps)))) (sym (cut_step at b bs p w)) ∙ i
+pub filter_more : (drops : Drops) (was dropped : Bool) (front new : List ℕ) (p q : Place) (u : TextUnit) (whole : Result (List ℕ) FaultyBlock)
+    → 0 < length p.rest → IsPieceOf u p.rest → q ≡ behind u p → dropped ≡ is_dropped drops was (at_depth p.depth u)
+    → new ≡ front ++ (if dropped then [] else take (length u.bytes) p.rest)
+    → filter_on drops front was p.depth p.at p.rest ≡ whole → filter_on drops new dropped q.depth q.at q.rest ≡ whole
+filter_more drops was dropped front new p q u whole some piece b dr nw i =
+    let r : Place = behind u p in
+    let v : NestedUnit = at_depth p.depth u in
+    ap (λ t. filter_on drops new dropped t.depth t.at t.rest) b
+    ∙ ap (λ t. filter_on drops t dropped r.depth r.at r.rest) (nw ∙ ap (λ t. front ++ (if dropped then [] else t)) (sym (piece_front u p.rest piece.is)))
+    ∙ ap (λ t. filter_on drops (front ++ (if t then [] else u.bytes)) t r.depth r.at r.rest) dr
+    ∙ piece_on (follows drops) (record { front = front; was = was }) p.depth p.at p.rest u some piece.is ∙ i
 
 -- the last byte
 step_back : (b c : ℕ) (bs : List ℕ) (d : ℕ) → get_or (b ∷ c ∷ bs) (length (b ∷ c ∷ bs) - 1) d ≡ get_or (c ∷ bs) (length (c ∷ bs) - 1) d

@@ -5,6 +5,8 @@ pub mod Cut
 pub mod PlainLines
 pub mod Fronts
 pub mod Rows
+pub mod PlainUnits
+pub mod Walking
 pub mod FieldRows
 pub mod Headings
 pub mod DataLengths
@@ -13,7 +15,6 @@ pub mod Scans
 pub mod PartMarks
 pub mod Reading
 pub mod Filtering
-pub mod Passing
 pub mod Slices
 pub mod Trailers
 pub mod Preambles

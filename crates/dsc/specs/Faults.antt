@@ -7,12 +7,14 @@ use Rattle.profile.specs.Run.{DocumentFault, InputTooLong, NotPostScript, BadBlo
 use Rattle.dsc.specs.Units.{faulty_block}
 use Rattle.dsc.specs.declared.errors.CutError.{CutError}
 use Rattle.dsc.specs.declared.errors.CutError.TheVariants as cut_fault
+use Rattle.dsc.specs.declared.units.UnitError.{UnitError}
+use Rattle.dsc.specs.declared.units.UnitError.TheVariants as unit_fault
+use Rattle.dsc.specs.Views.{fault_of}
 use Rattle.dsc.specs.declared.errors.DscError.{DscError}
 use Rattle.dsc.specs.declared.errors.DscError.TheVariants as fault
 
 abbrev pub block_fault_told : CutError → Option FaultyBlock
-block_fault_told (cut_fault.BadCount at) = Some (faulty_block at block.BadCount)
-block_fault_told (cut_fault.ShortData at) = Some (faulty_block at block.ShortData)
+block_fault_told (cut_fault.Faulty b) = Some (faulty_block b.at (fault_of b.fault))
 block_fault_told cut_fault.NoMemory = None
 
 -- out of memory tells no fault
@@ -25,9 +27,12 @@ fault_told fault.TooManyPages = Some InputTooManyPages
 fault_told fault.NoPages = Some NoPages
 fault_told fault.NoMemory = None
 
+abbrev pub refusal_at : ℕ → UnitError → DscError
+refusal_at at unit_fault.BadCount = fault.BadCount at
+refusal_at at unit_fault.ShortData = fault.ShortData at
+
 abbrev pub widened : CutError → DscError
-widened (cut_fault.BadCount at) = fault.BadCount at
-widened (cut_fault.ShortData at) = fault.ShortData at
+widened (cut_fault.Faulty b) = refusal_at b.at b.fault
 widened cut_fault.NoMemory = fault.NoMemory
 
 -- the first two checks are made before memory is asked for

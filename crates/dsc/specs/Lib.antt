@@ -1,5 +1,6 @@
 pub mod Bodies
 pub mod Plain
+pub mod Walks
 pub mod Fields
 pub mod Views
 pub mod Laws

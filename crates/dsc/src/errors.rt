@@ -2,6 +2,7 @@
 ghost use Rattle.std.specs.Prelude.{◌≡◌};
 ghost use Rattle.dsc.specs.Faults.{widened};
 
+use crate::units::UnitError;
 use thiserror::Error;
 
 /// Why a document or a page is refused. A byte index is that of the first byte of a faulty data block's begin line.
@@ -30,11 +31,17 @@ pub enum DscError {
     NoMemory,
 }
 
+/// A data block that is faulty, and the byte at which its line begins.
+#[derive(Clone, Copy, Debug)]
+pub struct FaultyBlock {
+    pub at: usize,
+    pub fault: UnitError,
+}
+
 /// Why a text isn't cut.
 #[derive(Debug, Drop)]
 pub enum CutError {
-    BadCount(usize),
-    ShortData(usize),
+    Faulty(FaultyBlock),
     NoMemory,
 }
 
@@ -43,8 +50,10 @@ pub fn widen(error: CutError) -> DscError
     ensures { result ≡ widened error }
 {
     match error {
-        CutError::BadCount(at) => DscError::BadCount(at),
-        CutError::ShortData(at) => DscError::ShortData(at),
+        CutError::Faulty(block) => match block.fault {
+            UnitError::BadCount => DscError::BadCount(block.at),
+            UnitError::ShortData => DscError::ShortData(block.at),
+        },
         CutError::NoMemory => DscError::NoMemory,
     }
 }

@@ -12,12 +12,11 @@ ghost use Rattle.dsc.specs.declared.errors.DscError.TheVariants.{NoMemory};
 ghost use Rattle.dsc.specs.Filters.{drops_of, is_dropped, filter_on};
 
 use crate::errors::{CutError, DscError, widen};
-use crate::keys::{key_of, meaning_of};
+use crate::keys::key_of;
 use crate::lines::is_line_end;
-use crate::plain::plain_len;
-use crate::units::{Unit, UnitError, first_unit};
+use crate::units::Unit;
+use crate::walk::Walk;
 use itoa::Buffer;
-use memchr::memmem::Finder;
 use std::alloc::{AllocError, Global};
 
 /// The lines that a filter drops: those that set up a page, or those that describe the whole document.
@@ -61,20 +60,14 @@ fn drops_unit(drops: Drops, was: bool, unit: &Unit<'_>, depth: usize) -> bool
     (depth == 0 && drops_line(drops, unit.content)) || (was && unit.content.starts_with(b"%%+"))
 }
 
-/// Whether this is said of the unit before, where so many bytes of lines were kept since it was said.
-fn is_next(said: bool, kept: usize) -> bool
-    ensures none_kept { kept ≡ 0 → result ≡ said }
-    ensures some_kept { 0 < kept → result ≡ false }
-{
-    said && kept == 0
-}
-
-/// What is kept of a text: what was copied of it, and behind that two runs of it that weren't.
+/// What is kept of a text: what was copied of it, and behind that two runs of it that weren't. The second one may still
+/// grow: it has so many bytes, and behind these stands what wasn't walked over yet.
 #[derive(Drop)]
 pub struct Kept<'d> {
     pub copied: Vec<u8>,
     pub held: &'d [u8],
     pub run: &'d [u8],
+    run_len: usize,
 }
 
 impl<'d> Kept<'d> {
@@ -86,11 +79,39 @@ impl<'d> Kept<'d> {
             mut copied,
             held,
             run,
+            run_len: _,
         } = self;
         copied.reserve(held.len() + run.len() + 1)?;
         copied.extend_from_slice(held)?;
         copied.extend_from_slice(run)?;
         Ok(copied)
+    }
+
+    /// Goes on by a unit of this length: the run grows, or it is held and the next one begins behind the unit. A run that
+    /// was held before is copied then. So what is one run of the text is never copied.
+    fn go_on(&mut self, len: usize, dropped: bool) -> Result<(), AllocError>
+        requires { self.old.run_len + len ≤ length self.old.run.now }
+        ensures kept { OnOk result ((self.new.copied.items ++ self.new.held.now) ++ take self.new.run_len self.new.run.now ≡ ((self.old.copied.items ++ self.old.held.now) ++ take self.old.run_len self.old.run.now) ++ (if dropped then [] else take len (drop self.old.run_len self.old.run.now))) }
+        ensures rest { OnOk result (drop self.new.run_len self.new.run.now ≡ drop len (drop self.old.run_len self.old.run.now)) }
+        ensures within { OnOk result (self.new.run_len ≤ length self.new.run.now) }
+    {
+        if !dropped {
+            self.run_len += len;
+            return Ok(());
+        }
+        let (ended, _) = self.run.split_at(self.run_len);
+        let (_, behind) = self.run.split_at(self.run_len + len);
+        if !ended.is_empty() {
+            copy(
+                &mut self.copied,
+                self.held,
+                self.held.len() + self.run.len() + 1,
+            )?;
+            self.held = ended;
+        }
+        self.run = behind;
+        self.run_len = 0;
+        Ok(())
     }
 }
 
@@ -105,80 +126,30 @@ fn copy(copied: &mut Vec<u8>, part: &[u8], room: usize) -> Result<(), AllocError
     copied.extend_from_slice(part)
 }
 
-/// Goes on by a unit of this length: a run of kept bytes grows, or it is held and the next begins behind the unit. A run
-/// that was held before is copied then. So what is one run of the text is never copied.
-fn go_on<'d>(
-    copied: &mut Vec<u8>,
-    held: &'d [u8],
-    run: &'d [u8],
-    run_len: usize,
-    len: usize,
-    dropped: bool,
-) -> Result<(&'d [u8], &'d [u8], usize), AllocError>
-    requires { run_len + len ≤ length run.now }
-    ensures kept { IfOk result (λ r. (copied.new.items ++ r.0.now) ++ take r.2 r.1.now ≡ ((copied.old.items ++ held.now) ++ take run_len run.now) ++ (if dropped then [] else take len (drop run_len run.now))) }
-    ensures rest { IfOk result (λ r. drop r.2 r.1.now ≡ drop len (drop run_len run.now)) }
-    ensures within { IfOk result (λ r. r.2 ≤ length r.1.now) }
-{
-    if dropped {
-        let (ended, _) = run.split_at(run_len);
-        let (_, behind) = run.split_at(run_len + len);
-        if ended.is_empty() {
-            return Ok((held, behind, 0));
-        }
-        copy(copied, held, held.len() + run.len() + 1)?;
-        Ok((ended, behind, 0))
-    } else {
-        Ok((held, run, run_len + len))
-    }
-}
-
 /// What is kept of the text, behind what was copied before.
 pub fn filter<'d>(copied: Vec<u8>, drops: Drops, text: &'d [u8]) -> Result<Kept<'d>, CutError>
     ensures { Gives (λ k. (k.copied.items ++ k.held.now) ++ k.run.now) block_fault_told result (filter_on drops copied.items false 0 0 text.now) }
 {
-    let percent_signs = Finder::new(b"%%".as_slice());
-    let mut copied = copied;
-    let mut held: &[u8] = &[];
-    let mut run = text;
-    let mut run_len = 0usize;
-    let mut at = 0usize;
-    let mut depth = 0usize;
+    let mut kept = Kept {
+        copied,
+        held: &[],
+        run: text,
+        run_len: 0,
+    };
+    let mut walk = Walk::new(text);
     let mut was = false;
-    while run_len < run.len() {
-        let (_, rest) = run.split_at(run_len);
-        let plain = plain_len(&percent_signs, rest);
-        let (_, comment) = rest.split_at(plain);
-        run_len += plain;
-        at += plain;
-        if comment.is_empty() {
-            return Ok(Kept { copied, held, run });
-        }
-        let unit = match first_unit(comment) {
-            Ok(unit) => unit,
-            Err(UnitError::BadCount) => return Err(CutError::BadCount(at)),
-            Err(UnitError::ShortData) => return Err(CutError::ShortData(at)),
+    while !walk.is_done() {
+        let step = match walk.step() {
+            Ok(step) => step,
+            Err(block) => return Err(CutError::Faulty(block)),
         };
-        let dropped = drops_unit(drops, is_next(was, plain), &unit, depth);
-        let (next_held, next, next_len) = match go_on(
-            &mut copied,
-            held,
-            run,
-            run_len,
-            unit.bytes.len(),
-            dropped,
-        ) {
-            Ok(next) => next,
+        was = drops_unit(drops, was, &step.unit, step.depth);
+        match kept.go_on(step.unit.bytes.len(), was) {
+            Ok(()) => {}
             Err(_) => return Err(CutError::NoMemory),
-        };
-        depth = meaning_of(&unit, depth).depth;
-        at += unit.bytes.len();
-        was = dropped;
-        held = next_held;
-        run = next;
-        run_len = next_len;
+        }
     }
-    Ok(Kept { copied, held, run })
+    Ok(kept)
 }
 
 /// Adds to `front` what is kept of a part of a preamble or of a trailer, which has no faulty block.
@@ -189,8 +160,7 @@ pub fn filter_header(front: Vec<u8>, text: &[u8]) -> Result<Vec<u8>, AllocError>
     match filter(front, Drops::DocumentSetup, text) {
         Ok(kept) => kept.into_copy(),
         Err(CutError::NoMemory) => Err(AllocError),
-        Err(CutError::BadCount(_)) => unreachable!(),
-        Err(CutError::ShortData(_)) => unreachable!(),
+        Err(CutError::Faulty(_)) => unreachable!(),
     }
 }
 

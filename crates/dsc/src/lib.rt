@@ -13,13 +13,17 @@ mod lines;
 mod plain;
 mod scan;
 mod units;
+mod walk;
 
 pub use bodies::Body;
 pub use document::Document;
 pub use errors::DscError;
+pub use fields::next_field;
 pub use filters::{end_line, prepare};
 pub use keys::key_of;
 pub use lines::{content_end, line_end_after};
 
+#[cfg(test)]
+mod hostile_tests;
 #[cfg(test)]
 mod tests;

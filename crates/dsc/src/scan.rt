@@ -5,10 +5,8 @@ ghost use Rattle.dsc.specs.Faults.{block_fault_told};
 ghost use Rattle.dsc.specs.Marks.{marks_on, scan_on, noted_starts, noted_end, stop_at};
 
 use crate::errors::CutError;
-use crate::keys::{Meaning, meaning_of};
-use crate::plain::plain_len;
-use crate::units::{UnitError, first_unit};
-use memchr::memmem::Finder;
+use crate::keys::Meaning;
+use crate::walk::Walk;
 use std::alloc::{AllocError, Global};
 
 /// Where the pages begin, and where the trailer does once it was seen. One start more than a document may have pages
@@ -50,35 +48,20 @@ impl Seen {
 pub fn scan(alloc: Global, text: &[u8]) -> Result<Seen, CutError>
     ensures { Gives (λ s. marks_on 1_000_001 s.starts.items s.stop (length text.now) []) block_fault_told result (scan_on 1_000_001 [] None 0 0 text.now) }
 {
-    let percent_signs = Finder::new(b"%%".as_slice());
     let mut seen = Seen {
         starts: Vec::new(alloc),
         stop: None,
     };
-    let mut rest = text;
-    let mut at = 0usize;
-    let mut depth = 0usize;
-    while !rest.is_empty() {
-        let plain = plain_len(&percent_signs, rest);
-        let (_, comment) = rest.split_at(plain);
-        at += plain;
-        if comment.is_empty() {
-            return Ok(seen);
-        }
-        let unit = match first_unit(comment) {
-            Ok(unit) => unit,
-            Err(UnitError::BadCount) => return Err(CutError::BadCount(at)),
-            Err(UnitError::ShortData) => return Err(CutError::ShortData(at)),
+    let mut walk = Walk::new(text);
+    while !walk.is_done() {
+        let step = match walk.step() {
+            Ok(step) => step,
+            Err(block) => return Err(CutError::Faulty(block)),
         };
-        let meaning = meaning_of(&unit, depth);
-        match seen.note(meaning, at) {
+        match seen.note(step.meaning, step.at) {
             Ok(()) => {}
             Err(_) => return Err(CutError::NoMemory),
         }
-        depth = meaning.depth;
-        let (_, others) = comment.split_at(unit.bytes.len());
-        at += unit.bytes.len();
-        rest = others;
     }
     Ok(seen)
 }

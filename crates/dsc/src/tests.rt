@@ -150,6 +150,24 @@ fn header_comments_of_the_whole_document_are_dropped(rt: HostRuntime) -> Result<
 }
 
 #[test]
+fn comments_with_other_keys_are_kept(rt: HostRuntime) -> Result<(), Fail> {
+    let text =
+        b"%!PS\n%%Creator: a\n%%LanguageLevel: 2\n%%Requirements: duplex\n%%DocumentFonts: b\n%%DocumentNeededResources: font b\n%%pageorder: Ascend\n%%documentmedia: a\n%%orientation: Portrait\n%%PageTrailer\n%%Page: 1 1\n%%IncludeResource: font b\n%%End\nshowpage\n".as_slice();
+    let document = Document::read(rt.alloc(), text)?;
+    let preamble = document.preamble_text(1)?;
+    assert_eq!(rt;
+        preamble.as_slice(),
+        b"%!PS\n%%Pages: 1\n%%Creator: a\n%%LanguageLevel: 2\n%%Requirements: duplex\n%%DocumentFonts: b\n%%DocumentNeededResources: font b\n%%pageorder: Ascend\n%%documentmedia: a\n%%orientation: Portrait\n%%PageTrailer\n".as_slice()
+    );
+    let body = prepare(rt.alloc(), document.page(0))?;
+    assert_eq!(rt;
+        body.as_slice(),
+        b"%%IncludeResource: font b\n%%End\nshowpage\n".as_slice()
+    );
+    Ok(())
+}
+
+#[test]
 fn a_count_of_any_number_of_digits_is_read_by_its_value(rt: HostRuntime) -> Result<(), Fail> {
     let mut text = Vec::from_slice(rt.alloc(), b"%!PS\n%%Page: 1 1\n%%BeginData: ")?;
     for _ in 0..10_000 {

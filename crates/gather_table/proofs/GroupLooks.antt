@@ -18,7 +18,7 @@ none_missing_in layout t s g has none = record { group = has; full = none_lack (
 pub looked_may_be_closed : LookedMayBeClosed
 looked_may_be_closed old new s g m =
     let log : List Entry = old.front ++ m.between in
-    let fits = (AllFit_back old.layout (start old.layout) log (LookGroup s g 0 ∷ []) (legal_made old new (LookGroup s g 0) m)).0 in
-    subst (λ (t : TableState). IsClosable old.layout t s g)
-    (sym (ap (λ (z : SeatView). after_history old.layout z.front) m.grown ∙ after_history_push old.layout log (LookGroup s g 0)))
-    (none_missing_in old.layout (after_history old.layout log) s g fits.0 fits.1)
+    let fits = (AllFit_back old.key (start old.key) log (LookGroup s g 0 ∷ []) (legal_made old new (LookGroup s g 0) m)).0 in
+    subst (λ (t : TableState). IsClosable old.key t s g)
+    (sym (ap (λ (z : SeatView). after_history old.key z.front) m.grown ∙ after_history_push old.key log (LookGroup s g 0)))
+    (none_missing_in old.key (after_history old.key log) s g fits.0 fits.1)

@@ -6,14 +6,14 @@ use lib.ListN.{get_elem?}
 use Rattle.atomic_table.specs.Table.{State}
 use Rattle.profile.specs.Sheets.{Layout}
 use Rattle.gather_table.specs.History.{Entry, after, Fits, after_history, IsLegal}
-use Rattle.gather_table.specs.Rule.{Holds, IsKept, Adds}
-use Rattle.gather_table.specs.Sight.{Sight}
+use Rattle.gather_table.specs.Rule.{Holds, IsKept, Sight}
+use Rattle.gather_table.specs.Steps.{Adds}
 use Rattle.gather_table.proofs.Histories.{after_history_push, IsLegal_push}
 use Rattle.histories.specs.Seats.{added}
 
 -- the call e after the history log, by the seat id
 pub adds : (layout : Layout) (s : State Unit Sight) (log : List Entry) (id : ℕ) (v : Sight) (e : Entry) (words : List ℕ) (k : IsKept layout s log)
-    → get_elem? s.views id ≡ some v → 0 < v.mine.share → Fits layout (after_history layout log) e → Holds layout (after (after_history layout log) e) words
+    → get_elem? s.views id ≡ some v → 0 < v.share → Fits layout (after_history layout log) e → Holds layout (after (after_history layout log) e) words
     → ((p i : ℕ) → (after (after_history layout log) e).index p ≡ Some i → i < 2 ^ 32)
     → IsKept layout (record { words = words; homes = s.homes; views = set s.views id (added v log e) }) (log ++ e ∷ []) × Adds v e (added v log e)
 adds layout s log id v e words k at pos fits holds small =

@@ -1,10 +1,8 @@
--- What clauses see of the shared table and of its seats.
-use Rattle.std.specs.Prelude.{◌≡◌, ℕ, ◌+◌, ◌≤◌, List, [], ◌∷◌, ◌++◌, length}
-use mathlib.Core.List.{IsPrefix}
+-- What clauses see of the shared table and of its seats. What is said of seats of any history stands in the crate histories.
+use Rattle.std.specs.Prelude.{ℕ, List}
 use Rattle.atomic_table.specs.Seated.{TableId}
 use Rattle.profile.specs.Sheets.{Layout}
-use Rattle.histories.specs.Seats.{whole_share, longer, times}
-use Rattle.histories.specs.Own.{entries_at, IsHeld}
+use Rattle.histories.specs.Calls.{IsOf, opening, own_entries}
 use Rattle.gather_table.specs.History.{Entry, IsLegal}
 
 -- a table and its layout
@@ -12,60 +10,43 @@ pub record TableView : Type 0 where
   pub table : TableId
   pub layout : Layout
 
--- a seat: its table, the history that its caller has seen, the places in it of the caller's own calls, and its share
-pub record SeatView : Type 0 where
-  pub table : TableId
-  pub layout : Layout
-  pub front : List Entry
-  pub own : List ℕ
-  pub share : ℕ
+-- a seat: its table, the layout (its key), the history that its caller has seen, the places in it of the caller's own calls, and its share
+abbrev pub SeatView : Type 0
+SeatView = Rattle.histories.specs.Calls.SeatView Layout Entry
 
 abbrev pub IsSeatOf : TableView → SeatView → Type 0
-IsSeatOf t seat = (seat.table ≡ t.table) × (seat.layout ≡ t.layout)
+IsSeatOf t seat = IsOf t.table t.layout seat
 
 -- the seat that a table is made with: it has all shares, and has seen nothing yet
 abbrev pub opening_seat : TableView → SeatView
-opening_seat t = record { table = t.table; layout = t.layout; front = []; own = []; share = whole_share }
+opening_seat t = opening t.table t.layout
 
--- what every seat keeps to: its front is legal, its own places lie in it, each once, and where it has all shares they are
+-- what every seat keeps to: its front is legal, its own places lie in it, each once, and if it has all shares they are
 -- all places of it
 abbrev pub IsSeat : SeatView → Type 0
-IsSeat seat = IsHeld (IsLegal seat.layout) seat.front seat.own seat.share
+IsSeat = Rattle.histories.specs.Calls.IsSeat IsLegal
 
 -- the seat's own calls, with their replies
 abbrev pub own_calls : SeatView → List Entry
-own_calls seat = entries_at seat.front seat.own
+own_calls seat = own_entries seat
 
--- the call e was made: the new front begins with the old one, goes on with what others did meanwhile, and ends with e,
--- whose place is one more own place. Where the seat has all shares there are no others
-pub record Made (old : SeatView) (e : Entry) (new : SeatView) : Type 0 where
-  pub between : List Entry
-  pub grown : new ≡ record old { front = (old.front ++ between) ++ e ∷ []; own = old.own ++ length (old.front ++ between) ∷ [] }
-  pub alone : old.share ≡ whole_share → between ≡ []
-  pub before : IsSeat old
-  pub after : IsSeat new
+-- the call was made: the new front begins with the old one, goes on with what others did meanwhile, and ends with this call,
+-- whose place is one more own place. If the seat has all shares there are no others
+abbrev pub Made : SeatView → Entry → SeatView → Type 0
+Made = Rattle.histories.specs.Calls.Made IsLegal
 
 -- these calls were made, one after the other, and no others
 abbrev pub Makes : SeatView → List Entry → SeatView → Type 0
-Makes old [] new = old ≡ new
-Makes old (e ∷ es) new = (mid : SeatView) × Made old e mid × Makes mid es new
+Makes = Rattle.histories.specs.Calls.Makes IsLegal
 
--- two seats of one table: the front of each begins the longer one, and no place is an own place of both
-pub record Agree (a b : SeatView) : Type 0 where
-  pub one : IsPrefix a.front (longer a.front b.front)
-  pub two : IsPrefix b.front (longer a.front b.front)
-  pub apart : (x : ℕ) → times x a.own + times x b.own ≤ 1
-  pub shares : a.share + b.share ≤ whole_share
+-- two seats: the front of each begins the longer one, and no place is an own place of both
+abbrev pub Agree : SeatView → SeatView → Type 0
+Agree = Rattle.histories.specs.Calls.Agree
 
 -- both fronts become the longer one
-pub record Met (a b a' b' : SeatView) : Type 0 where
-  pub one : a' ≡ record a { front = longer a.front b.front }
-  pub two : b' ≡ record b { front = longer a.front b.front }
-  pub agree : Agree a b
-  pub seats : IsSeat a' × IsSeat b'
+abbrev pub Met : SeatView → SeatView → SeatView → SeatView → Type 0
+Met = Rattle.histories.specs.Calls.Met IsLegal
 
--- one seat with the longer front, the own places of both, and both shares
-pub record Joined (a b new : SeatView) : Type 0 where
-  pub joined : new ≡ record { table = a.table; layout = a.layout; front = longer a.front b.front; own = a.own ++ b.own; share = a.share + b.share }
-  pub agree : Agree a b
-  pub seat : IsSeat new
+-- one seat with the longer front, the own places of both, of which none is shared, and both shares
+abbrev pub Joined : SeatView → SeatView → SeatView → Type 0
+Joined = Rattle.histories.specs.Calls.Joined IsLegal

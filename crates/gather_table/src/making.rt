@@ -27,7 +27,7 @@ impl<'s> GatherTable<'s> {
     {
         let (homes, count) = homes_of(alloc, plan)?;
         let words = first_words(alloc, plan, homes.as_slice(), count)?;
-        let (table, seat) = Table::of_words(alloc, words.as_slice(), plan)?;
+        let (table, token) = Table::of_words(alloc, words.as_slice(), plan)?;
         let pages = plan.pages() as usize;
         Ok((
             GatherTable {
@@ -36,7 +36,7 @@ impl<'s> GatherTable<'s> {
                 homes,
             },
             Seat {
-                seat,
+                token,
                 share: 1 << 32,
             },
         ))

@@ -9,12 +9,11 @@ pub struct View {
 }
 
 impl Model for View {
-    ghost use Rattle.std.specs.Prelude.{[]};
-    ghost use Rattle.gather_table.specs.Sight.{Sight, nobody};
+    ghost use Rattle.gather_table.specs.Rule.{Sight, spent};
 
     ghost Value = { Sight };
 
-    ghost view = { λ v. nobody };
+    ghost view = { λ v. spent };
 }
 
 /// Between any two steps there is one legal history, whose state the words hold and which every seat has seen a beginning of.

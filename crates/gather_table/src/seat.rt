@@ -9,20 +9,21 @@ use std::marker::Model;
 /// own calls in it. Neither is stored: a seat is eight bytes, its share.
 #[derive(Drop)]
 pub struct Seat {
-    pub(crate) seat: atomic_table::Seat<(), View>,
+    pub(crate) token: atomic_table::Seat<(), View>,
     pub(crate) share: u64,
 }
 
 impl Model for Seat {
     ghost use Rattle.std.specs.Prelude.{◌≡◌, []};
+    ghost use Rattle.histories.specs.Calls.{seat_view};
+    ghost use Rattle.gather_table.specs.Rule.{StandsAlone};
     ghost use Rattle.gather_table.specs.Shared.{SeatView};
-    ghost use Rattle.gather_table.specs.Sight.{StandsAlone};
 
     ghost Value = { SeatView };
 
-    ghost view = { λ s. record { table = s.seat.table_id; layout = s.seat.me.0.key; front = s.seat.me.0.mine.front; own = s.seat.me.0.mine.own; share = s.seat.me.0.mine.share } };
+    ghost view = { λ s. seat_view s.token.table_id s.token.me.0 };
 
-    ghost invariant = { λ s. (s.seat.me.1 ≡ []) × StandsAlone s.seat.me.0 s.share };
+    ghost invariant = { λ s. (s.token.me.1 ≡ []) × StandsAlone s.token.me.0 s.share };
 }
 
 impl Seat {

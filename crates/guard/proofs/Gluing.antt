@@ -1,6 +1,6 @@
 -- The texts that the code puts together.
 use Rattle.std.specs.Prelude.{flat_map, codes, Option}
-use Rattle.std.proofs.Common.{append_assoc, ◌≡◌, ℕ, List, [], ◌∷◌, ◌++◌, take, drop, ap, ◌∙◌, sym}
+use Rattle.std.proofs.Common.{append_assoc, ◌≡◌, ℕ, zero, suc, ◌-◌, ◌<◌, ◌≤◌, List, [], ◌∷◌, ◌++◌, length, take, drop, refl, ap, ◌∙◌, sym, subst, arith}
 use Rattle.std.proofs.lemmas.Grind.{flat_map-append}
 use Rattle.profile.specs.Bytes.{line}
 use Rattle.profile.specs.Filters.{ended}
@@ -48,3 +48,42 @@ glued lines text n h r none a b c d e f g z p q s t =
     let whole : b ≡ ended (take n text) = q ∙ ap ended (p ∙ ap (λ x. x ++ h) z ∙ f) in
     t ∙ ap (λ x. x ++ r) (s ∙ ap (λ x. x ++ flat_map line lines) whole) ∙ append_assoc (ended (take n text)) (flat_map line lines) r
     ∙ ap (λ x. ended (take n text) ++ (flat_map line lines ++ x)) g ∙ ap (λ k. ended (take k text) ++ (flat_map line lines ++ drop k text)) e
+
+-- a line end is wanted by the last byte alone
+ended_last : (xs : List ℕ) (b : ℕ) → ended (xs ++ b ∷ []) ≡ xs ++ ended (b ∷ [])
+ended_last [] b = refl
+ended_last (x ∷ []) b = refl
+ended_last (x ∷ y ∷ xs) b = ap (λ t. x ∷ t) (ended_last (y ∷ xs) b)
+
+-- the byte at this place is the last of those up to it
+last_taken : (m : ℕ) (text : List ℕ) → m < length text → (b : ℕ) × (take (suc m) text ≡ take m text ++ b ∷ []) × (take 1 (drop m text) ≡ b ∷ [])
+last_taken m [] within = absurd (omega (arith, within))
+last_taken zero (x ∷ text) within = (x, refl, refl)
+last_taken (suc m) (x ∷ text) within = let r = last_taken m text (omega (arith, within)) in (r.0, ap (λ t. x ∷ t) r.1, r.2)
+
+-- the bytes before the last one, and the last one with a line end behind it if it is none
+ended_apart : (text : List ℕ) (n m k : ℕ) → n ≤ length text → m ≡ n - 1 → k ≡ n - m → take m text ++ ended (take k (drop m text)) ≡ ended (take n text)
+ended_apart text zero m k within before size =
+    let none : m ≡ 0 = omega (arith, before) in
+    let nothing : k ≡ 0 = omega (arith, size) in
+    subst (λ i. take i text ++ ended (take k (drop i text)) ≡ ended (take 0 text)) (sym none)
+    (subst (λ j. take 0 text ++ ended (take j (drop 0 text)) ≡ ended (take 0 text)) (sym nothing) refl)
+ended_apart text (suc n) m k within before size =
+    let same : m ≡ n = omega (arith, before) in
+    let one : k ≡ 1 = omega (arith, size, same) in
+    let last = last_taken n text (omega (arith, within)) in
+    subst (λ i. take i text ++ ended (take k (drop i text)) ≡ ended (take (suc n) text)) (sym same)
+    (subst (λ j. take n text ++ ended (take j (drop n text)) ≡ ended (take (suc n) text)) (sym one)
+    (ap (λ t. take n text ++ ended t) last.2 ∙ sym (ended_last (take n text) last.0) ∙ ap ended (sym last.1)))
+
+-- a text into which lines are put in its place, part by part
+pub put_between : (lines : List (List ℕ)) (text : List ℕ) (n m : ℕ) (none a b c put new : List ℕ) → n ≡ header_len text → n ≤ length text → m ≡ n - 1
+    → none ≡ [] → a ≡ none ++ take (n - m) (drop m text) → b ≡ ended a → c ≡ b ++ flat_map line lines → put ≡ c → new ≡ take m text ++ (put ++ drop n text) → new ≡ put_in lines text
+put_between lines text n m none a b c put new is within before e f g h i j =
+    let last : b ≡ ended (take (n - m) (drop m text)) = g ∙ ap ended (f ∙ ap (λ x. x ++ take (n - m) (drop m text)) e) in
+    let rest : List ℕ = flat_map line lines ++ drop n text in
+    j ∙ ap (λ x. take m text ++ (x ++ drop n text)) (i ∙ h ∙ ap (λ x. x ++ flat_map line lines) last)
+    ∙ ap (λ x. take m text ++ x) (append_assoc (ended (take (n - m) (drop m text))) (flat_map line lines) (drop n text))
+    ∙ sym (append_assoc (take m text) (ended (take (n - m) (drop m text))) rest)
+    ∙ ap (λ x. x ++ rest) (ended_apart text n m (n - m) within before refl)
+    ∙ ap (λ k. ended (take k text) ++ (flat_map line lines ++ drop k text)) is

@@ -6,7 +6,8 @@ mod header;
 pub mod laws;
 mod text;
 
-pub use text::guarded;
+pub use header::header_len;
+pub use text::{guarded, put_guard};
 
 #[cfg(test)]
 mod tests;

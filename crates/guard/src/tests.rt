@@ -1,5 +1,5 @@
 //! Documents with the guard put in, with memory to spare.
-use crate::{guarded, laws};
+use crate::{guarded, laws, put_guard};
 use lengths::paper_by_name;
 use std::test::Fail;
 
@@ -53,6 +53,9 @@ fn any_text_is_taken(rt: HostRuntime) -> Result<(), Fail> {
         let (front, behind) = put_in.as_slice().split_at(header.len());
         assert_eq!(rt; front, header.as_bytes());
         assert!(rt; behind.starts_with(guard.as_slice()));
+        let mut in_place = Vec::from_slice(rt.alloc(), text.as_bytes())?;
+        put_guard(&mut in_place, None)?;
+        assert_eq!(rt; in_place, put_in);
     }
     Ok(())
 }

@@ -1,5 +1,5 @@
 //! The guard's text, and where it is put in.
-ghost use Rattle.std.specs.Prelude.{◌≡◌, ◌++◌, flat_map, option_map, IfOk, OnOk};
+ghost use Rattle.std.specs.Prelude.{◌≡◌, ◌++◌, flat_map, option_map, IfOk, OnErr, OnOk};
 ghost use Rattle.profile.specs.Bytes.{line};
 ghost use Rattle.guard.specs.Guard.{page_size_line, page_size_lines, guard_lines, guarded};
 
@@ -60,6 +60,23 @@ pub fn guarded(alloc: Global, text: &[u8], sheet: Option<&Paper>) -> Result<Vec<
     append_guard(sheet, &mut out)?;
     out.extend_from_slice(rest)?;
     Ok(out)
+}
+
+/// Puts the guard into a text in its place, as `guarded` does into a copy of it. Refused for memory alone; the text is as it was
+/// then.
+pub fn put_guard(text: &mut Vec<u8>, sheet: Option<&Paper>) -> Result<(), AllocError>
+    ensures put_in { OnOk result (text.new.items ≡ guarded (option_map (λ p. p.now) sheet.entry) text.old.items) }
+    ensures unchanged { OnErr result (text.new.items ≡ text.old.items) }
+{
+    let end = header_len(text.as_slice());
+    // The header's last byte is put anew, with a line end behind it if it is none.
+    let start = end.saturating_sub(1);
+    let mut lines = Vec::with_capacity(*text.allocator(), ROOM)?;
+    lines.extend_from_slice(&text[start..end])?;
+    end_line(&mut lines)?;
+    append_guard(sheet, &mut lines)?;
+    text.splice(start..end, lines)?;
+    Ok(())
 }
 
 /// Appends the guard.

@@ -1,4 +1,4 @@
 pub mod Histories
-mod Steps
+mod RuleKept
 mod Views
 pub mod Moves

@@ -1,10 +1,9 @@
 -- What holds of every history of the queue, and of every pass by the contracts of its calls.
 use Rattle.std.specs.Prelude.{◌≡◌, ℕ, ◌+◌, ◌≤◌, List, ◌++◌, length}
-use mathlib.Core.List.{IsPrefix}
-use Rattle.histories.specs.Seats.{whole_share, total, times}
-use Rattle.histories.specs.Own.{StandAt}
+use Rattle.histories.specs.Seats.{whole_share, times}
+use Rattle.histories.specs.Laws.{CallsStandInOneHistory, CoursesStandInOneHistory, OwnEntriesAreKept, WholeSeatMadeAll}
 use Rattle.handover.specs.Queue.{Move, content, IsQueueHistory, sheets_put, sheets_taken}
-use Rattle.handover.specs.Passes.{PassView, IsPass, Makes, Joined, own_moves}
+use Rattle.handover.specs.Passes.{PassView, IsPass, own_moves}
 
 -- sheets are taken in the order in which they were put: those taken, and behind them those left, are those put
 abbrev pub FirstPutIsFirstTaken : Type 0
@@ -16,28 +15,22 @@ NeverOverfull = (capacity : ℕ) (log : List Move) → IsQueueHistory capacity l
 
 -- a pass that has all shares made all moves of its front: whatever is counted of them comes out the same
 abbrev pub WholePassMadeAll : Type 0
-WholePassMadeAll = (pass : PassView) (weight : Move → ℕ) → IsPass pass → pass.share ≡ whole_share → total weight (own_moves pass) ≡ total weight pass.front
+WholePassMadeAll = WholeSeatMadeAll IsQueueHistory
 
 -- so the sheets that it took, and those left, are those that it put, each as often
 abbrev pub WholePassLosesNone : Type 0
 WholePassLosesNone = (pass : PassView) (s : ℕ) → IsPass pass → pass.share ≡ whole_share
     → times s (sheets_taken (own_moves pass)) + times s (content pass.front) ≡ times s (sheets_put (own_moves pass))
 
--- a move is one more own move, and a joined pass has those of both
+-- a move is one more own move, a joined pass has those of both, and a split takes none away
 abbrev pub OwnMovesAreKept : Type 0
-OwnMovesAreKept = ((old new : PassView) (ms : List Move) → Makes old ms new → own_moves new ≡ own_moves old ++ ms)
-    × ((a b new : PassView) → IsPass a → IsPass b → Joined a b new → own_moves new ≡ own_moves a ++ own_moves b)
+OwnMovesAreKept = OwnEntriesAreKept IsQueueHistory
 
--- the moves ms of a pass, made one after the other with whatever others did beside them, stand in one history of the queue,
+-- the moves of a pass, made one after the other with whatever others did beside them, stand in one history of the queue,
 -- which begins with all that the caller had seen: each at one place of its own, in the order in which they were made
-pub record StandInOneHistory (old : PassView) (ms : List Move) (new : PassView) : Type 0 where
-  pub legal : IsQueueHistory old.capacity new.front
-  pub begins : IsPrefix old.front new.front
-  pub places : List ℕ
-  pub own : new.own ≡ old.own ++ places
-  pub moves : StandAt new.front (length old.front) places ms
-  pub others : old.share ≡ whole_share → new.front ≡ old.front ++ ms
-  pub same : new ≡ record old { front = new.front; own = new.own }
-
 abbrev pub MovesStandInOneHistory : Type 0
-MovesStandInOneHistory = (old new : PassView) (ms : List Move) → IsPass old → Makes old ms new → StandInOneHistory old ms new
+MovesStandInOneHistory = CallsStandInOneHistory IsQueueHistory
+
+-- and so do those of a caller that splits its pass, makes moves with both parts, and joins them again
+abbrev pub SplitMovesStandInOneHistory : Type 0
+SplitMovesStandInOneHistory = CoursesStandInOneHistory IsQueueHistory

@@ -1,8 +1,9 @@
 -- Read in this order: prepared pages, the shelf and its tokens; histories of the queue, the queue and its passes as clauses
--- see them, the rule that every step keeps, and what holds of every history and of every pass.
+-- see them, what holds of every history and of every pass; the rule that every step keeps, and what each step tells.
 pub mod Pages
 pub mod Shelves
 pub mod Queue
 pub mod Passes
-pub mod Rule
 pub mod Laws
+pub mod Rule
+pub mod Steps

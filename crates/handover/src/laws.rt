@@ -1,5 +1,5 @@
 //! Laws: what holds of every history of the queue, and of every pass. Each is a function that does nothing.
-ghost use Rattle.handover.specs.Laws.{FirstPutIsFirstTaken, NeverOverfull, WholePassMadeAll, WholePassLosesNone, OwnMovesAreKept, MovesStandInOneHistory};
+ghost use Rattle.handover.specs.Laws.{FirstPutIsFirstTaken, NeverOverfull, WholePassMadeAll, WholePassLosesNone, OwnMovesAreKept, MovesStandInOneHistory, SplitMovesStandInOneHistory};
 
 /// Sheets are taken in the order in which they were put, and none is lost or doubled.
 pub fn first_put_is_first_taken()
@@ -21,7 +21,7 @@ pub fn whole_pass_loses_none()
     ensures { WholePassLosesNone }
 {}
 
-/// A move is one more own move of its pass, and a joined pass has those of both.
+/// A move is one more own move of its pass, a joined pass has those of both, and a split takes none away.
 pub fn own_moves_are_kept()
     ensures { OwnMovesAreKept }
 {}
@@ -29,4 +29,11 @@ pub fn own_moves_are_kept()
 /// The moves of a pass stand in one history of the queue, each once and in order, behind all that its caller had seen.
 pub fn moves_stand_in_one_history()
     ensures { MovesStandInOneHistory }
+{}
+
+/// The moves of a caller that splits its pass, makes moves with both parts, the one beside the other, and joins them again
+/// stand in one history of the queue too: each once, those of a part in their order, and between what was moved before the
+/// split and what is moved after the join.
+pub fn split_moves_stand_in_one_history()
+    ensures { SplitMovesStandInOneHistory }
 {}

@@ -8,6 +8,7 @@ mod ready;
 mod receipts;
 mod rule;
 mod shelf;
+mod steps;
 
 pub use crate::pass::Pass;
 pub use crate::prepared::Prepared;

@@ -10,19 +10,20 @@ use std::marker::Model;
 #[derive(Drop)]
 pub struct Pass {
     pub(crate) token: crossbeam_queue::Pass<u32, View>,
-    pub(crate) amount: u64,
+    pub(crate) share: u64,
 }
 
 impl Model for Pass {
     ghost use Rattle.std.specs.Prelude.{◌≡◌, []};
+    ghost use Rattle.histories.specs.Calls.{seat_view};
     ghost use Rattle.handover.specs.Passes.{PassView};
     ghost use Rattle.handover.specs.Rule.{StandsAlone};
 
     ghost Value = { PassView };
 
-    ghost view = { λ p. record { queue = p.token.table_id; capacity = p.token.me.0.client.key; front = p.token.me.0.client.mine.front; own = p.token.me.0.client.mine.own; share = p.token.me.0.client.mine.share } };
+    ghost view = { λ p. seat_view p.token.table_id p.token.me.0.client };
 
-    ghost invariant = { λ p. (p.token.me.1 ≡ []) × StandsAlone p.token.me.0.client p.amount };
+    ghost invariant = { λ p. (p.token.me.1 ≡ []) × StandsAlone p.token.me.0.client p.share };
 }
 
 impl Pass {
@@ -31,6 +32,6 @@ impl Pass {
         ensures value { result ≡ self.now.share }
         ensures pass { IsPass self.now }
     {
-        self.amount
+        self.share
     }
 }

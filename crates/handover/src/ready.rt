@@ -6,7 +6,8 @@ ghost use Rattle.handover.specs.Queue.{Put, Take, content};
 ghost use Rattle.handover.specs.Passes.{IsPass, IsPassOf, Made, Joined, opening_pass};
 
 use crate::pass::Pass;
-use crate::rule::{Both, Cut, OneHistory, Picks, Puts, Takes, Tells, View};
+use crate::rule::{OneHistory, View};
+use crate::steps::{Both, Cut, Opens, Picks, Puts, Takes};
 use crossbeam_queue::RuledArrayQueue;
 use std::alloc::{AllocError, Global};
 use std::marker::{Brand, Model};
@@ -46,11 +47,11 @@ impl Ready {
         ensures pass { IfOk result (λ made. made.1 ≡ opening_pass made.0) }
     {
         let (line, mut token) = Line::ruled(alloc, capacity as usize)?;
-        tell::<Brand>(&line, &mut token);
+        open::<Brand>(&line, &mut token);
         let ready = Ready { line };
         let pass = Pass {
             token,
-            amount: 4_294_967_296,
+            share: 4_294_967_296,
         };
         Ok((ready, pass))
     }
@@ -106,10 +107,10 @@ impl Ready {
         ensures passes { IsPass pass.new × IsPass result }
     {
         let token = self.line.another::<Cut<N>>(&mut pass.token);
-        pass.amount -= give;
+        pass.share -= give;
         Pass {
             token,
-            amount: give,
+            share: give,
         }
     }
 
@@ -119,24 +120,24 @@ impl Ready {
         requires two { IsPassOf self.now two }
         ensures { Joined one two result }
     {
-        let Pass { mut token, amount } = one;
+        let Pass { mut token, share } = one;
         let Pass {
             token: other,
-            amount: more,
+            share: more,
         } = two;
         self.line.absorb::<Both>(&mut token, other);
         self.line.learn_as::<Both>(&mut token);
         Pass {
             token,
-            amount: amount + more,
+            share: share + more,
         }
     }
 }
 
 // Tells the pass that a queue was made with the queue's capacity.
-fn tell<N: Picks>(line: &Line, token: &mut crossbeam_queue::Pass<u32, View>)
+fn open<N: Picks>(line: &Line, token: &mut crossbeam_queue::Pass<u32, View>)
     requires { Rattle.crossbeam_queue.specs.Passes.IsPassOf line.now token.old × (view token.old ≡ opening_sight 0) }
     ensures { Rattle.crossbeam_queue.specs.Passes.IsPassOf line.now token.new × (view token.new ≡ opening_sight N.number) }
 {
-    drop(line.another::<Tells<N>>(token));
+    drop(line.another::<Opens<N>>(token));
 }

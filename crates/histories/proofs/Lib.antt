@@ -3,4 +3,6 @@ pub mod Fronts
 pub mod Shares
 pub mod Own
 pub mod Runs
-pub mod Alone
+pub mod Views
+pub mod Calls
+pub mod Courses

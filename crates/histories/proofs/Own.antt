@@ -47,13 +47,21 @@ module _ {E : Type 0} where
       let last : entries_at (log ++ e ∷ []) (length log ∷ []) ≡ e ∷ [] = append-nil (entry_at (log ++ e ∷ []) (length log)) ∙ entry_last log e in
       entries_at-append (log ++ e ∷ []) own (length log ∷ []) ∙ (λ i. first i ++ last i)
 
-  entries_longer : (a b : List E) (own : List ℕ) → IsPrefix a b → ((x : ℕ) → 0 < times x own → x < length a) → entries_at b own ≡ entries_at a own
+  pub entries_longer : (a b : List E) (own : List ℕ) → IsPrefix a b → ((x : ℕ) → 0 < times x own → x < length a) → entries_at b own ≡ entries_at a own
   entries_longer a b own p h = ap (λ l. entries_at l own) (sym p.1) ∙ entries_stay a p.0 own h
 
   -- two seats in one
   pub entries_joined : (a b : List E) (own mine : List ℕ) → IsPrefix a (longer a b) → IsPrefix b (longer a b) → ((x : ℕ) → 0 < times x own → x < length a) → ((x : ℕ) → 0 < times x mine → x < length b)
       → entries_at (longer a b) (own ++ mine) ≡ entries_at a own ++ entries_at b mine
   entries_joined a b own mine p q h k = entries_at-append (longer a b) own mine ∙ (λ i. entries_longer a (longer a b) own p h i ++ entries_longer b (longer a b) mine q k i)
+
+  -- the own places of both lie in the longer front
+  pub joined_inside : (a b : List E) (own mine : List ℕ) → IsPrefix a (longer a b) → IsPrefix b (longer a b) → ((x : ℕ) → 0 < times x own → x < length a) → ((x : ℕ) → 0 < times x mine → x < length b)
+      → (x : ℕ) → 0 < times x (own ++ mine) → x < length (longer a b)
+  joined_inside a b own mine p q h k x has = let t = times-append x own mine in ⊎_elim
+      (λ (here : 0 < times x own). let i = h x here in let le = length_begins a (longer a b) p in omega arith)
+      (λ (there : 0 < times x mine). let i = k x there in let le = length_begins b (longer a b) q in omega arith)
+      (pos_or (times x own) (times x mine) (omega arith))
 
 module _ {E : Type 0} (Legal : List E → Type 0) where
   -- a seat that made an entry
@@ -108,18 +116,12 @@ module _ {E : Type 0} (Legal : List E → Type 0) where
       → IsHeld Legal (longer a b) (own ++ mine) (share + part)
   held_joined a b own mine share part ka kb p q apart small every = record {
     legal = longer_legal a b ka.legal kb.legal;
-    inside = λ x has. within x has (times-append x own mine);
+    inside = joined_inside a b own mine p q ka.inside kb.inside;
     once = λ x. let t : times x (own ++ mine) ≡ times x own + times x mine = times-append x own mine in let one = apart x in omega arith;
     some_share = let s = ka.some_share in omega arith;
     most_share = small;
     every = λ whole x lt. let t : times x (own ++ mine) ≡ times x own + times x mine = times-append x own mine in let e = every whole x lt in omega arith;
   }
-    where
-      within : (x : ℕ) → 0 < times x (own ++ mine) → times x (own ++ mine) ≡ times x own + times x mine → x < length (longer a b)
-      within x has t = ⊎_elim
-          (λ (h : 0 < times x own). let i = ka.inside x h in let le = length_begins a (longer a b) p in omega arith)
-          (λ (h : 0 < times x mine). let i = kb.inside x h in let le = length_begins b (longer a b) q in omega arith)
-          (pos_or (times x own) (times x mine) (omega arith))
 
   -- a seat that has seen more, and isn't the only one
   pub held_further : (a b : List E) (own : List ℕ) (share : ℕ) → IsHeld Legal a own share → Legal b → IsPrefix a b → share < whole_share → IsHeld Legal b own share
@@ -235,6 +237,18 @@ each_once f (y ∷ ys) x t = dite (ℕ_discrete y x)
     let v : only y f x ≡ 0 = ap (λ b. if b then f x else 0) (ne_eqb y x other) in
     let r = each_once f ys x (omega arith) in omega arith)
 
+each_most : (f : ℕ → ℕ) (ys : List ℕ) (x : ℕ) → times x ys ≤ 1 → each f ys x ≤ f x
+each_most f ys x le = two (times x ys) refl le
+  where
+    two : (n : ℕ) → times x ys ≡ n → n ≤ 1 → each f ys x ≤ f x
+    two zero e l = let z = each_none f ys x e in omega arith
+    two (suc zero) e l = let o = each_once f ys x e in omega arith
+    two (suc (suc n)) e l = absurd (omega arith)
+
+below_least : (f g : ℕ → ℕ) (n : ℕ) → ((x : ℕ) → f x ≤ g x) → below f n ≤ below g n
+below_least f g zero h = omega arith
+below_least f g (suc n) h = let r = below_least f g n h in let e = h n in omega arith
+
 module _ {E : Type 0} (h : E → ℕ) where
   -- the weight of the entry at a place
   abbrev weight_at : List E → ℕ → ℕ
@@ -253,5 +267,14 @@ module _ {E : Type 0} (h : E → ℕ) where
       let places = weighed_places front own in
       let sums = each_total (weight_at front) (length front) own k.inside in
       let same = below_same (each (weight_at front) own) (weight_at front) (length front) (λ x lt. each_once (weight_at front) own x (let e = k.every whole x lt in let o = k.once x in omega arith)) in
+      let all = weighed_all front in
+      omega arith
+
+  -- own entries, each once, weigh no more than all
+  pub part_weight : (front : List E) (own : List ℕ) → ((x : ℕ) → 0 < times x own → x < length front) → ((x : ℕ) → times x own ≤ 1) → total h (entries_at front own) ≤ total h front
+  part_weight front own inside once =
+      let places = weighed_places front own in
+      let sums = each_total (weight_at front) (length front) own inside in
+      let least = below_least (each (weight_at front) own) (weight_at front) (length front) (λ x. each_most (weight_at front) own x (once x)) in
       let all = weighed_all front in
       omega arith

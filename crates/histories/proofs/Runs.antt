@@ -33,7 +33,7 @@ module _ {E : Type 0} where
       run_owns share (log ++ e ∷ []) (own ++ length log ∷ []) es later more r.3
       ∙ append_assoc own (length log ∷ []) (run_places share (log ++ e ∷ []) (own ++ length log ∷ []) es later more r.3)
 
-  last_there : (log more : List E) (e : E) → slice_get ((log ++ e ∷ []) ++ more) (length log) ≡ Some e
+  pub last_there : (log more : List E) (e : E) → slice_get ((log ++ e ∷ []) ++ more) (length log) ≡ Some e
   last_there [] more e = refl
   last_there (x ∷ log) more e = last_there log more e
 

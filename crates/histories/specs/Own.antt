@@ -1,6 +1,6 @@
 -- What every seat keeps to, and its own entries.
 use Rattle.std.specs.Prelude.{ℕ, suc, ◌≡◌, ◌<◌, ◌≤◌, List, [], ◌∷◌, length, take, drop, flat_map, Some, slice_get}
-use Rattle.histories.specs.Seats.{Sight, nothing, times, whole_share}
+use Rattle.histories.specs.Seats.{Sight, times, whole_share}
 
 module _ {E : Type 0} where
   -- the entry at a place, as a list of one
@@ -27,8 +27,7 @@ module _ {E : Type 0} where
     pub most_share : share ≤ whole_share
     pub every : share ≡ whole_share → (x : ℕ) → x < length front → 0 < times x own
 
--- a seat between two calls: it has no second part, it has this share, and it keeps what every seat keeps
+-- a seat between two calls: it has this share, and keeps what every seat keeps
 pub record StandsAlone {K E : Type 0} (Legal : K → List E → Type 0) (v : Sight K E) (its_share : ℕ) : Type 0 where
-  pub one_part : v.other ≡ nothing
-  pub share : its_share ≡ v.mine.share
-  pub held : IsHeld (Legal v.key) v.mine.front v.mine.own v.mine.share
+  pub share : its_share ≡ v.share
+  pub held : IsHeld (Legal v.key) v.front v.own v.share

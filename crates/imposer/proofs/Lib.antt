@@ -1,11 +1,7 @@
-pub mod Appending
 pub mod Made
 pub mod Merged
 pub mod Pushed
 pub mod Refusals
-pub mod Sheets
-pub mod Slots
-pub mod Fronts
 pub mod Marks
 pub mod PlacesOf
 pub mod HandingOn

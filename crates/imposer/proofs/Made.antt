@@ -15,9 +15,9 @@ use Rattle.profile.specs.Parts.{NestedUnit, pages}
 use Rattle.profile.specs.Output.{Frame, output}
 use Rattle.sheet_plan.specs.Plans.{planned_in}
 use Rattle.sheet_plan.specs.Places.{born_complete, is_blank}
-use Rattle.imposer.specs.Jobs.{JobView, output_of}
+use Rattle.sheet_text.specs.Jobs.{JobView, output_of}
 use Rattle.imposer.specs.Workers.{AreOptions}
-use Rattle.imposer.specs.Collecting.{WroteFirst}
+use Rattle.sheet_writer.specs.Writing.{WroteFirst}
 use Rattle.imposer.specs.Gathering.{Answers}
 use Rattle.imposer.specs.Runs.{Request, frame_of, IsAccepted, Accepted, Reports, IsRefusal, IsUnwritten, HasWritten, WrotePart, FailedIn, IsGiven, AnswersRequest}
 use Rattle.imposer.specs.declared.options.Options.{Options}

@@ -62,8 +62,8 @@ pub places_stand : (layout : Layout) (p : ℕ) → Each (StandsIn p layout.sheet
 places_stand layout p = places_from_stand p 0 layout.sheets layout.sheets (omega arith) (λ j. ap (λ n. slice_index_or layout.sheets n []) (omega arith))
 
 -- once the page is published its places may be marked
-pub ready_published : (layout : Layout) (old new : SeatView) (p i : ℕ) (r : Published) (places : List (ℕ × ℕ)) → old.layout ≡ layout → Made old (Publish p i r) new → places ≡ places_of layout p → All (IsReady layout new.front) places
+pub ready_published : (layout : Layout) (old new : SeatView) (p i : ℕ) (r : Published) (places : List (ℕ × ℕ)) → old.key ≡ layout → Made old (Publish p i r) new → places ≡ places_of layout p → All (IsReady layout new.front) places
 ready_published layout old new p i r places is m e =
     subst (λ (l : Layout). places ≡ places_of l p → All (IsReady l new.front) places) is (λ e' k d lt.
-    let st = each_at (StandsIn p old.layout.sheets) (places_of old.layout p) k d (places_stand old.layout p) (let len = ap length e' in omega arith) in
-    subst (λ (xs : List (ℕ × ℕ)). IsReady old.layout new.front (get_or xs k d)) (sym e') (st.0, published_may_be_marked old new _ _ p i r m st.1)) e
+    let st = each_at (StandsIn p old.key.sheets) (places_of old.key p) k d (places_stand old.key p) (let len = ap length e' in omega arith) in
+    subst (λ (xs : List (ℕ × ℕ)). IsReady old.key new.front (get_or xs k d)) (sym e') (st.0, published_may_be_marked old new _ _ p i r m st.1)) e

@@ -6,10 +6,10 @@ use Rattle.histories.specs.Seats.{whole_share}
 use Rattle.sheet_plan.specs.Places.{born_complete}
 use Rattle.gather_table.specs.Shared.{TableView, SeatView, IsSeat, IsSeatOf}
 use Rattle.handover.specs.Passes.{QueueView, PassView, IsPass, IsPassOf}
-use Rattle.imposer.specs.Jobs.{JobView, output_of}
-use Rattle.imposer.specs.Collecting.{WroteFirst, Stands}
+use Rattle.sheet_text.specs.Jobs.{JobView, output_of}
+use Rattle.sheet_writer.specs.Writing.{WroteFirst, Stands}
 use Rattle.imposer.specs.Runs.{FailedIn}
-use Rattle.imposer.specs.declared.writing.Progress.{Progress}
+use Rattle.sheet_writer.specs.declared.writing.Progress.{Progress}
 use Rattle.handover.specs.declared.receipts.Overflow.{Overflow}
 use Rattle.imposer.specs.declared.work.Ended.{Ended}
 use Rattle.imposer.specs.declared.gathering.Gathered.{Gathered}

@@ -1,6 +1,7 @@
 -- Which options a run takes.
-use Rattle.std.specs.Prelude.{◌≡◌, ◌≤◌, ℤ, pos, int_lt, Bool, true, Option, Some, None}
+use Rattle.std.specs.Prelude.{◌≡◌, ◌≤◌, true}
 use Rattle.profile.specs.Signatures.{AreSidesIfGiven}
+use Rattle.sheet_text.specs.Jobs.{is_border}
 use Rattle.imposer.specs.declared.options.Workers.{Workers}
 use Rattle.imposer.specs.declared.options.Options.{Options}
 
@@ -10,11 +11,6 @@ pub record AreWorkers (w : Workers) : Type 0 where
   pub few_preparers : w.preparers ≤ 16
   pub an_imposer : 1 ≤ w.imposers
   pub few_imposers : w.imposers ≤ 16
-
--- a border is wider than nothing, where there is one
-abbrev pub is_border : Option ℤ → Bool
-is_border None = true
-is_border (Some width) = int_lt (pos 0) width
 
 -- the options are taken
 abbrev pub AreOptions : Options → Type 0

@@ -1,9 +1,9 @@
 //! The channel of finished sheets, from the imposers to the collector.
 ghost use Rattle.std.specs.Prelude.{◌≡◌, ℕ, List, [], All, ⊤};
 
-use crate::imposition::Imposed;
 use crossbeam_channel::protocol::{Lesson, Outcome, Protocol, Split};
 use crossbeam_channel::{Pass, RuledReceiver, RuledSender};
+use sheet_writer::Imposed;
 use std::marker::{Brand, PhantomData};
 
 /// The text of each sheet in the run's job: a number of a call that is picked when it is proved, and takes no part in it.

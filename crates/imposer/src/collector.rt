@@ -3,15 +3,15 @@ ghost use Rattle.std.specs.Prelude.{◌≡◌, ℕ, ◌+◌, ◌<◌, ◌≤◌,
 ghost use Rattle.crossbeam_channel.specs.Claims.{IsSeatAt};
 ghost use Rattle.crossbeam_channel.specs.Ends.{receives_on};
 ghost use Rattle.profile.specs.Filters.{preamble_text};
-ghost use Rattle.imposer.specs.Jobs.{text_of};
-ghost use Rattle.imposer.specs.Collecting.{Stands, GoesOn, AreEarly};
+ghost use Rattle.sheet_text.specs.Jobs.{text_of};
+ghost use Rattle.sheet_writer.specs.Writing.{Stands, GoesOn, AreEarly};
 
 use crate::channel::{SheetReceiver, SheetRule, Texts, Ticket};
-use crate::job::Job;
-use crate::sink::Sink;
+use crate::window::Window;
 use crate::work::Collector;
-use crate::writing::{Progress, write_early, write_text};
 use crossbeam_utils::Backoff;
+use sheet_text::Job;
+use sheet_writer::{Early, Progress, Sink, write_early, write_text};
 use std::sync::Wait;
 use std::sync::atomic::AtomicU32;
 use std::sync::atomic::Ordering::SeqCst;
@@ -23,6 +23,8 @@ pub(crate) struct CollectorInput<'s, 'j, 'd, T: Texts> {
     /// How many imposers haven't ended.
     pub(crate) working: &'s AtomicU32,
     pub(crate) receiver: &'s SheetReceiver<T>,
+    /// It moves as sheets are written.
+    pub(crate) window: &'s Window,
 }
 
 /// What the collector writes to, and the sheets that came before their turn. It owns no memory, so that what becomes of the
@@ -30,7 +32,7 @@ pub(crate) struct CollectorInput<'s, 'j, 'd, T: Texts> {
 #[derive(Drop)]
 pub(crate) struct CollectorState<'a, S> {
     pub(crate) sink: &'a mut S,
-    pub(crate) early: &'a mut Vec<Option<Vec<u8>>>,
+    pub(crate) early: &'a mut Early,
     pub(crate) header: &'a [u8],
     pub(crate) ticket: &'a mut Ticket,
     pub(crate) progress: Progress,
@@ -44,11 +46,11 @@ impl<'s, 'j, 'd, 'a, T: Texts, S: Sink> Collector<CollectorState<'a, S>>
         × IsSeatAt (receives_on input.receiver.now) state.ticket.now
         × (state.header.now ≡ preamble_text (length input.job.now.plan.sheets) input.job.now.units)
         × (state.progress ≡ record { next = 0; written = 0; halted = None })
-        × AreEarly input.job.now state.early.now.items
+        × AreEarly input.job.now state.early.now.places.items
         × (S.failures state.sink.now < 18_446_744_073_709_551_615) };
 
     ghost collected = { λ input old new. Stands input.job.now (S.told old.sink.now) (S.told new.sink.now) (S.failures old.sink.now) (S.failures new.sink.now) new.progress
-        × AreEarly input.job.now new.early.now.items };
+        × AreEarly input.job.now new.early.now.places.items };
 
     fn collect<R: Wait>(&self, rt: &R, state: &mut CollectorState<'a, S>) {
         state.progress = write_text(state.sink, state.progress, state.header);
@@ -68,8 +70,8 @@ fn take_all<R: Wait, T: Texts, S: Sink>(
     requires texts { (s : ℕ) → T.text s ≡ text_of input.now.job.now s }
     requires ticket { IsSeatAt (receives_on input.now.receiver.now) state.old.ticket.now }
     requires going { state.old.progress.halted ≡ None }
-    requires early { AreEarly input.now.job.now state.old.early.now.items }
-    ensures early { AreEarly input.now.job.now state.new.early.now.items }
+    requires early { AreEarly input.now.job.now state.old.early.now.places.items }
+    ensures early { AreEarly input.now.job.now state.new.early.now.places.items }
     ensures same { state.new.sink.ghost_name ≡ state.old.sink.ghost_name }
     ensures goes_on { GoesOn input.now.job.now (S.told state.old.sink.now) (S.told state.new.sink.now) (S.failures state.old.sink.now) (S.failures state.new.sink.now) state.old.progress state.new.progress }
 {
@@ -93,10 +95,10 @@ fn take_turn<R: Wait, T: Texts, S: Sink>(
     requires texts { (s : ℕ) → T.text s ≡ text_of input.now.job.now s }
     requires ticket { IsSeatAt (receives_on input.now.receiver.now) state.old.ticket.now }
     requires going { state.old.progress.halted ≡ None }
-    requires early { AreEarly input.now.job.now state.old.early.now.items }
+    requires early { AreEarly input.now.job.now state.old.early.now.places.items }
     ensures ticket { IsSeatAt (receives_on input.now.receiver.now) state.new.ticket.now }
     ensures going { IsTrue result → state.new.progress.halted ≡ None }
-    ensures early { AreEarly input.now.job.now state.new.early.now.items }
+    ensures early { AreEarly input.now.job.now state.new.early.now.places.items }
     ensures same { state.new.sink.ghost_name ≡ state.old.sink.ghost_name }
     ensures goes_on { GoesOn input.now.job.now (S.told state.old.sink.now) (S.told state.new.sink.now) (S.failures state.old.sink.now) (S.failures state.new.sink.now) state.old.progress state.new.progress }
     ensures steady { IsTrue result → S.failures state.new.sink.now ≡ S.failures state.old.sink.now }
@@ -104,10 +106,11 @@ fn take_turn<R: Wait, T: Texts, S: Sink>(
     // Asked before the channel is: what the last imposer sent is there then.
     let is_last = input.working.load(SeqCst) == 0;
     if take_one(rt, input.job, input.receiver, state) {
+        input.window.move_to(state.progress.next);
         backoff.reset();
         return state.progress.halted.is_none();
     }
-    backoff.snooze();
+    input.window.rest(rt, backoff);
     !is_last
 }
 
@@ -122,9 +125,9 @@ fn take_one<R: Wait, T: Texts, S: Sink>(
     requires texts { (s : ℕ) → T.text s ≡ text_of job.now s }
     requires ticket { IsSeatAt (receives_on receiver.now) state.old.ticket.now }
     requires going { state.old.progress.halted ≡ None }
-    requires early { AreEarly job.now state.old.early.now.items }
+    requires early { AreEarly job.now state.old.early.now.places.items }
     ensures ticket { IsSeatAt (receives_on receiver.now) state.new.ticket.now }
-    ensures early { AreEarly job.now state.new.early.now.items }
+    ensures early { AreEarly job.now state.new.early.now.places.items }
     ensures same { state.new.sink.ghost_name ≡ state.old.sink.ghost_name }
     ensures goes_on { GoesOn job.now (S.told state.old.sink.now) (S.told state.new.sink.now) (S.failures state.old.sink.now) (S.failures state.new.sink.now) state.old.progress state.new.progress }
     ensures steady { state.new.progress.halted ≡ None → S.failures state.new.sink.now ≡ S.failures state.old.sink.now }
@@ -133,10 +136,7 @@ fn take_one<R: Wait, T: Texts, S: Sink>(
     let Ok(done) = receiver.try_recv_as::<SheetRule<T>, R>(rt, state.ticket) else {
         return false;
     };
-    let at = done.sheet as usize;
-    if at < state.early.len() {
-        state.early[at] = Some(done.text);
-        state.progress = write_early(job, state.sink, state.progress, state.early);
-    }
+    state.early.put(done);
+    state.progress = write_early(job, state.sink, state.progress, state.early);
     true
 }

@@ -7,11 +7,11 @@ ghost use Rattle.histories.specs.Seats.{whole_share};
 ghost use Rattle.handover.specs.Passes.{IsPassOf};
 ghost use Rattle.handover.specs.Shelves.{IsOn};
 ghost use Rattle.imposer.specs.declared.outcome.RunError.TheVariants.{NoMemory};
-ghost use Rattle.imposer.specs.Jobs.{text_of, output_of};
+ghost use Rattle.sheet_text.specs.Jobs.{text_of, output_of};
 ghost use Rattle.imposer.specs.Workers.{AreWorkers};
 ghost use Rattle.imposer.specs.Runs.{FailedIn};
 ghost use Rattle.imposer.specs.Delivery.{HandedOn};
-ghost use Rattle.imposer.specs.Collecting.{AreEarly, EndsAt};
+ghost use Rattle.sheet_writer.specs.Writing.{AreEarly, EndsAt};
 ghost use Rattle.imposer.specs.Tokens.{AreTokens, AreUnused};
 ghost use Rattle.imposer.specs.Gathered.{IsGathered, IsHandedOn};
 ghost use Rattle.imposer.specs.Gathering.{IsFreshSeat, IsFreshPass, ReportsOf, WrotePartOf, HandsBackTokens, AreWhole, Answers, Concludes};
@@ -19,18 +19,18 @@ ghost use Rattle.imposer.specs.Gathering.{IsFreshSeat, IsFreshPass, ReportsOf, W
 use crate::channel::Texts;
 use crate::collector::{CollectorInput, CollectorState};
 use crate::gate::Gate;
-use crate::job::Job;
 use crate::options::Workers;
 use crate::outcome::{Report, RunError};
 use crate::setup::Setup;
 use crate::shared::{Shared, WorkerInput};
-use crate::sink::Sink;
 use crate::threads::gather_by;
 use crate::tokens::Tokens;
+use crate::window::Window;
 use crate::work::Ended;
-use crate::writing::{Halt, Progress, Rest, write_rest};
 use gather_table::{GatherTable, Seat};
 use handover::{Overflow, Pass, Ready, Shelf};
+use sheet_text::Job;
+use sheet_writer::{Halt, Progress, Rest, Sink, write_rest};
 use std::alloc::Global;
 use std::marker::Brand;
 use std::sync::Wait;
@@ -108,6 +108,7 @@ pub fn gather<'j, 'd, R: Threads + Wait + Sync, G: Gate + Sync, S: Sink>(
         ready,
         running: AtomicU32::new(workers.preparers),
         working: AtomicU32::new(workers.imposers),
+        window: Window::new(job, workers),
     };
     gather_as::<Brand, R, G, S>(rt, &shared, tokens, workers, sink)
 }
@@ -131,8 +132,13 @@ fn gather_as<'d, T: Texts + Send + Sync, R: Threads + Wait + Sync, G: Gate + Syn
     let alloc = shared.alloc;
     let job = shared.job;
     let mut tokens = tokens;
-    put_blank_sheets(rt, shared.ready, job.plan.born_complete(), &mut tokens.pass);
-    let Ok(setup) = Setup::<T>::new(alloc, job) else {
+    put_blank_sheets(
+        rt,
+        shared,
+        job.plan().born_complete(),
+        &mut tokens.pass,
+    );
+    let Ok(setup) = Setup::<T>::new(alloc, job, shared.window.len()) else {
         return out_of_memory(0);
     };
     let Setup {
@@ -152,6 +158,7 @@ fn gather_as<'d, T: Texts + Send + Sync, R: Threads + Wait + Sync, G: Gate + Syn
         job,
         working: &shared.working,
         receiver: &receiver,
+        window: &shared.window,
     };
     let state = CollectorState {
         sink,
@@ -189,14 +196,21 @@ fn gather_as<'d, T: Texts + Send + Sync, R: Threads + Wait + Sync, G: Gate + Syn
 }
 
 /// Puts the sheets without pages on the queue: no preparer completes them.
-fn put_blank_sheets<R: Wait>(rt: &R, ready: &Ready, sheets: &[u32], pass: &mut Pass)
-    requires pass { IsPassOf ready.now pass.old }
-    ensures pass { IsPassOf ready.now pass.new }
-    ensures put { (back : List ℕ) × HandedOn ready.now sheets.now back pass.old pass.new }
+fn put_blank_sheets<R: Wait, G: Gate>(
+    rt: &R,
+    shared: &Shared<'_, '_, '_, G>,
+    sheets: &[u32],
+    pass: &mut Pass,
+)
+    requires pass { IsPassOf shared.now.ready.now pass.old }
+    ensures pass { IsPassOf shared.now.ready.now pass.new }
+    ensures put { (back : List ℕ) × HandedOn shared.now.ready.now sheets.now back pass.old pass.new }
 {
     for k in 0..sheets.len() {
-        // What the queue hands back is made by the collector.
-        let _ = ready.put(rt, pass, sheets[k]);
+        // What the queue hands back is made by the collector, so its turn isn't waited for.
+        if shared.ready.put(rt, pass, sheets[k]).is_err() {
+            shared.window.lift();
+        }
     }
 }
 
@@ -221,7 +235,7 @@ fn finish<'d, S: Sink>(
 ) -> Gathered<'d>
     requires countable { IsSome ended → state.old.progress.halted ≡ None → S.failures state.old.sink.now < u64.MAX }
     requires next { IsSome ended → state.old.progress.halted ≡ None → state.old.progress.next ≤ length job.now.plan.sheets }
-    requires early { IsSome ended → AreEarly job.now state.old.early.now.items }
+    requires early { IsSome ended → AreEarly job.now state.old.early.now.places.items }
     requires trailer { trailer.now ≡ trailer_text job.now.units }
     ensures same_sink { state.new.sink.ghost_name ≡ state.old.sink.ghost_name }
     ensures ended { IfSome ended.entry (λ e. Concludes job.now (S.told state.old.sink.now) (S.told state.new.sink.now) (S.failures state.old.sink.now) (S.failures state.new.sink.now) state.old.progress e result) }
@@ -244,7 +258,7 @@ fn conclude<'d, S: Sink>(
 ) -> Gathered<'d>
     requires countable { state.old.progress.halted ≡ None → S.failures state.old.sink.now < u64.MAX }
     requires next { state.old.progress.halted ≡ None → state.old.progress.next ≤ length job.now.plan.sheets }
-    requires early { AreEarly job.now state.old.early.now.items }
+    requires early { AreEarly job.now state.old.early.now.places.items }
     requires trailer { trailer.now ≡ trailer_text job.now.units }
     ensures same_sink { state.new.sink.ghost_name ≡ state.old.sink.ghost_name }
     ensures ended { Concludes job.now (S.told state.old.sink.now) (S.told state.new.sink.now) (S.failures state.old.sink.now) (S.failures state.new.sink.now) state.old.progress ended.entry result }
@@ -280,10 +294,11 @@ fn report_on(job: &Job<'_, '_>, rest: Rest) -> Report
     ensures numbers { rest.progress.written ≡ length (output_of job.now) → ReportsOf job.now result }
     ensures swept { result.swept ≡ rest.swept }
 {
+    let plan = job.plan();
     Report {
-        pages: job.plan.pages(),
-        sheets: job.plan.sheets(),
-        born: job.plan.born_complete().len() as u32,
+        pages: plan.pages(),
+        sheets: plan.sheets(),
+        born: plan.born_complete().len() as u32,
         swept: rest.swept,
         bytes: rest.progress.written,
     }

@@ -7,22 +7,15 @@ ghost use Rattle.sheet_plan.specs.Plans.{pages_on};
 ghost use Rattle.gather_table.specs.History.{PageAt, IsComplete};
 ghost use Rattle.gather_table.specs.Shared.{IsSeatOf, Made};
 ghost use Rattle.handover.specs.Pages.{IsPrepared};
-ghost use Rattle.imposer.specs.Jobs.{slots_of, slots_text, text_of};
+ghost use Rattle.sheet_text.specs.Jobs.{slots_of, slots_text, text_of};
 ghost use Rattle.imposer.specs.LookUps.{pages_of, LooksUp, LooksUpUntil, LooksAt, HasIndex};
 
-use crate::job::Job;
-use crate::sheet::{append_page_line, append_placed, likely_len};
 use gather_table::{GatherTable, Seat};
 use handover::{Prepared, Shelf};
+use sheet_text::{Job, append_placed, begin_sheet, end_sheet};
+use sheet_writer::Imposed;
 use std::alloc::Global;
 use thiserror::Error;
-
-/// A finished sheet, counted from 0, with its text.
-#[derive(Drop)]
-pub struct Imposed {
-    pub sheet: u32,
-    pub text: Vec<u8>,
-}
 
 /// Why a sheet wasn't imposed.
 #[derive(Debug, Drop, Error)]
@@ -54,17 +47,14 @@ pub fn impose<'d>(
         (λ m. LooksUp (pages_of table.now.layout sheet) (length (pages_of table.now.layout sheet)) seat.old seat.new)
         (λ e. LooksUpUntil (pages_of table.now.layout sheet) e seat.old seat.new) }
 {
-    let Ok(mut text) = Vec::with_capacity(alloc, likely_len(job, sheet)) else {
-        return Err(ImposeError::NoMemory);
-    };
-    let Ok(()) = append_page_line(&mut text, sheet) else {
+    let Ok(mut text) = begin_sheet(alloc, job, sheet) else {
         return Err(ImposeError::NoMemory);
     };
     match append_shelved_slots(&mut text, seat, job, table, shelf, sheet) {
         Ok(()) => {}
         Err(error) => return Err(error),
     }
-    let Ok(()) = text.extend_from_slice(b"showpage\n") else {
+    let Ok(()) = end_sheet(&mut text) else {
         return Err(ImposeError::NoMemory);
     };
     Ok(Imposed { sheet, text })
@@ -88,7 +78,8 @@ fn append_shelved_slots<'d>(
         (λ m. LooksUp (pages_of table.now.layout sheet) (length (pages_of table.now.layout sheet)) seat.old seat.new)
         (λ e. (n : ℕ) × (0 < n) × LooksUp (pages_of table.now.layout sheet) n seat.old seat.new) }
 {
-    for slot in 0..job.plan.slots(sheet) {
+    let plan = job.plan();
+    for slot in 0..plan.slots(sheet) {
         match append_shelved(text, seat, job, table, shelf, sheet, slot) {
             Ok(()) => {}
             Err(error) => return Err(error),
@@ -117,7 +108,7 @@ fn append_shelved<'d>(
     ensures looked_up { LooksAt (slice_get (pages_on job.now.plan sheet) slot) seat.old seat.new }
     ensures has_page { OnErr result ((page : ℕ) × (slice_get (pages_on job.now.plan sheet) slot ≡ Some (Some page))) }
 {
-    let Some(page) = job.plan.page_of(sheet, slot) else {
+    let Some(page) = job.plan().page_of(sheet, slot) else {
         return Ok(());
     };
 
@@ -156,7 +147,7 @@ fn find_shelved<'a, 'd>(
     let Some(shown) = shelf.at(index) else {
         return Err(ImposeError::NotShown);
     };
-    if shown.page() != page || shown.raw() != job.document.page(page) {
+    if shown.page() != page || shown.raw() != job.document().page(page) {
         return Err(ImposeError::NotShown);
     }
     Ok(shown)

@@ -1,7 +1,8 @@
 //! What a run is told beside its specification.
 ghost use Rattle.std.specs.Prelude.{◌≡◌, ◌↔◌, IsTrue};
 ghost use Rattle.profile.specs.Signatures.{AreSidesIfGiven};
-ghost use Rattle.imposer.specs.Workers.{AreWorkers, AreOptions, is_border};
+ghost use Rattle.sheet_text.specs.Jobs.{is_border};
+ghost use Rattle.imposer.specs.Workers.{AreWorkers, AreOptions};
 
 use lengths::{Grains, Paper};
 use sheet_plan::are_sides;

@@ -12,15 +12,15 @@ ghost use Rattle.imposer.specs.Runs.{Request, request, frame_of, Accepted, IsRef
 
 use crate::gate::Gate;
 use crate::gathering::gather;
-use crate::job::Job;
 use crate::options::{Options, Workers, are_valid};
 use crate::outcome::{Report, RunError};
-use crate::sink::Sink;
 use dsc::Document;
 use gather_table::GatherTable;
 use handover::{Ready, Shelf};
 use pagespec::{Spec, read_spec};
 use sheet_plan::{Plan, PlanError};
+use sheet_text::Job;
+use sheet_writer::Sink;
 use std::alloc::Global;
 use std::sync::Wait;
 use std::thread::Threads;
@@ -139,13 +139,13 @@ fn run_job<R: Threads + Wait + Sync, G: Gate + Sync, S: Sink>(
     requires countable { S.failures sink.old < u64.MAX }
     ensures { Answers job.now (S.told sink.old) (S.told sink.new) (S.failures sink.old) (S.failures sink.new) result }
 {
-    let Ok((table, seat)) = GatherTable::new(alloc, job.plan) else {
+    let Ok((table, seat)) = GatherTable::new(alloc, job.plan()) else {
         return Err(RunError::NoMemory { written: 0 });
     };
     let Ok(shelf) = Shelf::new(alloc) else {
         return Err(RunError::NoMemory { written: 0 });
     };
-    let Ok((ready, pass)) = Ready::new(alloc, job.sheets.max(1)) else {
+    let Ok((ready, pass)) = Ready::new(alloc, job.sheets().max(1)) else {
         return Err(RunError::NoMemory { written: 0 });
     };
     let gathered = gather(

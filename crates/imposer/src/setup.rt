@@ -3,20 +3,21 @@ ghost use Rattle.std.specs.Prelude.{◌≡◌, ℕ, length, IfOk};
 ghost use Rattle.crossbeam_channel.specs.Claims.{IsSeatAt};
 ghost use Rattle.crossbeam_channel.specs.Ends.{sends_on, receives_on};
 ghost use Rattle.profile.specs.Filters.{preamble_text, trailer_text};
-ghost use Rattle.imposer.specs.Collecting.{AreEarly};
+ghost use Rattle.sheet_writer.specs.Writing.{AreEarly};
 
 use crate::channel::{SheetReceiver, SheetRule, SheetSender, Texts, Ticket};
-use crate::job::Job;
 use crossbeam_channel::bounded_with;
+use sheet_text::Job;
+use sheet_writer::Early;
 use std::alloc::{AllocError, Global};
 
-/// The texts round the sheets, a place for each sheet that comes before its turn, and the channel of finished sheets, with a
+/// The texts round the sheets, places for sheets that come before their turn, and the channel of finished sheets, with a
 /// ticket for the collector and one for the imposers.
 #[derive(Drop)]
 pub(crate) struct Setup<T: Texts> {
     pub(crate) header: Vec<u8>,
     pub(crate) trailer: Vec<u8>,
-    pub(crate) early: Vec<Option<Vec<u8>>>,
+    pub(crate) early: Early,
     pub(crate) sender: SheetSender<T>,
     pub(crate) receiver: SheetReceiver<T>,
     pub(crate) receiving: Ticket,
@@ -24,20 +25,21 @@ pub(crate) struct Setup<T: Texts> {
 }
 
 impl<T: Texts> Setup<T> {
-    /// The channel has room for all sheets, so that no imposer waits.
-    pub(crate) fn new(alloc: Global, job: &Job<'_, '_>) -> Result<Self, AllocError>
+    /// Places and channel have room for all sheets of a window of this many, so that no imposer waits.
+    pub(crate) fn new(alloc: Global, job: &Job<'_, '_>, window: u32) -> Result<Self, AllocError>
         ensures header { IfOk result (λ s. s.header.items ≡ preamble_text (length job.now.plan.sheets) job.now.units) }
         ensures trailer { IfOk result (λ s. s.trailer.items ≡ trailer_text job.now.units) }
-        ensures early { IfOk result (λ s. AreEarly job.now s.early.items) }
+        ensures early { IfOk result (λ s. AreEarly job.now s.early.places.items) }
         ensures receiving { IfOk result (λ s. IsSeatAt (receives_on s.receiver) s.receiving) }
         ensures sending { IfOk result (λ s. IsSeatAt (sends_on s.sender) s.sending) }
     {
-        let header = job.document.preamble_text(job.sheets)?;
-        let trailer = job.document.trailer_text()?;
-        let early = no_sheets(alloc, job)?;
-        let room = (job.sheets as usize).max(1);
+        let header = job.document().preamble_text(job.sheets())?;
+        let trailer = job.document().trailer_text()?;
+        let room = job.sheets().min(window).max(1);
+        let early = Early::new(alloc, room)?;
         let (sender, receiver, mut receiving) = bounded_with::<_, _, SheetRule<T>, Global>(
-            alloc, room,
+            alloc,
+            room as usize,
         )?;
         let sending = sender.another::<SheetRule<T>>(&mut receiving);
         Ok(Setup {
@@ -50,18 +52,4 @@ impl<T: Texts> Setup<T> {
             sending,
         })
     }
-}
-
-/// A place for each sheet, and no sheet yet.
-pub(crate) fn no_sheets(
-    alloc: Global,
-    job: &Job<'_, '_>,
-) -> Result<Vec<Option<Vec<u8>>>, AllocError>
-    ensures { IfOk result (λ early. AreEarly job.now early.items) }
-{
-    let mut early = Vec::with_capacity(alloc, job.sheets as usize)?;
-    for _ in 0..job.sheets {
-        early.push_reserved(None);
-    }
-    Ok(early)
 }

@@ -4,15 +4,16 @@ ghost use Rattle.crossbeam_channel.specs.Claims.{IsSeatAt};
 ghost use Rattle.crossbeam_channel.specs.Ends.{sends_on};
 ghost use Rattle.profile.specs.Sheets.{layout};
 ghost use Rattle.handover.specs.Shelves.{IsOn};
-ghost use Rattle.imposer.specs.Jobs.{text_of};
+ghost use Rattle.sheet_text.specs.Jobs.{text_of};
 
 use crate::channel::{SheetRule, SheetSender, Texts, Ticket};
 use crate::gate::Gate;
-use crate::job::Job;
 use crate::tokens::Tokens;
+use crate::window::Window;
 use crate::work::{Ended, Work};
 use gather_table::GatherTable;
 use handover::{Overflow, Ready, Shelf};
+use sheet_text::Job;
 use std::alloc::{AllocError, Global};
 use std::sync::Wait;
 use std::sync::atomic::AtomicU32;
@@ -31,6 +32,8 @@ pub(crate) struct Shared<'s, 'j, 'd, G> {
     pub(crate) running: AtomicU32,
     /// How many imposers haven't ended.
     pub(crate) working: AtomicU32,
+    /// The sheets that may be imposed now.
+    pub(crate) window: Window,
     ghost same_plan: { table.now.layout ≡ layout job.now.plan },
 }
 
@@ -59,6 +62,9 @@ impl<'s, 'j, 'd, T: Texts, G: Gate> Work<Overflow<'d>> for WorkerInput<'s, 'j, '
         count: u32,
     ) -> Result<Ended<Overflow<'d>>, AllocError> {
         let ended = self.shared.prepare_all(rt, tokens, number, count);
+        if ended.is_err() {
+            self.shared.window.lift();
+        }
         self.shared.running.fetch_sub(1, SeqCst);
         ended
     }
@@ -71,8 +77,15 @@ impl<'s, 'j, 'd, T: Texts, G: Gate> Work<Overflow<'d>> for WorkerInput<'s, 'j, '
         ticket: Ticket,
     ) -> Result<Ended<Overflow<'d>>, AllocError> {
         let ended = self.impose_ready(rt, tokens, ticket);
+        if ended.is_err() {
+            self.shared.window.lift();
+        }
         self.shared.working.fetch_sub(1, SeqCst);
         ended
+    }
+
+    fn stop(&self) {
+        self.shared.window.lift();
     }
 
     fn split(&self, tokens: &mut Tokens) -> Tokens {

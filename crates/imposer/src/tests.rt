@@ -1,4 +1,4 @@
-//! Runs on small documents and on many pages, refusals, sinks, gates, deliveries, impositions, sweeping and wide sheets.
+//! Runs on small documents and on many pages, refusals, sinks, gates, deliveries, impositions and wide sheets.
 mod deliveries;
 mod gates;
 mod impositions;
@@ -6,14 +6,10 @@ mod many_pages;
 mod refusals;
 mod signatures;
 mod sinks;
-mod sweeping;
 mod wide_sheets;
 
-use crate::{Job, MemorySink, Open, Options, Report, RunError, Workers, run, sheet_text};
-use dsc::Document;
+use crate::{MemorySink, Open, Options, Report, RunError, Workers, run};
 use lengths::{Grains, Paper, paper_by_name};
-use pagespec::read_spec;
-use sheet_plan::Plan;
 use std::process::Abort;
 use std::test::Fail;
 
@@ -154,25 +150,6 @@ fn selections_have_their_lengths(rt: HostRuntime) -> Result<(), Fail> {
         assert_eq!(rt; report.bytes, bytes, "{spec}");
         assert_eq!(rt; report.sheets, sheets, "{spec}");
     }
-    Ok(())
-}
-
-#[test]
-fn a_sheet_alone(rt: HostRuntime) -> Result<(), Fail> {
-    let spec = read_spec(rt.alloc(), "0")?;
-    let document = Document::read(rt.alloc(), ONE_PAGE.as_bytes())?;
-    if document.pages() != 1 {
-        panic!(rt; "one page is read as {}", document.pages());
-    }
-    let plan = Plan::new(rt.alloc(), &spec, document.pages())?;
-    if plan.sheets() != 1 {
-        panic!(rt; "one page stands on {} sheets", plan.sheets());
-    }
-    let job = Job::new(&plan, &document, a4(&rt), None);
-    let text = sheet_text(rt.alloc(), &job, 0)?;
-    let (_, behind) = ONE_SHEET.as_bytes().split_at(40);
-    assert!(rt; behind.starts_with(text.as_slice()));
-    assert_eq!(rt; text.len(), 273 - 40 - 16);
     Ok(())
 }
 

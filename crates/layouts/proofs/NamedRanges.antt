@@ -16,7 +16,7 @@ use Rattle.layouts.specs.declared.ranges.Range.TheVariants as code
 use Rattle.layouts.specs.declared.ranges.Stop.{Stop}
 use Rattle.layouts.specs.declared.ranges.Stop.TheVariants.{Stuck, NoMemory}
 use Rattle.layouts.specs.Selections.{Range, One, FromTo, From, AreRanges, first_of, last_of, is_page, has_range, misses, from_to, kept, row_of, Selects}
-use Rattle.layouts.specs.Reading.{range_from, range_at, range_of, capped, shown, RangeRead, RangesRead}
+use Rattle.layouts.specs.Reading.{range_from, range_at, range_of, with_cap, ranges_of, RangeRead, RangesRead}
 use Rattle.layouts.specs.NoSelection.{IsFull, OfRanges}
 use Rattle.layouts.proofs.InGrid.{both_true}
 use Rattle.layouts.proofs.ReadRanges.{ranges_found, is_full, last_or}
@@ -62,19 +62,19 @@ from_to_there t behind rest end p q some e is minus some_last f ends = record {
 
 -- whether the document has them
 
-there_at : (pages : ℕ) (xs : List Standing) (i : ℕ) (d : Standing) → i < length xs → misses pages (shown xs) ≡ false → has_range pages (range_of (get_or xs i d).range) ≡ true
+there_at : (pages : ℕ) (xs : List Standing) (i : ℕ) (d : Standing) → i < length xs → misses pages (ranges_of xs) ≡ false → has_range pages (range_of (get_or xs i d).range) ≡ true
 there_at pages [] i d less e = absurd (omega (arith, less))
-there_at pages (x ∷ xs) zero d less e = not_missed (has_range pages (range_of x.range)) (either (not (has_range pages (range_of x.range))) (misses pages (shown xs)) e).0
-there_at pages (x ∷ xs) (suc i) d less e = there_at pages xs i d (omega (arith, less)) (either (not (has_range pages (range_of x.range))) (misses pages (shown xs)) e).1
+there_at pages (x ∷ xs) zero d less e = not_missed (has_range pages (range_of x.range)) (either (not (has_range pages (range_of x.range))) (misses pages (ranges_of xs)) e).0
+there_at pages (x ∷ xs) (suc i) d less e = there_at pages xs i d (omega (arith, less)) (either (not (has_range pages (range_of x.range))) (misses pages (ranges_of xs)) e).1
 
-pub missing_at : (pages : ℕ) (xs : List Standing) (i : ℕ) (d : Standing) (b : Bool) → i < length xs → b ≡ has_range pages (range_of (get_or xs i d).range) → b ≡ false → misses pages (shown xs) ≡ true
-missing_at pages xs i d b less is lacks = by_missed (misses pages (shown xs)) refl
+pub missing_at : (pages : ℕ) (xs : List Standing) (i : ℕ) (d : Standing) (b : Bool) → i < length xs → b ≡ has_range pages (range_of (get_or xs i d).range) → b ≡ false → misses pages (ranges_of xs) ≡ true
+missing_at pages xs i d b less is lacks = by_missed (misses pages (ranges_of xs)) refl
   where
-    by_missed : (m : Bool) → misses pages (shown xs) ≡ m → m ≡ true
+    by_missed : (m : Bool) → misses pages (ranges_of xs) ≡ m → m ≡ true
     by_missed true e = refl
     by_missed false e = absurd (true≢false (sym (there_at pages xs i d less e) ∙ (sym is ∙ lacks)))
 
-ends_few : (pages : ℕ) (xs : List Standing) (i : ℕ) (d : Standing) → pages ≤ 99_999 → misses pages (shown xs) ≡ false → i < length xs
+ends_few : (pages : ℕ) (xs : List Standing) (i : ℕ) (d : Standing) → pages ≤ 99_999 → misses pages (ranges_of xs) ≡ false → i < length xs
     → (first_of (range_of (get_or xs i d).range) ≤ 99_999) × (last_of pages (range_of (get_or xs i d).range) ≤ 99_999)
 ends_few pages xs i d few e less =
     let r = range_of (get_or xs i d).range in
@@ -83,44 +83,44 @@ ends_few pages xs i d few e less =
     let high = page_range pages (last_of pages r) last in
     (omega (arith, few, low.1), omega (arith, few, high.1))
 
-pub first_few : (pages : ℕ) (xs : List Standing) (i : ℕ) (d : Standing) (a : ℕ) → pages ≤ 99_999 → misses pages (shown xs) ≡ false → i < length xs → a ≡ first_of (range_of (get_or xs i d).range) → a ≤ 99_999
+pub first_few : (pages : ℕ) (xs : List Standing) (i : ℕ) (d : Standing) (a : ℕ) → pages ≤ 99_999 → misses pages (ranges_of xs) ≡ false → i < length xs → a ≡ first_of (range_of (get_or xs i d).range) → a ≤ 99_999
 first_few pages xs i d a few e less is = omega (arith, is, (ends_few pages xs i d few e less).0)
 
-pub last_few : (pages : ℕ) (xs : List Standing) (i : ℕ) (d : Standing) (b : ℕ) → pages ≤ 99_999 → misses pages (shown xs) ≡ false → i < length xs → b ≡ last_of pages (range_of (get_or xs i d).range) → b ≤ 99_999
+pub last_few : (pages : ℕ) (xs : List Standing) (i : ℕ) (d : Standing) (b : ℕ) → pages ≤ 99_999 → misses pages (ranges_of xs) ≡ false → i < length xs → b ≡ last_of pages (range_of (get_or xs i d).range) → b ≤ 99_999
 last_few pages xs i d b few e less is = omega (arith, is, (ends_few pages xs i d few e less).1)
 
 -- the row that they name
 
-pub row_on : (which : Which) (pages : ℕ) (xs : List Standing) (i : ℕ) (d : Standing) (row new : List ℕ) (a b : ℕ) → i < length xs → row ≡ row_of which pages (shown (take i xs))
+pub row_on : (which : Which) (pages : ℕ) (xs : List Standing) (i : ℕ) (d : Standing) (row new : List ℕ) (a b : ℕ) → i < length xs → row ≡ row_of which pages (ranges_of (take i xs))
     → a ≡ first_of (range_of (get_or xs i d).range) → b ≡ last_of pages (range_of (get_or xs i d).range) → new ≡ row ++ kept which (from_to a b)
-    → new ≡ row_of which pages (shown (take (i + 1) xs))
+    → new ≡ row_of which pages (ranges_of (take (i + 1) xs))
 row_on which pages xs i d row new a b less so_far first last e =
     let r = range_of (get_or xs i d).range in
     let f : Standing → Range = λ x. range_of x.range in
     e
     ∙ (ap (λ zs. zs ++ kept which (from_to a b)) so_far
-    ∙ (ap (λ n. row_of which pages (shown (take i xs)) ++ kept which (from_to n b)) first
-    ∙ (ap (λ n. row_of which pages (shown (take i xs)) ++ kept which (from_to (first_of r) n)) last
-    ∙ (ap (λ zs. row_of which pages (shown (take i xs)) ++ zs) (sym (row_one which pages r))
-    ∙ (sym (row-append which pages (shown (take i xs)) (r ∷ []))
-    ∙ ap (row_of which pages) (sym (ap shown (take_more xs i d less) ∙ map-append f (take i xs) (get_or xs i d ∷ []))))))))
+    ∙ (ap (λ n. row_of which pages (ranges_of (take i xs)) ++ kept which (from_to n b)) first
+    ∙ (ap (λ n. row_of which pages (ranges_of (take i xs)) ++ kept which (from_to (first_of r) n)) last
+    ∙ (ap (λ zs. row_of which pages (ranges_of (take i xs)) ++ zs) (sym (row_one which pages r))
+    ∙ (sym (row-append which pages (ranges_of (take i xs)) (r ∷ []))
+    ∙ ap (row_of which pages) (sym (ap ranges_of (take_more xs i d less) ∙ map-append f (take i xs) (get_or xs i d ∷ []))))))))
 
-row_grows : (which : Which) (pages : ℕ) (xs : List Standing) (k : ℕ) → length (row_of which pages (shown (take k xs))) ≤ length (row_of which pages (shown xs))
+row_grows : (which : Which) (pages : ℕ) (xs : List Standing) (k : ℕ) → length (row_of which pages (ranges_of (take k xs))) ≤ length (row_of which pages (ranges_of xs))
 row_grows which pages xs k =
     let f : Standing → Range = λ x. range_of x.range in
-    let parts = ap (λ zs. length (row_of which pages zs)) (sym (ap shown (sym (take-append-drop k xs)) ∙ map-append f (take k xs) (drop k xs))) in
-    omega (arith, parts, ap length (row-append which pages (shown (take k xs)) (shown (drop k xs))), length-append (row_of which pages (shown (take k xs))) (row_of which pages (shown (drop k xs))))
+    let parts = ap (λ zs. length (row_of which pages zs)) (sym (ap ranges_of (sym (take-append-drop k xs)) ∙ map-append f (take k xs) (drop k xs))) in
+    omega (arith, parts, ap length (row-append which pages (ranges_of (take k xs)) (ranges_of (drop k xs))), length-append (row_of which pages (ranges_of (take k xs))) (row_of which pages (ranges_of (drop k xs))))
 
 pub full_on : (row whole : List ℕ) (stop : Stop) → (most_groups < length row → most_groups < length whole) → IsFull row stop → IsFull whole stop
 full_on row whole (Stuck left) more full = more full
 full_on row whole NoMemory more full = tt
 
-pub row_full : (which : Which) (pages : ℕ) (xs : List Standing) (i : ℕ) (d : Standing) (row : List ℕ) (a b : ℕ) (stop : Stop) → i < length xs → row ≡ row_of which pages (shown (take i xs))
-    → a ≡ first_of (range_of (get_or xs i d).range) → b ≡ last_of pages (range_of (get_or xs i d).range) → IsFull (row ++ kept which (from_to a b)) stop → IsFull (row_of which pages (shown xs)) stop
+pub row_full : (which : Which) (pages : ℕ) (xs : List Standing) (i : ℕ) (d : Standing) (row : List ℕ) (a b : ℕ) (stop : Stop) → i < length xs → row ≡ row_of which pages (ranges_of (take i xs))
+    → a ≡ first_of (range_of (get_or xs i d).range) → b ≡ last_of pages (range_of (get_or xs i d).range) → IsFull (row ++ kept which (from_to a b)) stop → IsFull (row_of which pages (ranges_of xs)) stop
 row_full which pages xs i d row a b stop less so_far first last full =
     let here = row_on which pages xs i d row (row ++ kept which (from_to a b)) a b less so_far first last refl in
     let grows = row_grows which pages xs (i + 1) in
-    full_on (row ++ kept which (from_to a b)) (row_of which pages (shown xs)) stop (λ h. omega (arith, h, grows, ap length here)) full
+    full_on (row ++ kept which (from_to a b)) (row_of which pages (ranges_of xs)) stop (λ h. omega (arith, h, grows, ap length here)) full
 
 pub pages_full : (which : Which) (f : ℕ → ℕ) (k n page : ℕ) (old row : List ℕ) (stop : Stop) → row ≡ old ++ kept which (map f (range_with_len 0 k)) → page ≡ f k → k < n → IsFull (row ++ kept which (page ∷ [])) stop
     → IsFull (old ++ kept which (map f (range_with_len 0 n))) stop
@@ -133,28 +133,28 @@ pub record Settled (text : List ℕ) (pages : ℕ) (standing : List Standing) : 
   pub ranges : List Range
   pub stand : AreRanges text ranges
   pub there : misses pages ranges ≡ false
-  pub same : shown standing ≡ ranges
+  pub same : ranges_of standing ≡ ranges
 
-pub settled : (text : List ℕ) (pages : ℕ) (standing slice : List Standing) → pages ≤ 99_999 → RangesRead text standing → slice ≡ standing → misses pages (shown slice) ≡ false → Settled text pages slice
+pub settled : (text : List ℕ) (pages : ℕ) (standing slice : List Standing) → pages ≤ 99_999 → RangesRead text standing → slice ≡ standing → misses pages (ranges_of slice) ≡ false → Settled text pages slice
 settled text pages standing slice few read e none =
-    let shows : shown slice ≡ map capped read.ranges = ap shown e ∙ read.shows in
+    let shows : ranges_of slice ≡ map with_cap read.ranges = ap ranges_of e ∙ read.shows in
     let there : misses pages read.ranges ≡ false = sym (misses_capped pages read.ranges few) ∙ (ap (misses pages) (sym shows) ∙ none) in
     record { ranges = read.ranges; stand = ranges_found text read.ranges read.found; there = there; same = shows ∙ ranges_kept pages read.ranges few there }
 
-pub refused_missing : (text : List ℕ) (pages : ℕ) (standing slice : List Standing) → pages ≤ 99_999 → RangesRead text standing → slice ≡ standing → misses pages (shown slice) ≡ true
+pub refused_missing : (text : List ℕ) (pages : ℕ) (standing slice : List Standing) → pages ≤ 99_999 → RangesRead text standing → slice ≡ standing → misses pages (ranges_of slice) ≡ true
     → OfRanges text pages (λ ranges. misses pages ranges ≡ true)
 refused_missing text pages standing slice few read e some =
-    let shows : shown slice ≡ map capped read.ranges = ap shown e ∙ read.shows in
+    let shows : ranges_of slice ≡ map with_cap read.ranges = ap ranges_of e ∙ read.shows in
     (few, read.ranges, ranges_found text read.ranges read.found, sym (misses_capped pages read.ranges few) ∙ (ap (misses pages) (sym shows) ∙ some))
 
-pub refused_full : (text : List ℕ) (which : Which) (pages : ℕ) (slice : List Standing) → pages ≤ 99_999 → Settled text pages slice → most_groups < length (row_of which pages (shown slice))
+pub refused_full : (text : List ℕ) (which : Which) (pages : ℕ) (slice : List Standing) → pages ≤ 99_999 → Settled text pages slice → most_groups < length (row_of which pages (ranges_of slice))
     → OfRanges text pages (λ ranges. (misses pages ranges ≡ false) × (most_groups < length (row_of which pages ranges)))
 refused_full text which pages slice few is full = (few, is.ranges, is.stand, (is.there, subst (λ rs. most_groups < length (row_of which pages rs)) is.same full))
 
-pub refused_none : (text : List ℕ) (which : Which) (pages : ℕ) (slice : List Standing) → pages ≤ 99_999 → Settled text pages slice → row_of which pages (shown slice) ≡ []
+pub refused_none : (text : List ℕ) (which : Which) (pages : ℕ) (slice : List Standing) → pages ≤ 99_999 → Settled text pages slice → row_of which pages (ranges_of slice) ≡ []
     → OfRanges text pages (λ ranges. (misses pages ranges ≡ false) × (row_of which pages ranges ≡ []))
 refused_none text which pages slice few is none = (few, is.ranges, is.stand, (is.there, ap (row_of which pages) (sym is.same) ∙ none))
 
-pub selects : (text : List ℕ) (which : Which) (pages : ℕ) (slice : List Standing) (row : List ℕ) → Settled text pages slice → row ≡ row_of which pages (shown slice) → 0 < length row → length row ≤ most_groups
+pub selects : (text : List ℕ) (which : Which) (pages : ℕ) (slice : List Standing) (row : List ℕ) → Settled text pages slice → row ≡ row_of which pages (ranges_of slice) → 0 < length row → length row ≤ most_groups
     → Selects text which pages row
 selects text which pages slice row is e some few = record { ranges = is.ranges; stand = is.stand; there = is.there; row_is = e ∙ ap (row_of which pages) is.same; some = some; few = few }

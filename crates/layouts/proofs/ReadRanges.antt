@@ -15,7 +15,7 @@ use Rattle.pagespec.proofs.Modifiers.{Stood}
 use Rattle.pagespec.proofs.Joined.{joined_found, joined_read, few_parts}
 use Rattle.pagespec.proofs.JoinedLoop.{ReadsParts, parts_first, parts_more, parts_last, parts_stuck, parts_out}
 use Rattle.layouts.specs.Selections.{Range, One, FromTo, From, IsRange, AreRanges}
-use Rattle.layouts.specs.Reading.{range_from, range_at, row_at, ranges_at, range_of, capped, shown, RangeRead, RowRead}
+use Rattle.layouts.specs.Reading.{range_from, range_at, row_at, ranges_at, range_of, with_cap, ranges_of, RangeRead, RowRead}
 use Rattle.layouts.specs.declared.ranges.Standing.{Standing}
 
 -- what is read is a range, and the front of the text
@@ -126,15 +126,15 @@ no_ranges t none ranges are =
 pub record RowOn (fuel : ℕ) (bytes rest : List ℕ) (standing : List Standing) : Type 0 where
   pub front : List Range
   pub reads : ReadsParts 44 range_at fuel bytes rest front
-  pub shows : shown standing ≡ map capped front
+  pub shows : ranges_of standing ≡ map with_cap front
 
 pub row_first : (n : ℕ) (bytes : List ℕ) → n ≡ suc (length bytes) → RowOn n bytes bytes []
 row_first n bytes e = record { front = []; reads = parts_first 44 range_at n bytes e; shows = refl }
 
-one_more : (old new : List Standing) (s : Standing) (front : List Range) (r : Range) → new ≡ old ++ s ∷ [] → shown old ≡ map capped front → range_of s.range ≡ capped r → shown new ≡ map capped (front ++ r ∷ [])
+one_more : (old new : List Standing) (s : Standing) (front : List Range) (r : Range) → new ≡ old ++ s ∷ [] → ranges_of old ≡ map with_cap front → range_of s.range ≡ with_cap r → ranges_of new ≡ map with_cap (front ++ r ∷ [])
 one_more old new s front r e so_far here =
-    ap shown e
-    ∙ (map-append (λ (x : Standing). range_of x.range) old (s ∷ []) ∙ (ap (λ xs. xs ++ range_of s.range ∷ []) so_far ∙ (ap (λ x. map capped front ++ x ∷ []) here ∙ sym (map-append capped front (r ∷ [])))))
+    ap ranges_of e
+    ∙ (map-append (λ (x : Standing). range_of x.range) old (s ∷ []) ∙ (ap (λ xs. xs ++ range_of s.range ∷ []) so_far ∙ (ap (λ x. map with_cap front ++ x ∷ []) here ∙ sym (map-append with_cap front (r ∷ [])))))
 
 pub row_more : (k n : ℕ) (bytes rest behind next : List ℕ) (old new : List Standing) (s : Standing) → n ≡ suc k → RowOn n bytes rest old → RangeRead rest s.range behind → new ≡ old ++ s ∷ []
     → byte_at 44 behind ≡ Some next → RowOn k bytes next new

@@ -18,7 +18,7 @@ use Rattle.pagespec.proofs.MadeShort.{page_few, groups_short}
 use Rattle.layouts.specs.Grids.{alone}
 use Rattle.layouts.specs.declared.select.Which.{Which}
 use Rattle.layouts.specs.Selections.{Range, One, FromTo, From, first_of, last_of, is_page, has_range, misses, steps, behind, from_to, named, is_kept, kept, row_of, selected, SheetsAreRow, Selects, IsSelection}
-use Rattle.layouts.specs.Reading.{capped}
+use Rattle.layouts.specs.Reading.{with_cap}
 use Rattle.layouts.proofs.InGrid.{both_true}
 use Rattle.layouts.proofs.Writable.{all_made}
 
@@ -37,15 +37,15 @@ capped_page pages page few = elim (cases_lt 100_000 page) [
   | inr small ↦ ap (is_page pages) (omega (arith, small))
 ]
 
-capped_range : (pages : ℕ) (r : Range) → pages ≤ 99_999 → has_range pages (capped r) ≡ has_range pages r
+capped_range : (pages : ℕ) (r : Range) → pages ≤ 99_999 → has_range pages (with_cap r) ≡ has_range pages r
 capped_range pages (One p) few = ap (λ b. b && b) (capped_page pages p few)
 capped_range pages (FromTo p q) few = ap (λ b. b && is_page pages (min 100_000 q)) (capped_page pages p few) ∙ ap (λ b. is_page pages p && b) (capped_page pages q few)
 capped_range pages (From p) few = ap (λ b. b && is_page pages pages) (capped_page pages p few)
 
-pub misses_capped : (pages : ℕ) (rs : List Range) → pages ≤ 99_999 → misses pages (map capped rs) ≡ misses pages rs
+pub misses_capped : (pages : ℕ) (rs : List Range) → pages ≤ 99_999 → misses pages (map with_cap rs) ≡ misses pages rs
 misses_capped pages [] few = refl
 misses_capped pages (r ∷ rs) few =
-    ap (λ b. not b || misses pages (map capped rs)) (capped_range pages r few) ∙ ap (λ b. not (has_range pages r) || b) (misses_capped pages rs few)
+    ap (λ b. not b || misses pages (map with_cap rs)) (capped_range pages r few) ∙ ap (λ b. not (has_range pages r) || b) (misses_capped pages rs few)
 
 pub page_range : (pages page : ℕ) → is_page pages page ≡ true → (1 ≤ page) × (page ≤ pages)
 page_range pages page e =
@@ -62,18 +62,18 @@ pub not_missed : (b : Bool) → not b ≡ false → b ≡ true
 not_missed true e = refl
 not_missed false e = absurd (cc (e))
 
-range_kept : (pages : ℕ) (r : Range) → pages ≤ 99_999 → has_range pages r ≡ true → capped r ≡ r
+range_kept : (pages : ℕ) (r : Range) → pages ≤ 99_999 → has_range pages r ≡ true → with_cap r ≡ r
 range_kept pages (One p) few e = ap One (no_cap pages p few (both_true (is_page pages p) (is_page pages p) e).0)
 range_kept pages (FromTo p q) few e =
     let (first, last) = both_true (is_page pages p) (is_page pages q) e in
     ap (λ n. FromTo n (min 100_000 q)) (no_cap pages p few first) ∙ ap (FromTo p) (no_cap pages q few last)
 range_kept pages (From p) few e = ap From (no_cap pages p few (both_true (is_page pages p) (is_page pages pages) e).0)
 
-pub ranges_kept : (pages : ℕ) (rs : List Range) → pages ≤ 99_999 → misses pages rs ≡ false → map capped rs ≡ rs
+pub ranges_kept : (pages : ℕ) (rs : List Range) → pages ≤ 99_999 → misses pages rs ≡ false → map with_cap rs ≡ rs
 ranges_kept pages [] few e = refl
 ranges_kept pages (r ∷ rs) few e =
     let (here, later) = either (not (has_range pages r)) (misses pages rs) e in
-    ap (λ x. x ∷ map capped rs) (range_kept pages r few (not_missed (has_range pages r) here)) ∙ ap (λ xs. r ∷ xs) (ranges_kept pages rs few later)
+    ap (λ x. x ∷ map with_cap rs) (range_kept pages r few (not_missed (has_range pages r) here)) ∙ ap (λ xs. r ∷ xs) (ranges_kept pages rs few later)
 
 -- some pages are kept
 

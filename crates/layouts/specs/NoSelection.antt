@@ -1,5 +1,6 @@
 -- Why there is no selection.
 use Rattle.std.specs.Prelude.{◌≡◌, ℕ, ◌<◌, ◌≤◌, true, false, List, [], length}
+use Rattle.profile.specs.Numbers.{greatest_whole}
 use Rattle.profile.specs.Admissible.{most_groups}
 use Rattle.layouts.specs.declared.error.LayoutError.{LayoutError}
 use Rattle.layouts.specs.declared.error.LayoutError.TheVariants.{PagesOutOfRange, SideTooLong, FoldOnLongEdge, ScaleOutOfRange, DocumentTooLong, Syntax, PageNotInDocument, TooManyPages, NoPages, NoMemory}
@@ -10,12 +11,12 @@ use Rattle.layouts.specs.Selections.{Range, AreRanges, misses, row_of}
 
 -- the text stands for ranges of which this holds, and no specification is too short for the document
 abbrev pub OfRanges : List ℕ → (pages : ℕ) → (List Range → Type 0) → Type 0
-OfRanges text pages P = (pages ≤ 99_999) × (ranges : List Range) × AreRanges text ranges × P ranges
+OfRanges text pages P = (pages ≤ greatest_whole) × (ranges : List Range) × AreRanges text ranges × P ranges
 
 -- what each refusal says, in the order in which they are looked for
 abbrev pub RefusesSelection : List ℕ → Which → (pages : ℕ) → LayoutError → Type 0
-RefusesSelection text which pages DocumentTooLong = 99_999 < pages
-RefusesSelection text which pages (Syntax place) = (pages ≤ 99_999) × ((ranges : List Range) → AreRanges text ranges → ⊥)
+RefusesSelection text which pages DocumentTooLong = greatest_whole < pages
+RefusesSelection text which pages (Syntax place) = (pages ≤ greatest_whole) × ((ranges : List Range) → AreRanges text ranges → ⊥)
 RefusesSelection text which pages (PageNotInDocument place) = OfRanges text pages (λ ranges. misses pages ranges ≡ true)
 RefusesSelection text which pages (TooManyPages place) = OfRanges text pages (λ ranges. (misses pages ranges ≡ false) × (most_groups < length (row_of which pages ranges)))
 RefusesSelection text which pages NoPages = OfRanges text pages (λ ranges. (misses pages ranges ≡ false) × (row_of which pages ranges ≡ []))

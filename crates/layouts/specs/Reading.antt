@@ -1,7 +1,7 @@
 -- Reading ranges off a text, from the left.
 use Rattle.std.specs.Prelude.{◌≡◌, ℕ, suc, min, if◌then◌else◌, List, length, map, Option, Some, None}
 use Rattle.profile.specs.Numbers.{number_of}
-use Rattle.lengths.specs.Reading.{digits, past_digits, is_empty}
+use Rattle.lengths.specs.Reading.{least_large, digits, past_digits, is_empty}
 use Rattle.pagespec.specs.Reading.{◌>>=◌, byte_at, joined_at, whole}
 use Rattle.layouts.specs.Selections.{Range, One, FromTo, From}
 use Rattle.layouts.specs.declared.ranges.Range.{Range as KeptRange}
@@ -33,13 +33,13 @@ range_of (code.FromTo p q) = FromTo p q
 range_of (code.From p) = From p
 
 -- its numbers, or 100,000 where they are more
-abbrev pub capped : Range → Range
-capped (One p) = One (min 100_000 p)
-capped (FromTo p q) = FromTo (min 100_000 p) (min 100_000 q)
-capped (From p) = From (min 100_000 p)
+abbrev pub with_cap : Range → Range
+with_cap (One p) = One (min least_large p)
+with_cap (FromTo p q) = FromTo (min least_large p) (min least_large q)
+with_cap (From p) = From (min least_large p)
 
-abbrev pub shown : List Standing → List Range
-shown standing = map (λ s. range_of s.range) standing
+abbrev pub ranges_of : List Standing → List Range
+ranges_of standing = map (λ s. range_of s.range) standing
 
 -- reading stopped, where nothing is to be read; or no memory was left
 abbrev pub IsStop : {X : Type 0} → Option X → Stop → Type 0
@@ -49,14 +49,14 @@ IsStop read NoMemory = Unit {0}
 pub record RangeRead (text : List ℕ) (kept : KeptRange) (rest : List ℕ) : Type 0 where
   pub range : Range
   pub found : range_at text ≡ Some (range, rest)
-  pub shows : range_of kept ≡ capped range
+  pub shows : range_of kept ≡ with_cap range
 
 pub record RowRead (text : List ℕ) (standing : List Standing) (rest : List ℕ) : Type 0 where
   pub row : List Range
   pub found : row_at text ≡ Some (row, rest)
-  pub shows : shown standing ≡ map capped row
+  pub shows : ranges_of standing ≡ map with_cap row
 
 pub record RangesRead (text : List ℕ) (standing : List Standing) : Type 0 where
   pub ranges : List Range
   pub found : ranges_at text ≡ Some ranges
-  pub shows : shown standing ≡ map capped ranges
+  pub shows : ranges_of standing ≡ map with_cap ranges

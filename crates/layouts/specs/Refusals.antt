@@ -6,22 +6,29 @@ use Rattle.layouts.specs.declared.error.LayoutError.TheVariants.{PagesOutOfRange
 use Rattle.layouts.specs.Grids.{scale_in, best_grid, beside, is_itself}
 
 -- how many pages a sheet takes at most
-abbrev pub most_pages : ℕ
-most_pages = 1_024
+abbrev pub most_on_sheet : ℕ
+most_on_sheet = 1_024
 
 abbrev pub is_count : ℕ → Bool
-is_count n = nat_le 1 n && nat_le n most_pages
+is_count n = nat_le 1 n && nat_le n most_on_sheet
 
--- it has less than 100,000 points: offsets of at most 99,999 points and five nines behind the dot reach across it
+-- a side that is out of reach has 100,000 points or more: offsets are of at most 99,999 points and five nines behind the dot
+abbrev pub out_of_reach : ℕ
+out_of_reach = 12_700_000_000_000_000
+
 abbrev pub is_reached : (side : ℕ) → Bool
-is_reached side = nat_lt side 12_700_000_000_000_000
+is_reached side = nat_lt side out_of_reach
 
 abbrev pub are_reached : Paper → Bool
 are_reached paper = is_reached (nat_abs paper.width) && is_reached (nat_abs paper.height)
 
--- from 10^-9 to 99,999
+-- the greatest scale of a layout, 99,999, in 10^-9
+abbrev pub greatest_scale : ℕ
+greatest_scale = 99_999_000_000_000
+
+-- from 10^-9 on
 abbrev pub is_scale : ℕ → Bool
-is_scale scale = nat_le 1 scale && nat_le scale 99_999_000_000_000
+is_scale scale = nat_le 1 scale && nat_le scale greatest_scale
 
 -- the first reason why n pages of the one paper can't stand on a sheet of the other, if there is one
 abbrev pub why_not : (page sheet : Paper) → ℕ → Option LayoutError

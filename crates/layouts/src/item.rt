@@ -1,6 +1,7 @@
 //! Pages in the cells of a grid.
 ghost use Rattle.std.specs.Prelude.{◌≡◌, ◌+◌, ◌-◌, ◌*◌, ◌/◌, ◌%◌, pos, IfOk, ◌<◌, ◌≤◌, nat_abs, IsTrue, map, ◌∷◌, []};
 ghost use Rattle.std.specs.List.{range_with_len};
+ghost use Rattle.profile.specs.Numbers.{greatest_whole, greatest_number};
 ghost use Rattle.pagespec.specs.Items.{item_of, measure_of, groups_of, turn_of};
 ghost use Rattle.layouts.specs.Grids.{alone as alone_of, in_grid, item_in as item_of_grid, back_in as back_of_grid};
 ghost use Rattle.layouts.specs.Grids.{in_points, margin as margin_of, margin_x, margin_y, cell_width, cell_height};
@@ -105,7 +106,7 @@ pub fn item_in(page: &Paper, sheet: &Paper, grid: Grid, k: u32) -> Item
 /// The place of page k in its cell on a sheet that is turned by half; it is page n + k of a block.
 pub fn back_in(page: &Paper, sheet: &Paper, grid: Grid, n: u32, k: u32) -> Item
     requires place { k < grid.rows * grid.columns }
-    requires page { n + k < 100_000 }
+    requires page { n + k ≤ greatest_whole }
     requires reached { IsTrue (are_reached sheet.now) }
     requires scaled { IsTrue (is_scale (scale_of page.now sheet.now grid)) }
     ensures { item_of result ≡ back_of_grid page.now sheet.now grid n k }
@@ -125,7 +126,7 @@ pub fn back_in(page: &Paper, sheet: &Paper, grid: Grid, n: u32, k: u32) -> Item
 
 /// So many 10^-9.
 fn number(billionths: u128) -> Number
-    requires { billionths ≤ 99_999_999_999_999 }
+    requires { billionths ≤ greatest_number }
     ensures { result ≡ pos billionths }
 {
     match Number::new(billionths as i64) {

@@ -2,7 +2,7 @@
 ghost use Rattle.std.specs.Prelude.{◌≡◌, ◌&&◌, true, false, None, Some, MatchResult, MatchOption};
 ghost use Rattle.pagespec.specs.Reading.{byte_at};
 ghost use Rattle.layouts.specs.Selections.{first_of, last_of, is_page, misses, has_range as has_pages};
-ghost use Rattle.layouts.specs.Reading.{range_at, row_at, ranges_at, range_of, shown, IsStop, RangeRead, RowRead};
+ghost use Rattle.layouts.specs.Reading.{range_at, row_at, ranges_at, range_of, ranges_of, IsStop, RangeRead, RowRead};
 ghost use Rattle.layouts.specs.Reading.{RangesRead};
 
 use lengths::read_digits;
@@ -132,7 +132,7 @@ fn read_byte(byte: u8, bytes: &[u8]) -> Option<&[u8]>
 
 /// Where the first range stands of which a document of so many pages hasn't both ends.
 pub fn first_missing(ranges: &[Standing], pages: u32) -> Option<usize>
-    ensures { let ranges = shown ranges.now in
+    ensures { let ranges = ranges_of ranges.now in
         MatchOption result (misses pages ranges ≡ false) (λ left. misses pages ranges ≡ true) }
 {
     for standing in ranges {

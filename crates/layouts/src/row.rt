@@ -1,10 +1,11 @@
 //! The pages of a selection, in a row.
 ghost use Rattle.std.specs.Prelude.{◌≡◌, ◌≤◌, ◌-◌, ◌+◌, ◌++◌, ◌∷◌, [], false, length, map, IfOk, IfErr, OnOk};
+ghost use Rattle.profile.specs.Numbers.{greatest_whole};
 ghost use Rattle.profile.specs.Admissible.{most_groups};
 ghost use Rattle.pagespec.specs.Items.{groups_of};
 ghost use Rattle.layouts.specs.Grids.{alone as alone_of};
 ghost use Rattle.layouts.specs.Selections.{kept, from_to, steps as steps_of, behind as page_behind, misses, row_of};
-ghost use Rattle.layouts.specs.Reading.{shown};
+ghost use Rattle.layouts.specs.Reading.{ranges_of};
 ghost use Rattle.layouts.specs.NoSelection.{IsFull};
 
 use super::item::page_alone;
@@ -24,11 +25,11 @@ pub fn row_named(
     which: Which,
     pages: u32,
 ) -> Result<Vec<u32>, Stop>
-    requires there { misses pages (shown ranges.now) ≡ false }
-    requires few { pages ≤ 99_999 }
-    ensures row { IfOk result (λ row. row.items ≡ row_of which pages (shown ranges.now)) }
+    requires there { misses pages (ranges_of ranges.now) ≡ false }
+    requires few { pages ≤ greatest_whole }
+    ensures row { IfOk result (λ row. row.items ≡ row_of which pages (ranges_of ranges.now)) }
     ensures few { IfOk result (λ row. length row.items ≤ most_groups) }
-    ensures full { IfErr result (IsFull (row_of which pages (shown ranges.now))) }
+    ensures full { IfErr result (IsFull (row_of which pages (ranges_of ranges.now))) }
 {
     let mut row = Vec::new(alloc);
     for standing in ranges {
@@ -49,8 +50,8 @@ fn add_pages(
     left: usize,
     row: &mut Vec<u32>,
 ) -> Result<(), Stop>
-    requires first { first ≤ 99_999 }
-    requires last { last ≤ 99_999 }
+    requires first { first ≤ greatest_whole }
+    requires last { last ≤ greatest_whole }
     requires few { length row.old.items ≤ most_groups }
     ensures added { OnOk result (row.new.items ≡ row.old.items ++ kept which (from_to first last)) }
     ensures few { OnOk result (length row.new.items ≤ most_groups) }
@@ -67,10 +68,10 @@ fn add_pages(
 
 /// How many steps lead from one page to another.
 fn steps(first: u32, last: u32) -> u32
-    requires first { first ≤ 99_999 }
-    requires last { last ≤ 99_999 }
+    requires first { first ≤ greatest_whole }
+    requires last { last ≤ greatest_whole }
     ensures value { result ≡ steps_of first last }
-    ensures few { result ≤ 99_999 }
+    ensures few { result ≤ greatest_whole }
 {
     if first <= last {
         last - first
@@ -81,8 +82,8 @@ fn steps(first: u32, last: u32) -> u32
 
 /// The page behind so many steps.
 fn behind(first: u32, last: u32, i: u32) -> u32
-    requires first { first ≤ 99_999 }
-    requires last { last ≤ 99_999 }
+    requires first { first ≤ greatest_whole }
+    requires last { last ≤ greatest_whole }
     requires on_the_way { i ≤ steps_of first last }
     ensures { result ≡ page_behind first last i }
 {

@@ -1,6 +1,6 @@
 //! How large pages in a grid are.
 ghost use Rattle.std.specs.Prelude.{◌≡◌, ◌*◌, ◌<◌, ◌≤◌, nat_abs, IsTrue};
-ghost use Rattle.profile.specs.Papers.{is_side};
+ghost use Rattle.profile.specs.Papers.{is_side, longest_side};
 ghost use Rattle.layouts.specs.Refusals.{is_scale as may_be_scale};
 ghost use Rattle.layouts.specs.Grids.{cell_width, cell_height, part as part_of, fitting as fits, scale_in as scale_of};
 
@@ -12,7 +12,7 @@ pub fn side(side: Grains) -> u64
     requires { IsTrue (is_side side) }
     ensures value { result ≡ nat_abs side }
     ensures some { 0 < result }
-    ensures in_range { result ≤ 914_399_999_999_990_856 }
+    ensures in_range { result ≤ longest_side }
 {
     side.get() as u64
 }

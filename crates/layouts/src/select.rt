@@ -1,5 +1,6 @@
 //! Some pages of a document, in any order.
 ghost use Rattle.std.specs.Prelude.{◌≡◌, ◌≤◌, IfOk, IfErr};
+ghost use Rattle.profile.specs.Numbers.{greatest_whole};
 ghost use Rattle.layouts.specs.Selections.{Selects, IsSelection, is_kept};
 ghost use Rattle.layouts.specs.NoSelection.{RefusesSelection, IsPlaced};
 
@@ -58,7 +59,7 @@ fn read_selection(
     which: Which,
     pages: u32,
 ) -> Result<Vec<u32>, LayoutError>
-    ensures read { IfOk result (λ row. (pages ≤ 99_999) × Selects bytes.now which pages row.items) }
+    ensures read { IfOk result (λ row. (pages ≤ greatest_whole) × Selects bytes.now which pages row.items) }
     ensures refused { IfErr result (RefusesSelection bytes.now which pages) }
     ensures placed { IfErr result (IsPlaced bytes.now) }
 {

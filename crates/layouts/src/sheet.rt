@@ -15,7 +15,7 @@ use pagespec::Spec;
 use std::alloc::Global;
 
 /// How many pages a sheet takes at most.
-const MOST_PAGES: u32 = 1_024;
+const MOST_ON_SHEET: u32 = 1_024;
 
 /// So many pages of one paper on each sheet of another or the same, from 1 to 1,024: in rows and columns, upright or
 /// turned to the left, as large as they can be, each in the middle of its cell. One page on a sheet of its own paper
@@ -26,7 +26,7 @@ pub fn nup(alloc: Global, n: u32, page: &Paper, sheet: &Paper) -> Result<Spec, L
     ensures possible { OnOk result (why_not page.now sheet.now n ≡ None) }
     ensures refused { IfErr result (IsRefusal (why_not page.now sheet.now n)) }
 {
-    if n < 1 || MOST_PAGES < n {
+    if n < 1 || MOST_ON_SHEET < n {
         return Err(LayoutError::PagesOutOfRange);
     }
     if !are_both_reached(page, sheet) {

@@ -5,6 +5,10 @@ use Rattle.std.specs.Char.{is_ascii_digit}
 use Rattle.profile.specs.Bytes.{plus_sign, minus_sign, dot}
 use Rattle.profile.specs.Numbers.{signed, number_of, decimals_value}
 
+-- the least whole part that is too large: digits that stand for more are told as this
+abbrev pub least_large : ℕ
+least_large = 100_000
+
 -- the digits at the front
 abbrev pub digits : List ℕ → List ℕ
 digits [] = []

@@ -1,10 +1,13 @@
 //! A number as specifications write it, kept exactly.
-ghost use Rattle.std.specs.Prelude.{◌≡◌, ◌↔◌, ◌+◌, ◌*◌, ◌^◌, ◌<◌, ℤ, neg_ℤ, IsSome, IfSome};
-ghost use Rattle.profile.specs.Numbers.{signed};
+ghost use Rattle.std.specs.Prelude.{◌≡◌, ◌↔◌, ◌+◌, ◌*◌, ◌^◌, ◌<◌, ◌≤◌, ℤ, neg_ℤ, IsSome, IfSome};
+ghost use Rattle.profile.specs.Numbers.{greatest_whole, signed};
 ghost use Rattle.lengths.specs.Ranges.{FitsNumber};
 
 use std::marker::Model;
 use std::ops::Neg;
+
+/// The greatest number, in 10^-9.
+const GREATEST: u64 = 99_999_999_999_999;
 
 /// A whole number of 10^-9, from -99,999,999,999,999 to 99,999,999,999,999: nine decimals behind an integer part of at most 99,999.
 /// Contracts see it as that whole number.
@@ -36,7 +39,7 @@ impl Number {
         ensures fits { IsSome result ↔ FitsNumber billionths }
         ensures value { IfSome result (λ n. n ≡ billionths) }
     {
-        if billionths.unsigned_abs() <= 99_999_999_999_999 {
+        if billionths.unsigned_abs() <= GREATEST {
             Some(Number { billionths })
         } else {
             None
@@ -53,8 +56,8 @@ impl Number {
 
     /// The number of a sign, an integer part and nine decimals.
     pub(crate) fn of_parts(negative: bool, whole: u32, decimals: u32) -> Number
-        requires whole { whole < 100_000 }
-        requires decimals { decimals < 1_000_000_000 }
+        requires whole { whole ≤ greatest_whole }
+        requires decimals { decimals < 10 ^ 9 }
         ensures value { result ≡ signed negative (whole * 10 ^ 9 + decimals) }
         ensures in_range { FitsNumber result }
     {

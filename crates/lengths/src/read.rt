@@ -5,11 +5,14 @@ ghost use Rattle.std.specs.List.{AllPass};
 ghost use Rattle.profile.specs.Bytes.{digit_zero};
 ghost use Rattle.profile.specs.Numbers.{IsNumberRead, number_of, decimals_value, signed};
 ghost use Rattle.lengths.specs.Ranges.{FitsNumber};
-ghost use Rattle.lengths.specs.Reading.{digits, past_digits, unsigned, is_minus, decimals_at, past_decimals, number_at};
+ghost use Rattle.lengths.specs.Reading.{least_large, digits, past_digits, unsigned, is_minus, decimals_at, past_decimals, number_at};
 ghost use Rattle.lengths.specs.Refusals.{outcome_of, IsRefused};
 
 use super::number::Number;
 use thiserror::Error;
+
+/// The least integer part that is too large.
+const LEAST_LARGE: u32 = 100_000;
 
 /// Why no number was read.
 #[derive(Clone, Copy, Debug, PartialEq, Eq, Error)]
@@ -40,7 +43,7 @@ pub fn read_number(bytes: &[u8]) -> Result<(Number, usize), NumberError>
 /// The digits at the front, by their value or as 100,000 where that is more, and what stands behind them.
 pub fn read_digits(bytes: &[u8]) -> Option<(u32, &[u8])>
     ensures { let front = digits bytes.now in MatchOption result (front ≡ []) (λ x.
-        (front ≢ []) × (x.0 ≡ min 100_000 (number_of front)) × (x.1.now ≡ past_digits bytes.now)) }
+        (front ≢ []) × (x.0 ≡ min least_large (number_of front)) × (x.1.now ≡ past_digits bytes.now)) }
 {
     let (front, rest) = split_digits(bytes);
     if front.is_empty() {
@@ -64,7 +67,7 @@ fn scan(bytes: &[u8]) -> Result<(Number, usize), NumberError>
     }
     let len = bytes.len() - rest.len();
     let points = capped(whole);
-    if points == 100_000 {
+    if points == LEAST_LARGE {
         return Err(NumberError::TooLarge(len));
     }
     Ok((Number::of_parts(negative, points, nine(decimals)), len))
@@ -118,11 +121,11 @@ fn digits_len(bytes: &[u8]) -> usize
 /// What the digits stand for, or 100,000 where that is more.
 fn capped(digits: &[u8]) -> u32
     requires { AllPass is_ascii_digit digits.now }
-    ensures { result ≡ min 100_000 (number_of digits.now) }
+    ensures { result ≡ min least_large (number_of digits.now) }
 {
     let mut n: u32 = 0;
     for d in digits {
-        n = (n * 10 + u32::from(*d - b'0')).min(100_000);
+        n = (n * 10 + u32::from(*d - b'0')).min(LEAST_LARGE);
     }
     n
 }

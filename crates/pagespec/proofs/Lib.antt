@@ -22,3 +22,4 @@ pub mod Joining
 pub mod Canonical
 pub mod Making
 pub mod MadeShort
+pub mod Examples

@@ -5,10 +5,11 @@ use Rattle.std.specs.List.{list_any}
 use Rattle.std.proofs.lemmas.List.{length-append}
 use Rattle.std.proofs.lemmas.List.Folds.{list_any-append}
 use Rattle.std.proofs.lemmas.Fmt.{length-decimal-le_wide}
-use Rattle.profile.specs.Numbers.{is_large, number_text}
+use Rattle.profile.specs.Numbers.{greatest_whole, is_large, number_text}
 use Rattle.profile.specs.Papers.{LengthUnit, Pt, Cm, Mm, In, Width, Height}
 use Rattle.profile.specs.Specification.{Measure, Modifier, Quarters, Scaled, Moved, WrittenItem, WrittenSpec, Turn, Upright, Left, Half, Right, IsJoined, IsDigits, IsMeasure, AreModifiers, IsItem, IsBareItem, AreGroups, IsSpec, minus_text, unit_name, unit_text, measure_text, turn_text, turn_of, quarters, scale, offset_x, offset_y, scale_part, is_one, offset_part, is_zero_points, item_text, joined_by, modulo_text, settled_item, settled, canonical}
 use Rattle.profile.specs.Admissible.{fault_of, has_large, items, most_slots, most_spec_bytes}
+use Rattle.pagespec.specs.Canonical.{LeavesPageOut, CanonicalIsShort}
 use Rattle.pagespec.proofs.Letters.{turn_letter}
 use Rattle.pagespec.proofs.Faults.{no_fault, neither}
 use Rattle.pagespec.proofs.Texts.{IsGroup}
@@ -101,7 +102,7 @@ offset_small (Scaled v ∷ ms) e = offset_small ms (either (is_large v) (list_an
 offset_small (Moved x y ∷ ms) e = either (is_large x.number) (is_large y.number) (either (is_large x.number || is_large y.number) (list_any has_large ms) e).0
 
 abbrev pub large_item : WrittenItem → Bool
-large_item i = nat_lt 99_999 i.page || list_any has_large i.modifiers
+large_item i = nat_lt greatest_whole i.page || list_any has_large i.modifiers
 
 -- the parts of an item's text
 item_length : (i : WrittenItem) → length (item_text (settled_item i))
@@ -111,7 +112,7 @@ item_length i = five (minus_text i.from_end) (decimal i.page) (turn_text (turn_o
     five : (a b c d e : List ℕ) → length (a ++ b ++ c ++ d ++ e) ≡ length a + length b + (length c + length d + length e)
     five a b c d e = omega (arith, length-append (a ++ b ++ c ++ d) e, length-append (a ++ b ++ c) d, length-append (a ++ b) c, length-append a b)
 
-pub page_small : (n : ℕ) → nat_lt 99_999 n ≡ false → n < 10 ^ 5
+pub page_small : (n : ℕ) → nat_lt greatest_whole n ≡ false → n < 10 ^ 5
 page_small n e = search (rules, e)
 
 digits_stand : (ds : List ℕ) (n : ℕ) → IsDigits ds n → n < 10 ^ 5 → length (decimal n) ≤ length ds
@@ -121,7 +122,7 @@ digits_stand ds n (pass, some, is) h =
 -- an item is written no longer than it stands
 item_short : (text : List ℕ) (i : WrittenItem) → IsItem text i → large_item i ≡ false → length (item_text (settled_item i)) ≤ length text
 item_short text i (ds, rest, e, is, are) small =
-    let (page, behind) = either (nat_lt 99_999 i.page) (list_any has_large i.modifiers) small in
+    let (page, behind) = either (nat_lt greatest_whole i.page) (list_any has_large i.modifiers) small in
     omega (
       arith,
       item_length i,
@@ -136,21 +137,28 @@ pub minus_few : (b : Bool) → length (minus_text b) ≤ 1
 minus_few true = omega arith
 minus_few false = omega arith
 
--- an item without its page number is written with few bytes
+-- an item without its page number is written with few bytes, and with one more than it stands at most
+bare_zero : (i : WrittenItem) → i.page ≡ 0 → length (decimal i.page) ≤ 1
+bare_zero i page = subst (λ n. length (decimal n) ≤ 1) (sym page) (length-decimal-le_wide 1 0 (omega arith) (omega arith) (omega arith))
+
 bare_few : (text : List ℕ) (i : WrittenItem) → IsBareItem text i → large_item i ≡ false → length (item_text (settled_item i)) ≤ 60
 bare_few text i (rest, e, page, some, are) small =
-    let (low, behind) = either (nat_lt 99_999 i.page) (list_any has_large i.modifiers) small in
+    let (low, behind) = either (nat_lt greatest_whole i.page) (list_any has_large i.modifiers) small in
     let (small_x, small_y) = offset_small i.modifiers behind in
-    let one : length (decimal i.page) ≤ 1 = subst (λ n. length (decimal n) ≤ 1) (sym page) (length-decimal-le_wide 1 0 (omega arith) (omega arith) (omega arith)) in
     omega (
       arith,
       item_length i,
-      one,
+      bare_zero i page,
       minus_few i.from_end,
       turn_few (turn_of (quarters i.modifiers)),
       scale_short (scale i.modifiers) 16 (number_few (scale i.modifiers) (scale_small i.modifiers behind)),
       offset_short (offset_x i.modifiers) (offset_y i.modifiers) 39 (omega (arith, measure_few (offset_x i.modifiers) small_x, measure_few (offset_y i.modifiers) small_y)),
     )
+
+bare_short : (text : List ℕ) (i : WrittenItem) → IsBareItem text i → large_item i ≡ false → length (item_text (settled_item i)) ≤ suc (length text)
+bare_short text i (rest, e, page, some, are) small =
+    let (low, behind) = either (nat_lt greatest_whole i.page) (list_any has_large i.modifiers) small in
+    omega (arith, item_length i, bare_zero i page, ap length e, length-append (minus_text i.from_end) rest, modifiers_short i.modifiers rest are behind)
 
 -- rows are written no longer than they stand where their parts are
 joined_short : {X Y : Type 0} (c : ℕ) (R : List ℕ → X → Type 0) (f : Y → List ℕ) (g : X → Y) (large : X → Bool)
@@ -179,13 +187,21 @@ any_row p (g ∷ gs) = list_any-append p g (flat_map (λ h. h) gs) ∙ ap (λ b.
 abbrev groups_text : List (List WrittenItem) → List ℕ
 groups_text gs = joined_by 44 (map (λ g. joined_by 43 (map item_text g)) (map (λ g. map settled_item g) gs))
 
+-- the text is one item without its page number, which is written with few bytes
+record IsBare (text : List ℕ) (written : ℕ) : Type 0 where
+  pub item : WrittenItem
+  pub is : IsBareItem text item
+  pub few : written ≤ 60
+  pub short : written ≤ suc (length text)
+
 -- groups are written no longer than they stand, but for an item without its page number
-groups_short : (text : List ℕ) (gs : List (List WrittenItem)) → AreGroups text gs → list_any large_item (flat_map (λ g. g) gs) ≡ false → (length (groups_text gs) ≤ length text) ⊎ (length (groups_text gs) ≤ 60)
+groups_short : (text : List ℕ) (gs : List (List WrittenItem)) → AreGroups text gs → list_any large_item (flat_map (λ g. g) gs) ≡ false → (length (groups_text gs) ≤ length text) ⊎ IsBare text (length (groups_text gs))
 groups_short text gs (inl joined) small =
     inl (joined_short 44 IsGroup (λ g. joined_by 43 (map item_text g)) (λ g. map settled_item g) (λ g. list_any large_item g) group_short gs text joined (sym (any_row large_item gs) ∙ small))
 groups_short text gs (inr (i, e, bare)) small =
     let here : list_any large_item (i ∷ []) ≡ false = sym (ap (λ x. list_any large_item (flat_map (λ g. g) x)) e) ∙ small in
-    inr (subst (λ x. length (groups_text x) ≤ 60) (sym e) (bare_few text i bare (either (large_item i) false here).0))
+    let low = (either (large_item i) false here).0 in
+    inr (subst (λ x. IsBare text (length (groups_text x))) (sym e) (record { item = i; is = bare; few = bare_few text i bare low; short = bare_short text i bare low }))
 
 pub modulo_short : (m k : ℕ) → length (decimal m) ≤ k → length (modulo_text m) ≤ suc k
 modulo_short m k h = unless (m == 1) (decimal m ++ 58 ∷ []) (suc k) (omega (arith, h, length-append (decimal m) (58 ∷ [])))
@@ -193,23 +209,40 @@ modulo_short m k h = unless (m == 1) (decimal m ++ 58 ∷ []) (suc k) (omega (ar
 canonical_length : (spec : WrittenSpec) → length (canonical (settled spec)) ≡ length (modulo_text spec.modulo) + length (groups_text spec.groups)
 canonical_length spec = length-append (modulo_text spec.modulo) (groups_text spec.groups)
 
-either_fits : (a b t : ℕ) → (a ≤ t) ⊎ (a ≤ 60) → b ≤ 65_000 → t + b ≤ most_spec_bytes → a + b ≤ most_spec_bytes
-either_fits a b t (inl h) few fits = omega (arith, h, fits)
-either_fits a b t (inr h) few fits = omega (arith, h, few)
+-- what the canonical text of a text of so many bytes has
+record IsShort (text : List ℕ) (written : ℕ) : Type 0 where
+  pub enough : written ≤ most_spec_bytes
+  pub one_more : written ≤ length text + 1
+  pub bare : length text < written → LeavesPageOut text
 
-pub short_enough : (t : List ℕ) (spec : WrittenSpec) → IsSpec t spec → fault_of most_slots spec ≡ None → length t ≤ most_spec_bytes → length (canonical (settled spec)) ≤ most_spec_bytes
-short_enough t spec (inl (one, are)) none h =
-    let (modulo, small) = neither (nat_lt 99_999 spec.modulo) (list_any large_item (items spec)) (no_fault spec none) in
+spec_short : (t : List ℕ) (spec : WrittenSpec) → IsSpec t spec → fault_of most_slots spec ≡ None → length t ≤ most_spec_bytes → IsShort t (length (canonical (settled spec)))
+spec_short t spec (inl (one, are)) none h =
+    let (modulo, small) = neither (nat_lt greatest_whole spec.modulo) (list_any large_item (items spec)) (no_fault spec none) in
     let nothing : length (modulo_text spec.modulo) ≡ 0 = ap (λ m. length (modulo_text m)) one in
-    omega (arith, canonical_length spec, nothing, either_fits (length (groups_text spec.groups)) 0 (length t) (groups_short t spec.groups are small) (omega arith) (omega (arith, h)))
-short_enough t spec (inr (ds, rest, e, is, are)) none h =
-    let (modulo, small) = neither (nat_lt 99_999 spec.modulo) (list_any large_item (items spec)) (no_fault spec none) in
+    let long : length (canonical (settled spec)) ≡ length (groups_text spec.groups) = omega (arith, canonical_length spec, nothing) in
+    subst (IsShort t) (sym long) (by_groups (length (groups_text spec.groups)) (groups_short t spec.groups are small))
+  where
+    by_groups : (a : ℕ) → (a ≤ length t) ⊎ IsBare t a → IsShort t a
+    by_groups a (inl k) = record { enough = omega (arith, h, k); one_more = omega (arith, k); bare = λ more. absurd (omega (arith, more, k)) }
+    by_groups a (inr k) = record { enough = omega (arith, k.few); one_more = omega (arith, k.short); bare = λ more. (k.item, inl k.is) }
+spec_short t spec (inr (ds, rest, e, is, are)) none h =
+    let (modulo, small) = neither (nat_lt greatest_whole spec.modulo) (list_any large_item (items spec)) (no_fault spec none) in
     let low = page_small spec.modulo modulo in
     let few : length (modulo_text spec.modulo) ≤ 6 = modulo_short spec.modulo 5 (length-decimal-le_wide 5 spec.modulo (omega arith) low (omega (arith, low))) in
     let stands : length (modulo_text spec.modulo) ≤ suc (length ds) = modulo_short spec.modulo (length ds) (digits_stand ds spec.modulo is low) in
-    omega (
-      arith,
-      canonical_length spec,
-      either_fits (length (groups_text spec.groups)) (length (modulo_text spec.modulo)) (length rest) (groups_short rest spec.groups are small) (omega (arith, few))
-          (omega (arith, h, stands, ap length e, length-append ds (58 ∷ rest))),
-    )
+    let whole : length t ≡ suc (length ds) + length rest = omega (arith, ap length e, length-append ds (58 ∷ rest)) in
+    subst (IsShort t) (sym (canonical_length spec)) (by_groups (length (modulo_text spec.modulo)) (length (groups_text spec.groups)) few stands whole (groups_short rest spec.groups are small))
+  where
+    by_groups : (b a : ℕ) → b ≤ 6 → b ≤ suc (length ds) → length t ≡ suc (length ds) + length rest → (a ≤ length rest) ⊎ IsBare rest a → IsShort t (b + a)
+    by_groups b a few stands whole (inl k) =
+        record { enough = omega (arith, h, k, stands, whole); one_more = omega (arith, k, stands, whole); bare = λ more. absurd (omega (arith, more, k, stands, whole)) }
+    by_groups b a few stands whole (inr k) =
+        record { enough = omega (arith, k.few, few); one_more = omega (arith, k.short, stands, whole); bare = λ more. (k.item, inr (ds, rest, spec.modulo, e, is, k.is)) }
+
+pub short_enough : (t : List ℕ) (spec : WrittenSpec) → IsSpec t spec → fault_of most_slots spec ≡ None → length t ≤ most_spec_bytes → length (canonical (settled spec)) ≤ most_spec_bytes
+short_enough t spec is none h = (spec_short t spec is none h).enough
+
+pub canonical_short : CanonicalIsShort
+canonical_short text spec (h, written, stands, right, e) =
+    subst (λ s. (length (canonical s) ≤ length text + 1) × (length text < length (canonical s) → LeavesPageOut text)) (sym e)
+    (let short = spec_short text written stands right h in (short.one_more, short.bare))

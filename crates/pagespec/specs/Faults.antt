@@ -2,6 +2,7 @@
 use Rattle.std.specs.Prelude.{ℕ, Bool, ◌==◌, ◌||◌, nat_lt, nat_le, if◌then◌else◌, List, length, position, Option, Some, None, option_map}
 use Rattle.std.specs.List.{list_any}
 use Rattle.std.specs.Option.{option_or}
+use Rattle.profile.specs.Numbers.{greatest_whole}
 use Rattle.profile.specs.Admissible as profile
 use Rattle.pagespec.specs.declared.error.SpecError.{SpecError}
 use Rattle.pagespec.specs.declared.error.SpecError.TheVariants.{TooLong, Syntax, TooLarge, ModuloZero, PageOutOfBlock, ScaleZero, Repeated, TooManySlots, TooManyGroups, NoMemory}
@@ -21,7 +22,7 @@ fault_named TooManyGroups = Some profile.TooManyGroups
 fault_named NoMemory = None
 
 abbrev pub has_too_large : ℕ → List KeptItem → Bool
-has_too_large modulo items = nat_lt 99_999 modulo || list_any (λ i. nat_lt 99_999 i.page || i.modifiers.too_large) items
+has_too_large modulo items = nat_lt greatest_whole modulo || list_any (λ i. nat_lt greatest_whole i.page || i.modifiers.too_large) items
 
 abbrev pub where_fails : Bool → SpecError → Option SpecError
 where_fails fails fault = if fails then Some fault else None

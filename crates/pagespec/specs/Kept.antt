@@ -3,6 +3,7 @@ use Rattle.std.specs.Prelude.{◌≡◌, ℕ, ◌%◌, ℤ, Bool, false, ◌||�
 use Rattle.std.specs.List.{list_any}
 use Rattle.profile.specs.Specification.{Measure, Modifier, Quarters, Scaled, Moved, WrittenItem, quarters}
 use Rattle.profile.specs.Admissible.{has_large, is_scale, is_offset, is_flat}
+use Rattle.lengths.specs.Reading.{least_large}
 use Rattle.pagespec.specs.Reading.{modifiers_at, item_at}
 use Rattle.pagespec.specs.Items.{measure_of}
 use Rattle.pagespec.specs.declared.kept.Modifiers.{Modifiers}
@@ -43,7 +44,7 @@ ModifiersRead bytes s rest = (ms : List Modifier) × (modifiers_at (length bytes
 
 pub record ItemShows (i : WrittenItem) (k : KeptItem) : Type 0 where
   pub end : k.from_end ≡ i.from_end
-  pub page : k.page ≡ min 100_000 i.page
+  pub page : k.page ≡ min least_large i.page
   pub modifiers : Shows i.modifiers k.modifiers
 
 -- this item is at the front

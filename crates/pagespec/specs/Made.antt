@@ -1,6 +1,7 @@
 -- Specifications that are made, and not read.
 use Rattle.std.specs.Prelude.{◌≡◌, ℕ, ◌<◌, ◌≤◌, pos, int_le, nat_abs, false, List, length}
 use Rattle.std.specs.List.{AllByRecursion}
+use Rattle.profile.specs.Numbers.{greatest_whole, greatest_number}
 use Rattle.profile.specs.Specification.{Item, Spec, canonical}
 use Rattle.profile.specs.Admissible.{most_groups, most_spec_bytes}
 
@@ -8,9 +9,9 @@ use Rattle.profile.specs.Admissible.{most_groups, most_spec_bytes}
 pub record IsItemOf (modulo : ℕ) (i : Item) : Type 0 where
   pub page : i.page < modulo
   pub above_zero : int_le i.scale (pos 0) ≡ false
-  pub scale : nat_abs i.scale ≤ 99_999_999_999_999
-  pub x : nat_abs i.x.number ≤ 99_999_999_999_999
-  pub y : nat_abs i.y.number ≤ 99_999_999_999_999
+  pub scale : nat_abs i.scale ≤ greatest_number
+  pub x : nat_abs i.x.number ≤ greatest_number
+  pub y : nat_abs i.y.number ≤ greatest_number
 
 -- a group: one item at least, and so many at most
 pub record IsGroupOf (most modulo : ℕ) (g : List Item) : Type 0 where
@@ -20,7 +21,7 @@ pub record IsGroupOf (most modulo : ℕ) (g : List Item) : Type 0 where
 
 -- all checks on what a text stands for are passed, and the canonical text isn't too long
 pub record IsWritable (most : ℕ) (spec : Spec) : Type 0 where
-  pub modulo : (0 < spec.modulo) × (spec.modulo ≤ 99_999)
+  pub modulo : (0 < spec.modulo) × (spec.modulo ≤ greatest_whole)
   pub some : 0 < length spec.groups
   pub few : length spec.groups ≤ most_groups
   pub groups : AllByRecursion (IsGroupOf most spec.modulo) spec.groups

@@ -2,6 +2,7 @@
 ghost use Rattle.std.specs.Prelude.{◌≡◌, ◌<◌, ◌^◌, ◌||◌, length, position, nat_lt, nat_le, option_map, if◌then◌else◌, Some};
 ghost use Rattle.std.specs.Option.{ForSome};
 ghost use Rattle.std.specs.List.{list_any};
+ghost use Rattle.profile.specs.Numbers.{greatest_whole};
 ghost use Rattle.profile.specs.Admissible.{most_slots};
 ghost use Rattle.pagespec.specs.Faults.{first_fault_of, has_too_large};
 
@@ -50,7 +51,7 @@ fn too_large(modulo: u32, items: &[KeptItem]) -> bool
 }
 
 fn any_too_large(items: &[KeptItem]) -> bool
-    ensures { result ≡ list_any (λ i. nat_lt 99_999 i.page || i.modifiers.too_large) items.now }
+    ensures { result ≡ list_any (λ i. nat_lt greatest_whole i.page || i.modifiers.too_large) items.now }
 {
     items.iter().any(|i| MOST < i.page || i.modifiers.too_large)
 }

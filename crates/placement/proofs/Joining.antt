@@ -6,11 +6,16 @@ use Rattle.profile.specs.Papers.{Paper}
 use Rattle.profile.specs.Placement.{spaced}
 use Rattle.profile.specs.Output.{edge_text}
 
+pub scales_joined :
+    (o a b c d v1 v2 v3 : List ℕ) → v1 ≡ o ++ (codes "[" ++ a) → v2 ≡ v1 ++ (codes " " ++ b) → v3 ≡ v2 ++ (codes " " ++ c)
+    → v3 ++ (codes " " ++ d) ≡ o ++ (codes "[" ++ a ++ codes " " ++ b ++ codes " " ++ c ++ codes " " ++ d)
+scales_joined o a b c d v1 v2 v3 e1 e2 e3 = rw (e3, e2, e1) (simp append_assoc)
+
 pub matrix_joined :
-    (o a b c d x y v1 v2 v3 v4 v5 v6 : List ℕ) → v1 ≡ o ++ (codes "[" ++ a) → v2 ≡ v1 ++ (codes " " ++ b) → v3 ≡ v2 ++ (codes " " ++ c)
-    → v4 ≡ v3 ++ (codes " " ++ d) → v5 ≡ v4 ++ (codes " " ++ x) → v6 ≡ v5 ++ (codes " " ++ y)
-    → v6 ++ codes "]" ≡ o ++ (codes "[" ++ spaced (a ∷ b ∷ c ∷ d ∷ x ∷ y ∷ []) ++ codes "]")
-matrix_joined o a b c d x y v1 v2 v3 v4 v5 v6 e1 e2 e3 e4 e5 e6 = rw (e6, e5, e4, e3, e2, e1) (simp append_assoc)
+    (o a b c d x y v1 v2 v3 : List ℕ) → v1 ≡ o ++ (codes "[" ++ a ++ codes " " ++ b ++ codes " " ++ c ++ codes " " ++ d) → v2 ≡ v1 ++ (codes " " ++ x)
+    → v3 ≡ v2 ++ (codes " " ++ y)
+    → v3 ++ codes "]" ≡ o ++ (codes "[" ++ spaced (a ∷ b ∷ c ∷ d ∷ x ∷ y ∷ []) ++ codes "]")
+matrix_joined o a b c d x y v1 v2 v3 e1 e2 e3 = rw (e3, e2, e1) (simp append_assoc)
 
 edge_joined :
     (o w h v1 v2 v3 v4 : List ℕ) → v1 ≡ o ++ (codes "newpath 0 0 moveto " ++ w) → v2 ≡ v1 ++ (codes " 0 lineto " ++ w) → v3 ≡ v2 ++ (codes " " ++ h)
@@ -36,12 +41,13 @@ pub border_joined :
     → v3 ++ codes " stroke grestore\n" ≡ o ++ ((codes "gsave " ++ width ++ codes " setlinewidth " ++ edge ++ codes " stroke grestore") ++ 10 ∷ [])
 border_joined o width edge v1 v2 v3 e1 e2 e3 = rw (e3, e2, e1) (simp append_assoc)
 
+pub placing_joined :
+    (o matrix v1 v2 : List ℕ) → v1 ≡ o ++ codes "userdict /ImposeSave save put\nuserdict /showpage {} put\n" → v2 ≡ v1 ++ matrix
+    → v2 ++ codes " concat\n"
+    ≡ o ++ ((codes "userdict /ImposeSave save put" ++ 10 ∷ []) ++ (codes "userdict /showpage {} put" ++ 10 ∷ []) ++ ((matrix ++ codes " concat") ++ 10 ∷ []))
+placing_joined o matrix v1 v2 e1 e2 = rw (e2, e1) (simp append_assoc)
+
 pub opening_joined :
-    (o matrix edge border v1 v2 v3 v4 v5 : List ℕ) → v1 ≡ o ++ codes "userdict /ImposeSave save put\nuserdict /showpage {} put\n" → v2 ≡ v1 ++ matrix
-    → v3 ≡ v2 ++ codes " concat\n" → v4 ≡ v3 ++ edge → v5 ≡ v4 ++ codes " clip newpath\n"
-    → v5 ++ border
-    ≡ o
-    ++ ((codes "userdict /ImposeSave save put" ++ 10 ∷ []) ++ (codes "userdict /showpage {} put" ++ 10 ∷ []) ++ ((matrix ++ codes " concat") ++ 10 ∷ [])
-    ++ ((edge ++ codes " clip newpath") ++ 10 ∷ [])
-    ++ border)
-opening_joined o matrix edge border v1 v2 v3 v4 v5 e1 e2 e3 e4 e5 = rw (e5, e4, e3, e2, e1) (simp append_assoc)
+    (o placing edge border v1 v2 v3 : List ℕ) → v1 ≡ o ++ placing → v2 ≡ v1 ++ edge → v3 ≡ v2 ++ codes " clip newpath\n"
+    → v3 ++ border ≡ o ++ (placing ++ ((edge ++ codes " clip newpath") ++ 10 ∷ []) ++ border)
+opening_joined o placing edge border v1 v2 v3 e1 e2 e3 = rw (e3, e2, e1) (simp append_assoc)

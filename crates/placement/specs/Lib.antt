@@ -1,3 +1,4 @@
 pub mod Kept
 pub mod Matrices
+pub mod Fronts
 pub mod Printed

@@ -6,6 +6,7 @@ ghost use Rattle.profile.specs.Output.{Frame, edge_text, border_text, opening_te
 ghost use Rattle.pagespec.specs.Items.{item_of};
 ghost use Rattle.placement.specs.Kept.{Keeps};
 ghost use Rattle.placement.specs.Matrices.{numbers_of};
+ghost use Rattle.placement.specs.Fronts.{scales_text, placing_text};
 
 use super::matrix::Matrix;
 use super::place::matrix_of;
@@ -87,15 +88,25 @@ fn append_opening(
         OnErr result (vec_capacity out.old < vec_len out.old + length (opening frame (item_of item.now))) }
     ensures kept { Keeps out.old out.new }
 {
+    append_placing(item, paper, out)?;
+    append_edge(paper, out)?;
+    append_text(b" clip newpath\n", out)?;
+    append_border(paper, border, out)
+}
+
+/// The `save`, the `showpage` that does nothing, and the matrix.
+#[tactic(auto, using(crate::proofs::Keeping::keeps_more))]
+fn append_placing(item: &Item, paper: &Paper, out: &mut Vec<u8>) -> Result<(), AllocError>
+    ensures appended { OnOk result (out.new.items ≡ out.old.items ++ placing_text paper.now (item_of item.now)) }
+    ensures full { OnErr result (vec_capacity out.old < vec_len out.old + length (placing_text paper.now (item_of item.now))) }
+    ensures kept { Keeps out.old out.new }
+{
     append_text(
         b"userdict /ImposeSave save put\nuserdict /showpage {} put\n",
         out,
     )?;
     append_matrix(&matrix_of(item, paper), out)?;
-    append_text(b" concat\n", out)?;
-    append_edge(paper, out)?;
-    append_text(b" clip newpath\n", out)?;
-    append_border(paper, border, out)
+    append_text(b" concat\n", out)
 }
 
 #[tactic(auto, using(crate::proofs::Keeping::keeps_more))]
@@ -104,13 +115,23 @@ fn append_matrix(matrix: &Matrix, out: &mut Vec<u8>) -> Result<(), AllocError>
     ensures full { OnErr result (vec_capacity out.old < vec_len out.old + length (text_of (numbers_of matrix.now))) }
     ensures kept { Keeps out.old out.new }
 {
-    append_scale(b"[", matrix.a, out)?;
-    append_scale(b" ", matrix.b, out)?;
-    append_scale(b" ", matrix.c, out)?;
-    append_scale(b" ", matrix.d, out)?;
+    append_scales(matrix, out)?;
     append_points(b" ", matrix.tx, out)?;
     append_points(b" ", matrix.ty, out)?;
     append_text(b"]", out)
+}
+
+/// The opening bracket and the first four numbers.
+#[tactic(auto, using(crate::proofs::Keeping::keeps_more))]
+fn append_scales(matrix: &Matrix, out: &mut Vec<u8>) -> Result<(), AllocError>
+    ensures appended { OnOk result (out.new.items ≡ out.old.items ++ scales_text (numbers_of matrix.now)) }
+    ensures full { OnErr result (vec_capacity out.old < vec_len out.old + length (scales_text (numbers_of matrix.now))) }
+    ensures kept { Keeps out.old out.new }
+{
+    append_scale(b"[", matrix.a, out)?;
+    append_scale(b" ", matrix.b, out)?;
+    append_scale(b" ", matrix.c, out)?;
+    append_scale(b" ", matrix.d, out)
 }
 
 /// The line that draws a border, if there is one.

@@ -15,7 +15,7 @@ one_first : (b : ℕ) → b ≡ 49 → b ∷ [] ≢ 48 ∷ []
 one_first b one e = let first : b ≡ 48 = ap (λ xs. get_or xs 0 0) e in omega arith
 
 -- decimals with no zero at their end are those that are printed of their value
-decimals_same : (e : ℕ) (ds : List ℕ) → e < 64 → AllPass is_ascii_digit ds → length ds ≤ e → without_last_zeros ds ≡ ds
+pub decimals_same : (e : ℕ) (ds : List ℕ) → e < 64 → AllPass is_ascii_digit ds → length ds ≤ e → without_last_zeros ds ≡ ds
     → (decimals_value e ds < 10 ^ e) × (decimals_of e (decimals_value e ds) ≡ ds)
 decimals_same e ds small pass few stripped =
     let row : List ℕ = ds ++ replicate (e - length ds) 48 in

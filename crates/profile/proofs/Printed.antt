@@ -56,12 +56,12 @@ decimals_read e part h small =
     ∙ (ap (λ k. number_of (take k (without_last_zeros ds ++ replicate e 48))) (sym r.long) ∙ (ap number_of (padded ds e (omega (arith, r.long))) ∙ r.value))
 
 -- the decimals that are printed are digits, no more than there is room for
-decimals_pass : (e part : ℕ) → part < 10 ^ e → e < 64 → AllPass is_ascii_digit (decimals_of e part)
+pub decimals_pass : (e part : ℕ) → part < 10 ^ e → e < 64 → AllPass is_ascii_digit (decimals_of e part)
 decimals_pass e part h small =
     let (ds, r) = row e part h small in
     stripped_pass (drop 1 (decimal (10 ^ e + part))) (subst (AllPass is_ascii_digit) (sym (ap (drop 1) r.text)) r.pass)
 
-decimals_few : (e part : ℕ) → part < 10 ^ e → e < 64 → length (decimals_of e part) ≤ e
+pub decimals_few : (e part : ℕ) → part < 10 ^ e → e < 64 → length (decimals_of e part) ≤ e
 decimals_few e part h small =
     let (ds, r) = row e part h small in
     omega (arith, stripped_length (drop 1 (decimal (10 ^ e + part))), ap (λ xs. length (drop 1 xs)) r.text, r.long)

@@ -11,7 +11,7 @@ use Rattle.profile.proofs.Digits.{Writes, decimal_writes}
 no_zero : (b : ℕ) → 48 < b → (b == 48) ≡ false
 no_zero b h = grind (arith, common_steps)
 
-above_zero : (n : ℕ) → (suc n == 0) ≡ false
+pub above_zero : (n : ℕ) → (suc n == 0) ≡ false
 above_zero n = grind (arith, common_steps)
 
 -- nothing is lost of digits that begin with another one

@@ -6,9 +6,13 @@ use Rattle.std.specs.List.{range_with_len}
 use Rattle.profile.specs.Specification.{Spec}
 use Rattle.profile.specs.Sheets.{Slot, blocks, page_at, place, sheets, sheets_over}
 
+-- the most sides of a signature
+abbrev pub most_sides : ℕ
+most_sides = 1_000_000
+
 -- a number of sides that a signature may have: each leaf has four
 abbrev pub AreSides : ℕ → Type 0
-AreSides s = (0 < s) × (s % 4 ≡ 0) × (s ≤ 1_000_000)
+AreSides s = (0 < s) × (s % 4 ≡ 0) × (s ≤ most_sides)
 
 -- if a number of sides is given, it is one that a signature may have
 abbrev pub AreSidesIfGiven : Option ℕ → Type 0

@@ -80,8 +80,12 @@ fn read_from(alloc: Global, reader: impl Read + Drop) -> Result<Vec<u8>, ReadFau
     read_input(alloc, &mut source)
 }
 
-// How much of the output is written at once, in bytes, where sheets are smaller.
-const WRITTEN_AT_ONCE: usize = 65_536;
+// How much of the output is written at once, in bytes, if sheets are smaller.
+const WRITTEN_AT_ONCE: usize = 16_384;
+
+// A block of this many bytes is made and given back before the run. From then on the C library keeps blocks up to this size that
+// are given back, in place of handing them to the system and asking for new ones, which must be cleared.
+const KEPT_BLOCK: usize = 4_194_304;
 
 // Runs the request and flushes what it wrote.
 fn run_into<R: Threads + Wait + Sync>(
@@ -91,6 +95,8 @@ fn run_into<R: Threads + Wait + Sync>(
     input: &[u8],
     output: impl Write + Drop,
 ) -> Result<(u8, Vec<u8>), Fault> {
+    // Without it the run is only slower.
+    drop(Vec::<u8>::with_capacity(alloc, KEPT_BLOCK));
     let Ok(mut output) = BufWriter::with_capacity(alloc, WRITTEN_AT_ONCE, output) else {
         return Err(Fault::Run(RunError::NoMemory { written: 0 }));
     };

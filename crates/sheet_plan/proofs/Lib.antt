@@ -8,3 +8,5 @@ pub mod Counting
 pub mod Filling
 pub mod Listing
 pub mod Blanks
+pub mod Exact
+pub mod Examples

@@ -4,6 +4,7 @@ use Rattle.profile.specs.Specification.{Spec, Item}
 use Rattle.profile.specs.Admissible.{IsAdmissible, most_slots}
 use Rattle.profile.specs.Sheets.{Plan, sheets, layout}
 use Rattle.profile.specs.Signatures.{AreSidesIfGiven, sheets_in}
+use Rattle.profile.specs.Run.{most_pages, most_sheets, most_places}
 
 -- the plan of a specification on n pages
 abbrev pub planned : Spec → ℕ → Plan
@@ -36,9 +37,9 @@ needs_page plan s k = is_page (slice_get (pages_on plan s) k)
 
 -- the limits of every plan: a sheet has 1 to `most_slots` slots, and each slot that isn't blank has one of the plan's pages
 pub record IsSound (plan : Plan) : Type 0 where
-  pub few_pages : plan.pages ≤ 1_000_000
-  pub few_sheets : length plan.sheets ≤ 1_000_000
-  pub few_places : sum_by length plan.sheets ≤ 4_000_000
+  pub few_pages : plan.pages ≤ most_pages
+  pub few_sheets : length plan.sheets ≤ most_sheets
+  pub few_places : sum_by length plan.sheets ≤ most_places
   pub few_slots : (s : ℕ) → s < length plan.sheets → (0 < length (pages_on plan s)) × (length (pages_on plan s) ≤ most_slots)
   pub paged : (s k p : ℕ) → s < length plan.sheets → slice_get (pages_on plan s) k ≡ Some (Some p) → p < plan.pages
 

@@ -3,7 +3,7 @@ use Rattle.std.specs.Prelude.{◌≡◌, ℕ, ◌<◌, ◌≤◌, Ok, Err, lengt
 use Rattle.profile.specs.Specification.{Spec}
 use Rattle.profile.specs.Admissible.{IsAdmissible, most_slots}
 use Rattle.profile.specs.Signatures.{AreSidesIfGiven, row_len, sheets_in}
-use Rattle.profile.specs.Run.{plan_in, PlanTooManyPages}
+use Rattle.profile.specs.Run.{most_pages, most_sheets, most_places, plan_in, PlanTooManyPages}
 use Rattle.profile.specs.Run as profile
 use Rattle.sheet_plan.specs.declared.error.PlanError.{PlanError}
 use Rattle.sheet_plan.specs.declared.error.PlanError.TheVariants.{TooManyPages, TooManySheets, TooManyPlaces, NoMemory}
@@ -24,6 +24,6 @@ pub record IsAccepted (sides : Option ℕ) (spec : Spec) (n : ℕ) : Type 0 wher
   pub valid : AreSidesIfGiven sides
   pub admissible : IsAdmissible most_slots spec
   pub filled : All (λ g. 0 < length g) spec.groups
-  pub few_entries : row_len sides n ≤ 1_000_000
-  pub few_sheets : length (sheets_in sides spec n) ≤ 1_000_000
-  pub few_places : sum_by length (sheets_in sides spec n) ≤ 4_000_000
+  pub few_entries : row_len sides n ≤ most_pages
+  pub few_sheets : length (sheets_in sides spec n) ≤ most_sheets
+  pub few_places : sum_by length (sheets_in sides spec n) ≤ most_places

@@ -5,6 +5,7 @@ mod born;
 mod error;
 mod expansion;
 mod index;
+pub mod laws;
 mod placed;
 mod plan;
 mod row;

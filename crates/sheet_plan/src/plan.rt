@@ -9,6 +9,7 @@ ghost use Rattle.profile.specs.Signatures.{AreSides, AreSidesIfGiven, sheets_in}
 ghost use Rattle.pagespec.specs.Items.{item_of};
 ghost use Rattle.sheet_plan.specs.Plans.{planned, planned_in, pages_on, items_on, slot_groups, needs_page, IsSound, IsOfSpec};
 ghost use Rattle.sheet_plan.specs.Places.{places_of, born_complete};
+ghost use Rattle.sheet_plan.specs.Laws.{ArePlaces, AreWithoutPages};
 ghost use Rattle.sheet_plan.specs.Refusals.{Refuses, RefusesIn};
 
 use crate::born::born_complete;
@@ -167,6 +168,7 @@ impl<'s> Plan<'s> {
     pub fn slots_of_page(&self, page: u32) -> &[(u32, u16)]
         requires { page < self.now.pages }
         ensures value { result.now ≡ places_of (layout self.now) page }
+        ensures exact { ArePlaces (layout self.now) page result.now }
     {
         self.index.of_page(page)
     }
@@ -174,6 +176,7 @@ impl<'s> Plan<'s> {
     /// The sheets whose slots are all blank, ascending.
     pub fn born_complete(&self) -> &[u32]
         ensures value { result.now ≡ born_complete (layout self.now) }
+        ensures exact { AreWithoutPages (layout self.now) result.now }
     {
         self.born.as_slice()
     }

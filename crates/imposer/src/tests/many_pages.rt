@@ -78,9 +78,9 @@ fn gather_job<R: Threads + Wait + Abort + Sync>(
     requires workers { AreWorkers workers }
     requires countable { sink.old.failures < 10 }
 {
-    let (table, seat) = GatherTable::new(alloc, job.plan)?;
+    let (table, seat) = GatherTable::new(alloc, job.plan())?;
     let shelf = Shelf::new(alloc)?;
-    let (ready, pass) = Ready::new(alloc, job.sheets.max(1))?;
+    let (ready, pass) = Ready::new(alloc, job.sheets().max(1))?;
     let Gathered {
         outcome,
         unshelved,

@@ -1,10 +1,9 @@
-//! Sinks that fail, and one that takes a byte a call, beside one worker of each kind and beside several; and a writer as a sink.
+//! Sinks that fail, and one that takes a byte a call, beside one worker of each kind and beside several.
 ghost use Rattle.std.specs.Prelude.{◌<◌};
 
 use super::{ONE_PAGE, ONE_SHEET, workers};
-use crate::{MemorySink, Open, Report, RunError, Sink, SinkFault, WriteSink, run};
+use crate::{MemorySink, Open, Report, RunError, run};
 use std::alloc::Global;
-use std::io::{self, ErrorKind, Write};
 use std::process::Abort;
 use std::sync::Wait;
 use std::test::Fail;
@@ -51,53 +50,5 @@ fn a_sink_may_take_one_byte_a_call(rt: HostRuntime) -> Result<(), Fail> {
         let (taken, answer) = copy_page(&rt, rt.alloc(), counts, sink);
         assert_eq!(rt; (taken, answer?.bytes), (273, 273));
     }
-    Ok(())
-}
-
-#[test]
-fn a_sink_that_has_answered_its_calls_fails(rt: HostRuntime) -> Result<(), Fail> {
-    let mut sink = MemorySink::new(rt.alloc(), 2, 1, 1)?;
-    assert_eq!(rt; sink.accept(b"xy"), Ok(1));
-    assert!(rt; sink.accept(b"y").is_err());
-    Ok(())
-}
-
-// A writer whose calls are counted, and all fail for this cause.
-#[derive(Drop)]
-struct Failing {
-    cause: ErrorKind,
-    calls: usize,
-}
-
-impl Write for Failing {
-    fn write(&mut self, _bytes: &[u8]) -> io::Result<usize> {
-        self.calls = self.calls.saturating_add(1);
-        Err(io::Error::from(self.cause))
-    }
-
-    fn flush(&mut self) -> io::Result<()> {
-        Ok(())
-    }
-}
-
-#[test]
-fn a_writer_that_fails_is_asked_once(rt: HostRuntime) {
-    for cause in [ErrorKind::StorageFull, ErrorKind::Interrupted] {
-        let mut writer = Failing { cause, calls: 0 };
-        let mut sink = WriteSink::new(&mut writer);
-        assert_eq!(rt; sink.accept(b"abc"), Err(SinkFault {}));
-        drop(sink);
-        assert_eq!(rt; writer.calls, 1);
-    }
-}
-
-#[test]
-fn a_writer_that_is_full_fails(rt: HostRuntime) -> Result<(), Fail> {
-    let mut place = [0u8; 3];
-    let mut sink = WriteSink::new(place.as_mut_slice());
-    assert_eq!(rt; sink.accept(b"abcd"), Ok(3));
-    assert_eq!(rt; sink.accept(b"d"), Err(SinkFault {}));
-    drop(sink);
-    assert_eq!(rt; place.as_slice(), b"abc".as_slice());
     Ok(())
 }

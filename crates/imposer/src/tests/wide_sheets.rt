@@ -94,8 +94,8 @@ fn deliver_filling<'d, R: Wait + Abort>(
         table,
         shelf,
         ready,
-        job.plan,
-        job.document,
+        job.plan(),
+        job.document(),
         0,
     )?;
     assert_fills(rt, &delivered);
@@ -128,8 +128,8 @@ fn deliver_repeating<'d, R: Wait + Abort>(
         table,
         shelf,
         ready,
-        job.plan,
-        job.document,
+        job.plan(),
+        job.document(),
         0,
     )?;
     assert_eq!(rt; delivered.published, Published::Held(index));
@@ -152,12 +152,12 @@ fn complete_by_closing<'d, R: Wait + Abort>(
     requires pass { IsPassOf ready.now pass.old }
     requires plan { table.now.layout ≡ layout job.now.plan }
 {
-    assert_eq!(rt; look_at(table, job.plan, seat, 0), Some(3));
+    assert_eq!(rt; look_at(table, job.plan(), seat, 0), Some(3));
     let index = deliver_filling(rt, alloc, seat, pass, table, shelf, ready, job)?;
     assert_eq!(rt; ready.take(rt, pass), Some(0));
     deliver_repeating(rt, alloc, seat, pass, table, shelf, ready, job, index)?;
     assert_eq!(rt; ready.take(rt, pass), None);
-    assert!(rt; 0 < job.plan.sheets());
+    assert!(rt; 0 < job.plan().sheets());
     assert!(rt; is_complete(seat, table, 0));
     let imposed = impose(alloc, seat, job, table, shelf, 0)?;
     let text = sheet_text(alloc, job, 0)?;

@@ -5,11 +5,7 @@ use Rattle.dsc.proofs.filters.filter_header.Goals as goal
 
 pub unreachable-requires : goal.unreachable-requires
 unreachable-requires c =
-    no_fault _ _ _ (header_found c.args.front.items c.args.text.now c.requires) (rw c.in-Err-BadCount.field-0-is at c.in-Err-BadCount.ensures)
-
-pub unreachable-requires-in-Err-ShortData : goal.unreachable-requires-in-Err-ShortData
-unreachable-requires-in-Err-ShortData c =
-    no_fault _ _ _ (header_found c.args.front.items c.args.text.now c.requires) (rw c.in-Err-ShortData.field-0-is at c.in-Err-ShortData.ensures)
+    no_fault _ _ _ (header_found c.args.front.items c.args.text.now c.requires) (rw c.in-Err-Faulty.field-0-is at c.in-Err-Faulty.ensures)
 
 pub returns-in-Ok : goal.returns-in-Ok
 returns-in-Ok c =

@@ -1,5 +1,5 @@
 use Rattle.std.proofs.Common.{rules, ◌∙◌, subst, sym}
-use Rattle.imposer.specs.Collecting.{GoesOn}
+use Rattle.sheet_writer.specs.Writing.{GoesOn}
 use Rattle.imposer.proofs.collector.take_all.Goals as goal
 use Rattle.imposer.proofs.collector.take_all.Goals.{in-None, in-Some+then-not-take_turn}
 

@@ -1,7 +1,7 @@
 use Rattle.std.proofs.Common.{◌≡◌, None}
 use Rattle.crossbeam_channel.specs.Claims.{IsSeatAt}
 use Rattle.crossbeam_channel.specs.Ends.{receives_on}
-use Rattle.imposer.specs.Collecting.{GoesOn, AreEarly}
+use Rattle.sheet_writer.specs.Writing.{GoesOn, AreEarly}
 use Rattle.imposer.proofs.collector.take_all.Given as goal
 
 abbrev pub invariant-loop : goal.invariant-loop
@@ -13,5 +13,5 @@ invariant-loop g l = record {
   same : l.state.sink.ghost_name ≡ l.initial.state.sink.ghost_name;
   goes_on : GoesOn l.input.job.now (g.S.Sink.told l.initial.state.sink.now) (g.S.Sink.told l.state.sink.now) (g.S.Sink.failures l.initial.state.sink.now) (g.S.Sink.failures l.state.sink.now) l.initial.state.progress l.state.progress;
   steady : g.S.Sink.failures l.state.sink.now ≡ g.S.Sink.failures l.initial.state.sink.now;
-  early : AreEarly l.input.job.now l.state.early.now.items;
+  early : AreEarly l.input.job.now l.state.early.now.places.items;
 }

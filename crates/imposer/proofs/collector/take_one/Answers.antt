@@ -1,5 +1,4 @@
 use Rattle.std.proofs.Common.{arith, suc, ◌∙◌}
-use Rattle.imposer.proofs.Fronts.{early_filled}
 use Rattle.imposer.proofs.collector.take_one.Goals as goal
 
 pub try_recv_as-requires-clause-rule : goal.try_recv_as-requires-clause-rule
@@ -7,4 +6,4 @@ try_recv_as-requires-clause-rule g c = ((λ x items views h at. (tt, (λ k d bel
 
 pub write_early-state-requires-clause-early : goal.write_early-state-requires-clause-early
 write_early-state-requires-clause-early g c =
-    early_filled c.args.job.now _ c.in-Ok.done.sheet c.in-Ok.done.text (c.in-Ok.ensures.rule ∙ c.requires.texts c.in-Ok.done.sheet) c.requires.early
+    c.put.ensures c.args.job.now (c.in-Ok.ensures.rule ∙ c.requires.texts c.in-Ok.done.sheet) c.requires.early

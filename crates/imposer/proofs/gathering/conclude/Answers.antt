@@ -1,5 +1,5 @@
 use Rattle.std.proofs.Common.{rules, Some, inl, subst}
-use Rattle.imposer.specs.Collecting.{EndsAt}
+use Rattle.sheet_writer.specs.Writing.{EndsAt}
 use Rattle.imposer.proofs.gathering.conclude.Goals as goal
 
 pub returns-in-None-clause-ended : goal.returns-in-None-clause-ended

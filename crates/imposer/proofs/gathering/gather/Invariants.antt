@@ -1,4 +1,4 @@
-use Rattle.imposer.specs.Jobs.{text_of}
+use Rattle.sheet_text.specs.Jobs.{text_of}
 use Rattle.imposer.proofs.gathering.gather.Given as goal
 
 abbrev pub ghosts-gather_as : goal.ghosts-gather_as

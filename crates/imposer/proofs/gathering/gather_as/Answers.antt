@@ -2,7 +2,6 @@ use Rattle.std.proofs.Common.{rules, ◌≡◌, ◌≤◌, ◌∙◌, sym, subst
 use Rattle.histories.specs.Seats.{whole_share, times}
 use Rattle.profile.specs.Sheets.{layout}
 use Rattle.handover.specs.Shelves.{IsOn}
-use Rattle.sheet_plan.specs.Plans.{IsSound}
 use Rattle.sheet_plan.specs.Places.{born_complete}
 use Rattle.imposer.specs.Tokens as tokens
 use Rattle.imposer.specs.declared.tokens.Tokens.{Tokens}
@@ -38,10 +37,10 @@ returns-clause-whole g c =
     let state = c.gather_by-state.result in
     let last = c.finish-gathered.new.state in
     let put = c.put_blank_sheets.ensures.put in
-    let born : c.born_complete.result.now ≡ born_complete table.layout = c.born_complete.ensures.value ∙ ap (λ j. born_complete (layout j.plan)) c.job.view_is ∙ ap born_complete (sym c.args.shared.now.same_plan) in
+    let born : c.born_complete.result.now ≡ born_complete table.layout = c.born_complete.ensures.value ∙ ap (λ p. born_complete (layout p)) c.plan.ensures.value ∙ ap born_complete (sym c.args.shared.now.same_plan) in
     let first : Tokens = record { seat = c.args.tokens.seat; pass = c.put_blank_sheets.new.pass } in
     gathered_whole job (g.S.Sink.told state.sink.now) (g.S.Sink.told last.sink.now) (g.S.Sink.failures state.sink.now) (g.S.Sink.failures last.sink.now) state.progress table c.args.shared.now.ready.now first c.gather_by-state.new.ended c.finish-gathered.result
-    (table_has_pages job.plan table (subst (λ j. IsSound j.plan) c.job.view_is c.job.invariant.2) c.args.shared.now.same_plan)
+    (table_has_pages job.plan table c.plan.ensures.sound c.args.shared.now.same_plan)
     (λ s. subst (λ xs. tokens.put s first ≤ times s xs) born (started_puts s c.args.shared.now.ready.now c.born_complete.result.now put.0 c.args.tokens first c.requires.tokens.1 put.1))
     c.gather_by-state.ensures.tokens c.gather_by-state.ensures.done c.gather_by-state.ensures.put c.finish-gathered.ensures.ended c.finish-gathered.ensures.missing
 

@@ -5,6 +5,6 @@ use Rattle.imposer.proofs.gathering.put_blank_sheets.Given as goal
 
 abbrev pub invariant-loop-k : goal.invariant-loop-k
 invariant-loop-k g l = record {
-  pass : IsPassOf l.ready l.pass;
-  put : (back : List ℕ) × HandedOn l.ready (take l.k l.sheets) back l.initial.pass l.pass;
+  pass : IsPassOf l.shared.ready.now l.pass;
+  put : (back : List ℕ) × HandedOn l.shared.ready.now (take l.k l.sheets) back l.initial.pass l.pass;
 }

@@ -1,25 +1,21 @@
-use Rattle.std.proofs.Common.{[], ap, sym, ◌++◌, ◌∙◌}
-use Rattle.std.specs.Prelude.{slice_index_or}
-use Rattle.profile.specs.Parts.{pages}
+use Rattle.std.proofs.Common.{ap, ◌++◌, ◌∙◌}
 use Rattle.profile.specs.Output.{opening_text, closing_text}
-use Rattle.imposer.specs.Jobs.{JobView}
 use Rattle.imposer.proofs.imposition.append_shelved.Goals as goal
-use Rattle.imposer.proofs.LookUps.{has_index, page_in}
-use Rattle.imposer.proofs.Slots.{slot_placed}
+use Rattle.imposer.proofs.LookUps.{has_index, page_in, same_job}
+use Rattle.sheet_text.proofs.Slots.{slot_placed}
 
 pub find_shelved-requires-clause-index : goal.find_shelved-requires-clause-index
 find_shelved-requires-clause-index c =
-    has_index _ _ c.args.table.now.layout c.args.seat.now c.args.sheet c.args.slot _ _ c.job.view_is c.requires.table c.requires.seat.1 c.share.ensures.seat c.requires.complete c.page_of.ensures.value c.in-Some.is
+    has_index _ _ c.args.table.now.layout c.args.seat.now c.args.sheet c.args.slot _ _ (same_job c.args.job.now c.plan.result.now c.plan.ensures.value) c.requires.table c.requires.seat.1 c.share.ensures.seat c.requires.complete c.page_of.ensures.value c.in-Some.is
 
 pub returns-in-Ok-append_placed-clause-text : goal.returns-in-Ok-append_placed-clause-text
 returns-in-Ok-append_placed-clause-text c = λ it at.
-    let raw_is = c.in-Ok.ensures.raw ∙ ap (λ (j : JobView). slice_index_or (pages j.units) c.in-Some.page []) (sym c.job.view_is) in
     c.in-Ok-append_placed.ensures it at
     ∙ ap (λ b. c.args.text.now.items ++ (opening_text c.args.job.now.frame it.item ++ b ++ closing_text)) c.body.ensures.body
-    ∙ ap (λ t. c.args.text.now.items ++ t) (slot_placed _ _ c.args.sheet c.args.slot _ _ it _ _ c.job.view_is c.page_of.ensures.value c.in-Some.is raw_is c.in-Ok.ensures.prepared at)
+    ∙ ap (λ t. c.args.text.now.items ++ t) (slot_placed _ _ c.args.sheet c.args.slot _ _ it _ _ (same_job c.args.job.now c.plan.result.now c.plan.ensures.value) c.page_of.ensures.value c.in-Some.is c.in-Ok.ensures.raw c.in-Ok.ensures.prepared at)
 
 pub returns-in-Err-clause-has_page : goal.returns-in-Err-clause-has_page
-returns-in-Err-clause-has_page c = (c.in-Some.page, page_in _ _ c.args.sheet c.args.slot _ _ c.job.view_is c.page_of.ensures.value c.in-Some.is)
+returns-in-Err-clause-has_page c = (c.in-Some.page, page_in _ _ c.args.sheet c.args.slot _ _ (same_job c.args.job.now c.plan.result.now c.plan.ensures.value) c.page_of.ensures.value c.in-Some.is)
 
 pub returns-in-Err-append_placed-clause-has_page : goal.returns-in-Err-append_placed-clause-has_page
-returns-in-Err-append_placed-clause-has_page c = (c.in-Some.page, page_in _ _ c.args.sheet c.args.slot _ _ c.job.view_is c.page_of.ensures.value c.in-Some.is)
+returns-in-Err-append_placed-clause-has_page c = (c.in-Some.page, page_in _ _ c.args.sheet c.args.slot _ _ (same_job c.args.job.now c.plan.result.now c.plan.ensures.value) c.page_of.ensures.value c.in-Some.is)

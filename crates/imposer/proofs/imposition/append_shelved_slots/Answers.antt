@@ -2,8 +2,8 @@ use Rattle.std.proofs.Common.{arith, ◌+◌, ◌≡◌, length, take, sym, appe
 use Rattle.gather_table.specs.Table.{slots}
 use Rattle.imposer.specs.LookUps.{needed}
 use Rattle.imposer.proofs.imposition.append_shelved_slots.Goals as goal
-use Rattle.imposer.proofs.LookUps.{still_seat, still_complete, looks_none, looks_on, looks_some, looks_done}
-use Rattle.imposer.proofs.Slots.{slots_turn}
+use Rattle.imposer.proofs.LookUps.{still_seat, still_complete, looks_none, looks_on, looks_some, looks_done, same_job}
+use Rattle.sheet_text.proofs.Slots.{slots_turn}
 
 pub append_shelved-requires-clause-seat : goal.append_shelved-requires-clause-seat
 append_shelved-requires-clause-seat c = still_seat _ _ _ _ c.requires.seat c.loop-slot.invariant.looked_up.made
@@ -16,7 +16,7 @@ loop-slot-init c = record { text = sym (append-nil _); looked_up = looks_none _ 
 
 pub loop-slot-preserved : goal.loop-slot-preserved
 loop-slot-preserved c = record {
-  text = slots_turn _ _ c.args.sheet c.loop-slot.slot _ _ _ _ c.job.view_is c.slots-slot-end.ensures.value c.loop-slot-test.true c.loop-slot.invariant.text c.in-Ok.ensures.text;
+  text = slots_turn _ _ c.args.sheet c.loop-slot.slot _ _ _ _ (same_job c.args.job.now c.plan-plan.result.now c.plan-plan.ensures.value) c.slots-slot-end.ensures.value c.loop-slot-test.true c.loop-slot.invariant.text c.in-Ok.ensures.text;
   looked_up = looks_on c.args.job.now c.args.table.now.layout _ _ _ c.args.sheet c.loop-slot.slot c.requires.table c.loop-slot.invariant.looked_up c.append_shelved.ensures.looked_up;
 }
 
@@ -30,4 +30,4 @@ returns-in-Err-clause-looked_up c = (
 pub returns-clause-looked_up : goal.returns-clause-looked_up
 returns-clause-looked_up c =
     let last : c.loop-slot.slot ≡ c.slots-slot-end.result = omega arith in
-    looks_done _ c.args.job.now c.args.table.now.layout _ _ c.args.sheet c.loop-slot.slot c.slots-slot-end.result c.job.view_is c.requires.table c.slots-slot-end.ensures.value last c.loop-slot.invariant.looked_up
+    looks_done _ c.args.job.now c.args.table.now.layout _ _ c.args.sheet c.loop-slot.slot c.slots-slot-end.result (same_job c.args.job.now c.plan-plan.result.now c.plan-plan.ensures.value) c.requires.table c.slots-slot-end.ensures.value last c.loop-slot.invariant.looked_up

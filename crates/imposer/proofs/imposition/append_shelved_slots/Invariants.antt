@@ -1,6 +1,6 @@
 use Rattle.std.proofs.Common.{◌≡◌, ◌++◌, length, take}
 use Rattle.gather_table.specs.Table.{slots}
-use Rattle.imposer.specs.Jobs.{slots_of, slots_text}
+use Rattle.sheet_text.specs.Jobs.{slots_of, slots_text}
 use Rattle.imposer.specs.LookUps.{needed, pages_of, LooksUp}
 use Rattle.imposer.proofs.imposition.append_shelved_slots.Given as goal
 

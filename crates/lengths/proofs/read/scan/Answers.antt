@@ -28,14 +28,14 @@ capped-points-requires c = whole_pass c.args.bytes.now (cut (goal.at.capped-poin
 pub nine-requires : goal.nine-requires
 nine-requires c = fraction_pass c.args.bytes.now (cut (goal.at.nine-requires c).After-split_decimals)
 
-pub returns-then-points-eq100000-clause-refused : goal.returns-then-points-eq100000-clause-refused
-returns-then-points-eq100000-clause-refused c =
-    let large : 100_000 ≤ number_of c.split_digits.result.0.now = omega (arith, c.capped-points.ensures, c.if-points-eq100000.true) in
-    let found = scan_some c.args.bytes.now (cut (goal.at.returns-then-points-eq100000-clause-refused c).After-split_decimals) (λ e. c.if-whole-decimals-eq0.false e) in
+pub returns-then-points-eq-LEAST_LARGE-clause-refused : goal.returns-then-points-eq-LEAST_LARGE-clause-refused
+returns-then-points-eq-LEAST_LARGE-clause-refused c =
+    let large : 100_000 ≤ number_of c.split_digits.result.0.now = omega (arith, c.capped-points.ensures, c.if-points-eq-LEAST_LARGE.true) in
+    let found = scan_some c.args.bytes.now (cut (goal.at.returns-then-points-eq-LEAST_LARGE-clause-refused c).After-split_decimals) (λ e. c.if-whole-decimals-eq0.false e) in
     (omega arith, _, large_value c.split_sign-negative.result.0 c.split_digits.result.0.now c.split_decimals.result.0.now large, found.1)
 
 pub returns-clause-found : goal.returns-clause-found
 returns-clause-found c =
-    let points : c.capped-points.result ≡ number_of c.split_digits.result.0.now = omega (arith, c.capped-points.ensures, c.if-points-eq100000.false) in
+    let points : c.capped-points.result ≡ number_of c.split_digits.result.0.now = omega (arith, c.capped-points.ensures, c.if-points-eq-LEAST_LARGE.false) in
     let found = scan_some c.args.bytes.now (cut (goal.at.returns-clause-found c).After-split_decimals) (λ e. c.if-whole-decimals-eq0.false e) in
     put_together c.args.bytes.now _ c.split_digits.result.0.now c.split_decimals.result.0.now c.split_sign-negative.result.0 _ _ _ found.1 points c.nine.ensures.value c.of_parts.ensures.value

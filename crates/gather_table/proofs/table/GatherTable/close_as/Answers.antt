@@ -4,10 +4,9 @@ use Rattle.profile.specs.Sheets.{Layout, layout as layout_of}
 use Rattle.gather_table.specs.Table.{HasGroup, IsClosable}
 use Rattle.gather_table.specs.Homes.{IsHome}
 use Rattle.gather_table.specs.History.{after_history, IsLegal}
-use Rattle.gather_table.specs.Plays.{close_of}
+use Rattle.gather_table.specs.Steps.{close_of}
 use Rattle.gather_table.proofs.Sheets.{close_moves, or_at, close_told, few_groups, wide_room}
-use Rattle.histories.proofs.Alone.{stands_after}
-use Rattle.gather_table.proofs.Views.{made}
+use Rattle.histories.proofs.Views.{made, stands_after}
 use Rattle.gather_table.proofs.table.GatherTable.close_as.Goals as goal
 
 pub fetch_or-found-requires : goal.fetch_or-found-requires
@@ -15,7 +14,7 @@ fetch_or-found-requires g c =
     let ours = ap (λ t. t.table) c.seat.view_is ∙ c.requires.seat.0 ∙ sym (ap (λ t. t.table) c.self.view_is) in
     let same = ap (λ t. t.layout) c.self.view_is in
     let layout = layout_of c.self.inside.table.shared.key in
-    let may : IsClosable layout (after_history layout c.seat.inside.seat.me.0.mine.front) c.args.sheet c.args.group =
+    let may : IsClosable layout (after_history layout c.seat.inside.token.me.0.front) c.args.sheet c.args.group =
     subst (λ (f : _). IsClosable layout (after_history layout f) c.args.sheet c.args.group) (sym (ap (λ t. t.front) c.seat.view_is))
     (subst (λ (p : Layout). IsClosable p (after_history p c.args.seat.now.front) c.args.sheet c.args.group) (sym same) c.requires.group) in
     let has = may.group in
@@ -40,7 +39,7 @@ returns g c =
     let full = c.full_bits-groups.ensures ∙ ap (λ (n : _). 2 ^ n - 1) (c.from.ensures ∙ c.group_count.ensures) ∙ ap (λ (n : _). 2 ^ ((n + 63) / 64) - 1) home.slots in
     let most = few_groups layout c.self.invariant.sound.narrow c.args.sheet has.sheet in
     let low = has.group in
-    made _ _ _ _ _ _ _ c.fetch_or-found.ensures.2.1 c.seat.invariant.1.held c.fetch_or-found.ensures.0
+    made IsLegal _ _ _ _ _ _ _ c.fetch_or-found.ensures.2.1 c.seat.invariant.1.held c.fetch_or-found.ensures.0
     (ap (λ (f : _). f c.fetch_or-found.result) (c.requires.entry ∙ ap (λ (p : Layout). close_of p c.args.sheet c.args.group) (sym same))
     ∙ close_told layout c.args.sheet c.args.group c.fetch_or-found.result _ c.full_bits-groups.result c.reply_by.result c.closing_by.result full (one_shl c.args.group 64 (omega arith)) c.reply_by.ensures c.closing_by.ensures)
     c.seat.view_is

@@ -1,4 +1,4 @@
-use Rattle.gather_table.specs.Plays.{close_of}
+use Rattle.gather_table.specs.Steps.{close_of}
 use Rattle.gather_table.proofs.table.GatherTable.close_group.Given as goal
 
 abbrev pub ghosts-close_as : goal.ghosts-close_as

@@ -1,31 +1,31 @@
-use Rattle.std.proofs.Common.{refl, arith, sym, ap, ◌∙◌}
-use Rattle.gather_table.proofs.Seats.{some_word, splits}
+use Rattle.std.proofs.Common.{refl, arith, sym, ap, ◌∙◌, []}
 use Rattle.histories.specs.Seats.{keeps_back, given}
-use Rattle.histories.proofs.Alone.{stands_kept, stands_given}
+use Rattle.histories.proofs.Views.{stands_kept, stands_given}
 use Rattle.gather_table.specs.History.{IsLegal}
+use Rattle.gather_table.proofs.RuleKept.{some_word, splits}
 use Rattle.gather_table.proofs.table.GatherTable.cut.Goals as goal
 
-pub split_seat-new-requires : goal.split_seat-new-requires
-split_seat-new-requires g c =
+pub split_seat-token-requires : goal.split_seat-token-requires
+split_seat-token-requires g c =
     let ours = ap (λ t. t.table) c.seat.view_is ∙ c.requires.seat.0 ∙ sym (ap (λ t. t.table) c.self.view_is) in
     let share = ap (λ t. t.share) c.seat.view_is in
     let all = c.requires.share in
-    let give = c.requires.give in
+    let number = c.requires.number in
     let room = some_word c.self.invariant in
-    (ours, room, splits _ _ c.seat.inside.seat.me.0 _ (omega arith) (omega arith))
+    (ours, room, splits _ _ c.seat.inside.token.me.0 _ [] _ (λ x. omega arith) (omega arith) (omega arith))
 
 pub invariant_of-seat : goal.invariant_of-seat
 invariant_of-seat g c =
     let share = ap (λ t. t.share) c.seat.view_is in
     let all = c.requires.share in
-    let me = c.seat.inside.seat.me in
-    let kept = ap (λ p. p.0) c.split_seat-new.ensures.2 ∙ ap (λ n. keeps_back n me.0) (sym c.requires.give) in
-    (ap (λ p. p.1) c.split_seat-new.ensures.2 ∙ c.seat.invariant.0, stands_kept IsLegal me.0 _ _ _ c.args.give kept all.0 (omega arith) refl c.seat.invariant.1)
+    let me = c.seat.inside.token.me in
+    let kept = ap (λ p. p.0) c.split_seat-token.ensures.2 ∙ ap (λ n. keeps_back me.0.own n me.0) c.requires.number in
+    (ap (λ p. p.1) c.split_seat-token.ensures.2 ∙ c.seat.invariant.0, stands_kept IsLegal me.0 _ _ _ c.args.give kept all.0 (omega arith) refl c.seat.invariant.1)
 
 pub invariant_of-result : goal.invariant_of-result
 invariant_of-result g c =
     let share = ap (λ t. t.share) c.seat.view_is in
     let all = c.requires.share in
-    let me = c.seat.inside.seat.me in
-    let got = ap (λ p. p.0) c.split_seat-new.ensures.4 ∙ ap (λ n. given n me.0) (sym c.requires.give) in
-    (ap (λ p. p.1) c.split_seat-new.ensures.4, stands_given IsLegal me.0 _ _ c.args.give got all.0 (omega arith) c.seat.invariant.1)
+    let me = c.seat.inside.token.me in
+    let got = ap (λ p. p.0) c.split_seat-token.ensures.4 ∙ ap (λ n. given [] n me.0) c.requires.number in
+    (ap (λ p. p.1) c.split_seat-token.ensures.4, stands_given IsLegal me.0 _ _ c.args.give got all.0 (omega arith) c.seat.invariant.1)

@@ -1,4 +1,4 @@
-use Rattle.gather_table.specs.Plays.{look_of, wide_look_of}
+use Rattle.gather_table.specs.Steps.{look_of, wide_look_of}
 use Rattle.gather_table.proofs.table.GatherTable.look.Given as goal
 
 abbrev pub ghosts-look_wide : goal.ghosts-look_wide

@@ -3,10 +3,9 @@ use Rattle.profile.specs.Sheets.{Layout, layout as layout_of}
 use Rattle.gather_table.specs.Table.{HasGroup}
 use Rattle.gather_table.specs.Homes.{IsHome}
 use Rattle.gather_table.specs.History.{IsLegal}
-use Rattle.gather_table.specs.Plays.{look_group_of}
+use Rattle.gather_table.specs.Steps.{look_group_of}
 use Rattle.gather_table.proofs.Sheets.{look_group_moves, load_at, look_group_told, wide_room}
-use Rattle.histories.proofs.Alone.{stands_after}
-use Rattle.gather_table.proofs.Views.{made}
+use Rattle.histories.proofs.Views.{made, stands_after}
 use Rattle.gather_table.proofs.table.GatherTable.look_group_as.Goals as goal
 
 pub load-found-requires : goal.load-found-requires
@@ -29,7 +28,7 @@ returns g c =
     let home : IsHome layout c.args.sheet c.index-home.result.now = subst (IsHome layout c.args.sheet) (sym c.index-home.ensures) (c.self.invariant.homes_are c.args.sheet _ has.sheet) in
     let size = c.group_size.ensures ∙ ap (λ (n : _). if nat_lt (64 * c.args.group + 64) n then 64 else n - 64 * c.args.group) home.slots in
     let full = c.full_bits-full.ensures ∙ ap (λ (n : _). 2 ^ n - 1) size in
-    made _ _ _ _ _ _ _ c.load-found.ensures.2.1 c.seat.invariant.1.held c.load-found.ensures.0
+    made IsLegal _ _ _ _ _ _ _ c.load-found.ensures.2.1 c.seat.invariant.1.held c.load-found.ensures.0
     (ap (λ (f : _). f c.load-found.result) (c.requires.entry ∙ ap (λ (p : Layout). look_group_of p c.args.sheet c.args.group) (sym same))
     ∙ look_group_told layout c.args.sheet c.args.group c.load-found.result c.full_bits-full.result full)
     c.seat.view_is

@@ -3,11 +3,10 @@ use Rattle.profile.specs.Sheets.{Layout, layout as layout_of}
 use Rattle.gather_table.specs.Table.{is_wide}
 use Rattle.gather_table.specs.Homes.{IsHome}
 use Rattle.gather_table.specs.History.{IsLegal}
-use Rattle.gather_table.specs.Plays.{look_of}
+use Rattle.gather_table.specs.Steps.{look_of}
 use Rattle.gather_table.proofs.Lanes.{lane_below}
 use Rattle.gather_table.proofs.Sheets.{look_moves, load_at, look_told}
-use Rattle.histories.proofs.Alone.{stands_after}
-use Rattle.gather_table.proofs.Views.{made}
+use Rattle.histories.proofs.Views.{made, stands_after}
 use Rattle.gather_table.proofs.table.GatherTable.look_narrow.Goals as goal
 
 pub load-found-requires : goal.load-found-requires
@@ -31,7 +30,7 @@ returns g c =
     let kind : is_wide layout c.args.sheet ≡ false = subst (λ (p : Layout). is_wide p c.args.sheet ≡ false) (sym same) c.requires.narrow in
     let home : IsHome layout c.args.sheet c.index-home.result.now = subst (IsHome layout c.args.sheet) (sym c.index-home.ensures) (c.self.invariant.homes_are c.args.sheet _ below) in
     let full = c.full_bits-full.ensures ∙ ap (λ (n : _). 2 ^ n - 1) home.slots in
-    made _ _ _ _ _ _ _ c.load-found.ensures.2.1 c.seat.invariant.1.held c.load-found.ensures.0
+    made IsLegal _ _ _ _ _ _ _ c.load-found.ensures.2.1 c.seat.invariant.1.held c.load-found.ensures.0
     (ap (λ (f : _). f c.load-found.result) (c.requires.entry ∙ ap (λ (p : Layout). look_of p c.args.sheet) (sym same))
     ∙ look_told layout c.args.sheet c.load-found.result c.full_bits-full.result c.index-home.result.now.first (home.lane kind).1 full)
     c.seat.view_is

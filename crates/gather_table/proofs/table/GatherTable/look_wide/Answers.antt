@@ -3,10 +3,9 @@ use Rattle.profile.specs.Sheets.{Layout, layout as layout_of}
 use Rattle.gather_table.specs.Table.{is_wide}
 use Rattle.gather_table.specs.Homes.{IsHome}
 use Rattle.gather_table.specs.History.{IsLegal}
-use Rattle.gather_table.specs.Plays.{wide_look_of}
+use Rattle.gather_table.specs.Steps.{wide_look_of}
 use Rattle.gather_table.proofs.Sheets.{wide_look_moves, load_at, wide_look_told, wide_room}
-use Rattle.histories.proofs.Alone.{stands_after}
-use Rattle.gather_table.proofs.Views.{made}
+use Rattle.histories.proofs.Views.{made, stands_after}
 use Rattle.gather_table.proofs.table.GatherTable.look_wide.Goals as goal
 
 pub load-found-requires : goal.load-found-requires
@@ -30,7 +29,7 @@ returns g c =
     let kind : is_wide layout c.args.sheet ≡ true = subst (λ (p : Layout). is_wide p c.args.sheet ≡ true) (sym same) c.requires.wide in
     let home : IsHome layout c.args.sheet c.index-home.result.now = subst (IsHome layout c.args.sheet) (sym c.index-home.ensures) (c.self.invariant.homes_are c.args.sheet _ below) in
     let full = c.full_bits-groups.ensures ∙ ap (λ (n : _). 2 ^ n - 1) (c.from.ensures ∙ c.group_count.ensures) ∙ ap (λ (n : _). 2 ^ ((n + 63) / 64) - 1) home.slots in
-    made _ _ _ _ _ _ _ c.load-found.ensures.2.1 c.seat.invariant.1.held c.load-found.ensures.0
+    made IsLegal _ _ _ _ _ _ _ c.load-found.ensures.2.1 c.seat.invariant.1.held c.load-found.ensures.0
     (ap (λ (f : _). f c.load-found.result) (c.requires.entry ∙ ap (λ (p : Layout). wide_look_of p c.args.sheet) (sym same))
     ∙ wide_look_told layout c.args.sheet c.load-found.result c.full_bits-groups.result full)
     c.seat.view_is

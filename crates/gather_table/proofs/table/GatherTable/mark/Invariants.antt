@@ -1,4 +1,4 @@
-use Rattle.gather_table.specs.Plays.{mark_of, wide_mark_of}
+use Rattle.gather_table.specs.Steps.{mark_of, wide_mark_of}
 use Rattle.gather_table.proofs.table.GatherTable.mark.Given as goal
 
 abbrev pub ghosts-mark_wide : goal.ghosts-mark_wide

@@ -5,12 +5,11 @@ use Rattle.gather_table.specs.Table.{slot_count, is_wide, IsMarkable}
 use Rattle.gather_table.specs.Lanes.{lane}
 use Rattle.gather_table.specs.Homes.{IsHome}
 use Rattle.gather_table.specs.History.{after_history, IsLegal}
-use Rattle.gather_table.specs.Plays.{mark_of}
+use Rattle.gather_table.specs.Steps.{mark_of}
 use Rattle.gather_table.proofs.Histories.{below_length}
 use Rattle.gather_table.proofs.Lanes.{inside, width_of, width_le, lane_below}
 use Rattle.gather_table.proofs.Sheets.{mark_moves, or_at, mark_told, slim_le}
-use Rattle.histories.proofs.Alone.{stands_after}
-use Rattle.gather_table.proofs.Views.{made}
+use Rattle.histories.proofs.Views.{made, stands_after}
 use Rattle.gather_table.proofs.table.GatherTable.mark_narrow.Goals as goal
 
 pub fetch_or-found-requires : goal.fetch_or-found-requires
@@ -20,7 +19,7 @@ fetch_or-found-requires g c =
     let layout = layout_of c.self.inside.table.shared.key in
     let below : c.args.sheet < length layout.sheets = subst (λ p. c.args.sheet < length p.sheets) (sym same) c.requires.sheet in
     let slim : is_wide layout c.args.sheet ≡ false = subst (λ (p : Layout). is_wide p c.args.sheet ≡ false) (sym same) c.requires.narrow in
-    let markable : IsMarkable layout (after_history layout c.seat.inside.seat.me.0.mine.front) c.args.sheet c.args.slot =
+    let markable : IsMarkable layout (after_history layout c.seat.inside.token.me.0.front) c.args.sheet c.args.slot =
     subst (λ (f : _). IsMarkable layout (after_history layout f) c.args.sheet c.args.slot) (sym (ap (λ t. t.front) c.seat.view_is))
     (subst (λ (p : Layout). IsMarkable p (after_history p c.args.seat.now.front) c.args.sheet c.args.slot) (sym same) c.requires.slot) in
     let in_sheet : c.args.slot < slot_count layout c.args.sheet = below_length _ c.args.slot _ markable.needed in
@@ -51,7 +50,7 @@ returns g c =
     let le = slim_le layout c.args.sheet slim in
     let home : IsHome layout c.args.sheet c.index-home.result.now = subst (IsHome layout c.args.sheet) (sym c.index-home.ensures) (c.self.invariant.homes_are c.args.sheet _ below) in
     let full = c.full_bits-full.ensures ∙ ap (λ (n : _). 2 ^ n - 1) home.slots in
-    made _ _ _ _ _ _ _ c.fetch_or-found.ensures.2.1 c.seat.invariant.1.held c.fetch_or-found.ensures.0
+    made IsLegal _ _ _ _ _ _ _ c.fetch_or-found.ensures.2.1 c.seat.invariant.1.held c.fetch_or-found.ensures.0
     (ap (λ (f : _). f c.fetch_or-found.result) (c.requires.entry ∙ ap (λ (p : Layout). mark_of p c.args.sheet c.args.slot) (sym same))
     ∙ mark_told layout c.args.sheet c.args.slot c.fetch_or-found.result _ c.full_bits-full.result c.index-home.result.now.first c.reply_by.result (home.lane slim).1 full (one_shl c.args.slot 64 (omega arith)) c.reply_by.ensures)
     c.seat.view_is

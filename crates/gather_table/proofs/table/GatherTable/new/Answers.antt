@@ -1,11 +1,10 @@
 use Rattle.std.proofs.Common.{arith, ◌≡◌, length, refl, sym, ap, ◌∙◌, subst}
 use Rattle.profile.specs.Sheets.{Layout, layout as layout_of}
-use Rattle.histories.proofs.Alone.{stands_open}
 use Rattle.gather_table.specs.Counts.{KeepsCounts}
 use Rattle.gather_table.specs.History.{IsLegal}
 use Rattle.gather_table.proofs.Placing.{opens}
 use Rattle.gather_table.proofs.Blanks.{sound_of}
-use Rattle.gather_table.proofs.Views.{view_opens}
+use Rattle.histories.proofs.Views.{stands_open, view_opens}
 use Rattle.gather_table.proofs.table.GatherTable.new.Goals as goal
 
 pub of_words-requires : goal.of_words-requires
@@ -29,4 +28,4 @@ pub invariant_of-result-2 : goal.invariant_of-result-2
 invariant_of-result-2 c = let h = c.in_ok-table.ensures in (ap (λ p. p.1) h.4, stands_open IsLegal _ (layout_of c.args.plan.now) 4294967296 tt (ap (λ p. p.0) h.4) refl)
 
 pub returns-clause-seat : goal.returns-clause-seat
-returns-clause-seat c = let h = c.in_ok-table.ensures in view_opens _ _ _ (layout_of c.args.plan.now) _ h.2 (ap (λ p. p.0) h.4) (ap layout_of h.5)
+returns-clause-seat c = let h = c.in_ok-table.ensures in view_opens _ _ _ (layout_of c.args.plan.now) _ h.2 (ap (λ p. p.0) h.4) (sym (ap layout_of h.5))

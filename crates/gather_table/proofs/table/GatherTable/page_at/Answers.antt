@@ -1,9 +1,8 @@
 use Rattle.std.proofs.Common.{arith, sym, ap, ◌∙◌, subst, ◌<◌, length}
 use Rattle.profile.specs.Sheets.{layout as layout_of}
 use Rattle.gather_table.specs.History.{PageAt, IsLegal}
-use Rattle.histories.proofs.Alone.{stands_after}
 use Rattle.gather_table.proofs.Lanes.{at_least}
-use Rattle.gather_table.proofs.Views.{made}
+use Rattle.histories.proofs.Views.{made, stands_after}
 use Rattle.gather_table.proofs.Pages.{find_moves}
 use Rattle.gather_table.proofs.table.GatherTable.page_at.Goals as goal
 
@@ -20,4 +19,4 @@ pub invariant_of-seat : goal.invariant_of-seat
 invariant_of-seat c = (c.load-found.ensures.2.0 ∙ c.seat.invariant.0, stands_after IsLegal _ _ _ _ c.load-found.ensures.2.2 c.seat.invariant.1)
 
 pub returns : goal.returns
-returns c = made _ _ _ _ _ _ _ c.load-found.ensures.2.2 c.seat.invariant.1.held c.load-found.ensures.0 (ap (λ o. PageAt c.args.page o) (sym c.index_by.ensures)) c.seat.view_is
+returns c = made IsLegal _ _ _ _ _ _ _ c.load-found.ensures.2.2 c.seat.invariant.1.held c.load-found.ensures.0 (ap (λ o. PageAt c.args.page o) (sym c.index_by.ensures)) c.seat.view_is

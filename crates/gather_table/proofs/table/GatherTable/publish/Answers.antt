@@ -1,9 +1,8 @@
 use Rattle.std.proofs.Common.{arith, sym, ap, ◌∙◌, subst, ◌≡◌, ◌<◌, length, ◌+◌, ◌-◌}
 use Rattle.profile.specs.Sheets.{layout as layout_of}
 use Rattle.gather_table.specs.History.{Publish, IsLegal}
-use Rattle.histories.proofs.Alone.{stands_after}
 use Rattle.gather_table.proofs.Lanes.{at_least}
-use Rattle.gather_table.proofs.Views.{made}
+use Rattle.histories.proofs.Views.{made, stands_after}
 use Rattle.gather_table.proofs.Pages.{publish_moves}
 use Rattle.gather_table.proofs.table.GatherTable.publish.Goals as goal
 
@@ -23,4 +22,4 @@ pub returns : goal.returns
 returns c =
     let from = c.from-word.ensures in
     let e : c.from-word.result + 1 - 1 ≡ c.args.index = omega arith in
-    made _ _ _ _ _ _ _ c.compare_exchange-found.ensures.2.2 c.seat.invariant.1.held c.compare_exchange-found.ensures.0 (λ i. Publish c.args.page (e i) (sym c.published_by.ensures i)) c.seat.view_is
+    made IsLegal _ _ _ _ _ _ _ c.compare_exchange-found.ensures.2.2 c.seat.invariant.1.held c.compare_exchange-found.ensures.0 (λ i. Publish c.args.page (e i) (sym c.published_by.ensures i)) c.seat.view_is

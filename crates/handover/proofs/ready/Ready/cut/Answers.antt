@@ -1,5 +1,5 @@
 use Rattle.std.proofs.Common.{arith, ap}
-use Rattle.handover.proofs.Steps.{forks}
+use Rattle.handover.proofs.RuleKept.{forks}
 use Rattle.handover.proofs.ready.Ready.cut.Goals as goal
 
 pub another-token-requires-clause-rule : goal.another-token-requires-clause-rule

@@ -1,13 +1,13 @@
 use Rattle.std.proofs.Common.{rules, sym, ap, ◌∙◌}
 use Rattle.handover.specs.Queue.{Put}
-use Rattle.handover.proofs.Steps.{puts, sees}
+use Rattle.handover.proofs.RuleKept.{puts, sees}
 use Rattle.handover.proofs.Views.{put_stands, put_made}
 use Rattle.handover.proofs.ready.Ready.put.Goals.{in-Ok, in-Err}
 use Rattle.handover.proofs.ready.Ready.put.Goals as goal
 
 pub push_as-requires-clause-rule : goal.push_as-requires-clause-rule
 push_as-requires-clause-rule g c =
-    let capacity = ap (λ t. t.capacity) c.pass.view_is ∙ c.requires.1 ∙ sym (ap (λ t. t.capacity) c.self.view_is) in
+    let capacity = ap (λ t. t.key) c.pass.view_is ∙ c.requires.1 ∙ sym (ap (λ t. t.capacity) c.self.view_is) in
     (puts _ _ c.pass.inside.token.me.0.client _ c.pass.invariant.1.held.some_share capacity, sees _ c.pass.inside.token.me.0.client)
 
 pub invariant_of-pass : goal.invariant_of-pass

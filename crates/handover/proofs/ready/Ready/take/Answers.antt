@@ -1,5 +1,5 @@
 use Rattle.std.proofs.Common.{◌∙◌}
-use Rattle.handover.proofs.Steps.{takes, sees}
+use Rattle.handover.proofs.RuleKept.{takes, sees}
 use Rattle.handover.proofs.Views.{take_stands, take_made}
 use Rattle.handover.proofs.ready.Ready.take.Goals as goal
 

@@ -1,6 +1,6 @@
 use Rattle.std.proofs.Common.{◌≡◌, ◌∙◌, subst, sym, ap}
-use Rattle.imposer.specs.Collecting.{Stands, StandsAt, Handed}
-use Rattle.imposer.proofs.Fronts.{header_handed}
+use Rattle.sheet_writer.specs.Writing.{Stands, StandsAt, Handed}
+use Rattle.sheet_writer.proofs.Fronts.{header_handed}
 use Rattle.imposer.proofs.collector.CollectorInputCollectorCollectorState.collect.Goals as goal
 
 pub returns-then-is_none-clause-collected : goal.returns-then-is_none-clause-collected

@@ -3,6 +3,7 @@ use Rattle.std.specs.Prelude.{slice_index_or}
 use Rattle.std.proofs.lemmas.List.FromFn.{length-map-range_with_len, get_or-map-range_with_len}
 use Rattle.profile.specs.Sheets.{Plan, layout}
 use Rattle.sheet_plan.specs.Places.{places_of}
+use Rattle.sheet_plan.proofs.Exact.{places_listed}
 use Rattle.sheet_plan.proofs.plan.Plan.slots_of_page.Goals as goal
 
 pub of_page-requires : goal.of_page-requires
@@ -15,9 +16,9 @@ of_page-requires c =
 pub returns : goal.returns
 returns c =
     let pages = ap (λ (p : Plan). p.pages) c.self.view_is in
-    record {
-      value = c.of_page.ensures
-          ∙ ap (λ lists. slice_index_or lists c.args.page []) c.self.invariant.0
-          ∙ get_or-map-range_with_len (places_of (layout c.self.inside.expansion)) 0 c.self.inside.expansion.pages c.args.page c.args.page [] (omega arith) (omega arith)
-          ∙ ap (λ (p : Plan). places_of (layout p) c.args.page) c.self.view_is;
-    }
+    let value =
+    c.of_page.ensures
+    ∙ ap (λ lists. slice_index_or lists c.args.page []) c.self.invariant.0
+    ∙ get_or-map-range_with_len (places_of (layout c.self.inside.expansion)) 0 c.self.inside.expansion.pages c.args.page c.args.page [] (omega arith) (omega arith)
+    ∙ ap (λ (p : Plan). places_of (layout p) c.args.page) c.self.view_is in
+    record { value = value; exact = places_listed _ _ _ value }

@@ -1,0 +1,73 @@
+-- The paper that a document is made for, as its header comments tell it (DSC 3.0, %%DocumentMedia and %%BoundingBox).
+use Rattle.std.specs.Prelude.{ℕ, zero, suc, ℤ, pos, ◌+◌, ◌≡◌, Bool, false, if◌then◌else◌, option_map, option_and_then, List, [], ◌∷◌, length, take, drop, codes, Option, Some, None}
+use Rattle.std.specs.Ordering.{int_eq}
+use Rattle.profile.specs.Papers.{Paper, Pt, grains, is_paper, points}
+use Rattle.profile.specs.Numbers.{is_large}
+use Rattle.profile.specs.Units.{content_of, line_len, is_comment, fields}
+use Rattle.guard.specs.Header.{header_len}
+use Rattle.lengths.specs.Reading.{is_empty, number_at}
+use Rattle.document_paper.specs.declared.media.Comment.{Comment}
+use Rattle.document_paper.specs.declared.media.Comment.TheVariants.{DocumentMedia, BoundingBox}
+
+-- ---- fields
+
+abbrev pub a4 : Paper
+a4 = points 595 842
+
+-- all of the field is a number, which is in points
+abbrev pub points_at : Option (ℤ × List ℕ) → Option ℤ
+points_at None = None
+points_at (Some (number, rest)) = if is_large number then None else (if is_empty rest then Some (grains a4 number Pt) else None)
+
+abbrev pub points_of : List ℕ → Option ℤ
+points_of field = points_at (number_at field)
+
+-- the paper with these sides, if they may be a paper's
+abbrev pub paper_of_sides : (width height : ℤ) → Option Paper
+paper_of_sides width height = if is_paper width height then Some (record { width = width; height = height }) else None
+
+abbrev pub paper_of : (width height : Option ℤ) → Option Paper
+paper_of width height = option_and_then (λ w. option_and_then (λ h. paper_of_sides w h) height) width
+
+-- ---- comments
+
+-- the contents of so many lines at most
+abbrev pub contents_of : ℕ → List ℕ → List (List ℕ)
+contents_of zero text = []
+contents_of (suc most) [] = []
+contents_of (suc most) (b ∷ rest) = content_of (b ∷ rest) ∷ contents_of most (drop (line_len (b ∷ rest)) (b ∷ rest))
+
+-- the contents of the lines; a line has a byte, so there are no more lines than bytes
+abbrev pub contents : List ℕ → List (List ℕ)
+contents text = contents_of (length text) text
+
+-- the fields of the first comment with this name, if there is one
+abbrev pub comment_fields : (name : List ℕ) → List (List ℕ) → Option (List (List ℕ))
+comment_fields name [] = None
+comment_fields name (content ∷ rest) = if is_comment name content then Some (fields content) else comment_fields name rest
+
+-- the paper of a medium: its name, its width, its height, and more
+abbrev pub media_paper : List (List ℕ) → Option Paper
+media_paper (name ∷ width ∷ height ∷ more) = paper_of (points_of width) (points_of height)
+media_paper other = None
+
+-- the paper of a box that begins at 0 0: left, bottom, right, top, and more
+abbrev pub is_zero : Option ℤ → Bool
+is_zero None = false
+is_zero (Some length) = int_eq length (pos 0)
+
+abbrev pub box_paper : List (List ℕ) → Option Paper
+box_paper (left ∷ bottom ∷ right ∷ top ∷ more) =
+    if is_zero (points_of left) then (if is_zero (points_of bottom) then paper_of (points_of right) (points_of top) else None) else None
+box_paper other = None
+
+abbrev pub header : List ℕ → List (List ℕ)
+header text = contents (take (header_len text) text)
+
+abbrev pub or_box : List (List ℕ) → Option Paper → Option (Paper × Comment)
+or_box lines (Some paper) = Some (paper, DocumentMedia)
+or_box lines None = option_map (λ paper. (paper, BoundingBox)) (option_and_then box_paper (comment_fields (codes "%%BoundingBox") lines))
+
+-- the document's own paper, and which comment tells it
+abbrev pub document_paper : List ℕ → Option (Paper × Comment)
+document_paper text = or_box (header text) (option_and_then media_paper (comment_fields (codes "%%DocumentMedia") (header text)))

@@ -1,0 +1,33 @@
+//! The lengths that fields name.
+ghost use Rattle.std.specs.Prelude.{◌≡◌};
+ghost use Rattle.document_paper.specs.Media as meaning;
+
+use lengths::{Grains, Paper, Unit, paper_by_name, read_number, to_grains};
+
+/// The length that a field names, in points.
+pub(crate) fn points_of(field: &[u8]) -> Option<Grains>
+    ensures { result ≡ meaning.points_of field.now }
+{
+    let (number, len) = read_number(field).ok()?;
+    if len < field.len() {
+        return None;
+    }
+    Some(to_grains(number, Unit::Pt, &a4()))
+}
+
+/// Some paper, for points don't ask for it.
+fn a4() -> Paper
+    ensures { result ≡ meaning.a4 }
+{
+    paper_by_name("a4").unwrap()
+}
+
+/// Whether there is a length, which is 0.
+pub(crate) fn is_zero(length: Option<Grains>) -> bool
+    ensures { result ≡ meaning.is_zero length }
+{
+    match length {
+        Some(length) => length.get() == 0,
+        None => false,
+    }
+}

@@ -1,0 +1,10 @@
+//! The paper that a document is made for, as its header comments tell it.
+#![tactic(auto)]
+
+mod fields;
+mod media;
+
+pub use media::{Comment, document_paper};
+
+#[cfg(test)]
+mod tests;

@@ -1,0 +1,114 @@
+//! The paper that a document is made for, as its header comments tell it.
+ghost use Rattle.std.specs.Prelude.{◌≡◌, ◌++◌, ◌∷◌, [], option_and_then, option_map, codes};
+ghost use Rattle.profile.specs.Units.{content_of, is_comment};
+ghost use Rattle.dsc.specs.Fields.{fields_in};
+ghost use Rattle.document_paper.specs.Media as meaning;
+
+use crate::fields::{is_zero, points_of};
+use dsc::{content_end, key_of, line_end_after, next_field};
+use guard::header_len;
+use lengths::{Grains, Paper};
+
+/// The comment that tells the paper.
+#[derive(Clone, Copy, Debug, PartialEq, Eq)]
+pub enum Comment {
+    /// The first `%%DocumentMedia:`.
+    DocumentMedia,
+    /// The first `%%BoundingBox:`, which begins at 0 0.
+    BoundingBox,
+}
+
+/// The paper of a document, by the width and height of its first `%%DocumentMedia:`, else by a `%%BoundingBox:` that
+/// begins at 0 0, among its header comments (DSC 3.0, 5.2).
+pub fn document_paper(text: &[u8]) -> Option<(Paper, Comment)>
+    ensures { result ≡ meaning.document_paper text.now }
+{
+    let (header, _) = text.split_at(header_len(text));
+    match media_in(header) {
+        Some(paper) => Some((paper, Comment::DocumentMedia)),
+        None => Some((box_in(header)?, Comment::BoundingBox)),
+    }
+}
+
+/// The paper of the first medium among the comments.
+fn media_in(header: &[u8]) -> Option<Paper>
+    ensures { result ≡ option_and_then meaning.media_paper
+        (meaning.comment_fields (codes "%%DocumentMedia") (meaning.contents header.now)) }
+{
+    media_paper(value_of(header, b"%%DocumentMedia", b"%%DocumentMedia:")?)
+}
+
+/// The paper of the first box among the comments.
+fn box_in(header: &[u8]) -> Option<Paper>
+    ensures { result ≡ option_and_then meaning.box_paper
+        (meaning.comment_fields (codes "%%BoundingBox") (meaning.contents header.now)) }
+{
+    box_paper(value_of(header, b"%%BoundingBox", b"%%BoundingBox:")?)
+}
+
+/// What stands behind the colon of the first comment with this key.
+fn value_of<'t>(header: &'t [u8], key: &[u8], with_colon: &[u8]) -> Option<&'t [u8]>
+    requires { with_colon.now ≡ key.now ++ 58 ∷ [] }
+    ensures { option_map (λ value. fields_in value.now) result
+        ≡ meaning.comment_fields key.now (meaning.contents header.now) }
+{
+    let mut rest = header;
+    while !rest.is_empty() {
+        let content = first_content(rest);
+        if is_comment_of(content, key, with_colon) {
+            let (_, value) = content.split_at(with_colon.len());
+            return Some(value);
+        }
+        let (_, others) = rest.split_at(line_end_after(rest, content.len()));
+        rest = others;
+    }
+    None
+}
+
+/// The content of the first line.
+fn first_content(text: &[u8]) -> &[u8]
+    ensures { result.now ≡ content_of text.now }
+{
+    let (content, _) = text.split_at(content_end(text));
+    content
+}
+
+/// Whether it is a comment with this key and a colon behind it.
+fn is_comment_of(content: &[u8], key: &[u8], with_colon: &[u8]) -> bool
+    requires { with_colon.now ≡ key.now ++ 58 ∷ [] }
+    ensures { result ≡ is_comment key.now content.now }
+{
+    key_of(content) == key && content.starts_with(with_colon)
+}
+
+/// The paper of a medium: its name, its width, its height, and more.
+fn media_paper(value: &[u8]) -> Option<Paper>
+    ensures { result ≡ meaning.media_paper (fields_in value.now) }
+{
+    let (_, rest) = next_field(value)?;
+    let (width, rest) = next_field(rest)?;
+    let (height, _) = next_field(rest)?;
+    paper_of(points_of(width), points_of(height))
+}
+
+/// The paper of a box that begins at 0 0: left, bottom, right, top, and more.
+fn box_paper(value: &[u8]) -> Option<Paper>
+    ensures { result ≡ meaning.box_paper (fields_in value.now) }
+{
+    let (left, rest) = next_field(value)?;
+    let (bottom, rest) = next_field(rest)?;
+    let (right, rest) = next_field(rest)?;
+    let (top, _) = next_field(rest)?;
+    if is_zero(points_of(left)) && is_zero(points_of(bottom)) {
+        paper_of(points_of(right), points_of(top))
+    } else {
+        None
+    }
+}
+
+/// The paper with these sides, if there is one.
+fn paper_of(width: Option<Grains>, height: Option<Grains>) -> Option<Paper>
+    ensures { result ≡ meaning.paper_of width height }
+{
+    Paper::new(width?, height?)
+}

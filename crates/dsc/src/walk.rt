@@ -1,0 +1,116 @@
+//! The walk over the units of a text, which the cut and the filters share.
+ghost use Rattle.std.specs.Prelude.{◌≡◌, ◌<◌, length, codes, IfOk, IfErr, true, false, Err};
+ghost use Rattle.profile.specs.Parts.{begins_page, begins_trailer};
+ghost use Rattle.profile.specs.Units.{first_unit};
+ghost use Rattle.dsc.specs.Views.{unit_of, fault_of, at_depth};
+ghost use Rattle.dsc.specs.Walks.{start_of, behind, IsPiece, IsPieceOf};
+
+use crate::errors::FaultyBlock;
+use crate::keys::{Meaning, meaning_of};
+use crate::plain::plain_len;
+use crate::units::{Unit, UnitError, first_unit};
+use memchr::memmem::Finder;
+use std::marker::Model;
+
+/// A walk over the units of a text. Contracts see where it stands: what is left of the text, the byte at which that
+/// begins, and the depth there.
+#[derive(Drop)]
+pub struct Walk<'d> {
+    percent_signs: Finder<'static>,
+    rest: &'d [u8],
+    at: usize,
+    depth: usize,
+}
+
+impl<'d> Model for Walk<'d> {
+    ghost use Rattle.std.specs.Prelude.{◌≡◌, codes};
+    ghost use Rattle.dsc.specs.Walks.{Place, IsShallow};
+
+    ghost Value = { Place };
+
+    ghost view = { λ w. record { rest = w.rest.now; at = w.at; depth = w.depth } };
+
+    ghost invariant = { λ w. (w.percent_signs ≡ codes "%%") × IsShallow w.rest.now w.at w.depth };
+}
+
+/// What a walk comes to: a unit, the byte at which it begins, the depth before it, and what it means there. Lines in a
+/// row that begin with no two percent signs come as one unit without content.
+#[derive(Clone, Copy)]
+pub struct Step<'d> {
+    pub unit: Unit<'d>,
+    pub at: usize,
+    pub depth: usize,
+    pub meaning: Meaning,
+}
+
+impl<'d> Walk<'d> {
+    /// A walk from the start of a text.
+    pub fn new(text: &'d [u8]) -> Walk<'d>
+        ensures { result ≡ start_of text.now }
+    {
+        Walk {
+            percent_signs: Finder::new(b"%%".as_slice()),
+            rest: text,
+            at: 0,
+            depth: 0,
+        }
+    }
+
+    /// Whether nothing is left.
+    pub fn is_done(&self) -> bool
+        ensures done { result ≡ true → length self.now.rest ≡ 0 }
+        ensures going { result ≡ false → 0 < length self.now.rest }
+    {
+        self.rest.is_empty()
+    }
+
+    /// The next unit, and behind it; or the faulty block that stands next.
+    pub fn step(&mut self) -> Result<Step<'d>, FaultyBlock>
+        requires { 0 < length self.old.rest }
+        ensures piece { IfOk result (λ s. IsPieceOf (unit_of s.unit) self.old.rest) }
+        ensures place { IfOk result (λ s. self.new ≡ behind (unit_of s.unit) self.old) }
+        ensures at { IfOk result (λ s. s.at ≡ self.old.at) }
+        ensures depth { IfOk result (λ s. s.depth ≡ self.old.depth) }
+        ensures page { IfOk result (λ s. s.meaning.is_page ≡ begins_page (at_depth self.old.depth (unit_of s.unit))) }
+        ensures trailer { IfOk result (λ s. s.meaning.is_trailer ≡ begins_trailer (at_depth self.old.depth (unit_of s.unit))) }
+        ensures fault { IfErr result (λ b. first_unit self.old.rest ≡ Err (fault_of b.fault)) }
+        ensures fault_at { IfErr result (λ b. b.at ≡ self.old.at) }
+    {
+        let at = self.at;
+        let depth = self.depth;
+        let unit = match first_piece(&self.percent_signs, self.rest) {
+            Ok(unit) => unit,
+            Err(fault) => return Err(FaultyBlock { at, fault }),
+        };
+        let meaning = meaning_of(&unit, depth);
+        let (_, others) = self.rest.split_at(unit.bytes.len());
+        self.rest = others;
+        self.at = at + unit.bytes.len();
+        self.depth = meaning.depth;
+        Ok(Step {
+            unit,
+            at,
+            depth,
+            meaning,
+        })
+    }
+}
+
+/// The first unit of a text that isn't empty, or the lines at its start that begin with no two percent signs.
+fn first_piece<'d>(percent_signs: &Finder<'_>, text: &'d [u8]) -> Result<Unit<'d>, UnitError>
+    requires needle { percent_signs.now ≡ codes "%%" }
+    requires some { 0 < length text.now }
+    ensures piece { IfOk result (λ u. IsPieceOf (unit_of u) text.now) }
+    ensures fault { IfErr result (λ e. first_unit text.now ≡ Err (fault_of e)) }
+{
+    let plain = plain_len(percent_signs, text);
+    if plain == 0 {
+        return first_unit(text);
+    }
+    let (bytes, _) = text.split_at(plain);
+    Ok(Unit {
+        content: &[],
+        bytes,
+        is_block: false,
+    })
+}

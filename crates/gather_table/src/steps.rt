@@ -1,0 +1,128 @@
+//! What each step tells, and how seats are split and joined.
+use crate::rule::View;
+use atomic_table::{Join, Play, Split};
+use std::marker::{Brand, PhantomData};
+
+/// A publish.
+pub(crate) struct Publishes;
+
+impl Play<(), View> for Publishes {
+    ghost use Rattle.gather_table.specs.Steps.{publishes};
+
+    ghost then = { publishes };
+}
+
+/// A look-up of a page.
+pub(crate) struct Finds;
+
+impl Play<(), View> for Finds {
+    ghost use Rattle.gather_table.specs.Steps.{finds};
+
+    ghost then = { finds };
+}
+
+/// Ghost parameter, chosen in the proof of each call; no code: which call a step is, by the word that it finds.
+pub trait Tells {
+    ghost use Rattle.std.specs.Prelude.{ℕ};
+    ghost use Rattle.gather_table.specs.History.{Entry};
+
+    ghost entry: { ℕ → Entry };
+}
+
+impl Tells for Brand {
+    ghost use Rattle.gather_table.specs.History.{Look};
+
+    ghost entry = { λ found. Look 0 0 };
+}
+
+/// A call on slots or groups, of which a word may hold those of several sheets.
+pub(crate) struct Calls<E: Tells> {
+    of: PhantomData<E>,
+}
+
+impl<E: Tells> Play<(), View> for Calls<E> {
+    ghost use Rattle.gather_table.specs.Steps.{calls};
+
+    ghost then = { calls E.entry };
+}
+
+/// Ghost parameter, chosen in the proof of each call; no code: a share to give away.
+pub trait Picks {
+    ghost use Rattle.std.specs.Prelude.{ℕ};
+
+    ghost number: { ℕ };
+}
+
+impl Picks for Brand {
+    ghost number = { 1 };
+}
+
+/// A split: the number is the share that is given.
+pub(crate) struct Cut<N: Picks> {
+    of: PhantomData<N>,
+}
+
+impl<N: Picks> Split<View> for Cut<N> {
+    ghost use Rattle.std.specs.Prelude.{[]};
+    ghost use Rattle.histories.specs.Seats.{keeps_back, given};
+
+    ghost left = { λ v. keeps_back v.own N.number v };
+
+    ghost right = { given [] N.number };
+}
+
+/// A join.
+pub(crate) struct Both;
+
+impl Join<View> for Both {
+    ghost use Rattle.histories.specs.Seats.{absorbed};
+    ghost use Rattle.gather_table.specs.Rule.{spent};
+
+    ghost both = { absorbed };
+
+    ghost spent = { spent };
+}
+
+/// A look behind a join, by which the seat learns what the rule says of it.
+pub(crate) struct Learns;
+
+impl Play<(), View> for Learns {
+    ghost use Rattle.gather_table.specs.Steps.{learns};
+
+    ghost then = { learns };
+}
+
+/// Ghost parameter, chosen in the proof of each call; no code: the own places of two seats that meet, and the share of the
+/// second.
+pub trait Parts {
+    ghost use Rattle.std.specs.Prelude.{ℕ, List};
+
+    ghost first: { List ℕ };
+
+    ghost second: { List ℕ };
+
+    ghost share: { ℕ };
+}
+
+impl Parts for Brand {
+    ghost use Rattle.std.specs.Prelude.{[]};
+
+    ghost first = { [] };
+
+    ghost second = { [] };
+
+    ghost share = { 1 };
+}
+
+/// The end of a meeting: two seats that were joined are two again, each with its own places and its share.
+pub(crate) struct Again<P: Parts> {
+    of: PhantomData<P>,
+}
+
+impl<P: Parts> Split<View> for Again<P> {
+    ghost use Rattle.histories.specs.Seats.{keeps_back, given};
+
+    ghost left = { keeps_back P.first P.share };
+
+    ghost right = { given P.second P.share };
+}

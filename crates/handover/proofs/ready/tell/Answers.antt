@@ -1,6 +1,0 @@
-use Rattle.std.proofs.Common.{rules}
-use Rattle.handover.proofs.Steps.{tells}
-use Rattle.handover.proofs.ready.tell.Goals as goal
-
-pub another-requires-clause-rule : goal.another-requires-clause-rule
-another-requires-clause-rule g c = tells _ _ g.N.Picks.number (search rules)

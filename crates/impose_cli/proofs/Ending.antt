@@ -1,0 +1,74 @@
+-- What comes of a task that was run.
+use Rattle.std.proofs.Common.{◌≡◌, ◌∙◌, ℕ, ap, sym, subst, List, Option, Result, Ok, Err}
+use Rattle.std.specs.Prelude.{string_bytes}
+use Rattle.std.specs.Io.KnownBytes.{Appends}
+use Rattle.profile.specs.Papers.{Paper}
+use Rattle.profile.specs.Specification.{Spec}
+use Rattle.profile.specs.Admissible.{Fault as SpecFault, Takes, most_slots}
+use Rattle.profile.specs.Parts.{NestedUnit}
+use Rattle.profile.specs.Run.{document_of}
+use Rattle.profile.specs.Output.{output}
+use Rattle.profile.proofs.OneFault.{one_answer}
+use Rattle.dsc.specs.declared.errors.DscError.{DscError}
+use Rattle.layouts.specs.Selections.{IsSelection}
+use Rattle.imposer.specs.Runs.{Accepted, Reports, frame_of}
+use Rattle.imposer.specs.declared.outcome.Report.{Report}
+use Rattle.impose_cli.specs.Tasks.{Finishes, IsPlaced, IsTask, LaysOut, asked_by}
+use Rattle.impose_cli.specs.Refusals.{IsRefusedFor, RefusesDocument}
+use Rattle.impose_cli.specs.Telling.{IsFaultOf}
+use Rattle.impose_cli.specs.declared.fault.Fault.{Fault}
+use Rattle.impose_cli.specs.declared.fault.Fault.TheVariants as fault
+use Rattle.impose_cli.specs.declared.request.Layout.{Layout}
+use Rattle.impose_cli.specs.declared.request.Layout.TheVariants as layout
+use Rattle.impose_cli.specs.declared.request.Request.{Request}
+use Rattle.impose_cli.specs.declared.task.Task.{Task}
+
+-- ---- one specification
+
+abbrev read_or : Spec → Result Spec SpecFault → Spec
+read_or other (Ok spec) = spec
+read_or other (Err fault) = other
+
+-- a text is taken as one specification
+one_spec : (text : List ℕ) (one other : Spec) → Takes most_slots text one → Takes most_slots text other → one ≡ other
+one_spec text one other h g = ap (read_or one) (one_answer most_slots text (Ok one) (Ok other) h g)
+
+-- what the text of a layout is taken as is the layout's specification
+pub lays_out : (l : Layout) (page sheet : Paper) (pages : ℕ) (text : List ℕ) (sides : Option ℕ) (spec : Spec)
+    → IsPlaced l page sheet pages text sides → Takes most_slots text spec → LaysOut l page sheet pages spec sides
+lays_out (layout.NUp n) page sheet pages text sides spec h g = (one_spec text spec _ g h.0.1, h.1)
+lays_out (layout.Booklet signature long_edge) page sheet pages text sides spec h g = (one_spec text spec _ g h.0.1, h.1)
+lays_out (layout.Selection ranges which) page sheet pages text sides spec h g =
+    (subst (λ s. IsSelection (string_bytes ranges) which pages s) (one_spec text h.0.0 spec h.0.2.1 g) h.0.1, h.1)
+lays_out (layout.Spec specs) page sheet pages text sides spec h g = (subst (λ t. Takes most_slots t spec) h.0 g, h.1)
+
+pub finishes : (r : Request) (input : List ℕ) (task : Task) (old new : Option (List ℕ)) (report : Report) → IsTask r input task
+    → Accepted (asked_by task) (λ spec us. Appends old new (output (frame_of task.options) task.options.sides spec us) × Reports (frame_of task.options) task.options.sides spec us report)
+    → Finishes r input old new (record { report = report; page = task.options.paper; origin = task.origin })
+finishes r input task old new report is h =
+    let spec = h.0 in
+    let units = h.1 in
+    let accepted = h.2 in record {
+      page_count = is.page_count;
+      document = is.document;
+      page = is.page;
+      spec = spec;
+      sides = task.options.sides;
+      layout_is = lays_out r.layout _ _ _ _ _ spec is.placed accepted.takes;
+      units = units;
+      taken = ap document_of (sym is.text) ∙ accepted.document;
+      written = subst (λ b. Appends old new (output (record { paper = task.options.paper; border = b }) task.options.sides spec units)) is.border h.3.0;
+      report = subst (λ b. Reports (record { paper = task.options.paper; border = b }) task.options.sides spec units report) is.border h.3.1;
+    }
+
+-- ---- the document
+
+pub refuses_document : (input : List ℕ) (error : DscError) (f : Fault) → IsRefusedFor input error → IsFaultOf error f → RefusesDocument input f
+refuses_document input error (fault.Run e) g h = (error, h, g)
+refuses_document input error fault.NoInput g h = subst (IsRefusedFor input) h g
+refuses_document input error fault.Pdf g h = subst (IsRefusedFor input) h g
+refuses_document input error (fault.Command f) g h = h
+refuses_document input error (fault.Layout e) g h = h
+refuses_document input error (fault.NoSuchPage place pages) g h = h
+refuses_document input error (fault.Read cause) g h = h
+refuses_document input error (fault.Write written cause) g h = h

@@ -1,0 +1,136 @@
+-- What was found for a subcommand, and what its refusals say of the words.
+use Rattle.std.proofs.Common.{◌≡◌, ℤ, ap, ap₂, refl, inr, List, Option, Some, None, unwrap_or, true}
+use Rattle.std.specs.Prelude.{is_some, option_map}
+use Rattle.std.specs.Box.{box_value}
+use Rattle.clap.specs.Words.{Row, Text, found_of, rows_of, subcommand_name_of, subcommand_rows, subcommand_rows_of}
+use Rattle.clap.specs.declared.parser.matches.ArgMatches.{ArgMatches}
+use Rattle.clap.specs.declared.parser.matches.ArgMatches.TheViews.{out-ArgMatches, out-SubCommand}
+use Rattle.profile.specs.Papers.{Paper}
+use Rattle.impose_cli.specs.Words.{Enters, HasPapers, HasSizes, ParseRefuses, Refuses, RefusesFound, RefusesArguments, border_found, size_found}
+use Rattle.impose_cli.specs.Sizing.{ReadsSizes, RefusesBorder, RefusesSize, RefusesSizes}
+use Rattle.impose_cli.specs.declared.fault.PaperOption.{PaperOption}
+use Rattle.impose_cli.specs.declared.fault.PaperOption.TheVariants.{Paper as OfPages, Sheet as OfSheets}
+use Rattle.impose_cli.specs.declared.fault.CommandFault.{CommandFault}
+use Rattle.impose_cli.specs.declared.fault.CommandFault.TheVariants as fault
+
+some_same : {X : Type 0} (a b : X) → Some a ≡ Some b → a ≡ b
+some_same a b e = ap (λ o. unwrap_or o a) e
+
+abbrev both : {X : Type 0} → (X → Text) → (X → List Row) → X → Text × List Row
+both f g x = (f x, g x)
+
+abbrev second : Text × List Row → List Row
+second p = p.1
+
+of_option : {X : Type 0} (f : X → Text) (g : X → List Row) (o : Option X) (name : Text) (found : List Row) → option_map f o ≡ Some name
+    → option_map second (option_map (both f g) o) ≡ Some found → option_map (both f g) o ≡ Some (name, found)
+of_option f g None name found e h = cc
+of_option f g (Some x) name found e h = ap₂ (λ a b. Some (a, b)) (some_same (f x) name e) (some_same (g x) found h)
+
+-- the subcommand that a parse met, by its name and by its rows
+pub met : (m : ArgMatches) (name : Text) (found : List Row) → subcommand_name_of m ≡ Some name
+    → option_map second (subcommand_rows (out-ArgMatches m).subcommand) ≡ Some found → subcommand_rows_of m ≡ Some (name, found)
+met m name found e h =
+    of_option (λ b. (out-SubCommand (box_value b)).name.now) (λ b. rows_of (found_of (out-SubCommand (box_value b)).matches))
+    (out-ArgMatches m).subcommand name found e h
+
+of_none : {X : Type 0} (f : X → Text) (g : X → List Row) (o : Option X) → None ≡ option_map f o → option_map (both f g) o ≡ None
+of_none f g None e = refl
+of_none f g (Some x) e = cc
+
+-- it met none
+pub unmet : (m : ArgMatches) → None ≡ subcommand_name_of m → subcommand_rows_of m ≡ None
+unmet m e =
+    of_none (λ b. (out-SubCommand (box_value b)).name.now) (λ b. rows_of (found_of (out-SubCommand (box_value b)).matches))
+    (out-ArgMatches m).subcommand e
+
+pub refuses_parse : (words : List Text) (f : CommandFault) → ParseRefuses words f → Refuses words f
+refuses_parse words (fault.Words error) h = h
+refuses_parse words fault.NoMemory h = tt
+refuses_parse words fault.NoText h = h
+refuses_parse words fault.Lacking h = absurd h
+refuses_parse words fault.OddAndEven h = absurd h
+refuses_parse words (fault.UnknownPaper option text) h = absurd h
+refuses_parse words (fault.BadBorder text) h = absurd h
+refuses_parse words (fault.BadSignature sides) h = absurd h
+
+pub refuses_words : (words : List Text) (name : Text) (found : List Row) (f : CommandFault) → Enters words name found → RefusesFound name found f → Refuses words f
+refuses_words words name found (fault.Words error) e h = absurd h
+refuses_words words name found fault.NoMemory e h = tt
+refuses_words words name found fault.NoText e h = h
+refuses_words words name found fault.Lacking e h = inr (name, found, e, h)
+refuses_words words name found fault.OddAndEven e h = (name, found, e, h)
+refuses_words words name found (fault.UnknownPaper option text) e h = (name, found, e, h)
+refuses_words words name found (fault.BadBorder text) e h = (name, found, e, h)
+refuses_words words name found (fault.BadSignature sides) e h = (name, found, e, h)
+
+-- ---- a step behind the others
+
+is_there : {X : Type 0} (o : Option X) (x : X) → o ≡ Some x → is_some o ≡ true
+is_there o x e = ap is_some e
+
+-- the first size is refused
+pub refuses_page : (found : List Row) (f : CommandFault) → RefusesSize OfPages found f → RefusesSizes found f
+refuses_page found (fault.UnknownPaper OfPages text) h = h.1
+refuses_page found (fault.UnknownPaper OfSheets text) h = absurd (unlike h.0)
+  where
+    unlike : OfSheets ≡ OfPages → ⊥
+    unlike e = cc
+refuses_page found fault.NoMemory h = tt
+refuses_page found fault.Lacking h = h
+refuses_page found fault.OddAndEven h = h
+refuses_page found (fault.BadSignature sides) h = h
+refuses_page found (fault.Words error) h = h
+refuses_page found fault.NoText h = h
+refuses_page found (fault.BadBorder text) h = absurd h
+
+pub refuses_sheet : (found : List Row) (page : Option Paper) (f : CommandFault) → size_found OfPages found ≡ Some page → RefusesSize OfSheets found f → RefusesSizes found f
+refuses_sheet found page (fault.UnknownPaper OfPages text) p h = absurd (unlike h.0)
+  where
+    unlike : OfPages ≡ OfSheets → ⊥
+    unlike e = cc
+refuses_sheet found page (fault.UnknownPaper OfSheets text) p h = (is_there _ page p, h.1)
+refuses_sheet found page fault.NoMemory p h = tt
+refuses_sheet found page fault.Lacking p h = h
+refuses_sheet found page fault.OddAndEven p h = h
+refuses_sheet found page (fault.BadSignature sides) p h = h
+refuses_sheet found page (fault.Words error) p h = h
+refuses_sheet found page fault.NoText p h = h
+refuses_sheet found page (fault.BadBorder text) p h = absurd h
+
+pub refuses_border : (found : List Row) (page sheet : Option Paper) (f : CommandFault) → size_found OfPages found ≡ Some page → size_found OfSheets found ≡ Some sheet
+    → RefusesBorder found f → RefusesSizes found f
+refuses_border found page sheet (fault.UnknownPaper option text) p s h = absurd h
+refuses_border found page sheet fault.NoMemory p s h = tt
+refuses_border found page sheet fault.Lacking p s h = h
+refuses_border found page sheet fault.OddAndEven p s h = h
+refuses_border found page sheet (fault.BadSignature sides) p s h = h
+refuses_border found page sheet (fault.Words error) p s h = h
+refuses_border found page sheet fault.NoText p s h = h
+refuses_border found page sheet (fault.BadBorder text) p s h = (record { page = is_there _ page p; sheet = is_there _ sheet s }, h)
+
+pub refuses_sizes : (name : Text) (found : List Row) (f : CommandFault) → RefusesSizes found f → RefusesFound name found f
+refuses_sizes name found (fault.UnknownPaper OfPages text) h = h
+refuses_sizes name found (fault.UnknownPaper OfSheets text) h = h
+refuses_sizes name found (fault.BadBorder text) h = (h.0, h.1.0, h.1.1)
+refuses_sizes name found fault.NoMemory h = tt
+refuses_sizes name found fault.Lacking h = absurd h
+refuses_sizes name found fault.OddAndEven h = absurd h
+refuses_sizes name found (fault.BadSignature sides) h = absurd h
+refuses_sizes name found (fault.Words error) h = h
+refuses_sizes name found fault.NoText h = h
+
+has_sizes : (found : List Row) (page sheet : Option Paper) (border : Option ℤ) → ReadsSizes found page sheet border → HasSizes found
+has_sizes found page sheet border r =
+    record { papers = record { page = is_there _ page r.page_is; sheet = is_there _ sheet r.sheet_is }; border = is_there _ border r.border_is }
+
+pub refuses_arguments : (name : Text) (found : List Row) (page sheet : Option Paper) (border : Option ℤ) (f : CommandFault) → ReadsSizes found page sheet border
+    → RefusesArguments name found f → RefusesFound name found f
+refuses_arguments name found page sheet border fault.Lacking r h = (has_sizes found page sheet border r, h)
+refuses_arguments name found page sheet border fault.OddAndEven r h = (has_sizes found page sheet border r, h)
+refuses_arguments name found page sheet border (fault.BadSignature sides) r h = (has_sizes found page sheet border r, h)
+refuses_arguments name found page sheet border fault.NoMemory r h = tt
+refuses_arguments name found page sheet border (fault.Words error) r h = h
+refuses_arguments name found page sheet border fault.NoText r h = h
+refuses_arguments name found page sheet border (fault.UnknownPaper option text) r h = absurd h
+refuses_arguments name found page sheet border (fault.BadBorder text) r h = absurd h

@@ -1,0 +1,11 @@
+use Rattle.std.proofs.Common.{sym, subst}
+use Rattle.layouts.specs.Refusals.{why_not}
+use Rattle.impose_cli.specs.Refusals.{RefusesLayout}
+use Rattle.impose_cli.specs.declared.request.Layout.TheVariants as layout
+use Rattle.impose_cli.proofs.Placing.{refuses_layout}
+use Rattle.impose_cli.proofs.task.nup_placing.Goals as goal
+
+pub returns-in-Err-clause-refused : goal.returns-in-Err-clause-refused
+returns-in-Err-clause-refused c =
+    subst (RefusesLayout (layout.NUp c.args.count) c.args.page.now c.args.sheet.now 0) (sym c.from.ensures)
+    (refuses_layout (why_not c.args.page.now c.args.sheet.now c.args.count) (layout.NUp c.args.count) c.args.page.now c.args.sheet.now (λ e is. is) c.in-Err.error c.in-Err.ensures.refused)

@@ -1,0 +1,74 @@
+-- The command line: impose nup N, impose booklet, impose select RANGES or impose spec SPECS, with [OPTIONS] [INFILE [OUTFILE]].
+use Rattle.std.specs.Prelude.{ℕ, pos, true, false, List, [], ◌∷◌, map, Some, codes}
+use Rattle.std.specs.List.{fold}
+use Rattle.clap.specs.Words.{App, Rule, Shape, Text, new_app, new_rule, with_rule, with_subcommand}
+use Rattle.clap.specs.Simple.{on_top}
+use Rattle.clap.specs.declared.builder.action.ArgAction.TheVariants.{Set, SetTrue}
+use Rattle.clap.specs.declared.builder.value_parser.ValueParser.TheVariants.{Signed}
+
+abbrev pub positional_rule : Text → Rule
+positional_rule id = record (new_rule id) { value_names = 1; action = Some Set }
+
+abbrev pub required_rule : Text → Rule
+required_rule id = record (positional_rule id) { required = true }
+
+-- an option with a value, by its long name
+abbrev pub option_rule : Text → Rule
+option_rule id = record (positional_rule id) { long = Some id }
+
+abbrev pub flag_rule : Text → Rule
+flag_rule id = record (new_rule id) { long = Some id; action = Some SetTrue }
+
+-- it has a letter too
+abbrev pub lettered : (letter : ℕ) → Rule → Rule
+lettered letter rule = record rule { short = Some letter }
+
+-- its value is a whole number in this range
+abbrev pub ranged : (low high : ℕ) → Rule → Rule
+ranged low high rule = record rule { parser = Some (Signed (pos low) (pos high)) }
+
+abbrev pub letter_p : ℕ
+letter_p = 112
+
+abbrev pub letter_q : ℕ
+letter_q = 113
+
+-- the arguments that every subcommand has
+abbrev pub common_rules : List Rule
+common_rules =
+    positional_rule (codes "infile")
+    ∷ positional_rule (codes "outfile")
+    ∷ lettered letter_p (option_rule (codes "paper"))
+    ∷ option_rule (codes "sheet")
+    ∷ option_rule (codes "border")
+    ∷ flag_rule (codes "unguarded")
+    ∷ flag_rule (codes "print-spec")
+    ∷ lettered letter_q (flag_rule (codes "quiet"))
+    ∷ []
+
+-- a subcommand with arguments of its own, and behind them those
+abbrev pub subcommand_app : (name : Text) → (own : List Rule) → App
+subcommand_app name own = fold with_rule (fold with_rule (new_app name) own) common_rules
+
+abbrev pub nup_app : App
+nup_app = subcommand_app (codes "nup") (ranged 1 1_024 (required_rule (codes "count")) ∷ [])
+
+abbrev pub booklet_app : App
+booklet_app = subcommand_app (codes "booklet") (ranged 4 1_000_000 (option_rule (codes "signature")) ∷ flag_rule (codes "long-edge") ∷ [])
+
+abbrev pub select_app : App
+select_app = subcommand_app (codes "select") (required_rule (codes "ranges") ∷ flag_rule (codes "odd") ∷ flag_rule (codes "even") ∷ [])
+
+abbrev pub spec_app : App
+spec_app = subcommand_app (codes "spec") (required_rule (codes "specs") ∷ [])
+
+abbrev pub apps : List App
+apps = nup_app ∷ booklet_app ∷ select_app ∷ spec_app ∷ []
+
+-- the command itself: it has a version, and a subcommand must stand among the words
+abbrev pub with_top : Shape → Shape
+with_top s = record s { has_version = true; subcommand_required = true; arg_required_else_help = true }
+
+-- opaque, so that what a clause says of it stays short
+unfoldable pub impose : App
+impose = fold (λ a sub. with_subcommand a sub.top) (on_top with_top (new_app (codes "impose"))) apps

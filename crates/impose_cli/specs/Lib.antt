@@ -1,0 +1,9 @@
+pub mod Command
+pub mod Sizes
+pub mod Words
+pub mod Sizing
+pub mod Faults
+pub mod Tasks
+pub mod Refusals
+pub mod Telling
+pub mod Statuses

@@ -1,0 +1,99 @@
+-- What a refused or failed request says, and what was written then.
+use Rattle.std.specs.Prelude.{◌≡◌, ◌⊎◌, ⊤, ℕ, ◌+◌, IfSome, List, Option, Some, Err, string_bytes}
+use Rattle.std.specs.Io.KnownBytes.{Keeps}
+use Rattle.profile.specs.Papers.{Paper}
+use Rattle.profile.specs.Run.{document_of, NotPostScript}
+use Rattle.layouts.specs.NoSelection.{RefusesSelection}
+use Rattle.layouts.specs.Refusals.{why_not, why_no_booklet}
+use Rattle.layouts.specs.declared.select.Which.{Which}
+use Rattle.layouts.specs.declared.error.LayoutError.{LayoutError}
+use Rattle.layouts.specs.declared.error.LayoutError.TheVariants.{PageNotInDocument}
+use Rattle.dsc.specs.declared.errors.DscError.{DscError}
+use Rattle.dsc.specs.Faults as dsc
+use Rattle.imposer.specs.Runs.{FailedIn, HasWritten, IsRefusal}
+use Rattle.imposer.specs.Outcomes.{of_document}
+use Rattle.imposer.specs.declared.outcome.RunError.{RunError}
+use Rattle.impose_cli.specs.Faults.{without_memory}
+use Rattle.impose_cli.specs.Tasks.{HasPages, IsTask, asked_by, page_found, sheet_found}
+use Rattle.impose_cli.specs.declared.request.Layout.{Layout}
+use Rattle.impose_cli.specs.declared.request.Layout.TheVariants as layout
+use Rattle.impose_cli.specs.declared.request.Request.{Request}
+use Rattle.impose_cli.specs.declared.fault.Fault.{Fault}
+use Rattle.impose_cli.specs.declared.fault.Fault.TheVariants as fault
+use Rattle.impose_cli.specs.declared.task.Task.{Task}
+
+-- ---- the document
+
+-- the document is refused for this reason, if it isn't for memory
+abbrev pub IsRefusedFor : (input : List ℕ) → DscError → Type 0
+IsRefusedFor input e = IfSome (dsc.fault_told e) (λ f. document_of input ≡ Err f)
+
+abbrev pub RefusesDocument : (input : List ℕ) → Fault → Type 0
+RefusesDocument input (fault.Run e) = (why : DscError) × (e ≡ of_document why) × IsRefusedFor input why
+RefusesDocument input fault.NoInput = document_of input ≡ Err NotPostScript
+RefusesDocument input fault.Pdf = document_of input ≡ Err NotPostScript
+RefusesDocument input (fault.Command f) = ⊥
+RefusesDocument input (fault.Layout e) = ⊥
+RefusesDocument input (fault.NoSuchPage place pages) = ⊥
+RefusesDocument input (fault.Read cause) = ⊥
+RefusesDocument input (fault.Write written cause) = ⊥
+
+-- ---- the layout
+
+-- why there is no such layout, for so many pages of a paper
+abbrev pub WhyNot : Layout → (page sheet : Paper) → (pages : ℕ) → LayoutError → Type 0
+WhyNot (layout.NUp n) page sheet pages e = why_not page sheet n ≡ Some e
+WhyNot (layout.Booklet signature long_edge) page sheet pages e = why_no_booklet page sheet ≡ Some e
+WhyNot (layout.Selection ranges which) page sheet pages e = RefusesSelection (string_bytes ranges) which pages e
+WhyNot (layout.Spec specs) page sheet pages e = ⊥
+
+-- the fault is out of memory, or the layout's
+abbrev pub RefusesLayout : Layout → (page sheet : Paper) → (pages : ℕ) → Fault → Type 0
+RefusesLayout l page sheet pages (fault.Layout e) = WhyNot l page sheet pages e
+RefusesLayout l page sheet pages (fault.NoSuchPage place n) = (n ≡ pages) × WhyNot l page sheet pages (PageNotInDocument place)
+RefusesLayout l page sheet pages (fault.Run e) = fault.Run e ≡ without_memory
+RefusesLayout l page sheet pages fault.NoInput = ⊥
+RefusesLayout l page sheet pages fault.Pdf = ⊥
+RefusesLayout l page sheet pages (fault.Command f) = ⊥
+RefusesLayout l page sheet pages (fault.Read cause) = ⊥
+RefusesLayout l page sheet pages (fault.Write written cause) = ⊥
+
+-- what a refusal of ranges says
+abbrev pub RefusesRanges : (ranges : List ℕ) → Which → (pages : ℕ) → Fault → Type 0
+RefusesRanges ranges which pages (fault.Layout e) = RefusesSelection ranges which pages e
+RefusesRanges ranges which pages (fault.NoSuchPage place n) = (n ≡ pages) × RefusesSelection ranges which pages (PageNotInDocument place)
+RefusesRanges ranges which pages (fault.Run e) = fault.Run e ≡ without_memory
+RefusesRanges ranges which pages fault.NoInput = ⊥
+RefusesRanges ranges which pages fault.Pdf = ⊥
+RefusesRanges ranges which pages (fault.Command f) = ⊥
+RefusesRanges ranges which pages (fault.Read cause) = ⊥
+RefusesRanges ranges which pages (fault.Write written cause) = ⊥
+
+-- ---- the request
+
+-- why there is no task: memory ran out; or the document is refused; or it isn't, and the layout is
+abbrev pub RefusesTask : Request → (input : List ℕ) → Fault → Type 0
+RefusesTask r input f =
+    (f ≡ without_memory)
+    ⊎ (RefusesDocument input f
+    ⊎ ((n : ℕ) × HasPages input n × RefusesLayout r.layout (page_found r.page input).0 (sheet_found r.sheet (page_found r.page input).0) n f))
+
+-- the fault is one of the run of the request's task, with this error
+pub record IsOfRun (P : Task → RunError → Type 0) (r : Request) (input : List ℕ) (f : Fault) : Type 0 where
+  pub task : Task
+  pub is_task : IsTask r input task
+  pub error : RunError
+  pub is_run : f ≡ fault.Run error
+  pub holds : P task error
+
+-- a fault is told before the run, or is the first check of the run that fails
+abbrev pub RefusesRequest : Request → (input : List ℕ) → Fault → Type 0
+RefusesRequest r input f = RefusesTask r input f ⊎ IsOfRun (λ task e. IsRefusal (asked_by task) e) r input f
+
+-- nothing was written before the run; and in it as much as its error says, which is nothing at a refusal
+abbrev pub LeavesWritten : Request → (input : List ℕ) → (old new : Option (List ℕ)) → Fault → Type 0
+LeavesWritten r input old new f = Keeps old new ⊎ IsOfRun (λ task e. HasWritten (asked_by task) old new e) r input f
+
+-- how often the sink had failed before, and after it
+abbrev pub Failed : (before after : ℕ) → Fault → Type 0
+Failed before after f = (after ≡ before) ⊎ ((e : RunError) × (f ≡ fault.Run e) × FailedIn e before after)

@@ -1,0 +1,49 @@
+-- The papers and the border that the words ask for: the steps of their reading.
+use Rattle.std.specs.Prelude.{◌≡◌, ⊤, ℤ, true, is_some, List, Option, Some, None, codes, string_bytes}
+use Rattle.clap.specs.Words.{Row, first_of}
+use Rattle.profile.specs.Papers.{Paper}
+use Rattle.impose_cli.specs.Words.{HasPapers, NamesNoSize, border_found, size_found}
+use Rattle.impose_cli.specs.declared.fault.PaperOption.{PaperOption}
+use Rattle.impose_cli.specs.declared.fault.PaperOption.TheVariants.{Paper as OfPages, Sheet as OfSheets}
+use Rattle.impose_cli.specs.declared.fault.CommandFault.{CommandFault}
+use Rattle.impose_cli.specs.declared.fault.CommandFault.TheVariants as fault
+
+-- these are asked for
+pub record ReadsSizes (found : List Row) (page sheet : Option Paper) (border : Option ℤ) : Type 0 where
+  pub page_is : size_found OfPages found ≡ Some page
+  pub sheet_is : size_found OfSheets found ≡ Some sheet
+  pub border_is : border_found found ≡ Some border
+
+-- a refusal of an option's value
+abbrev pub RefusesSize : PaperOption → (found : List Row) → CommandFault → Type 0
+RefusesSize option found (fault.UnknownPaper other text) = (other ≡ option) × NamesNoSize option found (string_bytes text)
+RefusesSize option found fault.NoMemory = ⊤
+RefusesSize option found fault.Lacking = ⊥
+RefusesSize option found fault.OddAndEven = ⊥
+RefusesSize option found (fault.BadSignature sides) = ⊥
+RefusesSize option found (fault.Words error) = ⊥
+RefusesSize option found fault.NoText = ⊥
+RefusesSize option found (fault.BadBorder text) = ⊥
+
+-- a refusal of the border's
+abbrev pub RefusesBorder : (found : List Row) → CommandFault → Type 0
+RefusesBorder found (fault.BadBorder text) = (first_of (codes "border") found ≡ Some (string_bytes text)) × (border_found found ≡ None)
+RefusesBorder found fault.NoMemory = ⊤
+RefusesBorder found (fault.UnknownPaper option text) = ⊥
+RefusesBorder found fault.Lacking = ⊥
+RefusesBorder found fault.OddAndEven = ⊥
+RefusesBorder found (fault.BadSignature sides) = ⊥
+RefusesBorder found (fault.Words error) = ⊥
+RefusesBorder found fault.NoText = ⊥
+
+-- a refusal of one of them, each behind those before it
+abbrev pub RefusesSizes : (found : List Row) → CommandFault → Type 0
+RefusesSizes found (fault.UnknownPaper OfPages text) = NamesNoSize OfPages found (string_bytes text)
+RefusesSizes found (fault.UnknownPaper OfSheets text) = (is_some (size_found OfPages found) ≡ true) × NamesNoSize OfSheets found (string_bytes text)
+RefusesSizes found (fault.BadBorder text) = HasPapers found × RefusesBorder found (fault.BadBorder text)
+RefusesSizes found fault.NoMemory = ⊤
+RefusesSizes found fault.Lacking = ⊥
+RefusesSizes found fault.OddAndEven = ⊥
+RefusesSizes found (fault.BadSignature sides) = ⊥
+RefusesSizes found (fault.Words error) = ⊥
+RefusesSizes found fault.NoText = ⊥

@@ -1,0 +1,37 @@
+-- The exit statuses: 1 if what was asked for is refused, 2 if the words or the options are, 3 if memory, reading or writing
+-- failed, and 0 after a call for help or for the version.
+use Rattle.std.specs.Prelude.{ℕ}
+use Rattle.clap.specs.Words.{kind_of}
+use Rattle.clap.specs.declared.error.kind.ErrorKind.{ErrorKind}
+use Rattle.clap.specs.declared.error.kind.ErrorKind.TheVariants.{DisplayHelp, DisplayVersion}
+use Rattle.layouts.specs.declared.error.LayoutError.{LayoutError}
+use Rattle.layouts.specs.declared.error.LayoutError.TheVariants as layout
+use Rattle.pstops_cli.specs.Lines.{run_status}
+use Rattle.impose_cli.specs.declared.fault.CommandFault.{CommandFault}
+use Rattle.impose_cli.specs.declared.fault.CommandFault.TheVariants as command
+use Rattle.impose_cli.specs.declared.fault.Fault.{Fault}
+use Rattle.impose_cli.specs.declared.fault.Fault.TheVariants as fault
+
+abbrev pub words_status : ErrorKind → ℕ
+words_status DisplayHelp = 0
+words_status DisplayVersion = 0
+words_status other = 2
+
+abbrev pub command_status : CommandFault → ℕ
+command_status command.NoMemory = 3
+command_status (command.Words error) = words_status (kind_of error)
+command_status other = 2
+
+abbrev pub layout_status : LayoutError → ℕ
+layout_status layout.NoMemory = 3
+layout_status other = 1
+
+abbrev pub fault_status : Fault → ℕ
+fault_status (fault.Command f) = command_status f
+fault_status (fault.Layout e) = layout_status e
+fault_status (fault.NoSuchPage place pages) = 1
+fault_status (fault.Read cause) = 3
+fault_status (fault.Run e) = run_status e
+fault_status fault.NoInput = 1
+fault_status fault.Pdf = 1
+fault_status (fault.Write written cause) = 3

@@ -1,0 +1,98 @@
+-- What is imposed, and how: a request for a document.
+use Rattle.std.specs.Prelude.{◌≡◌, ℕ, ◌+◌, ◌*◌, ◌/◌, Bool, true, false, if◌then◌else◌, unwrap_or, List, length, Option, Some, None, Ok, string_bytes}
+use Rattle.profile.specs.Papers.{Paper}
+use Rattle.profile.specs.Specification.{Spec, canonical}
+use Rattle.profile.specs.Admissible.{Takes, most_slots}
+use Rattle.profile.specs.Parts.{NestedUnit, pages}
+use Rattle.profile.specs.Run.{document_of}
+use Rattle.guard.specs.Guard.{guarded}
+use Rattle.layouts.specs.Grids.{leaves, n_up}
+use Rattle.layouts.specs.Selections.{IsSelection}
+use Rattle.std.specs.Io.KnownBytes.{Appends}
+use Rattle.profile.specs.Output.{output}
+use Rattle.imposer.specs.Runs.{Reports}
+use Rattle.imposer.specs.Runs as runs
+use Rattle.document_paper.specs.Media.{a4, document_paper}
+use Rattle.document_paper.specs.declared.media.Comment.{Comment}
+use Rattle.impose_cli.specs.declared.task.PaperOrigin.{PaperOrigin}
+use Rattle.impose_cli.specs.declared.task.PaperOrigin.TheVariants.{Named, ByComment, Assumed}
+use Rattle.impose_cli.specs.declared.request.Layout.{Layout}
+use Rattle.impose_cli.specs.declared.request.Layout.TheVariants as layout
+use Rattle.impose_cli.specs.declared.request.Request.{Request}
+use Rattle.impose_cli.specs.declared.task.Task.{Task}
+use Rattle.impose_cli.specs.declared.task.Finished.{Finished}
+
+-- the paper of the pages: the one that is named, else the document's own, else a4
+abbrev pub own_or_a4 : Option (Paper × Comment) → Paper × PaperOrigin
+own_or_a4 None = (a4, Assumed)
+own_or_a4 (Some own) = (own.0, ByComment own.1)
+
+abbrev pub page_found : (named : Option Paper) → (input : List ℕ) → Paper × PaperOrigin
+page_found (Some page) input = (page, Named)
+page_found None input = own_or_a4 (document_paper input)
+
+-- the paper of the sheets: the one that is named, else that of the pages
+abbrev pub sheet_found : (named : Option Paper) → (page : Paper) → Paper
+sheet_found named page = unwrap_or named page
+
+-- the document, with the guard in it if it is asked for
+abbrev pub taken_text : (is_guarded : Bool) → (sheet : Paper) → List ℕ → List ℕ
+taken_text is_guarded sheet input = if is_guarded then guarded (Some sheet) input else input
+
+-- the document is accepted and has so many pages
+abbrev pub HasPages : (input : List ℕ) → ℕ → Type 0
+HasPages input n = (us : List NestedUnit) × (document_of input ≡ Ok us) × (n ≡ length (pages us))
+
+-- the smallest multiple of four that is no less
+abbrev pub fours : ℕ → ℕ
+fours n = (n + 3) / 4 * 4
+
+-- the text is the canonical one of the specification, and is read as that
+abbrev pub IsWritten : Spec → (text : List ℕ) → Type 0
+IsWritten spec text = (text ≡ canonical spec) × Takes most_slots text spec
+
+-- the text of the specification and the sides of a signature to which a layout comes, for so many pages of a paper
+abbrev pub IsPlaced : Layout → (page sheet : Paper) → (pages : ℕ) → (text : List ℕ) → (sides : Option ℕ) → Type 0
+IsPlaced (layout.NUp n) page sheet pages text sides = IsWritten (n_up page sheet n) text × (sides ≡ None)
+IsPlaced (layout.Booklet signature long_edge) page sheet pages text sides =
+    IsWritten (leaves page sheet long_edge) text × (sides ≡ Some (unwrap_or signature (fours pages)))
+IsPlaced (layout.Selection ranges which) page sheet pages text sides =
+    ((spec : Spec) × IsSelection (string_bytes ranges) which pages spec × IsWritten spec text) × (sides ≡ None)
+IsPlaced (layout.Spec specs) page sheet pages text sides = (text ≡ string_bytes specs) × (sides ≡ None)
+
+-- the task is what the request asks for with this document
+pub record IsTask (request : Request) (input : List ℕ) (task : Task) : Type 0 where
+  pub page_count : ℕ
+  pub document : HasPages input page_count
+  pub page : (task.options.paper, task.origin) ≡ page_found request.page input
+  pub placed : IsPlaced request.layout task.options.paper (sheet_found request.sheet task.options.paper) page_count (string_bytes task.spec) task.options.sides
+  pub text : task.text.items ≡ taken_text request.is_guarded (sheet_found request.sheet task.options.paper) input
+  pub border : task.options.border ≡ request.border
+  pub workers : task.options.workers ≡ record { preparers = 2; imposers = 2 }
+
+-- what a task asks of a run
+abbrev pub asked_by : Task → runs.Request
+asked_by t = runs.request t.options (string_bytes t.spec) t.text.items
+
+-- ---- what comes of a request
+
+-- the specification to which a layout comes, and the sides of a signature, for so many pages of a paper
+abbrev pub LaysOut : Layout → (page sheet : Paper) → (pages : ℕ) → Spec → (sides : Option ℕ) → Type 0
+LaysOut (layout.NUp n) page sheet pages spec sides = (spec ≡ n_up page sheet n) × (sides ≡ None)
+LaysOut (layout.Booklet signature long_edge) page sheet pages spec sides = (spec ≡ leaves page sheet long_edge) × (sides ≡ Some (unwrap_or signature (fours pages)))
+LaysOut (layout.Selection ranges which) page sheet pages spec sides = IsSelection (string_bytes ranges) which pages spec × (sides ≡ None)
+LaysOut (layout.Spec specs) page sheet pages spec sides = Takes most_slots (string_bytes specs) spec × (sides ≡ None)
+
+-- the request was carried out for this document: exactly the output was appended that the profile defines for the layout's
+-- specification and the document, with the guard in it if it is asked for
+pub record Finishes (r : Request) (input : List ℕ) (old new : Option (List ℕ)) (done : Finished) : Type 0 where
+  pub page_count : ℕ
+  pub document : HasPages input page_count
+  pub page : (done.page, done.origin) ≡ page_found r.page input
+  pub spec : Spec
+  pub sides : Option ℕ
+  pub layout_is : LaysOut r.layout done.page (sheet_found r.sheet done.page) page_count spec sides
+  pub units : List NestedUnit
+  pub taken : document_of (taken_text r.is_guarded (sheet_found r.sheet done.page) input) ≡ Ok units
+  pub written : Appends old new (output (record { paper = done.page; border = r.border }) sides spec units)
+  pub report : Reports (record { paper = done.page; border = r.border }) sides spec units done.report

@@ -1,0 +1,163 @@
+-- What the words ask for, by the rows that the command finds among them.
+use Rattle.std.specs.Prelude.{◌≡◌, ◌⊎◌, ◌%◌, ◌==◌, ⊤, [], ℕ, ℤ, Bool, true, false, not, if◌then◌else◌, is_some, option_map, List, Option, Some, None, codes, string_bytes}
+use Rattle.std.specs.Str.{bytes_eq}
+use Rattle.clap.specs.Words.{IsAmong, Row, Text, fault_of, first_of, kind_of, one_of, subcommand_of}
+use Rattle.profile.specs.Papers.{Paper}
+use Rattle.pstops_cli.specs.Command.{has_true}
+use Rattle.pstops_cli.specs.Values as values
+use Rattle.document_paper.specs.Media.{a4}
+use Rattle.layouts.specs.declared.select.Which.{Which}
+use Rattle.layouts.specs.declared.select.Which.TheVariants.{All, Odd, Even}
+use Rattle.impose_cli.specs.Command.{impose}
+use Rattle.impose_cli.specs.Sizes.{size_named}
+use Rattle.impose_cli.specs.declared.request.Layout.{Layout}
+use Rattle.impose_cli.specs.declared.request.Layout.TheVariants as layout
+use Rattle.impose_cli.specs.declared.request.Request.{Request}
+use Rattle.impose_cli.specs.declared.fault.PaperOption.{PaperOption}
+use Rattle.impose_cli.specs.declared.fault.PaperOption.TheVariants.{Paper as OfPages, Sheet as OfSheets}
+use Rattle.impose_cli.specs.declared.fault.CommandFault.{CommandFault}
+use Rattle.impose_cli.specs.declared.fault.CommandFault.TheVariants as fault
+
+-- ---- values
+
+-- a flag stands among the words
+abbrev pub has_flag : (id : Text) → (found : List Row) → Bool
+has_flag id found = has_true (first_of id found)
+
+-- the whole number of an argument, if it is there
+abbrev pub number_found : (id : Text) → (found : List Row) → Option ℕ
+number_found id found = values.sides_named (one_of id found)
+
+abbrev pub paper_id : PaperOption → Text
+paper_id OfPages = codes "paper"
+paper_id OfSheets = codes "sheet"
+
+-- no size if none is asked for; and nothing if the text names none
+abbrev pub size_asked : Option Text → Option (Option Paper)
+size_asked None = Some None
+size_asked (Some text) = option_map (λ size. Some size) (size_named text)
+
+abbrev pub size_found : PaperOption → (found : List Row) → Option (Option Paper)
+size_found option found = size_asked (first_of (paper_id option) found)
+
+-- no border if none is asked for, or one of the width 0; and nothing if the text names no length, or one below 0
+abbrev pub border_found : (found : List Row) → Option (Option ℤ)
+border_found found = values.border_named a4 (first_of (codes "border") found)
+
+-- a signature of leaves that are folded has a multiple of four sides
+abbrev pub is_folded : (signature : Option ℕ) → Bool
+is_folded None = true
+is_folded (Some sides) = sides % 4 == 0
+
+abbrev pub which_of : (odd even : Bool) → Option Which
+which_of false false = Some All
+which_of true false = Some Odd
+which_of false true = Some Even
+which_of true true = None
+
+abbrev pub which_found : (found : List Row) → Option Which
+which_found found = which_of (has_flag (codes "odd") found) (has_flag (codes "even") found)
+
+-- a minus sign is standard input or output, as no file is
+abbrev pub file_of : Text → Option Text
+file_of text = if bytes_eq text (codes "-") then None else Some text
+
+abbrev pub file_asked : Option Text → Option Text
+file_asked None = None
+file_asked (Some text) = file_of text
+
+-- ---- the request
+
+-- the subcommand with this name and what was found for it ask for this layout
+abbrev pub AsksFor : (name : Text) → (found : List Row) → Layout → Type 0
+AsksFor name found (layout.NUp n) = (name ≡ codes "nup") × (number_found (codes "count") found ≡ Some n)
+AsksFor name found (layout.Booklet signature long_edge) =
+    (name ≡ codes "booklet") × (number_found (codes "signature") found ≡ signature) × (is_folded signature ≡ true) × (has_flag (codes "long-edge") found ≡ long_edge)
+AsksFor name found (layout.Selection ranges which) =
+    (name ≡ codes "select") × (first_of (codes "ranges") found ≡ Some (string_bytes ranges)) × (which_found found ≡ Some which)
+AsksFor name found (layout.Spec specs) = (name ≡ codes "spec") × (first_of (codes "specs") found ≡ Some (string_bytes specs))
+
+-- the request is what was found
+pub record Reads (name : Text) (found : List Row) (r : Request) : Type 0 where
+  pub layout : AsksFor name found r.layout
+  pub page : size_found OfPages found ≡ Some r.page
+  pub sheet : size_found OfSheets found ≡ Some r.sheet
+  pub border : border_found found ≡ Some r.border
+  pub guarded : r.is_guarded ≡ not (has_flag (codes "unguarded") found)
+  pub printed : has_flag (codes "print-spec") found ≡ r.is_printed
+  pub quiet : has_flag (codes "quiet") found ≡ r.is_quiet
+  pub infile : file_asked (first_of (codes "infile") found) ≡ option_map string_bytes r.infile
+  pub outfile : file_asked (first_of (codes "outfile") found) ≡ option_map string_bytes r.outfile
+
+-- the command takes the words, and finds the subcommand with this name and these rows for it
+pub record Enters (words : List Text) (name : Text) (found : List Row) : Type 0 where
+  pub taken : fault_of impose words ≡ []
+  pub entered : subcommand_of impose words ≡ Some (name, found)
+
+-- the command takes the words, and this holds of what it finds
+abbrev pub Entered : (words : List Text) → ((name : Text) → (found : List Row) → Type 0) → Type 0
+Entered words P = (name : Text) × (found : List Row) × Enters words name found × P name found
+
+-- ---- the refusals
+
+-- the value of the option names no size
+pub record NamesNoSize (option : PaperOption) (found : List Row) (text : Text) : Type 0 where
+  pub given : first_of (paper_id option) found ≡ Some text
+  pub none : size_named text ≡ None
+
+-- the papers and the border that were asked for are some
+pub record HasPapers (found : List Row) : Type 0 where
+  pub page : is_some (size_found OfPages found) ≡ true
+  pub sheet : is_some (size_found OfSheets found) ≡ true
+
+pub record HasSizes (found : List Row) : Type 0 where
+  pub papers : HasPapers found
+  pub border : is_some (border_found found) ≡ true
+
+-- the arguments that the subcommand needs were found
+abbrev pub is_complete : (name : Text) → (found : List Row) → Bool
+is_complete name found =
+    if bytes_eq name (codes "nup") then is_some (number_found (codes "count") found)
+    else (if bytes_eq name (codes "booklet") then true
+    else (if bytes_eq name (codes "select") then is_some (first_of (codes "ranges") found)
+    else (if bytes_eq name (codes "spec") then is_some (first_of (codes "specs") found) else false)))
+
+-- what a refusal of a layout says of what was found
+abbrev pub RefusesArguments : (name : Text) → (found : List Row) → CommandFault → Type 0
+RefusesArguments name found (fault.BadSignature sides) = (name ≡ codes "booklet") × (number_found (codes "signature") found ≡ Some sides) × (is_folded (Some sides) ≡ false)
+RefusesArguments name found fault.OddAndEven = (name ≡ codes "select") × (has_flag (codes "odd") found ≡ true) × (has_flag (codes "even") found ≡ true)
+RefusesArguments name found fault.Lacking = is_complete name found ≡ false
+RefusesArguments name found fault.NoMemory = ⊤
+RefusesArguments name found (fault.Words error) = ⊥
+RefusesArguments name found fault.NoText = ⊥
+RefusesArguments name found (fault.UnknownPaper option text) = ⊥
+RefusesArguments name found (fault.BadBorder text) = ⊥
+
+-- what a refusal says of what was found, and of what was looked at before: --paper, --sheet, --border, the layout
+abbrev pub RefusesFound : (name : Text) → (found : List Row) → CommandFault → Type 0
+RefusesFound name found (fault.UnknownPaper OfPages text) = NamesNoSize OfPages found (string_bytes text)
+RefusesFound name found (fault.UnknownPaper OfSheets text) = (is_some (size_found OfPages found) ≡ true) × NamesNoSize OfSheets found (string_bytes text)
+RefusesFound name found (fault.BadBorder text) = HasPapers found × (first_of (codes "border") found ≡ Some (string_bytes text)) × (border_found found ≡ None)
+RefusesFound name found (fault.BadSignature sides) = HasSizes found × RefusesArguments name found (fault.BadSignature sides)
+RefusesFound name found fault.OddAndEven = HasSizes found × RefusesArguments name found fault.OddAndEven
+RefusesFound name found fault.Lacking = HasSizes found × RefusesArguments name found fault.Lacking
+RefusesFound name found fault.NoMemory = ⊤
+RefusesFound name found (fault.Words error) = ⊥
+RefusesFound name found fault.NoText = ⊥
+
+-- what a refusal says of the words: clap's own faults are those of the words, or a call for help or for the version
+abbrev pub Refuses : (words : List Text) → CommandFault → Type 0
+Refuses words (fault.Words error) = IsAmong (kind_of error) (fault_of impose words)
+Refuses words fault.NoText = ⊥
+Refuses words fault.NoMemory = ⊤
+Refuses words (fault.UnknownPaper option text) = Entered words (λ name found. RefusesFound name found (fault.UnknownPaper option text))
+Refuses words (fault.BadBorder text) = Entered words (λ name found. RefusesFound name found (fault.BadBorder text))
+Refuses words (fault.BadSignature sides) = Entered words (λ name found. RefusesFound name found (fault.BadSignature sides))
+Refuses words fault.OddAndEven = Entered words (λ name found. RefusesFound name found fault.OddAndEven)
+Refuses words fault.Lacking = (subcommand_of impose words ≡ None) ⊎ Entered words (λ name found. RefusesFound name found fault.Lacking)
+
+-- what a refusal says of the words before what was found is looked at
+abbrev pub ParseRefuses : (words : List Text) → CommandFault → Type 0
+ParseRefuses words (fault.Words error) = IsAmong (kind_of error) (fault_of impose words)
+ParseRefuses words fault.NoMemory = ⊤
+ParseRefuses words other = ⊥

@@ -1,0 +1,153 @@
+//! The command, its subcommands and their arguments.
+ghost use Rattle.std.specs.Prelude.{◌≡◌, IfOk, codes, map, true};
+ghost use Rattle.std.specs.List.{fold, list_all};
+ghost use Rattle.clap.specs.Words.{app_of, new_app, rule_of, with_rule};
+ghost use Rattle.pstops_cli.specs.Command.{fits};
+ghost use Rattle.impose_cli.specs.Command.{apps, booklet_app, common_rules, flag_rule, impose, nup_app, option_rule, positional_rule, required_rule, select_app, spec_app};
+
+use clap::{Arg, ArgAction, Command, value_parser};
+use std::alloc::{AllocError, Global};
+
+const EXAMPLES: &str = "Examples:
+  impose nup 2 in.ps out.ps           two pages on each sheet
+  impose booklet in.ps out.ps         print on both sides, fold, staple
+  impose select 9-3,12- in.ps out.ps  pages 9 down to 3, then 12 to the last
+  pdftops in.pdf - | impose nup 4 --sheet a3 - | ps2pdf - out.pdf";
+
+/// The command with its subcommands.
+pub(crate) fn command<'a>(alloc: Global) -> Result<Command<'a>, AllocError>
+    ensures { IfOk result (λ c. app_of c ≡ impose) }
+{
+    let top = Command::new(alloc, "impose")
+        .version("1.0")
+        .about("Puts the pages of a PostScript document on sheets of paper")
+        .after_help(EXAMPLES)
+        .subcommand_required(true)
+        .arg_required_else_help(true);
+    top.subcommands(subcommands(alloc)?)
+}
+
+fn subcommands<'a>(alloc: Global) -> Result<Vec<Command<'a>>, AllocError>
+    ensures { IfOk result (λ v. map app_of v.items ≡ apps) }
+{
+    let nup = nup(alloc)?;
+    let booklet = booklet(alloc)?;
+    let select = select(alloc)?;
+    let spec = spec(alloc)?;
+    Ok(vec![in alloc; nup, booklet, select, spec]?)
+}
+
+fn nup<'a>(alloc: Global) -> Result<Command<'a>, AllocError>
+    ensures { IfOk result (λ c. app_of c ≡ nup_app) }
+{
+    let count = required(alloc, "count", "N")
+        .value_parser(value_parser!(u32).range(1..=1_024))
+        .help("How many pages, from 1 to 1024");
+    let about = "Several pages on each sheet, as large as they fit";
+    subcommand(alloc, "nup", about, vec![in alloc; count]?)
+}
+
+fn booklet<'a>(alloc: Global) -> Result<Command<'a>, AllocError>
+    ensures { IfOk result (λ c. app_of c ≡ booklet_app) }
+{
+    let signature = option(alloc, "signature", "SIDES")
+        .value_parser(value_parser!(u32).range(4..=1_000_000))
+        .help("Leaves of so many sides, a multiple of four [default: all pages]");
+    let long_edge = flag(alloc, "long-edge").help("For printers that flip on the long edge");
+    let about = "A booklet, to be printed on both sides, folded and stapled";
+    subcommand(
+        alloc,
+        "booklet",
+        about,
+        vec![in alloc; signature, long_edge]?,
+    )
+}
+
+fn select<'a>(alloc: Global) -> Result<Command<'a>, AllocError>
+    ensures { IfOk result (λ c. app_of c ≡ select_app) }
+{
+    let ranges = required(alloc, "ranges", "RANGES").help(
+        "Pages counted from 1, as 7 or 3-9 or 9-3 or 5-, with commas between them",
+    );
+    let odd = flag(alloc, "odd").help("Only pages with an odd number");
+    let even = flag(alloc, "even").help("Only pages with an even number");
+    let about = "Some pages, in the order in which they are named";
+    subcommand(alloc, "select", about, vec![in alloc; ranges, odd, even]?)
+}
+
+fn spec<'a>(alloc: Global) -> Result<Command<'a>, AllocError>
+    ensures { IfOk result (λ c. app_of c ≡ spec_app) }
+{
+    let specs = required(alloc, "specs", "SPECS").help(
+        "A page specification, as 2:0L@.7(21cm,0)+1L@.7(21cm,14.85cm)",
+    );
+    let about = "Pages as a page specification of pstops places them";
+    subcommand(alloc, "spec", about, vec![in alloc; specs]?)
+}
+
+/// A subcommand with arguments of its own, and behind them those that every subcommand has.
+fn subcommand<'a>(
+    alloc: Global,
+    name: &'a str,
+    about: &'a str,
+    own: Vec<Arg<'a>>,
+) -> Result<Command<'a>, AllocError>
+    requires { list_all fits (map rule_of own.items) ≡ true }
+    ensures { IfOk result (λ c. app_of c ≡
+        fold with_rule (fold with_rule (new_app name.entry.now) (map rule_of own.entry.items)) common_rules) }
+{
+    let with_own = Command::new(alloc, name).about(about).args(own)?;
+    with_own.args(common(alloc)?)
+}
+
+fn common<'a>(alloc: Global) -> Result<Vec<Arg<'a>>, AllocError>
+    ensures { IfOk result (λ v. map rule_of v.items ≡ common_rules) }
+{
+    let args = vec![in alloc;
+        positional(alloc, "infile", "INFILE").help("The document; - or nothing is standard input"),
+        positional(alloc, "outfile", "OUTFILE").help("The sheets; - or nothing is standard output"),
+        option(alloc, "paper", "PAPER").short('p').help(
+            "The paper of the pages, as a4 or 210mmx297mm [default: the document's]"
+        ),
+        option(alloc, "sheet", "PAPER").help(
+            "The paper of the sheets [default: that of the pages]"
+        ),
+        option(alloc, "border", "WIDTH").help("Draw a border round each page, as 1pt or .5mm"),
+        flag(alloc, "unguarded").help("Leave the document's own operators as they are"),
+        flag(alloc, "print-spec").help(
+            "Print the specification and a line of pstops for it, and impose nothing"
+        ),
+        flag(alloc, "quiet").short('q').help("Leave the report out"),
+    ]?;
+    Ok(args)
+}
+
+fn positional<'a>(alloc: Global, id: &'a str, name: &'a str) -> Arg<'a>
+    ensures { rule_of result ≡ positional_rule id.entry.now }
+{
+    Arg::new(alloc, id).value_name(name).action(ArgAction::Set)
+}
+
+fn required<'a>(alloc: Global, id: &'a str, name: &'a str) -> Arg<'a>
+    ensures { rule_of result ≡ required_rule id.entry.now }
+{
+    Arg::new(alloc, id)
+        .value_name(name)
+        .action(ArgAction::Set)
+        .required(true)
+}
+
+fn option<'a>(alloc: Global, id: &'a str, name: &'a str) -> Arg<'a>
+    ensures { rule_of result ≡ option_rule id.entry.now }
+{
+    Arg::new(alloc, id)
+        .value_name(name)
+        .action(ArgAction::Set)
+        .long(id)
+}
+
+fn flag<'a>(alloc: Global, id: &'a str) -> Arg<'a>
+    ensures { rule_of result ≡ flag_rule id.entry.now }
+{
+    Arg::new(alloc, id).long(id).action(ArgAction::SetTrue)
+}

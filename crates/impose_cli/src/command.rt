@@ -1,0 +1,308 @@
+//! What the words ask for.
+ghost use Rattle.std.specs.Prelude.{◌≡◌, [], IfOk, IfErr, Some, codes, map, option_map, string_bytes, true};
+ghost use Rattle.clap.specs.Words.{fault_of, first_of, found_of, is_simple, rows_of, subcommand_of, subcommand_rows_of};
+ghost use Rattle.pstops_cli.specs.Command.{has_true};
+ghost use Rattle.pstops_cli.specs.Values as values;
+ghost use Rattle.document_paper.specs.Media.{a4};
+ghost use Rattle.impose_cli.specs.Command.{impose};
+ghost use Rattle.impose_cli.specs.Words.{AsksFor, Entered, ParseRefuses, Reads, Refuses, RefusesFound, RefusesArguments, border_found, file_asked, has_flag, number_found, paper_id, size_found, which_found, which_of as of_both};
+ghost use Rattle.impose_cli.specs.Sizing.{ReadsSizes, RefusesBorder, RefusesSize, RefusesSizes};
+
+use crate::arguments::command;
+use crate::fault::{CommandFault, PaperOption};
+use crate::request::{Layout, Request};
+use crate::sizes::{length_named, size_named};
+use clap::ArgMatches;
+use clap::error::ErrorKind;
+use layouts::Which;
+use lengths::{Grains, Paper};
+use std::alloc::{AllocError, Global};
+
+/// The request that the words make, of which the first is the program's name.
+///
+/// Words that the command doesn't take are `Words`, with clap's message, and so is a call for help or for the version.
+/// Among words that it takes, the first of these is the fault: a paper that there isn't, after `--paper`, then after
+/// `--sheet`; a border that is no length, or below zero; what the subcommand's own arguments can't be together.
+#[tactic(auto, using(crate::proofs::Commands::impose_is_simple))]
+pub fn read_command(alloc: Global, words: &[String]) -> Result<Request, CommandFault>
+    // The command takes the words, and the request is what it finds among them.
+    ensures read { IfOk result (λ request.
+        Entered (map string_bytes words.now) (λ name found. Reads name found request)) }
+    // A fault is the first that there is.
+    ensures refused { IfErr result (Refuses (map string_bytes words.now)) }
+    // What the command takes and finds is a function of the words, since it is a simple one.
+    ensures simple { is_simple impose ≡ true }
+{
+    let matches = match parse(alloc, words) {
+        Ok(matches) => matches,
+        Err(fault) => return Err(fault),
+    };
+    match matches.subcommand() {
+        Some((name, found)) => request_of(alloc, name, found),
+        None => Err(CommandFault::Lacking),
+    }
+}
+
+/// What the command finds among the words.
+fn parse<'a>(alloc: Global, words: &'a [String]) -> Result<ArgMatches<'a>, CommandFault>
+    ensures taken { IfOk result (λ _. fault_of impose (map string_bytes words.entry.now) ≡ []) }
+    ensures found { IfOk result (λ m. subcommand_rows_of m ≡ subcommand_of impose (map string_bytes words.entry.now)) }
+    ensures refused { IfErr result (ParseRefuses (map string_bytes words.entry.now)) }
+{
+    let command = command(alloc)?;
+    match command.try_get_matches_from(words) {
+        Ok(matches) => Ok(matches),
+        Err(error) => {
+            if error.kind() == ErrorKind::OutOfMemory {
+                Err(CommandFault::NoMemory)
+            } else {
+                Err(CommandFault::Words(error))
+            }
+        }
+    }
+}
+
+/// The request that the subcommand with this name and its matches make.
+fn request_of(alloc: Global, name: &str, found: &ArgMatches<'_>) -> Result<Request, CommandFault>
+    ensures read { IfOk result (Reads name.now (rows_of (found_of found.now))) }
+    ensures refused { IfErr result (RefusesFound name.now (rows_of (found_of found.now))) }
+{
+    let sizes = match sizes_of(alloc, found) {
+        Ok(sizes) => sizes,
+        Err(fault) => return Err(fault),
+    };
+    let layout = match layout_of(alloc, name, found) {
+        Ok(layout) => layout,
+        Err(fault) => return Err(fault),
+    };
+    let infile = owned(alloc, file_named(text_of(found, "infile")))?;
+    let outfile = owned(alloc, file_named(text_of(found, "outfile")))?;
+    Ok(Request {
+        layout,
+        page: sizes.page,
+        sheet: sizes.sheet,
+        border: sizes.border,
+        is_guarded: !is_set(found, "unguarded"),
+        is_printed: is_set(found, "print-spec"),
+        is_quiet: is_set(found, "quiet"),
+        infile,
+        outfile,
+    })
+}
+
+/// The papers and the border that are asked for.
+#[derive(Clone, Copy, Drop)]
+struct Sizes {
+    page: Option<Paper>,
+    sheet: Option<Paper>,
+    border: Option<Grains>,
+}
+
+fn sizes_of(alloc: Global, found: &ArgMatches<'_>) -> Result<Sizes, CommandFault>
+    ensures read { IfOk result (λ sizes.
+        ReadsSizes (rows_of (found_of found.now)) sizes.page sizes.sheet sizes.border) }
+    ensures refused { IfErr result (RefusesSizes (rows_of (found_of found.now))) }
+{
+    let page = match paper_of(alloc, found, PaperOption::Paper) {
+        Ok(page) => page,
+        Err(fault) => return Err(fault),
+    };
+    let sheet = match paper_of(alloc, found, PaperOption::Sheet) {
+        Ok(sheet) => sheet,
+        Err(fault) => return Err(fault),
+    };
+    match border_of(alloc, found) {
+        Ok(border) => Ok(Sizes {
+            page,
+            sheet,
+            border,
+        }),
+        Err(fault) => Err(fault),
+    }
+}
+
+/// The paper that an option names, if it is there.
+fn paper_of(
+    alloc: Global,
+    found: &ArgMatches<'_>,
+    option: PaperOption,
+) -> Result<Option<Paper>, CommandFault>
+    ensures read { IfOk result (λ size. size_found option (rows_of (found_of found.now)) ≡ Some size) }
+    ensures refused { IfErr result (RefusesSize option (rows_of (found_of found.now))) }
+{
+    match text_of(found, id_of(option)) {
+        None => Ok(None),
+        Some(text) => match size_named(text) {
+            Some(paper) => Ok(Some(paper)),
+            None => Err(CommandFault::UnknownPaper(option, String::from_str(alloc, text)?)),
+        },
+    }
+}
+
+/// The name of the option's argument.
+fn id_of(option: PaperOption) -> &'static str
+    ensures { result.now ≡ paper_id option }
+{
+    match option {
+        PaperOption::Paper => "paper",
+        PaperOption::Sheet => "sheet",
+    }
+}
+
+/// The border that is asked for; a width of 0 asks for none.
+fn border_of(alloc: Global, found: &ArgMatches<'_>) -> Result<Option<Grains>, CommandFault>
+    ensures read { IfOk result (λ border. border_found (rows_of (found_of found.now)) ≡ Some border) }
+    ensures refused { IfErr result (RefusesBorder (rows_of (found_of found.now))) }
+{
+    match text_of(found, "border") {
+        None => Ok(None),
+        Some(text) => match border_named(text) {
+            Some(border) => Ok(border),
+            None => Err(CommandFault::BadBorder(String::from_str(alloc, text)?)),
+        },
+    }
+}
+
+fn border_named(text: &str) -> Option<Option<Grains>>
+    ensures { result ≡ values.border_named a4 (Some text.now) }
+{
+    let width = length_named(text)?;
+    if width.get() >= 1 {
+        Some(Some(width))
+    } else if width.get() >= 0 {
+        Some(None)
+    } else {
+        None
+    }
+}
+
+/// The layout of the subcommand with this name.
+fn layout_of(alloc: Global, name: &str, found: &ArgMatches<'_>) -> Result<Layout, CommandFault>
+    ensures read { IfOk result (AsksFor name.now (rows_of (found_of found.now))) }
+    ensures refused { IfErr result (RefusesArguments name.now (rows_of (found_of found.now))) }
+{
+    if name == "nup" {
+        nup_of(found)
+    } else if name == "booklet" {
+        booklet_of(found)
+    } else if name == "select" {
+        selection_of(alloc, found)
+    } else if name == "spec" {
+        spec_of(alloc, found)
+    } else {
+        Err(CommandFault::Lacking)
+    }
+}
+
+fn nup_of(found: &ArgMatches<'_>) -> Result<Layout, CommandFault>
+    ensures read { IfOk result (AsksFor (codes "nup") (rows_of (found_of found.now))) }
+    ensures refused { IfErr result (RefusesArguments (codes "nup") (rows_of (found_of found.now))) }
+{
+    match number_of(found, "count") {
+        Some(count) => Ok(Layout::NUp(count)),
+        None => Err(CommandFault::Lacking),
+    }
+}
+
+fn booklet_of(found: &ArgMatches<'_>) -> Result<Layout, CommandFault>
+    ensures read { IfOk result (AsksFor (codes "booklet") (rows_of (found_of found.now))) }
+    ensures refused { IfErr result (RefusesArguments (codes "booklet") (rows_of (found_of found.now))) }
+{
+    let signature = number_of(found, "signature");
+    if let Some(sides) = signature {
+        if sides % 4 != 0 {
+            return Err(CommandFault::BadSignature(sides));
+        }
+    }
+    Ok(Layout::Booklet {
+        signature,
+        long_edge: is_set(found, "long-edge"),
+    })
+}
+
+fn selection_of(alloc: Global, found: &ArgMatches<'_>) -> Result<Layout, CommandFault>
+    ensures read { IfOk result (AsksFor (codes "select") (rows_of (found_of found.now))) }
+    ensures refused { IfErr result (RefusesArguments (codes "select") (rows_of (found_of found.now))) }
+{
+    let Some(ranges) = text_of(found, "ranges") else {
+        return Err(CommandFault::Lacking);
+    };
+    match which_of(is_set(found, "odd"), is_set(found, "even")) {
+        Some(which) => Ok(Layout::Selection {
+            ranges: String::from_str(alloc, ranges)?,
+            which,
+        }),
+        None => Err(CommandFault::OddAndEven),
+    }
+}
+
+fn which_of(odd: bool, even: bool) -> Option<Which>
+    ensures { result ≡ of_both odd even }
+{
+    match (odd, even) {
+        (false, false) => Some(Which::All),
+        (true, false) => Some(Which::Odd),
+        (false, true) => Some(Which::Even),
+        (true, true) => None,
+    }
+}
+
+fn spec_of(alloc: Global, found: &ArgMatches<'_>) -> Result<Layout, CommandFault>
+    ensures read { IfOk result (AsksFor (codes "spec") (rows_of (found_of found.now))) }
+    ensures refused { IfErr result (RefusesArguments (codes "spec") (rows_of (found_of found.now))) }
+{
+    match text_of(found, "specs") {
+        Some(specs) => Ok(Layout::Spec(String::from_str(alloc, specs)?)),
+        None => Err(CommandFault::Lacking),
+    }
+}
+
+/// The file of that name; `-` is no file, but standard input or output.
+fn file_named(name: Option<&str>) -> Option<&str>
+    ensures { option_map (λ s. s.now) result ≡ file_asked (option_map (λ s. s.now) name.entry) }
+{
+    match name {
+        None => None,
+        Some(name) => { if name == "-" { None } else { Some(name) } }
+    }
+}
+
+/// The value of an argument as text.
+fn text_of<'a>(found: &ArgMatches<'a>, id: &str) -> Option<&'a str>
+    ensures { option_map (λ s. s.now) result ≡ first_of id.now (rows_of (found_of found.now)) }
+{
+    found.get_str(id)
+}
+
+/// The whole number of an argument.
+fn number_of(found: &ArgMatches<'_>, id: &str) -> Option<u32>
+    ensures { result ≡ number_found id.now (rows_of (found_of found.now)) }
+{
+    found.get_one::<u32>(id)
+}
+
+/// Whether a flag stands among the words: its text is then `true`.
+fn is_set(found: &ArgMatches<'_>, id: &str) -> bool
+    ensures { result ≡ has_flag id.now (rows_of (found_of found.now)) }
+{
+    is_true(text_of(found, id))
+}
+
+fn is_true(text: Option<&str>) -> bool
+    ensures { result ≡ has_true (option_map (λ s. s.now) text.entry) }
+{
+    match text {
+        Some(text) => text == "true",
+        None => false,
+    }
+}
+
+/// The text as one of the request's own.
+fn owned(alloc: Global, text: Option<&str>) -> Result<Option<String>, AllocError>
+    ensures { IfOk result (λ own. option_map string_bytes own ≡ option_map (λ s. s.now) text.entry) }
+{
+    match text {
+        None => Ok(None),
+        Some(text) => Ok(Some(String::from_str(alloc, text)?)),
+    }
+}

@@ -1,0 +1,109 @@
+//! Why nothing, or not all, was imposed.
+use clap::Error as WordsError;
+use imposer::RunError;
+use layouts::LayoutError;
+use std::alloc::AllocError;
+use std::io;
+
+/// The option that names a paper.
+#[derive(Clone, Copy, Debug, PartialEq, Eq)]
+pub enum PaperOption {
+    Paper,
+    Sheet,
+}
+
+/// Why a command line is refused.
+#[derive(Debug, Drop)]
+pub enum CommandFault {
+    /// The command doesn't take the words, or they ask for its help or its version.
+    Words(WordsError),
+    /// The words are no text.
+    NoText,
+    /// The words name no subcommand of the command's, or lack one of its arguments, though the command takes them.
+    Lacking,
+    /// The option's value, this text, is no paper.
+    UnknownPaper(PaperOption, String),
+    /// The value of `--border`, this text, is no length above zero, nor zero.
+    BadBorder(String),
+    /// A signature of so many sides, which is no multiple of four.
+    BadSignature(u32),
+    /// Both `--odd` and `--even` are there.
+    OddAndEven,
+    /// There was no memory for the request.
+    NoMemory,
+}
+
+/// Why nothing, or not all, was imposed.
+#[derive(Debug, Drop)]
+pub enum Fault {
+    /// The command line is refused.
+    Command(CommandFault),
+    /// There is no such layout.
+    Layout(LayoutError),
+    /// The document has only so many pages, and not all of the range at this place of the text.
+    NoSuchPage {
+        place: usize,
+        pages: u32,
+    },
+    /// The input couldn't be opened or read, and why, if the system told it.
+    Read(Option<io::Error>),
+    /// The run is refused or failed, but for a failed write.
+    Run(RunError),
+    /// The input is empty.
+    NoInput,
+    /// The input is a PDF.
+    Pdf,
+    /// The output couldn't be created, or not be written behind so many bytes, and why, if the system told it.
+    Write {
+        written: u64,
+        cause: Option<io::Error>,
+    },
+}
+
+impl Fault {
+    ghost use Rattle.std.specs.Prelude.{◌≡◌};
+    ghost use Rattle.impose_cli.specs.Faults.{without_memory};
+
+    /// Memory was refused before anything was written.
+    pub fn no_memory() -> Fault
+        ensures { result ≡ without_memory }
+    {
+        Fault::Run(RunError::NoMemory { written: 0 })
+    }
+}
+
+impl From<AllocError> for CommandFault {
+    ghost use Rattle.std.specs.Prelude.{◌≡◌};
+    ghost use Rattle.impose_cli.specs.declared.fault.CommandFault.TheVariants.{NoMemory};
+
+    ghost from_gives = { λ _ fault. fault ≡ NoMemory };
+
+    fn from(_error: AllocError) -> CommandFault {
+        CommandFault::NoMemory
+    }
+}
+
+impl From<AllocError> for Fault {
+    ghost use Rattle.std.specs.Prelude.{◌≡◌};
+    ghost use Rattle.impose_cli.specs.Faults.{without_memory};
+
+    ghost from_gives = { λ _ fault. fault ≡ without_memory };
+
+    fn from(_error: AllocError) -> Fault {
+        Fault::no_memory()
+    }
+}
+
+impl From<LayoutError> for Fault {
+    ghost use Rattle.std.specs.Prelude.{◌≡◌};
+    ghost use Rattle.impose_cli.specs.Faults.{of_layout};
+
+    ghost from_gives = { λ error fault. fault ≡ of_layout error };
+
+    fn from(error: LayoutError) -> Fault {
+        match error {
+            LayoutError::NoMemory => Fault::no_memory(),
+            error => Fault::Layout(error),
+        }
+    }
+}

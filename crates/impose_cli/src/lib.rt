@@ -1,0 +1,21 @@
+//! The command of impose: what its words ask for, which specification that is for a document, and what is said of it.
+#![tactic(auto)]
+
+mod arguments;
+mod caret;
+mod command;
+mod fault;
+mod lines;
+mod printed;
+mod request;
+mod sizes;
+mod task;
+
+pub use command::read_command;
+pub use fault::{CommandFault, Fault, PaperOption};
+pub use lines::{fault_status, fault_text, report_text};
+pub use printed::printed_task;
+pub use request::{Layout, Request};
+pub use sizes::{length_named, size_named};
+pub use task::{Finished, PaperOrigin, Task, check_layout, prepare, run_request};
+

@@ -1,0 +1,358 @@
+//! What is imposed, and how: the request for a document.
+ghost use Rattle.std.specs.Prelude.{◌≡◌, ◌<◌, ◌≤◌, IfErr, IfOk, None, OnOk, Some, string_bytes, unwrap_or};
+ghost use Rattle.std.specs.Io.KnownBytes.{Appends};
+ghost use Rattle.profile.specs.Output.{output};
+ghost use Rattle.layouts.specs.Grids.{leaves, n_up};
+ghost use Rattle.layouts.specs.Selections.{IsSelection};
+ghost use Rattle.imposer.specs.Runs.{Accepted, FailedIn, HasWritten, IsRefusal, Reports, frame_of};
+ghost use Rattle.profile.specs.Specification.{Spec as SpecValue};
+ghost use Rattle.impose_cli.specs.Faults.{of_selection as selection_fault, without_memory};
+ghost use Rattle.impose_cli.specs.Tasks.{Finishes, HasPages, IsPlaced, IsTask, IsWritten, asked_by, fours, page_found, sheet_found, taken_text};
+ghost use Rattle.impose_cli.specs.Refusals.{Failed, LeavesWritten, RefusesDocument, RefusesLayout, RefusesRanges, RefusesRequest, RefusesTask};
+ghost use Rattle.impose_cli.specs.Telling.{IsFaultOf};
+ghost use Rattle.impose_cli.specs.declared.request.Layout.TheVariants as layout;
+
+use crate::fault::Fault;
+use crate::request::{Layout, Request};
+use crate::sizes::a4;
+use document_paper::{Comment, document_paper};
+use dsc::{Document, DscError};
+use guard::put_guard;
+use imposer::{Open, Options, Report, RunError, Sink, Workers, run};
+use layouts::{LayoutError, Which, booklet, nup, selection};
+use lengths::Paper;
+use pagespec::{Spec, read_spec, write_spec};
+use std::alloc::{AllocError, Global};
+use std::sync::Wait;
+use std::thread::Threads;
+
+/// Where the paper of the pages was found.
+#[derive(Clone, Copy, Debug, PartialEq, Eq)]
+pub enum PaperOrigin {
+    /// It was named on the command line.
+    Named,
+    /// This comment of the document's header tells it.
+    ByComment(Comment),
+    /// Nothing tells it, and so it is a4.
+    Assumed,
+}
+
+/// What is imposed, and how.
+#[derive(Debug, Drop)]
+pub struct Task {
+    /// The document, with the guard in it if it is asked for.
+    pub text: Vec<u8>,
+    /// The specification by which its pages are placed.
+    pub spec: String,
+    pub options: Options,
+    /// Where the paper of the pages was found.
+    pub origin: PaperOrigin,
+}
+
+/// How a request was carried out.
+#[derive(Clone, Copy, Debug, PartialEq, Eq)]
+pub struct Finished {
+    pub report: Report,
+    /// The paper of the pages.
+    pub page: Paper,
+    /// Where the paper of the pages was found.
+    pub origin: PaperOrigin,
+}
+
+/// As many preparers and imposers as `pstops` has.
+const WORKERS: Workers = Workers {
+    preparers: 2,
+    imposers: 2,
+};
+
+/// The checks of a layout that don't ask for the document, so that a mistake is told before a byte is read: those of a
+/// specification, and if the paper of the pages is named those of pages on sheets.
+pub fn check_layout(alloc: Global, request: &Request) -> Result<(), Fault>
+{
+    match (&request.layout, &request.page) {
+        (Layout::Spec(specs), _) => match read_spec(alloc, specs.as_str()) {
+            Ok(_) => Ok(()),
+            Err(error) => Err(Fault::Run(RunError::from(error))),
+        },
+        (Layout::NUp(count), Some(page)) => {
+            match nup(alloc, *count, page, sheet_of(&request.sheet, page)) {
+                Ok(_) => Ok(()),
+                Err(error) => Err(Fault::from(error)),
+            }
+        }
+        (Layout::Booklet { long_edge, .. }, Some(page)) => {
+            match booklet(alloc, page, sheet_of(&request.sheet, page), *long_edge) {
+                Ok(_) => Ok(()),
+                Err(error) => Err(Fault::from(error)),
+            }
+        }
+        _ => Ok(()),
+    }
+}
+
+/// The request for this document, and the fault if there is none: a document that is refused, then a layout that there
+/// isn't.
+pub fn prepare(alloc: Global, request: &Request, input: Vec<u8>) -> Result<Task, Fault>
+    ensures prepared { IfOk result (IsTask request.now input.items) }
+    ensures refused { IfErr result (RefusesTask request.now input.items) }
+{
+    // The document is read as it came, so that a fault is told at its place there.
+    let pages = match pages_of(alloc, input.as_slice()) {
+        Ok(pages) => pages,
+        Err(fault) => return Err(fault),
+    };
+    let (page, origin) = page_of(request.page, input.as_slice());
+    let sheet = *sheet_of(&request.sheet, &page);
+    let (spec, sides) = match placing(alloc, &request.layout, &page, &sheet, pages) {
+        Ok(placed) => placed,
+        Err(fault) => return Err(fault),
+    };
+    let text = match text_of(request.is_guarded, &sheet, input) {
+        Ok(text) => text,
+        Err(_) => return Err(Fault::no_memory()),
+    };
+    let options = Options {
+        paper: page,
+        border: request.border,
+        sides,
+        workers: WORKERS,
+    };
+    Ok(Task {
+        text,
+        spec,
+        options,
+        origin,
+    })
+}
+
+/// The document, with the guard in it if it is asked for.
+fn text_of(is_guarded: bool, sheet: &Paper, input: Vec<u8>) -> Result<Vec<u8>, AllocError>
+    ensures { IfOk result (λ text. text.items ≡ taken_text is_guarded sheet.now input.items) }
+{
+    let mut text = input;
+    if is_guarded {
+        put_guard(&mut text, Some(sheet))?;
+    }
+    Ok(text)
+}
+
+/// The paper of the pages: the one that is named, else the document's own, else a4.
+fn page_of(named: Option<Paper>, input: &[u8]) -> (Paper, PaperOrigin)
+    ensures { result ≡ page_found named input.now }
+{
+    match named {
+        Some(page) => (page, PaperOrigin::Named),
+        None => match document_paper(input) {
+            Some((page, comment)) => (page, PaperOrigin::ByComment(comment)),
+            None => (a4(), PaperOrigin::Assumed),
+        },
+    }
+}
+
+/// The paper of the sheets, which is that of the pages if none is named.
+fn sheet_of<'p>(named: &'p Option<Paper>, page: &'p Paper) -> &'p Paper
+    ensures { result.now ≡ unwrap_or named.now page.now }
+{
+    match named {
+        Some(sheet) => sheet,
+        None => page,
+    }
+}
+
+/// How many pages the document has.
+fn pages_of(alloc: Global, input: &[u8]) -> Result<u32, Fault>
+    ensures counted { IfOk result (HasPages input.now) }
+    ensures within { IfOk result (λ pages. pages ≤ 1_000_000) }
+    ensures refused { IfErr result (RefusesDocument input.now) }
+{
+    match Document::read(alloc, input) {
+        Ok(document) => Ok(document.pages()),
+        Err(error) => Err(of_document(error, input)),
+    }
+}
+
+/// A document's refusal. What is empty or a PDF is told so.
+fn of_document(error: DscError, input: &[u8]) -> Fault
+    ensures { IsFaultOf error result }
+{
+    match error {
+        DscError::NotPostScript => not_postscript(input),
+        error => Fault::Run(RunError::from(error)),
+    }
+}
+
+fn not_postscript(input: &[u8]) -> Fault
+    ensures { IsFaultOf DscError.NotPostScript result }
+{
+    if input.is_empty() {
+        Fault::NoInput
+    } else if input.starts_with(b"%PDF-") {
+        Fault::Pdf
+    } else {
+        Fault::Run(RunError::Document(DscError::NotPostScript))
+    }
+}
+
+/// The text of the specification, and the sides of a signature if the pages go into signatures.
+type Placed = (String, Option<u32>);
+
+fn placing(
+    alloc: Global,
+    layout: &Layout,
+    page: &Paper,
+    sheet: &Paper,
+    pages: u32,
+) -> Result<Placed, Fault>
+    requires { pages ≤ 1_000_000 }
+    ensures placed { IfOk result (λ placed.
+        IsPlaced layout.now page.now sheet.now pages (string_bytes placed.0) placed.1) }
+    ensures refused { IfErr result (RefusesLayout layout.now page.now sheet.now pages) }
+{
+    match layout {
+        Layout::NUp(count) => nup_placing(alloc, *count, page, sheet),
+        Layout::Booklet {
+            signature,
+            long_edge,
+        } => {
+            let sides = signature.unwrap_or(in_fours(pages));
+            booklet_placing(alloc, page, sheet, *long_edge, sides)
+        }
+        Layout::Selection { ranges, which } => {
+            selection_placing(alloc, ranges.as_str(), *which, pages)
+        }
+        Layout::Spec(specs) => match String::from_str(alloc, specs.as_str()) {
+            Ok(text) => Ok((text, None)),
+            Err(_) => Err(Fault::no_memory()),
+        },
+    }
+}
+
+fn nup_placing(alloc: Global, count: u32, page: &Paper, sheet: &Paper) -> Result<Placed, Fault>
+    ensures placed { IfOk result (λ placed.
+        IsWritten (n_up page.now sheet.now count) (string_bytes placed.0) × (placed.1 ≡ None)) }
+    ensures refused { IfErr result (RefusesLayout (layout.NUp count) page.now sheet.now 0) }
+{
+    match nup(alloc, count, page, sheet) {
+        Ok(spec) => written(alloc, &spec, None),
+        Err(error) => Err(Fault::from(error)),
+    }
+}
+
+fn booklet_placing(
+    alloc: Global,
+    page: &Paper,
+    sheet: &Paper,
+    long_edge: bool,
+    sides: u32,
+) -> Result<Placed, Fault>
+    ensures placed { IfOk result (λ placed.
+        IsWritten (leaves page.now sheet.now long_edge) (string_bytes placed.0) × (placed.1 ≡ Some sides)) }
+    ensures refused { IfErr result (RefusesLayout (layout.Booklet None long_edge) page.now sheet.now 0) }
+{
+    match booklet(alloc, page, sheet, long_edge) {
+        Ok(spec) => written(alloc, &spec, Some(sides)),
+        Err(error) => Err(Fault::from(error)),
+    }
+}
+
+fn selection_placing(alloc: Global, ranges: &str, which: Which, pages: u32) -> Result<Placed, Fault>
+    ensures placed { IfOk result (λ placed.
+        ((spec : SpecValue) × IsSelection ranges.now which pages spec × IsWritten spec (string_bytes placed.0))
+        × (placed.1 ≡ None)) }
+    ensures refused { IfErr result (RefusesRanges ranges.now which pages) }
+{
+    match selection(alloc, ranges, which, pages) {
+        Ok(spec) => written(alloc, &spec, None),
+        Err(error) => Err(of_selection(error, pages)),
+    }
+}
+
+fn of_selection(error: LayoutError, pages: u32) -> Fault
+    ensures { result ≡ selection_fault pages error }
+{
+    match error {
+        LayoutError::NoMemory => Fault::no_memory(),
+        LayoutError::PageNotInDocument(place) => Fault::NoSuchPage { place, pages },
+        error => Fault::Layout(error),
+    }
+}
+
+/// The text of a specification, beside these sides.
+fn written(alloc: Global, spec: &Spec, sides: Option<u32>) -> Result<Placed, Fault>
+    ensures text { IfOk result (λ placed. IsWritten spec.now (string_bytes placed.0)) }
+    ensures sides { IfOk result (λ placed. placed.1 ≡ sides) }
+    ensures refused { IfErr result (λ f. f ≡ without_memory) }
+{
+    match write_spec(alloc, spec) {
+        Ok(text) => Ok((text, sides)),
+        Err(_) => Err(Fault::no_memory()),
+    }
+}
+
+/// The smallest multiple of four that is no less.
+fn in_fours(pages: u32) -> u32
+    requires { pages ≤ 1_000_000 }
+    ensures { result ≡ fours pages }
+{
+    (pages + 3) / 4 * 4
+}
+
+/// Carries a request out for this document: what `prepare` says is refused first, and then what the run refuses.
+/// Nothing is written before all of it is checked.
+pub fn run_request<R: Threads + Wait + Sync, S: Sink>(
+    rt: &R,
+    alloc: Global,
+    request: &Request,
+    input: Vec<u8>,
+    sink: &mut S,
+) -> Result<Finished, Fault>
+    requires countable { S.failures sink.old < u64.MAX }
+    // Exactly the output was appended that the profile defines for the layout's specification and the guarded document.
+    ensures finished { IfOk result (Finishes request.now input.items (S.told sink.old) (S.told sink.new)) }
+    // A fault names the first check that fails.
+    ensures refused { IfErr result (RefusesRequest request.now input.items) }
+    // After a fault before the run nothing was written, and after one in it as much as its error says.
+    ensures written { IfErr result (LeavesWritten request.now input.items (S.told sink.old) (S.told sink.new)) }
+    ensures steady { OnOk result (S.failures sink.new ≡ S.failures sink.old) }
+    ensures failed { IfErr result (Failed (S.failures sink.old) (S.failures sink.new)) }
+{
+    let task = match prepare(alloc, request, input) {
+        Ok(task) => task,
+        Err(fault) => return Err(fault),
+    };
+    match run_task(rt, alloc, &task, sink) {
+        Ok(report) => Ok(Finished {
+            report,
+            page: task.options.paper,
+            origin: task.origin,
+        }),
+        Err(error) => Err(Fault::Run(error)),
+    }
+}
+
+/// Imposes a task.
+fn run_task<R: Threads + Wait + Sync, S: Sink>(
+    rt: &R,
+    alloc: Global,
+    task: &Task,
+    sink: &mut S,
+) -> Result<Report, RunError>
+    requires countable { S.failures sink.old < u64.MAX }
+    ensures finished { IfOk result (λ report. Accepted (asked_by task.now) (λ spec us.
+        Appends (S.told sink.old) (S.told sink.new) (output (frame_of task.now.options) task.now.options.sides spec us)
+        × Reports (frame_of task.now.options) task.now.options.sides spec us report)) }
+    ensures refused { IfErr result (IsRefusal (asked_by task.now)) }
+    ensures written { IfErr result (HasWritten (asked_by task.now) (S.told sink.old) (S.told sink.new)) }
+    ensures steady { OnOk result (S.failures sink.new ≡ S.failures sink.old) }
+    ensures failed { IfErr result (λ e. FailedIn e (S.failures sink.old) (S.failures sink.new)) }
+{
+    run(
+        rt,
+        alloc,
+        task.text.as_slice(),
+        task.spec.as_str(),
+        &task.options,
+        &Open {},
+        sink,
+    )
+}

@@ -1,6 +1,0 @@
-use Rattle.std.proofs.Common.{◌≡◌, ◌++◌, take}
-use Rattle.imposer.specs.Jobs.{slots_of, slots_text}
-use Rattle.imposer.proofs.sheet.append_slots.Given as goal
-
-abbrev pub invariant-loop-slot : goal.invariant-loop-slot
-invariant-loop-slot l = l.text.items ≡ l.fn.text.items ++ slots_text l.job (take l.slot (slots_of l.job l.sheet))

@@ -1,0 +1,133 @@
+//! Which sheets may be imposed now.
+use crate::options::Workers;
+use crossbeam_utils::Backoff;
+use sheet_text::Job;
+use std::alloc::{AllocFailed, Global};
+use std::cmp::Reverse;
+use std::collections::BinaryHeap;
+use std::sync::Wait;
+use std::sync::atomic::Ordering::SeqCst;
+use std::sync::atomic::{AtomicBool, AtomicU64};
+use std::time::Duration;
+
+/// About how many bytes the texts of the window's sheets have together.
+const BYTES_AHEAD: usize = 524_288;
+
+/// About how many bytes stand round the pages of a sheet.
+const BYTES_AROUND: usize = 512;
+
+/// How many sheets there are in a window at most.
+const MOST_SHEETS: usize = 4_096;
+
+/// The sheets that may be imposed: so many, from the one on that is written next. Texts that wait for their turn take memory,
+/// so an imposer only holds the number of a sheet that lies further on, and imposes it when the window has come near.
+#[derive(Drop)]
+pub(crate) struct Window {
+    /// The sheet that is written next.
+    next: AtomicU64,
+    /// No turn is waited for: the sheet that is written next may never come.
+    lifted: AtomicBool,
+    len: u32,
+}
+
+impl Window {
+    /// A window of about half a megabyte of text. Two sheets at least, and one for each imposer, lie in it.
+    pub(crate) fn new(job: &Job<'_, '_>, workers: Workers) -> Self {
+        let text = bytes_of_pages(job) / (job.sheets() as usize).max(1);
+        let fitting = (BYTES_AHEAD / text.saturating_add(BYTES_AROUND)).min(MOST_SHEETS) as u32;
+        Window {
+            next: AtomicU64::new(0),
+            lifted: AtomicBool::new(false),
+            len: fitting.max(workers.imposers).max(2),
+        }
+    }
+
+    /// How many sheets lie in it.
+    pub(crate) fn len(&self) -> u32 {
+        self.len
+    }
+
+    /// The first sheet behind it.
+    pub(crate) fn end(&self) -> u32 {
+        if self.lifted.load(SeqCst) {
+            return u32::MAX;
+        }
+        self.next().saturating_add(self.len)
+    }
+
+    /// The sheet that is written next.
+    fn next(&self) -> u32 {
+        u32::try_from(self.next.load(SeqCst)).unwrap_or(u32::MAX)
+    }
+
+    /// All sheets before this one were written.
+    pub(crate) fn move_to(&self, next: u32) {
+        self.next.store(u64::from(next), SeqCst);
+    }
+
+    /// From now on no turn is waited for: a sheet doesn't come, or nothing more is written.
+    pub(crate) fn lift(&self) {
+        self.lifted.store(true, SeqCst);
+    }
+
+    /// Waits a little, and sleeps if waiting was long in vain.
+    pub(crate) fn rest<R: Wait>(&self, rt: &R, backoff: &Backoff) {
+        if backoff.is_completed() {
+            self.next.park_timeout(rt, self.next(), Duration::from_micros(50));
+        } else {
+            backoff.snooze();
+        }
+    }
+}
+
+/// How many bytes all pages have together.
+fn bytes_of_pages(job: &Job<'_, '_>) -> usize {
+    let mut bytes = 0usize;
+    for page in 0..job.plan().pages() {
+        bytes = bytes.saturating_add(job.document().page(page).len());
+    }
+    bytes
+}
+
+/// Sheets that were taken off the queue by an imposer, and lay behind the window then.
+#[derive(Drop)]
+pub(crate) struct Held {
+    sheets: BinaryHeap<Reverse<u32>>,
+    /// The end of the window when the last look found none of them in it.
+    looked_to: u32,
+}
+
+impl Held {
+    pub(crate) fn new(alloc: Global) -> Self {
+        Held {
+            sheets: BinaryHeap::new(alloc),
+            looked_to: 0,
+        }
+    }
+
+    pub(crate) fn is_empty(&self) -> bool {
+        self.sheets.is_empty()
+    }
+
+    pub(crate) fn push(&mut self, sheet: u32) -> Result<(), AllocFailed<Reverse<u32>>> {
+        self.sheets.push(Reverse(sheet))
+    }
+
+    /// Takes the first sheet, if it lies before this end.
+    pub(crate) fn pop_before(&mut self, end: u32) -> Option<u32> {
+        let Reverse(first) = *self.sheets.peek()?;
+        if first >= end {
+            return None;
+        }
+        let Reverse(sheet) = self.sheets.pop()?;
+        Some(sheet)
+    }
+
+    /// Whether some are held and the window has moved since this was last asked. Then it is better to wait for these than to
+    /// take more off the queue, which other imposers may want.
+    pub(crate) fn come_nearer(&mut self, end: u32) -> bool {
+        let moved = self.looked_to != end;
+        self.looked_to = end;
+        moved && !self.is_empty()
+    }
+}

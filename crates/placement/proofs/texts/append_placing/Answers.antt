@@ -1,0 +1,13 @@
+use Rattle.std.proofs.Common.{ap, ◌∙◌, ◌++◌}
+use Rattle.std.proofs.lemmas.Result.{IfOk-equal}
+use Rattle.profile.specs.Placement.{matrix_of, matrix_text}
+use Rattle.pagespec.specs.Items.{item_of}
+use Rattle.placement.proofs.Joining.{placing_joined}
+use Rattle.placement.proofs.texts.append_placing.Goals as goal
+
+pub returns-clause-appended : goal.returns-clause-appended
+returns-clause-appended c =
+    let placed = matrix_text (matrix_of c.args.paper.now (item_of c.args.item.now)) in
+    IfOk-equal _ _ _ _ c.append_text-2.ensures.appended
+    (placing_joined c.args.out.now.items placed _ _ c.in_ok-append_text.ensures.appended
+    (c.in_ok-append_matrix.ensures.appended ∙ ap (λ m. c.append_text.new.out.items ++ matrix_text m) c.matrix_of.ensures.numbers))

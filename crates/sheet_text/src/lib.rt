@@ -1,0 +1,10 @@
+//! The text of a sheet: its page line, each page placed in its slot, and one `showpage`. It knows no threads.
+#![tactic(auto)]
+
+mod job;
+mod sheet;
+#[cfg(test)]
+mod tests;
+
+pub use job::Job;
+pub use sheet::{append_placed, begin_sheet, end_sheet, sheet_text};

@@ -1,0 +1,135 @@
+//! The text of a sheet.
+ghost use Rattle.std.specs.Prelude.{◌≡◌, ℕ, ◌+◌, ◌<◌, ◌++◌, List, IfOk, OnOk, codes, decimal, length, Some, slice_get};
+ghost use Rattle.profile.specs.Bytes.{line};
+ghost use Rattle.profile.specs.Parts.{pages};
+ghost use Rattle.profile.specs.Sheets.{Slot};
+ghost use Rattle.profile.specs.Filters.{prepared};
+ghost use Rattle.profile.specs.Output.{slot_text, opening_text as opening, closing_text as closing};
+ghost use Rattle.sheet_plan.specs.Plans.{pages_on};
+ghost use Rattle.sheet_text.specs.Jobs.{page_line, slots_of, slots_text, text_of};
+
+use crate::job::Job;
+use dsc::{Body, DscError};
+use itoa::Buffer;
+use placement::{closing_text, opening_text};
+use std::alloc::{AllocError, Global};
+
+/// The text of a sheet, counted from 0: its page line, each slot's page in order, placed on the sheet, and one `showpage`.
+/// The bodies are prepared anew from the document.
+pub fn sheet_text(alloc: Global, job: &Job<'_, '_>, sheet: u32) -> Result<Vec<u8>, AllocError>
+    requires { sheet < length job.now.plan.sheets }
+    ensures { IfOk result (λ text. text.items ≡ text_of job.now sheet) }
+{
+    let mut text = begin_sheet(alloc, job, sheet)?;
+    append_slots(alloc, &mut text, job, sheet)?;
+    end_sheet(&mut text)?;
+    Ok(text)
+}
+
+/// The page line of a sheet, with room for about the whole text of the sheet.
+pub fn begin_sheet(alloc: Global, job: &Job<'_, '_>, sheet: u32) -> Result<Vec<u8>, AllocError>
+    requires { sheet < length job.now.plan.sheets }
+    ensures { IfOk result (λ text. text.items ≡ page_line sheet) }
+{
+    let mut text = Vec::with_capacity(alloc, likely_len(job, sheet))?;
+    append_page_line(&mut text, sheet)?;
+    Ok(text)
+}
+
+/// Appends the line that ends a sheet and prints it.
+pub fn end_sheet(text: &mut Vec<u8>) -> Result<(), AllocError>
+    ensures { OnOk result (text.new.items ≡ text.old.items ++ line (codes "showpage")) }
+{
+    text.extend_from_slice(b"showpage\n")?;
+    Ok(())
+}
+
+/// About how many bytes the text of a sheet has, and seldom fewer than that, so that it isn't moved while it is made.
+fn likely_len(job: &Job<'_, '_>, sheet: u32) -> usize
+    requires { sheet < length job.now.plan.sheets }
+{
+    let mut len = 64usize;
+    for slot in 0..job.plan.slots(sheet) {
+        if let Some(page) = job.plan.page_of(sheet, slot) {
+            // The texts round a placed page have a few hundred bytes.
+            len = len
+                .saturating_add(job.document.page(page).len())
+                .saturating_add(512);
+        }
+    }
+    len
+}
+
+/// Appends the line that begins a sheet. Sheets are counted from 0, and from 1 in the text.
+fn append_page_line(text: &mut Vec<u8>, sheet: u32) -> Result<(), AllocError>
+    ensures { OnOk result (text.new.items ≡ text.old.items ++ page_line sheet) }
+{
+    let mut buffer = Buffer::new();
+    let number = buffer.format(u64::from(sheet) + 1).as_bytes();
+    text.extend_from_slice(b"%%Page: ")?;
+    text.extend_from_slice(number)?;
+    text.extend_from_slice(b" ")?;
+    text.extend_from_slice(number)?;
+    text.extend_from_slice(b"\n")?;
+    Ok(())
+}
+
+/// Appends the texts of all slots of a sheet, in order.
+fn append_slots(
+    alloc: Global,
+    text: &mut Vec<u8>,
+    job: &Job<'_, '_>,
+    sheet: u32,
+) -> Result<(), AllocError>
+    requires { sheet < length job.now.plan.sheets }
+    ensures { OnOk result (text.new.items ≡ text.old.items ++ slots_text job.now (slots_of job.now sheet)) }
+{
+    for slot in 0..job.plan.slots(sheet) {
+        append_slot(alloc, text, job, sheet, slot)?;
+    }
+    Ok(())
+}
+
+/// Appends a slot: its page, or nothing if it is blank.
+fn append_slot(
+    alloc: Global,
+    text: &mut Vec<u8>,
+    job: &Job<'_, '_>,
+    sheet: u32,
+    slot: u16,
+) -> Result<(), AllocError>
+    requires sheet { sheet < length job.now.plan.sheets }
+    requires slot { slot < length (pages_on job.now.plan sheet) }
+    ensures { OnOk result ((it : Slot) → slice_get (slots_of job.now sheet) slot ≡ Some it →
+        text.new.items ≡ text.old.items ++ slot_text job.now.frame (pages job.now.units) it.page it.item) }
+{
+    let Some(page) = job.plan.page_of(sheet, slot) else {
+        return Ok(());
+    };
+    let body = match Body::prepare(alloc, job.document.page(page)) {
+        Ok(body) => body,
+        Err(DscError::NoMemory) => return Err(AllocError),
+        Err(_) => unreachable!(),
+    };
+    append_placed(text, job, sheet, slot, body.as_slice())?;
+    Ok(())
+}
+
+/// Appends a prepared body as it is placed in a slot: the texts that open and close it round it.
+pub fn append_placed(
+    text: &mut Vec<u8>,
+    job: &Job<'_, '_>,
+    sheet: u32,
+    slot: u16,
+    body: &[u8],
+) -> Result<(), AllocError>
+    requires sheet { sheet < length job.now.plan.sheets }
+    requires slot { slot < length (pages_on job.now.plan sheet) }
+    ensures { OnOk result ((it : Slot) → slice_get (slots_of job.now sheet) slot ≡ Some it →
+        text.new.items ≡ text.old.items ++ (opening job.now.frame it.item ++ body.now ++ closing)) }
+{
+    opening_text(job.plan.item_of(sheet, slot), &job.paper, job.border, text)?;
+    text.extend_from_slice(body)?;
+    closing_text(text)?;
+    Ok(())
+}

@@ -1,0 +1,10 @@
+use Rattle.std.proofs.Common.{rules}
+use Rattle.sheet_writer.proofs.sink.write_all.Goals as goal
+use Rattle.sheet_writer.proofs.Appending.{appends_more}
+
+pub loop-written-preserved : goal.loop-written-preserved
+loop-written-preserved g c = record {
+  within = search rules;
+  taken = appends_more _ _ _ _ _ _ c.loop-written.invariant.taken c.in-Ok.ensures.taken;
+  steady = search rules;
+}

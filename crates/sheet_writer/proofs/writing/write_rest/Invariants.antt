@@ -1,0 +1,13 @@
+use Rattle.std.proofs.Common.{◌≡◌, None, ◌≤◌}
+use Rattle.sheet_writer.specs.Writing.{GoesOn, AreEarly}
+use Rattle.sheet_writer.proofs.writing.write_rest.Given as goal
+
+abbrev pub invariant-loop-sheet : goal.invariant-loop-sheet
+invariant-loop-sheet g l = record {
+  going : l.progress.halted ≡ None;
+  next : l.progress.next ≡ l.sheet;
+  early : AreEarly l.job l.early.places.items;
+  goes_on : GoesOn l.job (g.S.Sink.told l.initial.sink) (g.S.Sink.told l.sink) (g.S.Sink.failures l.initial.sink) (g.S.Sink.failures l.sink) l.initial.progress l.progress;
+  steady : g.S.Sink.failures l.sink ≡ g.S.Sink.failures l.initial.sink;
+  swept : l.swept ≤ l.sheet;
+}

@@ -1,0 +1,63 @@
+//! The sheets that came before their turn.
+ghost use Rattle.std.specs.Prelude.{◌≡◌, IfOk, IfSome};
+ghost use Rattle.sheet_text.specs.Jobs.{JobView, text_of};
+ghost use Rattle.sheet_writer.specs.Writing.{AreEarly};
+
+use std::alloc::{AllocError, Global};
+
+/// A finished sheet, counted from 0, with its text.
+#[derive(Drop)]
+pub struct Imposed {
+    pub sheet: u32,
+    pub text: Vec<u8>,
+}
+
+/// Places for sheets that wait for their turn. A sheet has the place that its number leaves when it is divided by their count,
+/// so the sheets of one window have places of their own.
+#[derive(Drop)]
+pub struct Early {
+    pub places: Vec<Option<Imposed>>,
+}
+
+impl Early {
+    /// So many places, and no sheet yet.
+    pub fn new(alloc: Global, count: u32) -> Result<Self, AllocError>
+        ensures { IfOk result (λ early. (job : JobView) → AreEarly job early.places.items) }
+    {
+        let mut places = Vec::with_capacity(alloc, count as usize)?;
+        for _ in 0..count {
+            places.push_reserved(None);
+        }
+        Ok(Early { places })
+    }
+
+    /// Puts a sheet in its place. If another sheet is there, the new one is dropped: a sheet that never came is made anew.
+    pub fn put(&mut self, imposed: Imposed)
+        ensures { (job : JobView) → imposed.text.items ≡ text_of job imposed.sheet → AreEarly job self.old.places.items
+            → AreEarly job self.new.places.items }
+    {
+        let place = imposed.sheet as usize % self.places.len().max(1);
+        if place < self.places.len() && self.places[place].is_none() {
+            self.places[place] = Some(imposed);
+        }
+    }
+
+    /// Takes the text of a sheet, if it came.
+    pub fn take(&mut self, sheet: u32) -> Option<Vec<u8>>
+        ensures text { (job : JobView) → AreEarly job self.old.places.items → IfSome result (λ text. text.items ≡ text_of job sheet) }
+        ensures left { (job : JobView) → AreEarly job self.old.places.items → AreEarly job self.new.places.items }
+    {
+        let place = sheet as usize % self.places.len().max(1);
+        if place >= self.places.len() {
+            return None;
+        }
+        let Some(imposed) = self.places[place].take() else {
+            return None;
+        };
+        if imposed.sheet != sheet {
+            self.places[place] = Some(imposed);
+            return None;
+        }
+        Some(imposed.text)
+    }
+}

@@ -1,0 +1,12 @@
+//! Writes the sheets of a run to a sink, in order. It knows no threads.
+#![tactic(auto)]
+
+mod early;
+mod sink;
+#[cfg(test)]
+mod tests;
+mod writing;
+
+pub use early::{Early, Imposed};
+pub use sink::{MemorySink, Sink, SinkFault, WriteSink};
+pub use writing::{Halt, Progress, Rest, write_early, write_rest, write_text};

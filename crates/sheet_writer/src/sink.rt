@@ -1,0 +1,168 @@
+//! Where a run writes.
+ghost use Rattle.std.specs.Prelude.{◌≡◌, ℕ, ◌+◌, ◌-◌, ◌^◌, ◌<◌, ◌≤◌, List, Option, Some, None, length, take, IfOk, IfErr, OnOk, OnErr, [], vec_len, vec_capacity};
+ghost use Rattle.std.specs.Io.KnownBytes.{Appends, Keeps};
+ghost use Rattle.sheet_writer.specs.Memory.{MemoryState, acceptable, IsSpent, after_taking};
+
+use std::alloc::{AllocError, Global};
+use std::io;
+use std::marker::Model;
+
+/// A sink refused a call and took nothing.
+#[derive(Clone, Copy, Debug, PartialEq, Eq)]
+pub struct SinkFault {}
+
+/// Takes bytes in order, as many of a call's as it likes.
+pub trait Sink {
+    // The bytes that it has taken, if it tells them.
+    ghost told: { Self → Option (List ℕ) };
+
+    // How many calls it has refused.
+    ghost failures: { Self → ℕ };
+
+    /// Takes the first of the bytes, at least one, and answers how many.
+    fn accept(&mut self, bytes: &[u8]) -> Result<usize, SinkFault>
+        requires some { 0 < length bytes.now }
+        requires countable { failures self.old < u64.MAX }
+        ensures within { IfOk result (λ k. (0 < k) × (k ≤ length bytes.now)) }
+        ensures taken { IfOk result (λ k. Appends (told self.old) (told self.new) (take k bytes.now)) }
+        ensures steady { OnOk result (failures self.new ≡ failures self.old) }
+        ensures kept { OnErr result (Keeps (told self.old) (told self.new)) }
+        ensures raised { OnErr result (failures self.new ≡ failures self.old + 1) };
+}
+
+/// A sink failed after it had taken this many bytes.
+#[derive(Clone, Copy, Debug, PartialEq, Eq)]
+pub(crate) struct Stopped {
+    pub(crate) written: usize,
+}
+
+/// Hands the sink all the bytes, in as many calls as it takes.
+pub(crate) fn write_all<S: Sink>(sink: &mut S, bytes: &[u8]) -> Result<(), Stopped>
+    requires countable { S.failures sink.old < u64.MAX }
+    ensures whole { OnOk result (Appends (S.told sink.old) (S.told sink.new) bytes.now) }
+    ensures steady { OnOk result (S.failures sink.new ≡ S.failures sink.old) }
+    ensures within { IfErr result (λ e. e.written < length bytes.now) }
+    ensures part { IfErr result (λ e. Appends (S.told sink.old) (S.told sink.new) (take e.written bytes.now)) }
+    ensures raised { OnErr result (S.failures sink.new ≡ S.failures sink.old + 1) }
+{
+    let mut written = 0;
+    while written < bytes.len() {
+        match sink.accept(&bytes[written..]) {
+            Ok(count) => written += count,
+            Err(_) => return Err(Stopped { written }),
+        }
+    }
+    Ok(())
+}
+
+/// A writer as a sink. An error of the writer, an interrupted write too, and an accepted count of 0 are failures.
+#[derive(Drop)]
+pub struct WriteSink<T: io::Write> {
+    writer: T,
+    failures: u64,
+}
+
+impl<T: io::Write> WriteSink<T> {
+    pub fn new(writer: T) -> Self
+        ensures told { ⟦<WriteSink<T> as Sink>⟧.told result ≡ T.contents writer }
+        ensures fresh { ⟦<WriteSink<T> as Sink>⟧.failures result ≡ 0 }
+    {
+        WriteSink {
+            writer,
+            failures: 0,
+        }
+    }
+}
+
+impl<T: io::Write> Sink for WriteSink<T> {
+    ghost told = { λ s. T.contents s.writer };
+
+    ghost failures = { λ s. s.failures };
+
+    fn accept(&mut self, bytes: &[u8]) -> Result<usize, SinkFault> {
+        match self.writer.write(bytes) {
+            Ok(count) if count > 0 => Ok(count),
+            _ => {
+                self.failures += 1;
+                Err(SinkFault {})
+            }
+        }
+    }
+}
+
+/// A list of bytes as a sink. It has room for so many bytes, takes at most so many a call, and answers at most so
+/// many calls with Ok.
+#[derive(Drop)]
+pub struct MemorySink {
+    bytes: Vec<u8>,
+    room: usize,
+    per_call: usize,
+    calls: u64,
+    failures: u64,
+}
+
+impl Model for MemorySink {
+    ghost Value = { MemoryState };
+
+    ghost view = { λ s. record { bytes = s.bytes.items; room = s.room; per_call = s.per_call; calls = s.calls; failures = s.failures } };
+
+    ghost invariant = { λ s. (vec_len s.bytes ≤ s.room) × (s.room ≤ vec_capacity s.bytes) };
+}
+
+impl MemorySink {
+    /// Reserves the room, so that no later call needs memory.
+    pub fn new(alloc: Global, room: usize, per_call: usize, calls: u64) -> Result<Self, AllocError>
+        ensures { IfOk result (λ s. s ≡ record { bytes = []; room = room; per_call = per_call; calls = calls; failures = 0 }) }
+    {
+        let bytes = Vec::with_capacity(alloc, room)?;
+        Ok(MemorySink {
+            bytes,
+            room,
+            per_call,
+            calls,
+            failures: 0,
+        })
+    }
+
+    /// What it has taken.
+    pub fn bytes(&self) -> &[u8]
+        ensures { result.now ≡ self.now.bytes }
+    {
+        self.bytes.as_slice()
+    }
+}
+
+impl Sink for MemorySink {
+    ghost told = { λ s. Some s.bytes };
+
+    ghost failures = { λ s. s.failures };
+
+    fn accept(&mut self, bytes: &[u8]) -> Result<usize, SinkFault>
+        requires some { 0 < length bytes.now }
+        requires countable { self.old.failures < u64.MAX }
+        ensures within { IfOk result (λ k. (0 < k) × (k ≤ length bytes.now)) }
+        ensures taken { IfOk result (λ k. self.new ≡ after_taking self.old (take k bytes.now)) }
+        // An Ok needs a call left.
+        ensures answers { OnOk result (0 < self.old.calls) }
+        // It takes as much as the slice, the room left and the size of a call allow.
+        ensures most { IfOk result (λ k. k ≡ acceptable self.old (length bytes.now)) }
+        ensures refused { OnErr result (IsSpent self.old (length bytes.now)) }
+        ensures kept { OnErr result (self.new ≡ record self.old { failures = self.old.failures + 1 }) }
+    {
+        let count = bytes
+            .len()
+            .min(self.per_call)
+            .min(self.room - self.bytes.len());
+        if count == 0 || self.calls == 0 {
+            self.failures += 1;
+            return Err(SinkFault {});
+        }
+        match self.bytes.extend_from_slice(&bytes[..count]) {
+            Ok(()) => {
+                self.calls -= 1;
+                Ok(count)
+            }
+            Err(_) => unreachable!(),
+        }
+    }
+}

@@ -1,0 +1,177 @@
+//! Writes the output of a job: each sheet when its turn has come, and at the end what is left.
+ghost use Rattle.std.specs.Prelude.{◌≡◌, ℕ, ◌+◌, ◌<◌, ◌≤◌, None, Some, IfOk, IfErr, length};
+ghost use Rattle.sheet_text.specs.Jobs.{text_of};
+ghost use Rattle.profile.specs.Filters.{trailer_text};
+ghost use Rattle.sheet_writer.specs.Writing.{Handed, GoesOn, AreEarly, EndsAfter};
+
+use crate::early::Early;
+use crate::sink::{Sink, write_all};
+use sheet_text::{Job, sheet_text};
+use std::alloc::{AllocError, Global};
+
+/// Why nothing more is written.
+#[derive(Clone, Copy, Debug)]
+pub enum Halt {
+    /// The sink failed.
+    Failed,
+    /// Memory was refused, or there are more bytes than a report can count.
+    NoMemory,
+}
+
+/// How far the output was written: the sheet that comes next, and the number of bytes.
+#[derive(Clone, Copy, Debug)]
+pub struct Progress {
+    pub next: u32,
+    pub written: u64,
+    pub halted: Option<Halt>,
+}
+
+/// Hands the sink a text, and counts its bytes.
+pub fn write_text<S: Sink>(sink: &mut S, progress: Progress, text: &[u8]) -> Progress
+    requires countable { S.failures sink.old < u64.MAX }
+    ensures handed { Handed text.now (S.told sink.old) (S.told sink.new) (S.failures sink.old) (S.failures sink.new) progress.written result.written result.halted }
+    ensures next { result.next ≡ progress.next }
+{
+    let Some(total) = progress.written.checked_add(text.len() as u64) else {
+        return halted(progress, progress.written, Halt::NoMemory);
+    };
+    match write_all(sink, text) {
+        Ok(()) => Progress {
+            next: progress.next,
+            written: total,
+            halted: None,
+        },
+        Err(stopped) => halted(
+            progress,
+            progress.written + stopped.written as u64,
+            Halt::Failed,
+        ),
+    }
+}
+
+fn halted(progress: Progress, written: u64, why: Halt) -> Progress
+    ensures { result ≡ record { next = progress.next; written = written; halted = Some why } }
+{
+    Progress {
+        next: progress.next,
+        written,
+        halted: Some(why),
+    }
+}
+
+/// Writes the text of the next sheet.
+fn write_sheet<S: Sink>(
+    job: &Job<'_, '_>,
+    sink: &mut S,
+    progress: Progress,
+    text: &[u8],
+) -> Progress
+    requires countable { S.failures sink.old < u64.MAX }
+    requires going { (progress.halted ≡ None) × (progress.next < length job.now.plan.sheets) × (progress.next < 4_294_967_295) }
+    requires text { text.now ≡ text_of job.now progress.next }
+    ensures goes_on { GoesOn job.now (S.told sink.old) (S.told sink.new) (S.failures sink.old) (S.failures sink.new) progress result }
+    ensures next { result.next ≡ progress.next + 1 }
+    ensures steady { result.halted ≡ None → S.failures sink.new ≡ S.failures sink.old }
+{
+    let progress = write_text(sink, progress, text);
+    Progress {
+        next: progress.next + 1,
+        ..progress
+    }
+}
+
+/// Writes the sheets that came before their turn and whose turn it is now.
+pub fn write_early<S: Sink>(
+    job: &Job<'_, '_>,
+    sink: &mut S,
+    progress: Progress,
+    early: &mut Early,
+) -> Progress
+    requires countable { S.failures sink.old < u64.MAX }
+    requires going { progress.halted ≡ None }
+    requires early { AreEarly job.now early.old.places.items }
+    ensures goes_on { GoesOn job.now (S.told sink.old) (S.told sink.new) (S.failures sink.old) (S.failures sink.new) progress result }
+    ensures early { AreEarly job.now early.new.places.items }
+    ensures steady { result.halted ≡ None → S.failures sink.new ≡ S.failures sink.old }
+{
+    let mut progress = progress;
+    for sheet in progress.next..job.sheets() {
+        let Some(text) = early.take(sheet) else {
+            break;
+        };
+        progress = write_sheet(job, sink, progress, text.as_slice());
+        if progress.halted.is_some() {
+            break;
+        }
+    }
+    progress
+}
+
+/// How a run ended, and how many sheets no worker had imposed.
+#[derive(Clone, Copy, Debug)]
+pub struct Rest {
+    pub progress: Progress,
+    pub swept: u32,
+}
+
+/// Writes what is left when all workers have ended: the other sheets in order, each made anew if it never came, and the
+/// trailer. After a halt nothing more is written.
+pub fn write_rest<S: Sink>(
+    alloc: Global,
+    job: &Job<'_, '_>,
+    sink: &mut S,
+    progress: Progress,
+    early: &mut Early,
+    trailer: &[u8],
+) -> Rest
+    requires countable { progress.halted ≡ None → S.failures sink.old < u64.MAX }
+    requires next { progress.halted ≡ None → progress.next ≤ length job.now.plan.sheets }
+    requires early { AreEarly job.now early.old.places.items }
+    requires trailer { trailer.now ≡ trailer_text job.now.units }
+    ensures ended { EndsAfter job.now (S.told sink.old) (S.told sink.new) (S.failures sink.old) (S.failures sink.new) progress result.progress }
+    ensures swept { result.swept ≤ length job.now.plan.sheets }
+{
+    let mut progress = progress;
+    let mut swept = 0;
+    if progress.halted.is_some() {
+        return Rest { progress, swept };
+    }
+    for sheet in progress.next..job.sheets() {
+        let Ok(text) = next_text(alloc, job, early, sheet, &mut swept) else {
+            return Rest {
+                progress: halted(progress, progress.written, Halt::NoMemory),
+                swept,
+            };
+        };
+        progress = write_sheet(job, sink, progress, text.as_slice());
+        if progress.halted.is_some() {
+            return Rest { progress, swept };
+        }
+    }
+    Rest {
+        progress: write_text(sink, progress, trailer),
+        swept,
+    }
+}
+
+/// The text of a sheet whose turn it is. One that never came is made anew, and counted.
+fn next_text(
+    alloc: Global,
+    job: &Job<'_, '_>,
+    early: &mut Early,
+    sheet: u32,
+    swept: &mut u32,
+) -> Result<Vec<u8>, AllocError>
+    requires sheet { sheet < length job.now.plan.sheets }
+    requires early { AreEarly job.now early.old.places.items }
+    requires few { swept.old < 4_294_967_295 }
+    ensures text { IfOk result (λ text. text.items ≡ text_of job.now sheet) }
+    ensures early { AreEarly job.now early.new.places.items }
+    ensures swept { swept.new ≤ swept.old + 1 }
+{
+    if let Some(text) = early.take(sheet) {
+        return Ok(text);
+    }
+    *swept += 1;
+    sheet_text(alloc, job, sheet)
+}
