@@ -108,10 +108,7 @@ impl Ready {
     {
         let token = self.line.another::<Cut<N>>(&mut pass.token);
         pass.share -= give;
-        Pass {
-            token,
-            share: give,
-        }
+        Pass { token, share: give }
     }
 
     /// One pass in place of two: it has seen what either had, and has the moves and the shares of both.

@@ -67,8 +67,7 @@ const WORKERS: Workers = Workers {
 
 /// The checks of a layout that don't ask for the document, so that a mistake is told before a byte is read: those of a
 /// specification, and if the paper of the pages is named those of pages on sheets.
-pub fn check_layout(alloc: Global, request: &Request) -> Result<(), Fault>
-{
+pub fn check_layout(alloc: Global, request: &Request) -> Result<(), Fault> {
     match (&request.layout, &request.page) {
         (Layout::Spec(specs), _) => match read_spec(alloc, specs.as_str()) {
             Ok(_) => Ok(()),

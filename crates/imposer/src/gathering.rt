@@ -132,12 +132,7 @@ fn gather_as<'d, T: Texts + Send + Sync, R: Threads + Wait + Sync, G: Gate + Syn
     let alloc = shared.alloc;
     let job = shared.job;
     let mut tokens = tokens;
-    put_blank_sheets(
-        rt,
-        shared,
-        job.plan().born_complete(),
-        &mut tokens.pass,
-    );
+    put_blank_sheets(rt, shared, job.plan().born_complete(), &mut tokens.pass);
     let Ok(setup) = Setup::<T>::new(alloc, job, shared.window.len()) else {
         return out_of_memory(0);
     };

@@ -73,7 +73,8 @@ impl Window {
     /// Waits a little, and sleeps if waiting was long in vain.
     pub(crate) fn rest<R: Wait>(&self, rt: &R, backoff: &Backoff) {
         if backoff.is_completed() {
-            self.next.park_timeout(rt, self.next(), Duration::from_micros(50));
+            self.next
+                .park_timeout(rt, self.next(), Duration::from_micros(50));
         } else {
             backoff.snooze();
         }
