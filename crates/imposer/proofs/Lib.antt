@@ -1,6 +1,4 @@
 pub mod Made
-pub mod Merged
-pub mod Pushed
 pub mod Refusals
 pub mod Marks
 pub mod PlacesOf
@@ -8,6 +6,7 @@ pub mod HandingOn
 pub mod LookUps
 pub mod Shares
 pub mod Held
+pub mod Holdings
 pub mod Closings
 pub mod Counts
 pub mod HandedOn

@@ -10,8 +10,7 @@ use Rattle.sheet_text.specs.Jobs.{JobView, output_of}
 use Rattle.sheet_writer.specs.Writing.{WroteFirst, Stands}
 use Rattle.imposer.specs.Runs.{FailedIn}
 use Rattle.sheet_writer.specs.declared.writing.Progress.{Progress}
-use Rattle.handover.specs.declared.receipts.Overflow.{Overflow}
-use Rattle.imposer.specs.declared.work.Ended.{Ended}
+use Rattle.imposer.specs.declared.tokens.Holding.{Holding}
 use Rattle.imposer.specs.declared.gathering.Gathered.{Gathered}
 use Rattle.imposer.specs.declared.outcome.Report.{Report}
 use Rattle.imposer.specs.declared.outcome.RunError.{RunError}
@@ -66,7 +65,7 @@ pub record AreWhole (table : TableView) (queue : QueueView) (its_seat : SeatView
   pub pass_share : its_pass.share ≡ whole_share
 
 -- how a run answers whose workers have ended, wherever its collector began: their tokens come back, but after out of memory
-pub record Concludes (job : JobView) (old new : Option (List ℕ)) (before after : ℕ) (p : Progress) (ended : Ended Overflow) (gathered : Gathered) : Type 0 where
+pub record Concludes (job : JobView) (old new : Option (List ℕ)) (before after : ℕ) (p : Progress) (ended : Holding) (gathered : Gathered) : Type 0 where
   pub answers : (start : Option (List ℕ)) (first : ℕ) → Stands job start old first before p → Answers job start new first after gathered.outcome
   pub tokens : MatchResult gathered.outcome (λ _. IsSomeAnd gathered.tokens (λ t. ⊤)) (λ e. HandsBackTokens e gathered.tokens)
   pub same : IfSome gathered.tokens (λ t. (t.0 ≡ ended.tokens.seat) × (t.1 ≡ ended.tokens.pass))

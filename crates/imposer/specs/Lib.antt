@@ -12,4 +12,5 @@ pub mod Gathered
 pub mod Gathering
 pub mod Tokens
 pub mod Joining
+pub mod Promises
 pub mod Reading

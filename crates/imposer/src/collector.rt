@@ -8,13 +8,13 @@ ghost use Rattle.sheet_writer.specs.Writing.{Stands, GoesOn, AreEarly};
 
 use crate::channel::{SheetReceiver, SheetRule, Texts, Ticket};
 use crate::window::Window;
-use crate::work::Collector;
 use crossbeam_utils::Backoff;
 use sheet_text::Job;
 use sheet_writer::{Early, Progress, Sink, write_early, write_text};
 use std::sync::Wait;
 use std::sync::atomic::AtomicU32;
 use std::sync::atomic::Ordering::SeqCst;
+use workers::Collector;
 
 /// What the collector needs of the run.
 #[derive(Drop)]

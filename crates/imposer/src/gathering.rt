@@ -23,10 +23,8 @@ use crate::options::Workers;
 use crate::outcome::{Report, RunError};
 use crate::setup::Setup;
 use crate::shared::{Shared, WorkerInput};
-use crate::threads::gather_by;
-use crate::tokens::Tokens;
+use crate::tokens::{Holding, Tokens};
 use crate::window::Window;
-use crate::work::Ended;
 use gather_table::{GatherTable, Seat};
 use handover::{Overflow, Pass, Ready, Shelf};
 use sheet_text::Job;
@@ -36,6 +34,7 @@ use std::marker::Brand;
 use std::sync::Wait;
 use std::sync::atomic::AtomicU32;
 use std::thread::Threads;
+use workers::gather_by;
 
 /// What a run is when all its workers have ended.
 #[derive(Drop)]
@@ -173,9 +172,13 @@ fn gather_as<'d, T: Texts + Send + Sync, R: Threads + Wait + Sync, G: Gate + Syn
         &worker_input,
         &collector_input,
         state,
-        tokens,
+        Holding {
+            tokens,
+            unshelved: None,
+        },
         sending,
-        workers,
+        workers.preparers,
+        workers.imposers,
         &mut ended,
     );
     let gathered = finish(alloc, job, &mut state, trailer.as_slice(), ended);
@@ -226,7 +229,7 @@ fn finish<'d, S: Sink>(
     job: &Job<'_, 'd>,
     state: &mut CollectorState<'_, S>,
     trailer: &[u8],
-    ended: Option<Ended<Overflow<'d>>>,
+    ended: Option<Holding<'d>>,
 ) -> Gathered<'d>
     requires countable { IsSome ended → state.old.progress.halted ≡ None → S.failures state.old.sink.now < u64.MAX }
     requires next { IsSome ended → state.old.progress.halted ≡ None → state.old.progress.next ≤ length job.now.plan.sheets }
@@ -249,7 +252,7 @@ fn conclude<'d, S: Sink>(
     job: &Job<'_, 'd>,
     state: &mut CollectorState<'_, S>,
     trailer: &[u8],
-    ended: Ended<Overflow<'d>>,
+    ended: Holding<'d>,
 ) -> Gathered<'d>
     requires countable { state.old.progress.halted ≡ None → S.failures state.old.sink.now < u64.MAX }
     requires next { state.old.progress.halted ≡ None → state.old.progress.next ≤ length job.now.plan.sheets }
@@ -259,7 +262,7 @@ fn conclude<'d, S: Sink>(
     ensures ended { Concludes job.now (S.told state.old.sink.now) (S.told state.new.sink.now) (S.failures state.old.sink.now) (S.failures state.new.sink.now) state.old.progress ended.entry result }
 {
     let rest = write_rest(alloc, job, state.sink, state.progress, state.early, trailer);
-    let Ended { tokens, unshelved } = ended;
+    let Holding { tokens, unshelved } = ended;
     let Tokens { seat, pass } = tokens;
     let written = rest.progress.written;
     match rest.progress.halted {

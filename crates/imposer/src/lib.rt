@@ -15,10 +15,8 @@ mod preparing;
 mod runs;
 mod setup;
 mod shared;
-mod start;
 #[cfg(test)]
 mod tests;
-mod threads;
 mod tokens;
 mod window;
 mod work;

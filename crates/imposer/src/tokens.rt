@@ -1,10 +1,17 @@
 //! What a worker of a run holds.
 use gather_table::Seat;
-use handover::Pass;
+use handover::{Overflow, Pass};
 
 /// A seat of the gathering table and a pass of the ready queue.
 #[derive(Drop)]
 pub(crate) struct Tokens {
     pub(crate) seat: Seat,
     pub(crate) pass: Pass,
+}
+
+/// A worker's tokens, and the token of a page that the shelf gave no receipt for, if there was one.
+#[derive(Drop)]
+pub(crate) struct Holding<'d> {
+    pub(crate) tokens: Tokens,
+    pub(crate) unshelved: Option<Overflow<'d>>,
 }

@@ -1,0 +1,18 @@
+use Rattle.std.proofs.Common.{rules, arith, ◌≡◌, vec_items}
+use Rattle.workers.proofs.Pushed.{pushed}
+use Rattle.workers.proofs.start.start_imposers.Goals as goal
+
+pub loop-preserved : goal.loop-preserved
+loop-preserved g c =
+    let was = c.loop.invariant in record {
+      len = search rules;
+      room = search rules;
+      ticket = search rules;
+      each = pushed
+          (λ k h. h.promise.shared.now ≡ c.args.shared.now)
+          (vec_items c.loop.handles) c.in-Ok.handle (vec_items c.push_reserved.new.self) c.loop.counter
+          c.push_reserved.ensures.items (search rules) was.each c.in-Ok.ensures;
+      held = search rules;
+      share = (let e = c.split-theirs.ensures.share in let f = was.share in omega arith);
+      gathered = λ first n had. c.split-theirs.ensures.gathered first n (was.gathered first n had);
+    }

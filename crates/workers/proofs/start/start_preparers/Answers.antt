@@ -1,0 +1,18 @@
+use Rattle.std.proofs.Common.{rules, arith, vec_items}
+use Rattle.workers.specs.Promises.{IsPreparer}
+use Rattle.workers.proofs.Pushed.{pushed}
+use Rattle.workers.proofs.start.start_preparers.Goals as goal
+
+pub loop-number-preserved : goal.loop-number-preserved
+loop-number-preserved g c =
+    let was = c.loop-number.invariant in record {
+      len = search rules;
+      room = search rules;
+      each = pushed
+          (λ k h. IsPreparer c.args.shared.now c.args.count k h.promise)
+          (vec_items c.loop-number.handles) c.in-Ok.handle (vec_items c.push_reserved.new.self) c.loop-number.number
+          c.push_reserved.ensures.items (search rules) was.each c.in-Ok.ensures;
+      held = search rules;
+      share = (let e = c.split-theirs.ensures.share in let f = was.share in omega arith);
+      gathered = λ first n had. c.split-theirs.ensures.gathered first n (was.gathered first n had);
+    }

@@ -1,0 +1,2 @@
+-- The only file: what a handle promises.
+pub mod Promises

@@ -1,0 +1,120 @@
+//! Runs the threads of a run.
+ghost use Rattle.std.specs.Prelude.{◌≡◌, ℕ, ◌+◌, ◌<◌, ◌⊎◌, IfSome};
+
+use crate::join::{join_imposers, join_preparers};
+use crate::start::start;
+use crate::work::{Collector, Imposing};
+use std::alloc::Global;
+use std::sync::Wait;
+use std::thread;
+use std::thread::{Scope, Threads};
+
+/// Starts all threads of a run, collects on the caller's thread while they work, and joins what they hold. Nothing was
+/// collected if a thread was refused; `ended` is None then, and if a worker ran out of memory.
+///
+/// What is shared and the collector are two, since the one goes to the threads and the other, which may write to a sink that
+/// no thread may have, doesn't. The state comes back alone: in a pair it would not be known to hold what the caller lent it.
+pub fn gather_by<
+    R: Threads + Wait + Sync,
+    H: Send + Drop,
+    T: Send + Drop,
+    S: Drop,
+    W: Imposing<H, T> + Sync,
+    K: Collector<S>,
+>(
+    rt: &R,
+    alloc: Global,
+    shared: &W,
+    collector: &K,
+    state: S,
+    held: H,
+    ticket: T,
+    preparers: u32,
+    imposers: u32,
+    ended: &mut Option<H>,
+) -> S
+    requires held { W.is_held shared.now held }
+    requires share { (0 < preparers) × (preparers + imposers < W.share shared.now held) }
+    requires ticket { W.sends shared.now ticket }
+    requires state { K.is_ready_to_collect collector.now state }
+    ensures same_reference { K.reference collector.now result ≡ K.reference collector.now state }
+    ensures state { (result ≡ state) ⊎ K.collected collector.now state result }
+    ensures collected { IfSome ended.new (λ h. K.collected collector.now state result) }
+    ensures held { IfSome ended.new (W.is_held shared.now) }
+    ensures share { IfSome ended.new (λ h. W.share shared.now h ≡ W.share shared.now held) }
+    ensures gathered { (first : H) → W.has_gathered shared.now first preparers 0 held
+        → IfSome ended.new (W.has_gathered shared.now first preparers preparers) }
+{
+    let (state, all) = thread::scope(
+        thread::scope_env(),
+        rt,
+        move |scope| -> (S, Option<H>)
+            requires held { W.is_held shared.now held }
+            requires share { (0 < preparers) × (preparers + imposers < W.share shared.now held) }
+            requires ticket { W.sends shared.now ticket }
+            requires state { K.is_ready_to_collect collector.now state }
+            ensures same_reference { K.reference collector.entry.now result.0 ≡ K.reference collector.entry.now state }
+            ensures state { (result.0 ≡ state) ⊎ K.collected collector.entry.now state result.0 }
+            ensures collected { IfSome result.1 (λ h. K.collected collector.entry.now state result.0) }
+            ensures held { IfSome result.1 (W.is_held shared.entry.now) }
+            ensures share { IfSome result.1 (λ h. W.share shared.entry.now h ≡ W.share shared.entry.now held) }
+            ensures gathered { (first : H) → W.has_gathered shared.entry.now first preparers 0 held
+                → IfSome result.1 (W.has_gathered shared.entry.now first preparers preparers) }
+        {
+            let mut state = state;
+            let all = run_workers(
+                rt, scope, alloc, shared, collector, &mut state, held, ticket, preparers, imposers,
+            );
+            (state, all)
+        },
+    );
+    *ended = all;
+    state
+}
+
+/// The body of the scope: all threads start, the caller's thread collects, and all are joined.
+fn run_workers<
+    's,
+    E,
+    R: Threads + Wait + Sync,
+    H: Send + Drop + 's,
+    T: Send + Drop + 's,
+    S,
+    W: Imposing<H, T> + Sync,
+    K: Collector<S>,
+>(
+    rt: &'s R,
+    scope: &'s Scope<'s, E>,
+    alloc: Global,
+    shared: &'s W,
+    collector: &K,
+    state: &mut S,
+    held: H,
+    ticket: T,
+    preparers: u32,
+    imposers: u32,
+) -> Option<H>
+    requires held { W.is_held shared.now held }
+    requires share { (0 < preparers) × (preparers + imposers < W.share shared.now held) }
+    requires ticket { W.sends shared.now ticket }
+    requires state { K.is_ready_to_collect collector.now state.old }
+    ensures same_reference { K.reference collector.now state.new ≡ K.reference collector.now state.old }
+    ensures state { (state.new ≡ state.old) ⊎ K.collected collector.now state.old state.new }
+    ensures collected { IfSome result (λ h. K.collected collector.now state.old state.new) }
+    ensures held { IfSome result (W.is_held shared.now) }
+    ensures share { IfSome result (λ h. W.share shared.now h ≡ W.share shared.now held) }
+    ensures gathered { (first : H) → W.has_gathered shared.now first preparers 0 held
+        → IfSome result (W.has_gathered shared.now first preparers preparers) }
+{
+    let mut held = held;
+    let Some((prepare, impose)) = start(
+        rt, scope, alloc, shared, &mut held, ticket, preparers, imposers,
+    ) else {
+        shared.stop();
+        return None;
+    };
+    collector.collect(rt, state);
+    shared.stop();
+    let prepared = join_preparers(rt, shared, held, preparers, prepare);
+    join_imposers(rt, shared, prepared, imposers, impose)
+}

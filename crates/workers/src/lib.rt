@@ -1,0 +1,11 @@
+//! Starts the threads of a run, and joins them. It knows neither pages nor sheets: what the threads do, and what is true of it
+//! then, lies behind traits.
+#![tactic(auto)]
+
+mod gather;
+mod join;
+mod start;
+mod work;
+
+pub use gather::gather_by;
+pub use work::{Collector, Imposing, Work};

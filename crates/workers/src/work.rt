@@ -1,0 +1,125 @@
+//! The work of the threads of a run, behind type parameters, and what each of them promises.
+ghost use Rattle.std.specs.Prelude.{◌≡◌, ℕ, ◌+◌, ◌-◌, ◌<◌, IfOk};
+
+use std::alloc::AllocError;
+use std::sync::Wait;
+use std::thread::Promise;
+
+/// The work of preparers, on what all threads share. `H` is what a worker holds, and what it hands back when it ends. What is
+/// held has shares: the caller begins with some, gives one away to each worker, and has them again when all are joined.
+///
+/// Neither `H` nor what is shared shows a lifetime to the code that starts and joins threads: with a lifetime there, what a
+/// thread promises couldn't be proved.
+pub trait Work<H> {
+    // It belongs to what is shared.
+    ghost is_held: { Self → H → Type 0 };
+
+    // How many shares it has.
+    ghost share: { Self → H → ℕ };
+
+    // It has one share, and nothing was done with it yet.
+    ghost is_new: { Self → H → Type 0 };
+
+    // It has one share, and comes from a worker that has ended.
+    ghost is_back: { Self → H → Type 0 };
+
+    // With it the preparer of this number, of so many, did its part.
+    ghost has_prepared: { Self → (count number : ℕ) → H → Type 0 };
+
+    // With it an imposer did its part.
+    ghost has_imposed: { Self → H → Type 0 };
+
+    // It is what is left of the first, joined with what this number of preparers, the first of so many, handed back, and with
+    // what any number of imposers did.
+    ghost has_gathered: { Self → (first : H) → (count joined : ℕ) → H → Type 0 };
+
+    /// The work of the preparer with this number, of so many.
+    fn prepare<R: Wait>(&self, rt: &R, held: H, number: u32, count: u32) -> Result<H, AllocError>
+        requires count { 0 < count }
+        requires held { is_new self.now held }
+        ensures back { IfOk result (is_back self.now) }
+        ensures prepared { IfOk result (has_prepared self.now count number) };
+
+    /// What one more worker holds: a share, of the caller's.
+    fn split(&self, held: &mut H) -> H
+        requires held { is_held self.now held.old }
+        requires share { 1 < share self.now held.old }
+        ensures held { is_held self.now held.new }
+        ensures share { share self.now held.new ≡ share self.now held.old - 1 }
+        ensures gathered { (first : H) (count : ℕ) → has_gathered self.now first count 0 held.old → has_gathered self.now first count 0 held.new }
+        ensures given { is_new self.now result };
+
+    /// Joins what a worker hands back to what was joined before.
+    fn join(&self, all: H, theirs: H) -> H
+        requires all { is_held self.now all }
+        requires theirs { is_back self.now theirs }
+        ensures held { is_held self.now result }
+        ensures share { share self.now result ≡ share self.now all + 1 }
+        ensures prepared { (first : H) (count k : ℕ) → has_gathered self.now first count k all
+            → has_prepared self.now count k theirs → has_gathered self.now first count (k + 1) result }
+        ensures imposed { (first : H) (count k : ℕ) → has_gathered self.now first count k all
+            → has_imposed self.now theirs → has_gathered self.now first count k result };
+}
+
+/// The work of imposers besides. `T` is a ticket, by which an imposer sends what it has finished.
+pub trait Imposing<H, T>: Work<H> {
+    // It is a ticket of this channel.
+    ghost sends: { Self → T → Type 0 };
+
+    /// The work of an imposer.
+    fn impose<R: Wait>(&self, rt: &R, held: H, ticket: T) -> Result<H, AllocError>
+        requires held { Self.is_new self.now held }
+        requires ticket { sends self.now ticket }
+        ensures back { IfOk result (Self.is_back self.now) }
+        ensures imposed { IfOk result (Self.has_imposed self.now) };
+
+    /// Nothing more is collected, so no imposer waits for the collector.
+    fn stop(&self);
+
+    /// One ticket more.
+    fn another(&self, ticket: &mut T) -> T
+        requires { sends self.now ticket.old }
+        ensures kept { sends self.now ticket.new }
+        ensures given { sends self.now result };
+}
+
+/// What is done on the caller's thread while the workers run, with a state S.
+pub trait Collector<S> {
+    // The state is as it must be at the start.
+    ghost is_ready_to_collect: { Self → S → Type 0 };
+
+    // What became of the state.
+    ghost collected: { Self → S → S → Type 0 };
+
+    // The ghost name of the reference that the state holds, or 0: who lent it learns what was written only if it is known
+    // to be the same one.
+    ghost reference: { Self → S → ℕ };
+
+    /// Takes what the workers finish until all have ended.
+    fn collect<R: Wait>(&self, rt: &R, state: &mut S)
+        requires { is_ready_to_collect self.now state.old }
+        ensures same_reference { reference self.now state.new ≡ reference self.now state.old }
+        ensures collected { collected self.now state.old state.new };
+}
+
+/// What a preparer's thread promises.
+#[derive(Drop)]
+pub(crate) struct Prepares<'a, W> {
+    pub(crate) shared: &'a W,
+    pub(crate) number: u32,
+    pub(crate) count: u32,
+}
+
+impl<'a, H, W: Work<H>> Promise<Result<H, AllocError>> for Prepares<'a, W> {
+    ghost kept_by = { λ p r. IfOk r (λ h. W.is_back p.shared.now h × W.has_prepared p.shared.now p.count p.number h) };
+}
+
+/// What an imposer's thread promises.
+#[derive(Drop)]
+pub(crate) struct Imposes<'a, W> {
+    pub(crate) shared: &'a W,
+}
+
+impl<'a, H, W: Work<H>> Promise<Result<H, AllocError>> for Imposes<'a, W> {
+    ghost kept_by = { λ p r. IfOk r (λ h. W.is_back p.shared.now h × W.has_imposed p.shared.now h) };
+}
