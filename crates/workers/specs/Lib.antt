@@ -1,2 +1,3 @@
--- The only file: what a handle promises.
+-- How what is gathered grows, which the traits' clauses say; and what a thread's handle promises.
+pub mod Growth
 pub mod Promises

@@ -1,5 +1,6 @@
 //! Runs the threads of a run.
-ghost use Rattle.std.specs.Prelude.{◌≡◌, ℕ, ◌+◌, ◌<◌, ◌⊎◌, IfSome};
+ghost use Rattle.std.specs.Prelude.{◌≡◌, ◌+◌, ◌<◌, ◌⊎◌, IfSome};
+ghost use Rattle.workers.specs.Growth.{GathersAll};
 
 use crate::join::{join_imposers, join_preparers};
 use crate::start::start;
@@ -42,8 +43,7 @@ pub fn gather_by<
     ensures collected { IfSome ended.new (λ h. K.collected collector.now state result) }
     ensures held { IfSome ended.new (W.is_held shared.now) }
     ensures share { IfSome ended.new (λ h. W.share shared.now h ≡ W.share shared.now held) }
-    ensures gathered { (first : H) → W.has_gathered shared.now first preparers 0 held
-        → IfSome ended.new (W.has_gathered shared.now first preparers preparers) }
+    ensures gathered { GathersAll (W.has_gathered shared.now) preparers held ended.new }
 {
     let (state, all) = thread::scope(
         thread::scope_env(),
@@ -58,8 +58,7 @@ pub fn gather_by<
             ensures collected { IfSome result.1 (λ h. K.collected collector.entry.now state result.0) }
             ensures held { IfSome result.1 (W.is_held shared.entry.now) }
             ensures share { IfSome result.1 (λ h. W.share shared.entry.now h ≡ W.share shared.entry.now held) }
-            ensures gathered { (first : H) → W.has_gathered shared.entry.now first preparers 0 held
-                → IfSome result.1 (W.has_gathered shared.entry.now first preparers preparers) }
+            ensures gathered { GathersAll (W.has_gathered shared.entry.now) preparers held result.1 }
         {
             let mut state = state;
             let all = run_workers(
@@ -103,8 +102,7 @@ fn run_workers<
     ensures collected { IfSome result (λ h. K.collected collector.now state.old state.new) }
     ensures held { IfSome result (W.is_held shared.now) }
     ensures share { IfSome result (λ h. W.share shared.now h ≡ W.share shared.now held) }
-    ensures gathered { (first : H) → W.has_gathered shared.now first preparers 0 held
-        → IfSome result (W.has_gathered shared.now first preparers preparers) }
+    ensures gathered { GathersAll (W.has_gathered shared.now) preparers held result }
 {
     let mut held = held;
     let Some((prepare, impose)) = start(

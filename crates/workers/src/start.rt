@@ -1,5 +1,6 @@
 //! Starts the threads of a run.
 ghost use Rattle.std.specs.Prelude.{◌≡◌, ℕ, ◌+◌, ◌-◌, ◌<◌, ◌≤◌, IfOk, IfSome, slice_index_or, vec_len};
+ghost use Rattle.workers.specs.Growth.{StaysGathered};
 ghost use Rattle.workers.specs.Promises.{IsPreparer};
 
 use crate::work::{Imposes, Imposing, Prepares, Work};
@@ -37,8 +38,7 @@ pub(crate) fn start<
     requires ticket { W.sends shared.now ticket }
     ensures held { W.is_held shared.now held.new }
     ensures share { IfSome result (λ t. W.share shared.now held.new ≡ W.share shared.now held.old - preparers - imposers) }
-    ensures gathered { (first : H) (n : ℕ) → W.has_gathered shared.now first n 0 held.old
-        → W.has_gathered shared.now first n 0 held.new }
+    ensures gathered { StaysGathered (W.has_gathered shared.now) held.old held.new }
     ensures preparers { IfSome result (λ t. vec_len t.0 ≡ preparers) }
     ensures imposers { IfSome result (λ t. vec_len t.1 ≡ imposers) }
     ensures numbered { IfSome result (λ t. (k : ℕ) (d : _) → k < vec_len t.0
@@ -71,8 +71,7 @@ fn start_preparers<'s, E, R: Wait + Sync, H: Send + Drop + 's, W: Work<H> + Sync
     ensures held { W.is_held shared.now held.new }
     ensures share { IfOk result (λ v. vec_len v ≡ count
         → W.share shared.now held.new ≡ W.share shared.now held.old - count) }
-    ensures gathered { (first : H) (n : ℕ) → W.has_gathered shared.now first n 0 held.old
-        → W.has_gathered shared.now first n 0 held.new }
+    ensures gathered { StaysGathered (W.has_gathered shared.now) held.old held.new }
     ensures few { IfOk result (λ v. vec_len v ≤ count) }
     ensures each { IfOk result (λ v. (k : ℕ) (d : _) → k < vec_len v
         → IsPreparer shared.now count k (slice_index_or v.items k d).promise) }
@@ -140,8 +139,7 @@ fn start_imposers<
     ensures held { W.is_held shared.now held.new }
     ensures share { IfOk result (λ v. vec_len v ≡ count
         → W.share shared.now held.new ≡ W.share shared.now held.old - count) }
-    ensures gathered { (first : H) (n : ℕ) → W.has_gathered shared.now first n 0 held.old
-        → W.has_gathered shared.now first n 0 held.new }
+    ensures gathered { StaysGathered (W.has_gathered shared.now) held.old held.new }
     ensures few { IfOk result (λ v. vec_len v ≤ count) }
     ensures each { IfOk result (λ v. (k : ℕ) (d : _) → k < vec_len v
         → (slice_index_or v.items k d).promise.shared.now ≡ shared.now) }

@@ -1,5 +1,6 @@
 //! The work of the threads of a run, behind type parameters, and what each of them promises.
 ghost use Rattle.std.specs.Prelude.{◌≡◌, ℕ, ◌+◌, ◌-◌, ◌<◌, IfOk};
+ghost use Rattle.workers.specs.Growth.{StaysGathered, GainsPreparer, GainsImposer};
 
 use std::alloc::AllocError;
 use std::sync::Wait;
@@ -46,7 +47,7 @@ pub trait Work<H> {
         requires share { 1 < share self.now held.old }
         ensures held { is_held self.now held.new }
         ensures share { share self.now held.new ≡ share self.now held.old - 1 }
-        ensures gathered { (first : H) (count : ℕ) → has_gathered self.now first count 0 held.old → has_gathered self.now first count 0 held.new }
+        ensures gathered { StaysGathered (has_gathered self.now) held.old held.new }
         ensures given { is_new self.now result };
 
     /// Joins what a worker hands back to what was joined before.
@@ -55,10 +56,8 @@ pub trait Work<H> {
         requires theirs { is_back self.now theirs }
         ensures held { is_held self.now result }
         ensures share { share self.now result ≡ share self.now all + 1 }
-        ensures prepared { (first : H) (count k : ℕ) → has_gathered self.now first count k all
-            → has_prepared self.now count k theirs → has_gathered self.now first count (k + 1) result }
-        ensures imposed { (first : H) (count k : ℕ) → has_gathered self.now first count k all
-            → has_imposed self.now theirs → has_gathered self.now first count k result };
+        ensures prepared { GainsPreparer (has_gathered self.now) (has_prepared self.now) all theirs result }
+        ensures imposed { GainsImposer (has_gathered self.now) (has_imposed self.now) all theirs result };
 }
 
 /// The work of imposers besides. `T` is a ticket, by which an imposer sends what it has finished.

@@ -1,0 +1,21 @@
+-- How what is gathered grows. `gathered` is a run's `has_gathered`: with what it began, how many preparers there are in all and how many
+-- of them are joined, and what is held.
+use Rattle.std.specs.Prelude.{ℕ, ◌+◌, Option, IfSome}
+
+-- what was gathered before any preparer was joined is still gathered
+abbrev pub StaysGathered : {H : Type 0} → (H → ℕ → ℕ → H → Type 0) → (old new : H) → Type 0
+StaysGathered gathered old new = (first : _) (count : ℕ) → gathered first count 0 old → gathered first count 0 new
+
+-- with the next preparer's part one more is joined
+abbrev pub GainsPreparer : {H : Type 0} → (H → ℕ → ℕ → H → Type 0) → (ℕ → ℕ → H → Type 0) → (all theirs new : H) → Type 0
+GainsPreparer gathered prepared all theirs new =
+    (first : _) (count k : ℕ) → gathered first count k all → prepared count k theirs → gathered first count (k + 1) new
+
+-- with an imposer's part as many are joined
+abbrev pub GainsImposer : {H : Type 0} → (H → ℕ → ℕ → H → Type 0) → (H → Type 0) → (all theirs new : H) → Type 0
+GainsImposer gathered imposed all theirs new =
+    (first : _) (count k : ℕ) → gathered first count k all → imposed theirs → gathered first count k new
+
+-- if it began before any preparer was joined, all of them are joined at the end
+abbrev pub GathersAll : {H : Type 0} → (H → ℕ → ℕ → H → Type 0) → (count : ℕ) → H → Option H → Type 0
+GathersAll gathered count old ended = (first : _) → gathered first count 0 old → IfSome ended (gathered first count count)
