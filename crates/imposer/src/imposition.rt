@@ -12,7 +12,7 @@ ghost use Rattle.imposer.specs.LookUps.{pages_of, LooksUp, LooksUpUntil, LooksAt
 
 use gather_table::{GatherTable, Seat};
 use handover::{Prepared, Shelf};
-use sheet_text::{Job, append_placed, begin_sheet, end_sheet};
+use sheet_text::{Job, Openings, append_placed, begin_sheet, end_sheet};
 use sheet_writer::Imposed;
 use std::alloc::Global;
 use thiserror::Error;
@@ -47,10 +47,40 @@ pub fn impose<'d>(
         (λ m. LooksUp (pages_of table.now.layout sheet) (length (pages_of table.now.layout sheet)) seat.old seat.new)
         (λ e. LooksUpUntil (pages_of table.now.layout sheet) e seat.old seat.new) }
 {
+    impose_with(
+        alloc,
+        &mut Openings::new(alloc),
+        seat,
+        job,
+        table,
+        shelf,
+        sheet,
+    )
+}
+
+/// Does what `impose` does, with texts before placed pages that were kept from other sheets.
+pub(crate) fn impose_with<'d>(
+    alloc: Global,
+    openings: &mut Openings,
+    seat: &mut Seat,
+    job: &Job<'_, 'd>,
+    table: &GatherTable<'_>,
+    shelf: &Shelf<'d>,
+    sheet: u32,
+) -> Result<Imposed, ImposeError>
+    requires seat { IsSeatOf table.now seat.old }
+    requires table { table.now.layout ≡ layout job.now.plan }
+    requires sheet { sheet < length job.now.plan.sheets }
+    requires complete { IsComplete table.now.layout seat.old.front sheet }
+    ensures text { IfOk result (λ m. (m.sheet ≡ sheet) × (m.text.items ≡ text_of job.now sheet)) }
+    ensures looked_up { MatchResult result
+        (λ m. LooksUp (pages_of table.now.layout sheet) (length (pages_of table.now.layout sheet)) seat.old seat.new)
+        (λ e. LooksUpUntil (pages_of table.now.layout sheet) e seat.old seat.new) }
+{
     let Ok(mut text) = begin_sheet(alloc, job, sheet) else {
         return Err(ImposeError::NoMemory);
     };
-    match append_shelved_slots(&mut text, seat, job, table, shelf, sheet) {
+    match append_shelved_slots(&mut text, openings, seat, job, table, shelf, sheet) {
         Ok(()) => {}
         Err(error) => return Err(error),
     }
@@ -63,6 +93,7 @@ pub fn impose<'d>(
 /// Looks up the pages of all slots of a sheet, in order, and appends the slots' texts.
 fn append_shelved_slots<'d>(
     text: &mut Vec<u8>,
+    openings: &mut Openings,
     seat: &mut Seat,
     job: &Job<'_, 'd>,
     table: &GatherTable<'_>,
@@ -80,7 +111,7 @@ fn append_shelved_slots<'d>(
 {
     let plan = job.plan();
     for slot in 0..plan.slots(sheet) {
-        match append_shelved(text, seat, job, table, shelf, sheet, slot) {
+        match append_shelved(text, openings, seat, job, table, shelf, sheet, slot) {
             Ok(()) => {}
             Err(error) => return Err(error),
         }
@@ -91,6 +122,7 @@ fn append_shelved_slots<'d>(
 /// Looks up the page of a slot and appends the slot's text; nothing where it is blank.
 fn append_shelved<'d>(
     text: &mut Vec<u8>,
+    openings: &mut Openings,
     seat: &mut Seat,
     job: &Job<'_, 'd>,
     table: &GatherTable<'_>,
@@ -118,7 +150,7 @@ fn append_shelved<'d>(
         Ok(shown) => shown,
         Err(error) => return Err(error),
     };
-    match append_placed(text, job, sheet, slot, shown.body()) {
+    match append_placed(text, openings, job, sheet, slot, shown.body()) {
         Ok(()) => Ok(()),
         Err(_) => Err(ImposeError::NoMemory),
     }

@@ -71,12 +71,12 @@ slot_placed inside job s k p o it raw body view read is raw_is made at =
 
 -- a body with the texts that open and close it
 pub placed_is : (inside job : JobView) (s k : ℕ) (i : Item) (it : Slot) (old one two three body : List ℕ) → inside ≡ job → slice_get (items_on inside.plan s) k ≡ Some i
-    → one ≡ old ++ opening_text inside.frame i → two ≡ one ++ body → three ≡ two ++ closing_text → slice_get (slots_of job s) k ≡ Some it
+    → one ≡ old ++ opening_text job.frame i → two ≡ one ++ body → three ≡ two ++ closing_text → slice_get (slots_of job s) k ≡ Some it
     → three ≡ old ++ (opening_text job.frame it.item ++ body ++ closing_text)
 placed_is inside job s k i it old one two three body view read first second third at =
     let of_job : slice_get (items_on job.plan s) k ≡ Some i = subst (λ j. slice_get (items_on j.plan s) k ≡ Some i) view read in
     let item_is : i ≡ it.item = sym (slot_item job.plan s k it i at of_job) in
-    let opened : one ≡ old ++ opening_text job.frame it.item = first ∙ ap (λ j. old ++ opening_text j.frame i) view ∙ ap (λ x. old ++ opening_text job.frame x) item_is in
+    let opened : one ≡ old ++ opening_text job.frame it.item = first ∙ ap (λ x. old ++ opening_text job.frame x) item_is in
     third ∙ ap (λ x. x ++ closing_text) (second ∙ ap (λ x. x ++ body) opened) ∙ simp append_assoc
 
 -- a turn of the loop over the slots

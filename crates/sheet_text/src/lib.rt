@@ -2,9 +2,11 @@
 #![tactic(auto)]
 
 mod job;
+mod openings;
 mod sheet;
 #[cfg(test)]
 mod tests;
 
 pub use job::Job;
+pub use openings::Openings;
 pub use sheet::{append_placed, begin_sheet, end_sheet, sheet_text};

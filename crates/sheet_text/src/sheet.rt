@@ -9,9 +9,10 @@ ghost use Rattle.sheet_plan.specs.Plans.{pages_on};
 ghost use Rattle.sheet_text.specs.Jobs.{page_line, slots_of, slots_text, text_of};
 
 use crate::job::Job;
+use crate::openings::Openings;
 use dsc::{Body, DscError};
 use itoa::Buffer;
-use placement::{closing_text, opening_text};
+use placement::closing_text;
 use std::alloc::{AllocError, Global};
 
 /// The text of a sheet, counted from 0: its page line, each slot's page in order, placed on the sheet, and one `showpage`.
@@ -84,8 +85,9 @@ fn append_slots(
     requires { sheet < length job.now.plan.sheets }
     ensures { OnOk result (text.new.items ≡ text.old.items ++ slots_text job.now (slots_of job.now sheet)) }
 {
+    let mut openings = Openings::new(alloc);
     for slot in 0..job.plan.slots(sheet) {
-        append_slot(alloc, text, job, sheet, slot)?;
+        append_slot(alloc, text, &mut openings, job, sheet, slot)?;
     }
     Ok(())
 }
@@ -94,6 +96,7 @@ fn append_slots(
 fn append_slot(
     alloc: Global,
     text: &mut Vec<u8>,
+    openings: &mut Openings,
     job: &Job<'_, '_>,
     sheet: u32,
     slot: u16,
@@ -111,13 +114,14 @@ fn append_slot(
         Err(DscError::NoMemory) => return Err(AllocError),
         Err(_) => unreachable!(),
     };
-    append_placed(text, job, sheet, slot, body.as_slice())?;
+    append_placed(text, openings, job, sheet, slot, body.as_slice())?;
     Ok(())
 }
 
 /// Appends a prepared body as it is placed in a slot: the texts that open and close it round it.
 pub fn append_placed(
     text: &mut Vec<u8>,
+    openings: &mut Openings,
     job: &Job<'_, '_>,
     sheet: u32,
     slot: u16,
@@ -128,7 +132,7 @@ pub fn append_placed(
     ensures { OnOk result ((it : Slot) → slice_get (slots_of job.now sheet) slot ≡ Some it →
         text.new.items ≡ text.old.items ++ (opening job.now.frame it.item ++ body.now ++ closing)) }
 {
-    opening_text(job.plan.item_of(sheet, slot), &job.paper, job.border, text)?;
+    openings.append(job, job.plan.item_of(sheet, slot), text)?;
     text.extend_from_slice(body)?;
     closing_text(text)?;
     Ok(())

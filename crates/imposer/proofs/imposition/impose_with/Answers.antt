@@ -1,4 +1,4 @@
-use Rattle.imposer.proofs.imposition.impose.Goals as goal
+use Rattle.imposer.proofs.imposition.impose_with.Goals as goal
 use Rattle.imposer.proofs.LookUps.{looks_none, looks_until}
 
 pub returns-in_default-clause-looked_up : goal.returns-in_default-clause-looked_up

@@ -1,0 +1,124 @@
+//! The texts before placed pages, each printed once and kept.
+ghost use Rattle.std.specs.Prelude.{◌≡◌, ◌++◌, OnOk, IfOk, IfSome, true, false};
+ghost use Rattle.profile.specs.Output.{Frame, opening_text as opening};
+ghost use Rattle.pagespec.specs.Items.{item_of};
+
+use crate::job::Job;
+use lengths::{Grains, Paper};
+use pagespec::{Item, Measure};
+use placement::opening_text;
+use std::alloc::{AllocError, Global};
+
+/// How many texts are kept at most.
+const MOST_KEPT: usize = 64;
+
+/// The texts before placed pages, each printed once and kept. A specification has few items, and its sheets repeat them.
+#[derive(Drop)]
+pub struct Openings {
+    alloc: Global,
+    kept: Vec<Opening>,
+}
+
+/// What stands before a page that is placed by this item on this paper, with a border of this width if there is one.
+#[derive(Drop)]
+struct Opening {
+    item: Item,
+    paper: Paper,
+    border: Option<Grains>,
+    text: Vec<u8>,
+    ghost opens: { let frame : Frame = record { paper = paper; border = border } in text.items ≡ opening frame (item_of item) },
+}
+
+impl Openings {
+    /// No texts yet. It takes no memory.
+    pub fn new(alloc: Global) -> Openings {
+        Openings {
+            alloc,
+            kept: Vec::new(alloc),
+        }
+    }
+
+    /// Appends what stands before a page that this item places.
+    pub(crate) fn append(
+        &mut self,
+        job: &Job<'_, '_>,
+        item: &Item,
+        out: &mut Vec<u8>,
+    ) -> Result<(), AllocError>
+        ensures { OnOk result (out.new.items ≡ out.old.items ++ opening job.now.frame (item_of item.now)) }
+    {
+        if self.append_kept(job, item, out)? {
+            return Ok(());
+        }
+        let start = out.as_slice().len();
+        opening_text(item, &job.paper, job.border, out)?;
+        let (_, text) = out.as_slice().split_at(start);
+        self.keep(job, item, text);
+        Ok(())
+    }
+
+    /// Appends the text if it is kept, or nothing, and tells which.
+    fn append_kept(
+        &self,
+        job: &Job<'_, '_>,
+        item: &Item,
+        out: &mut Vec<u8>,
+    ) -> Result<bool, AllocError>
+        ensures kept { IfOk result (λ is_kept. is_kept ≡ true → out.new.items ≡ out.old.items ++ opening job.now.frame (item_of item.now)) }
+        ensures missing { IfOk result (λ is_kept. is_kept ≡ false → out.new.items ≡ out.old.items) }
+    {
+        for opening in self.kept.as_slice() {
+            if let Some(text) = opening.text_for(job, item) {
+                out.extend_from_slice(text)?;
+                return Ok(true);
+            }
+        }
+        Ok(false)
+    }
+
+    /// Keeps a text, if few are kept and there is memory for it.
+    fn keep(&mut self, job: &Job<'_, '_>, item: &Item, text: &[u8])
+        requires { text.now ≡ opening job.now.frame (item_of item.now) }
+    {
+        if self.kept.len() >= MOST_KEPT {
+            return;
+        }
+        let Ok(copy) = Vec::from_slice(self.alloc, text) else {
+            return;
+        };
+        let opening = Opening {
+            item: *item,
+            paper: job.paper,
+            border: job.border,
+            text: copy,
+        };
+        // Where memory is refused it is printed again next time.
+        let _is_kept = self.kept.push(opening).is_ok();
+    }
+}
+
+impl Opening {
+    /// The text, if it is the one for a page that this item places.
+    fn text_for(&self, job: &Job<'_, '_>, item: &Item) -> Option<&[u8]>
+        ensures { IfSome result (λ text. text.now ≡ opening job.now.frame (item_of item.now)) }
+    {
+        if self.item.turn == item.turn
+            && self.item.scale == item.scale
+            && is_same(self.item.offset.0, item.offset.0)
+            && is_same(self.item.offset.1, item.offset.1)
+            && self.paper == job.paper
+            && self.border == job.border
+        {
+            Some(self.text.as_slice())
+        } else {
+            None
+        }
+    }
+}
+
+/// Whether both are the same number of the same unit.
+fn is_same(one: Measure, other: Measure) -> bool
+    ensures { result ≡ true → one ≡ other }
+{
+    one == other
+}
