@@ -64,7 +64,8 @@ impl Openings {
         item: &Item,
         out: &mut Vec<u8>,
     ) -> Result<bool, AllocError>
-        ensures kept { IfOk result (λ is_kept. is_kept ≡ true → out.new.items ≡ out.old.items ++ opening job.now.frame (item_of item.now)) }
+        ensures kept { IfOk result (λ is_kept. is_kept ≡ true →
+            out.new.items ≡ out.old.items ++ opening job.now.frame (item_of item.now)) }
         ensures missing { IfOk result (λ is_kept. is_kept ≡ false → out.new.items ≡ out.old.items) }
     {
         for opening in self.kept.as_slice() {
@@ -92,7 +93,7 @@ impl Openings {
             border: job.border,
             text: copy,
         };
-        // Where memory is refused it is printed again next time.
+        // If memory is refused, it is printed again the next time.
         let _is_kept = self.kept.push(opening).is_ok();
     }
 }
