@@ -70,8 +70,10 @@ header text = contents (take (header_len text) text)
 
 abbrev pub or_box : List (List ℕ) → Option Paper → Option (Paper × Comment)
 or_box lines (Some paper) = Some (paper, DocumentMedia)
-or_box lines None = option_map (λ paper. (paper, BoundingBox)) (option_and_then box_paper (comment_fields (codes "%%BoundingBox") lines))
+or_box lines None = option_map (λ paper. (paper, BoundingBox))
+    (option_and_then box_paper (comment_fields (codes "%%BoundingBox") lines))
 
 -- the document's own paper, and which comment tells it
 abbrev pub document_paper : List ℕ → Option (Paper × Comment)
-document_paper text = or_box (header text) (option_and_then media_paper (comment_fields (codes "%%DocumentMedia") (header text)))
+document_paper text = or_box (header text)
+    (option_and_then media_paper (comment_fields (codes "%%DocumentMedia") (header text)))
