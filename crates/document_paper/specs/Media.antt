@@ -1,5 +1,6 @@
 -- The paper that a document is made for, as its header comments tell it (DSC 3.0, %%DocumentMedia and %%BoundingBox).
-use Rattle.std.specs.Prelude.{ℕ, zero, suc, ℤ, pos, ◌+◌, ◌≡◌, Bool, false, if◌then◌else◌, option_map, option_and_then, List, [], ◌∷◌, length, take, drop, codes, Option, Some, None}
+use Rattle.std.specs.Prelude.{ℕ, zero, suc, ℤ, pos, ◌+◌, ◌≡◌, Bool, false, if◌then◌else◌, option_map, option_and_then}
+use Rattle.std.specs.Prelude.{List, [], ◌∷◌, length, take, drop, codes, Option, Some, None}
 use Rattle.std.specs.Ordering.{int_eq}
 use Rattle.profile.specs.Papers.{Paper, Pt, grains, is_paper, points}
 use Rattle.profile.specs.Numbers.{is_large}
@@ -17,7 +18,8 @@ a4 = points 595 842
 -- all of the field is a number, which is in points
 abbrev pub points_at : Option (ℤ × List ℕ) → Option ℤ
 points_at None = None
-points_at (Some (number, rest)) = if is_large number then None else (if is_empty rest then Some (grains a4 number Pt) else None)
+points_at (Some (number, rest)) = if is_large number then None
+    else (if is_empty rest then Some (grains a4 number Pt) else None)
 
 abbrev pub points_of : List ℕ → Option ℤ
 points_of field = points_at (number_at field)
@@ -44,7 +46,8 @@ contents text = contents_of (length text) text
 -- the fields of the first comment with this name, if there is one
 abbrev pub comment_fields : (name : List ℕ) → List (List ℕ) → Option (List (List ℕ))
 comment_fields name [] = None
-comment_fields name (content ∷ rest) = if is_comment name content then Some (fields content) else comment_fields name rest
+comment_fields name (content ∷ rest) = if is_comment name content then Some (fields content)
+    else comment_fields name rest
 
 -- the paper of a medium: its name, its width, its height, and more
 abbrev pub media_paper : List (List ℕ) → Option Paper
@@ -58,7 +61,8 @@ is_zero (Some length) = int_eq length (pos 0)
 
 abbrev pub box_paper : List (List ℕ) → Option Paper
 box_paper (left ∷ bottom ∷ right ∷ top ∷ more) =
-    if is_zero (points_of left) then (if is_zero (points_of bottom) then paper_of (points_of right) (points_of top) else None) else None
+    if is_zero (points_of left)
+    then (if is_zero (points_of bottom) then paper_of (points_of right) (points_of top) else None) else None
 box_paper other = None
 
 abbrev pub header : List ℕ → List (List ℕ)
@@ -66,8 +70,10 @@ header text = contents (take (header_len text) text)
 
 abbrev pub or_box : List (List ℕ) → Option Paper → Option (Paper × Comment)
 or_box lines (Some paper) = Some (paper, DocumentMedia)
-or_box lines None = option_map (λ paper. (paper, BoundingBox)) (option_and_then box_paper (comment_fields (codes "%%BoundingBox") lines))
+or_box lines None = option_map (λ paper. (paper, BoundingBox))
+    (option_and_then box_paper (comment_fields (codes "%%BoundingBox") lines))
 
 -- the document's own paper, and which comment tells it
 abbrev pub document_paper : List ℕ → Option (Paper × Comment)
-document_paper text = or_box (header text) (option_and_then media_paper (comment_fields (codes "%%DocumentMedia") (header text)))
+document_paper text = or_box (header text)
+    (option_and_then media_paper (comment_fields (codes "%%DocumentMedia") (header text)))

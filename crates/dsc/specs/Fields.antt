@@ -1,5 +1,6 @@
 -- The fields of a line, and the data that a count asks for.
-use Rattle.std.specs.Prelude.{ℕ, List, [], ◌∷◌, length, filter, Result, Err, nat_lt, Bool, false, not, ◌&&◌, codes, if◌then◌else◌}
+use Rattle.std.specs.Prelude.{ℕ, List, [], ◌∷◌, length, filter, Result, Err, nat_lt, Bool, false, not, ◌&&◌, codes}
+use Rattle.std.specs.Prelude.{if◌then◌else◌}
 use Rattle.std.specs.List.{slice_split, list_all}
 use Rattle.std.specs.Str.{bytes_eq}
 use Rattle.std.specs.Char.{is_ascii_digit}
@@ -23,4 +24,5 @@ counted in_lines n rest = or_short (if in_lines then lines_len n rest else bytes
 abbrev pub data_in : Bool → List ℕ → List (List ℕ) → Result ℕ BlockFault
 data_in may_count_lines rest [] = Err BadCount
 data_in may_count_lines rest (count ∷ more) =
-    if not (list_all is_ascii_digit count) then Err BadCount else counted (may_count_lines && third_is (codes "Lines") more) (number_of count) rest
+    if not (list_all is_ascii_digit count) then Err BadCount
+    else counted (may_count_lines && third_is (codes "Lines") more) (number_of count) rest

@@ -19,6 +19,8 @@ abbrev pub of_units : {A : Type 0} → (List TextUnit → A) → Result (List Te
 of_units f r = r >>= λ us. Ok (f us)
 
 -- what is kept of the rest of a text, behind what was kept before
-abbrev pub filter_on : Drops → (front : List ℕ) → (was_dropped : Bool) → (depth at : ℕ) → List ℕ → Result (List ℕ) FaultyBlock
+abbrev pub filter_on : Drops → (front : List ℕ) → (was_dropped : Bool) → (depth at : ℕ) → List ℕ
+    → Result (List ℕ) FaultyBlock
 filter_on drops front was depth at text =
-    of_units (λ us. front ++ bytes_of (kept_after was (drops_of drops) (nested_from depth us))) (cut_from (length text) at text)
+    of_units (λ us. front ++ bytes_of (kept_after was (drops_of drops) (nested_from depth us)))
+    (cut_from (length text) at text)

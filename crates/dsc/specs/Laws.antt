@@ -12,7 +12,8 @@ StandAlone us = (cut (bytes_of us) ≡ Ok (map (λ u. u.unit) us)) × (nested (m
 
 -- each page of a text that is cut, cut as a text of its own, has the units it had
 abbrev pub PagesStandAlone : Type 0
-PagesStandAlone = (text : List ℕ) (us : List TextUnit) → cut text ≡ Ok us → All StandAlone (split_pages (page_run (nested us)))
+PagesStandAlone = (text : List ℕ) (us : List TextUnit) → cut text ≡ Ok us
+    → All StandAlone (split_pages (page_run (nested us)))
 
 -- no block of the page is faulty, so the page has a prepared body
 abbrev pub HasBody : List ℕ → Type 0

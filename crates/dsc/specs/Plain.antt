@@ -1,5 +1,6 @@
 -- Lines that mean nothing for the parts of a document, and that no filter drops.
-use Rattle.std.specs.Prelude.{◌≡◌, ℕ, zero, suc, ◌+◌, ◌-◌, ◌<◌, ◌≤◌, false, nat_eq, if◌then◌else◌, codes, List, length, drop, slice_index}
+use Rattle.std.specs.Prelude.{◌≡◌, ℕ, zero, suc, ◌+◌, ◌-◌, ◌<◌, ◌≤◌, false, nat_eq, if◌then◌else◌, codes, List, length}
+use Rattle.std.specs.Prelude.{drop, slice_index}
 use Rattle.std.specs.List.{starts_with}
 use Rattle.profile.specs.Units.{is_end, content_of, line_len}
 

@@ -26,7 +26,8 @@ passed n text = record { content = []; bytes = take n text; is_block = false }
 
 -- the text begins with this unit, or with lines that mean nothing, put together
 abbrev pub IsPiece : TextUnit → List ℕ → Type 0
-IsPiece u text = (first_unit text ≡ Ok u) ⊎ ((n : ℕ) × (u ≡ passed n text) × (0 < n) × (n ≤ length text) × BeginsPlain n text)
+IsPiece u text = (first_unit text ≡ Ok u)
+    ⊎ ((n : ℕ) × (u ≡ passed n text) × (0 < n) × (n ≤ length text) × BeginsPlain n text)
 
 pub record IsPieceOf (u : TextUnit) (text : List ℕ) : Type 0 where
   pub is : IsPiece u text

@@ -94,7 +94,8 @@ fn body_of<'d>(alloc: Global, kept: Kept<'d>) -> Result<Body<'d>, AllocError>
 
 /// The one run that was kept, where no line end is wanted behind it.
 fn one_run<'d>(kept: &Kept<'d>) -> Option<&'d [u8]>
-    ensures { IfSome result (λ part. part.now ≡ ended ((kept.now.copied.items ++ kept.now.held.now) ++ kept.now.run.now)) }
+    ensures { IfSome result (λ part.
+        part.now ≡ ended ((kept.now.copied.items ++ kept.now.held.now) ++ kept.now.run.now)) }
 {
     if !kept.copied.is_empty() {
         return None;

@@ -1,5 +1,6 @@
 //! What is kept of a text.
-ghost use Rattle.std.specs.Prelude.{◌≡◌, ◌+◌, ◌<◌, ◌≤◌, [], ◌∷◌, ◌++◌, length, take, drop, IfOk, IfErr, OnOk, if◌then◌else◌, false, Ok, codes, decimal};
+ghost use Rattle.std.specs.Prelude.{◌≡◌, ◌+◌, ◌<◌, ◌≤◌, [], ◌∷◌, ◌++◌, length, take, drop, IfOk, IfErr, OnOk};
+ghost use Rattle.std.specs.Prelude.{if◌then◌else◌, false, Ok, codes, decimal};
 ghost use Rattle.profile.specs.Bytes.{line};
 ghost use Rattle.profile.specs.Units.{cut};
 ghost use Rattle.profile.specs.Parts.{bytes_of};
@@ -91,8 +92,12 @@ impl<'d> Kept<'d> {
     /// was held before is copied then. So what is one run of the text is never copied.
     fn go_on(&mut self, len: usize, dropped: bool) -> Result<(), AllocError>
         requires { self.old.run_len + len ≤ length self.old.run.now }
-        ensures kept { OnOk result ((self.new.copied.items ++ self.new.held.now) ++ take self.new.run_len self.new.run.now ≡ ((self.old.copied.items ++ self.old.held.now) ++ take self.old.run_len self.old.run.now) ++ (if dropped then [] else take len (drop self.old.run_len self.old.run.now))) }
-        ensures rest { OnOk result (drop self.new.run_len self.new.run.now ≡ drop len (drop self.old.run_len self.old.run.now)) }
+        ensures kept { OnOk result (
+            (self.new.copied.items ++ self.new.held.now) ++ take self.new.run_len self.new.run.now
+            ≡ ((self.old.copied.items ++ self.old.held.now) ++ take self.old.run_len self.old.run.now)
+            ++ (if dropped then [] else take len (drop self.old.run_len self.old.run.now))) }
+        ensures rest { OnOk result (drop self.new.run_len self.new.run.now
+            ≡ drop len (drop self.old.run_len self.old.run.now)) }
         ensures within { OnOk result (self.new.run_len ≤ length self.new.run.now) }
     {
         if !dropped {
@@ -128,7 +133,8 @@ fn copy(copied: &mut Vec<u8>, part: &[u8], room: usize) -> Result<(), AllocError
 
 /// What is kept of the text, behind what was copied before.
 pub fn filter<'d>(copied: Vec<u8>, drops: Drops, text: &'d [u8]) -> Result<Kept<'d>, CutError>
-    ensures { Gives (λ k. (k.copied.items ++ k.held.now) ++ k.run.now) block_fault_told result (filter_on drops copied.items false 0 0 text.now) }
+    ensures { Gives (λ k. (k.copied.items ++ k.held.now) ++ k.run.now) block_fault_told result
+        (filter_on drops copied.items false 0 0 text.now) }
 {
     let mut kept = Kept {
         copied,

@@ -20,8 +20,10 @@ pub struct Seen {
 impl Seen {
     /// Notes a unit that begins at this byte.
     fn note(&mut self, meaning: Meaning, at: usize) -> Result<(), AllocError>
-        ensures starts { OnOk result (self.new.starts.items ≡ noted_starts 1_000_001 self.old.starts.items self.old.stop meaning.is_page meaning.is_trailer at) }
-        ensures stop { OnOk result (self.new.stop ≡ noted_end self.old.starts.items self.old.stop meaning.is_trailer at) }
+        ensures starts { OnOk result (self.new.starts.items
+            ≡ noted_starts 1_000_001 self.old.starts.items self.old.stop meaning.is_page meaning.is_trailer at) }
+        ensures stop { OnOk result (self.new.stop
+            ≡ noted_end self.old.starts.items self.old.stop meaning.is_trailer at) }
     {
         if self.stop.is_none() {
             if !self.starts.is_empty() && meaning.is_trailer {
@@ -46,7 +48,8 @@ impl Seen {
 
 /// One pass over the text.
 pub fn scan(alloc: Global, text: &[u8]) -> Result<Seen, CutError>
-    ensures { Gives (λ s. marks_on 1_000_001 s.starts.items s.stop (length text.now) []) block_fault_told result (scan_on 1_000_001 [] None 0 0 text.now) }
+    ensures { Gives (λ s. marks_on 1_000_001 s.starts.items s.stop (length text.now) []) block_fault_told result
+        (scan_on 1_000_001 [] None 0 0 text.now) }
 {
     let mut seen = Seen {
         starts: Vec::new(alloc),

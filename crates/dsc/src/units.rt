@@ -24,7 +24,9 @@ pub enum UnitError {
 
 /// What stands behind the colon of a line that begins data, and whether lines may be counted.
 fn data_heading(content: &[u8]) -> Option<(&[u8], bool)>
-    ensures { MatchOption result (begins_block content.now ≡ false) (λ h. (begins_block content.now ≡ true) × (fields content.now ≡ fields_in h.0.now) × (is_comment (codes "%%BeginData") content.now ≡ h.1)) }
+    ensures { MatchOption result (begins_block content.now ≡ false) (λ h.
+        (begins_block content.now ≡ true) × (fields content.now ≡ fields_in h.0.now)
+        × (is_comment (codes "%%BeginData") content.now ≡ h.1)) }
 {
     if !content.starts_with(b"%%Begin") {
         return None;

@@ -72,7 +72,8 @@ impl<'d> Walk<'d> {
         ensures at { IfOk result (λ s. s.at ≡ self.old.at) }
         ensures depth { IfOk result (λ s. s.depth ≡ self.old.depth) }
         ensures page { IfOk result (λ s. s.meaning.is_page ≡ begins_page (at_depth self.old.depth (unit_of s.unit))) }
-        ensures trailer { IfOk result (λ s. s.meaning.is_trailer ≡ begins_trailer (at_depth self.old.depth (unit_of s.unit))) }
+        ensures trailer { IfOk result (λ s.
+            s.meaning.is_trailer ≡ begins_trailer (at_depth self.old.depth (unit_of s.unit))) }
         ensures fault { IfErr result (λ b. first_unit self.old.rest ≡ Err (fault_of b.fault)) }
         ensures fault_at { IfErr result (λ b. b.at ≡ self.old.at) }
     {

@@ -15,7 +15,8 @@ Adds = Rattle.histories.specs.Seats.Adds IsLegal
 
 -- a publish was made, and the word that it found tells its reply
 abbrev pub publishes : Step Unit → Me Unit Sight → ℕ → Me Unit Sight → Type 0
-publishes st me found new = (new.1 ≡ me.1) × (found ≤ 2 ^ 32) × Adds me.0 (Publish st.word (st.second - 1) (publish_reply (index_in found))) new.0
+publishes st me found new = (new.1 ≡ me.1) × (found ≤ 2 ^ 32)
+    × Adds me.0 (Publish st.word (st.second - 1) (publish_reply (index_in found))) new.0
 
 -- and so was a look-up
 abbrev pub finds : Step Unit → Me Unit Sight → ℕ → Me Unit Sight → Type 0
@@ -34,13 +35,17 @@ look_of layout s found = Look s (2 ^ slot_count layout s - 1 - lane_found layout
 
 -- the same of a wide sheet, by the word of the group, and by the closing word
 abbrev pub wide_mark_of : Layout → ℕ → ℕ → ℕ → Entry
-wide_mark_of layout s k found = Mark s k (group_reply (k / 64) (reply_in (in_lane found 0 (group_size layout s (k / 64))) (2 ^ (k % 64)) (2 ^ group_size layout s (k / 64) - 1)))
+wide_mark_of layout s k found =
+    Mark s k (group_reply (k / 64)
+    (reply_in (in_lane found 0 (group_size layout s (k / 64))) (2 ^ (k % 64)) (2 ^ group_size layout s (k / 64) - 1)))
 
 abbrev pub wide_look_of : Layout → ℕ → ℕ → Entry
 wide_look_of layout s found = Look s (2 ^ group_count layout s - 1 - in_lane found 0 (group_count layout s))
 
 abbrev pub close_of : Layout → ℕ → ℕ → ℕ → Entry
-close_of layout s g found = CloseGroup s g (closing_by (reply_in (in_lane found 0 (group_count layout s)) (2 ^ g) (2 ^ group_count layout s - 1)))
+close_of layout s g found =
+    CloseGroup s g (closing_by
+    (reply_in (in_lane found 0 (group_count layout s)) (2 ^ g) (2 ^ group_count layout s - 1)))
 
 abbrev pub look_group_of : Layout → ℕ → ℕ → ℕ → Entry
 look_group_of layout s g found = LookGroup s g (2 ^ group_size layout s g - 1 - in_lane found 0 (group_size layout s g))

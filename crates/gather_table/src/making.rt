@@ -114,7 +114,8 @@ fn own_words(slots: u16) -> u32
 // Where a sheet's bits stand, by its lane and by the next word behind those of the wide sheets before it.
 fn home_at(slots: u16, pages: u32, lane: Lane, wide: u32) -> Home
     requires { (pages ≤ 1_000_000) × (lane.word ≤ 1_000_000) }
-    ensures { result ≡ (if nat_lt 64 slots then record { slots = slots; word = wide; first = 0 } else record { slots = slots; word = pages + lane.word; first = lane.first }) }
+    ensures { result ≡ (if nat_lt 64 slots then record { slots = slots; word = wide; first = 0 }
+        else record { slots = slots; word = pages + lane.word; first = lane.first }) }
 {
     if slots > 64 {
         return Home {

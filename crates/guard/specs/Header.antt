@@ -1,6 +1,7 @@
 -- The header comments of a document: its first line and the comments behind it. The rule is this project's own; what
 -- comments of the header look like, and that %%EndComments ends them, is of DSC, General Header Comments.
-use Rattle.std.specs.Prelude.{ℕ, zero, suc, ◌+◌, Bool, false, not, ◌&&◌, ◌||◌, ◌==◌, nat_eq, nat_le, if◌then◌else◌, List, [], ◌∷◌, ◌++◌, length, take, drop, flat_map, codes}
+use Rattle.std.specs.Prelude.{ℕ, zero, suc, ◌+◌, Bool, false, not, ◌&&◌, ◌||◌, ◌==◌, nat_eq, nat_le, if◌then◌else◌}
+use Rattle.std.specs.Prelude.{List, [], ◌∷◌, ◌++◌, length, take, drop, flat_map, codes}
 use Rattle.std.specs.List.{starts_with}
 use Rattle.profile.specs.Bytes.{line}
 use Rattle.profile.specs.Units.{content_of, line_len, key, has_key, is_comment}

@@ -1,5 +1,6 @@
 -- What stays as it is if lines are put into a document.
-use Rattle.std.specs.Prelude.{◌≡◌, ℕ, ◌<◌, ◌≤◌, List, [], ◌∷◌, ◌++◌, length, take, map, Option, Some, Ok, IfSome, IsTrue}
+use Rattle.std.specs.Prelude.{◌≡◌, ℕ, ◌<◌, ◌≤◌, List, [], ◌∷◌, ◌++◌, length, take, map, Option, Some, Ok, IfSome}
+use Rattle.std.specs.Prelude.{IsTrue}
 use Rattle.profile.specs.Units.{TextUnit}
 use Rattle.profile.specs.Parts.{NestedUnit, nested, begins_page, pages, trailer}
 use Rattle.profile.specs.Papers.{Paper, is_paper}

@@ -7,7 +7,8 @@ use Rattle.handover.specs.Passes.{PassView, IsPass, own_moves}
 
 -- sheets are taken in the order in which they were put: those taken, and behind them those left, are those put
 abbrev pub FirstPutIsFirstTaken : Type 0
-FirstPutIsFirstTaken = (capacity : ℕ) (log : List Move) → IsQueueHistory capacity log → sheets_taken log ++ content log ≡ sheets_put log
+FirstPutIsFirstTaken = (capacity : ℕ) (log : List Move) → IsQueueHistory capacity log
+    → sheets_taken log ++ content log ≡ sheets_put log
 
 -- there are never more sheets in the queue than it has room for
 abbrev pub NeverOverfull : Type 0

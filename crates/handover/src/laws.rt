@@ -1,5 +1,6 @@
 //! Laws: what holds of every history of the queue, and of every pass. Each is a function that does nothing.
-ghost use Rattle.handover.specs.Laws.{FirstPutIsFirstTaken, NeverOverfull, WholePassMadeAll, WholePassLosesNone, OwnMovesAreKept, MovesStandInOneHistory, SplitMovesStandInOneHistory};
+ghost use Rattle.handover.specs.Laws.{FirstPutIsFirstTaken, NeverOverfull, WholePassMadeAll, WholePassLosesNone};
+ghost use Rattle.handover.specs.Laws.{OwnMovesAreKept, MovesStandInOneHistory, SplitMovesStandInOneHistory};
 
 /// Sheets are taken in the order in which they were put, and none is lost or doubled.
 pub fn first_put_is_first_taken()

@@ -65,7 +65,8 @@ impl Ready {
         ensures full { IfErr result (λ full. (full.0 ≡ sheet) × (pass.new ≡ pass.old)) }
 
         // A pass that has all shares has seen the whole history.
-        ensures full_only_at_capacity { OnErr result (pass.old.share ≡ whole_share → length (content pass.old.front) ≡ self.now.capacity) }
+        ensures full_only_at_capacity { OnErr result (pass.old.share ≡ whole_share
+            → length (content pass.old.front) ≡ self.now.capacity) }
     {
         match self.line.push_as::<Puts, R>(rt, &mut pass.token, sheet) {
             Ok(()) => Ok(()),
@@ -134,7 +135,8 @@ impl Ready {
 // Tells the pass that a queue was made with the queue's capacity.
 fn open<N: Picks>(line: &Line, token: &mut crossbeam_queue::Pass<u32, View>)
     requires { Rattle.crossbeam_queue.specs.Passes.IsPassOf line.now token.old × (view token.old ≡ opening_sight 0) }
-    ensures { Rattle.crossbeam_queue.specs.Passes.IsPassOf line.now token.new × (view token.new ≡ opening_sight N.number) }
+    ensures { Rattle.crossbeam_queue.specs.Passes.IsPassOf line.now token.new
+        × (view token.new ≡ opening_sight N.number) }
 {
     drop(line.another::<Opens<N>>(token));
 }

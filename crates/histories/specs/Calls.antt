@@ -39,7 +39,13 @@ module _ {K E : Type 0} where
 
   -- one seat with the longer front, the own places of both, and both shares
   abbrev pub joined : SeatView K E → SeatView K E → SeatView K E
-  joined a b = record { table = a.table; key = a.key; front = longer a.front b.front; own = a.own ++ b.own; share = a.share + b.share }
+  joined a b = record {
+    table = a.table;
+    key = a.key;
+    front = longer a.front b.front;
+    own = a.own ++ b.own;
+    share = a.share + b.share;
+  }
 
 module _ {K E : Type 0} (Legal : K → List E → Type 0) where
   -- what every seat keeps to: its front is legal, its own places lie in it, each once, and with all shares they are all places of it
@@ -50,7 +56,10 @@ module _ {K E : Type 0} (Legal : K → List E → Type 0) where
   -- place is one more own place. If the seat has all shares there are no others
   pub record Made (old : SeatView K E) (e : E) (new : SeatView K E) : Type 0 where
     pub between : List E
-    pub grown : new ≡ record old { front = (old.front ++ between) ++ e ∷ []; own = old.own ++ length (old.front ++ between) ∷ [] }
+    pub grown : new ≡ record old {
+      front = (old.front ++ between) ++ e ∷ [];
+      own = old.own ++ length (old.front ++ between) ∷ [];
+    }
     pub alone : old.share ≡ whole_share → between ≡ []
     pub before : IsSeat old
     pub after : IsSeat new

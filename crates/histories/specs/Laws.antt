@@ -25,8 +25,10 @@ CourseStands log n m places (Calls e) = (x : ℕ) × (n ≤ x) × (x < m) × (sl
 CourseStands log n m places Meets = (n ≤ m) × (places ≡ [])
 CourseStands log n m places Gives = (n ≤ m) × (places ≡ [])
 CourseStands log n m places TakesIn = (n ≤ m) × (places ≡ [])
-CourseStands log n m places (Then c d) = (k : ℕ) × (xs : List ℕ) × (ys : List ℕ) × CourseStands log n k xs c × CourseStands log k m ys d × (places ≡ xs ++ ys)
-CourseStands log n m places (InTwo c d) = (xs : List ℕ) × (ys : List ℕ) × CourseStands log n m xs c × CourseStands log n m ys d × (places ≡ xs ++ ys)
+CourseStands log n m places (Then c d) = (k : ℕ) × (xs : List ℕ) × (ys : List ℕ) × CourseStands log n k xs c
+    × CourseStands log k m ys d × (places ≡ xs ++ ys)
+CourseStands log n m places (InTwo c d) = (xs : List ℕ) × (ys : List ℕ) × CourseStands log n m xs c
+    × CourseStands log n m ys d × (places ≡ xs ++ ys)
 
 module _ {K E : Type 0} (Legal : K → List E → Type 0) where
   -- these entries of a seat, made one after the other with whatever others did beside them, stand in one legal history, which begins
@@ -41,13 +43,15 @@ module _ {K E : Type 0} (Legal : K → List E → Type 0) where
     pub same : new ≡ record old { front = new.front; own = new.own }
 
   abbrev pub CallsStandInOneHistory : Type 0
-  CallsStandInOneHistory = (old new : SeatView K E) (es : List E) → IsSeat Legal old → Makes Legal old es new → StandInOneHistory old es new
+  CallsStandInOneHistory = (old new : SeatView K E) (es : List E) → IsSeat Legal old → Makes Legal old es new
+      → StandInOneHistory old es new
 
   -- the caller went this course, from one seat to another
   abbrev pub Goes : SeatView K E → Course E → SeatView K E → Type 0
   Goes old Rests new = old ≡ new
   Goes old (Calls e) new = Made Legal old e new
-  Goes old Meets new = (other : SeatView K E) × (after : SeatView K E) × (Met Legal old other new after ⊎ Met Legal other old after new)
+  Goes old Meets new = (other : SeatView K E) × (after : SeatView K E)
+      × (Met Legal old other new after ⊎ Met Legal other old after new)
   Goes old Gives new = (given : SeatView K E) × Split Legal old new given
   Goes old TakesIn new = (other : SeatView K E) × Joined Legal old other new
   Goes old (Then c d) new = (mid : SeatView K E) × Goes old c mid × Goes mid d new
@@ -67,20 +71,28 @@ module _ {K E : Type 0} (Legal : K → List E → Type 0) where
     pub same : (new.table ≡ old.table) × (new.key ≡ old.key)
 
   abbrev pub CoursesStandInOneHistory : Type 0
-  CoursesStandInOneHistory = (old new : SeatView K E) (course : Course E) → IsSeat Legal old → Goes old course new → CourseStandsInOneHistory old course new
+  CoursesStandInOneHistory = (old new : SeatView K E) (course : Course E) → IsSeat Legal old → Goes old course new
+      → CourseStandsInOneHistory old course new
 
   -- an entry is one more own entry, a joined seat has those of both, and none is lost or given away in a meeting or a split
   abbrev pub OwnEntriesAreKept : Type 0
-  OwnEntriesAreKept = ((old new : SeatView K E) (es : List E) → Makes Legal old es new → own_entries new ≡ own_entries old ++ es)
-      × ((a b new : SeatView K E) → IsSeat Legal a → IsSeat Legal b → Joined Legal a b new → own_entries new ≡ own_entries a ++ own_entries b)
-      × ((a b a' b' : SeatView K E) → IsSeat Legal a → IsSeat Legal b → Met Legal a b a' b' → (own_entries a' ≡ own_entries a) × (own_entries b' ≡ own_entries b))
-      × ((old kept given : SeatView K E) → Split Legal old kept given → (own_entries kept ≡ own_entries old) × (own_entries given ≡ []))
+  OwnEntriesAreKept = ((old new : SeatView K E) (es : List E) → Makes Legal old es new
+      → own_entries new ≡ own_entries old ++ es)
+      × ((a b new : SeatView K E) → IsSeat Legal a → IsSeat Legal b → Joined Legal a b new
+      → own_entries new ≡ own_entries a ++ own_entries b)
+      × ((a b a' b' : SeatView K E) → IsSeat Legal a → IsSeat Legal b → Met Legal a b a' b'
+      → (own_entries a' ≡ own_entries a) × (own_entries b' ≡ own_entries b))
+      × ((old kept given : SeatView K E) → Split Legal old kept given
+      → (own_entries kept ≡ own_entries old) × (own_entries given ≡ []))
 
   -- a seat that has all shares made all entries of its front: whatever is counted of them comes out the same
   abbrev pub WholeSeatMadeAll : Type 0
-  WholeSeatMadeAll = (seat : SeatView K E) (weight : E → ℕ) → IsSeat Legal seat → seat.share ≡ whole_share → total weight (own_entries seat) ≡ total weight seat.front
+  WholeSeatMadeAll = (seat : SeatView K E) (weight : E → ℕ) → IsSeat Legal seat → seat.share ≡ whole_share
+      → total weight (own_entries seat) ≡ total weight seat.front
 
   -- whatever is counted of the own entries of a seat, or of two seats that agree, is at most what it is of the history that they have seen
   abbrev pub OwnEntriesAreOfTheFront : Type 0
-  OwnEntriesAreOfTheFront = ((seat : SeatView K E) (weight : E → ℕ) → IsSeat Legal seat → total weight (own_entries seat) ≤ total weight seat.front)
-      × ((a b : SeatView K E) (weight : E → ℕ) → IsSeat Legal a → IsSeat Legal b → Agree a b → total weight (own_entries a) + total weight (own_entries b) ≤ total weight (longer a.front b.front))
+  OwnEntriesAreOfTheFront = ((seat : SeatView K E) (weight : E → ℕ) → IsSeat Legal seat
+      → total weight (own_entries seat) ≤ total weight seat.front)
+      × ((a b : SeatView K E) (weight : E → ℕ) → IsSeat Legal a → IsSeat Legal b → Agree a b
+      → total weight (own_entries a) + total weight (own_entries b) ≤ total weight (longer a.front b.front))

@@ -51,11 +51,23 @@ module _ {K E : Type 0} where
 
   -- two seats in one. Nothing tells yet that the shorter front begins the longer one, so both are kept in `met`
   abbrev pub absorbed : Sight K E → Sight K E → Sight K E
-  absorbed v w = record { key = v.key; front = longer v.front w.front; own = v.own ++ w.own; share = v.share + w.share; met = v.front ∷ w.front ∷ v.met ++ w.met }
+  absorbed v w = record {
+    key = v.key;
+    front = longer v.front w.front;
+    own = v.own ++ w.own;
+    share = v.share + w.share;
+    met = v.front ∷ w.front ∷ v.met ++ w.met;
+  }
 
   -- the seat after the entry e, which comes behind the history log
   abbrev pub added : Sight K E → List E → E → Sight K E
-  added v log e = record { key = v.key; front = log ++ e ∷ []; own = v.own ++ length log ∷ []; share = v.share; met = [] }
+  added v log e = record {
+    key = v.key;
+    front = log ++ e ∷ [];
+    own = v.own ++ length log ∷ [];
+    share = v.share;
+    met = [];
+  }
 
   -- how often x is an own place
   abbrev pub owned : ℕ → Sight K E → ℕ

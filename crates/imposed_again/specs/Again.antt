@@ -67,15 +67,19 @@ TrailerShuts =
 
 -- an admissible specification makes at least one sheet of pages, in signatures or not
 abbrev pub MakesSheets : Type 0
-MakesSheets = (most_slots : ℕ) (sides : Option ℕ) (spec : Spec) (n : ℕ) → AreSidesIfGiven sides → IsAdmissible most_slots spec → 0 < n → 0 < length (sheets_in sides spec n)
+MakesSheets = (most_slots : ℕ) (sides : Option ℕ) (spec : Spec) (n : ℕ) → AreSidesIfGiven sides
+    → IsAdmissible most_slots spec → 0 < n → 0 < length (sheets_in sides spec n)
 
 -- the output of an accepted document, an admissible specification and an accepted plan is a document again, unless it is
 -- too long; and if the document's last page leaves no embedded document open, its pages are the sheets
 abbrev pub ImposedAgain : Type 0
 ImposedAgain =
-    (most_slots : ℕ) (frame : Frame) (sides : Option ℕ) (spec : Spec) (text : List ℕ) (us : List NestedUnit) (all : List (List Slot))
-    → document_of text ≡ Ok us → AreSidesIfGiven sides → IsAdmissible most_slots spec → plan_in sides spec (length (pages us)) ≡ Ok all
+    (most_slots : ℕ) (frame : Frame) (sides : Option ℕ) (spec : Spec) (text : List ℕ)
+    (us : List NestedUnit) (all : List (List Slot))
+    → document_of text ≡ Ok us → AreSidesIfGiven sides → IsAdmissible most_slots spec
+    → plan_in sides spec (length (pages us)) ≡ Ok all
     → length (output frame sides spec us) ≤ 1_073_741_824
     → (document_of (output frame sides spec us) ≡ Ok (units_of (output frame sides spec us)))
     × IsAgain frame all us (units_of (output frame sides spec us))
-    × (depth_behind (page_run us) ≡ 0 → pages (units_of (output frame sides spec us)) ≡ sheet_texts frame (pages us) all)
+    × (depth_behind (page_run us) ≡ 0
+    → pages (units_of (output frame sides spec us)) ≡ sheet_texts frame (pages us) all)

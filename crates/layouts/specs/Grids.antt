@@ -2,7 +2,8 @@
 -- Sides of cells and offsets are whole numbers of 10^-5 of a point, which are 1,270,000 grains: with these a shift is printed
 -- exactly. Both are rounded down, and so is the scale, in 10^-9; so a page is never larger than its cell, nor the grid than
 -- the sheet.
-use Rattle.std.specs.Prelude.{ℕ, ◌+◌, ◌-◌, ◌*◌, ◌/◌, ◌%◌, min, suc, zero, pos, nat_abs, Bool, true, false, ◌&&◌, ◌==◌, nat_lt, if◌then◌else◌, [], ◌∷◌, map}
+use Rattle.std.specs.Prelude.{ℕ, ◌+◌, ◌-◌, ◌*◌, ◌/◌, ◌%◌, min, suc, zero, pos, nat_abs, Bool, true, false, ◌&&◌, ◌==◌}
+use Rattle.std.specs.Prelude.{nat_lt, if◌then◌else◌, [], ◌∷◌, map}
 use Rattle.std.specs.List.{range_with_len}
 use Rattle.profile.specs.Papers.{Paper, Pt}
 use Rattle.profile.specs.Specification.{Item, Spec, Measure, Turn, Upright, Left, Half, Right, zero_points}
@@ -38,7 +39,8 @@ fitting cell side = 1_270_000_000_000_000 * cell / side
 
 -- the largest scale that brings a page into a cell
 abbrev pub scale_in : (page sheet : Paper) → Grid → ℕ
-scale_in page sheet g = min (fitting (cell_width sheet g) (nat_abs page.width)) (fitting (cell_height sheet g) (nat_abs page.height))
+scale_in page sheet g =
+    min (fitting (cell_width sheet g) (nat_abs page.width)) (fitting (cell_height sheet g) (nat_abs page.height))
 
 -- half of what a scaled side leaves of its cell, in 10^-5 of a point
 abbrev pub margin : (cell side scale : ℕ) → ℕ
@@ -53,11 +55,13 @@ margin_y page sheet g = margin (cell_height sheet g) (nat_abs page.height) (scal
 -- how far to the right, and how far up, the page in this row and column is moved
 abbrev pub to_right : (page sheet : Paper) → Grid → (row column : ℕ) → ℕ
 to_right page sheet g row column =
-    if g.turned then (row + 1) * cell_height sheet g - margin_y page sheet g else column * cell_width sheet g + margin_x page sheet g
+    if g.turned then (row + 1) * cell_height sheet g - margin_y page sheet g
+    else column * cell_width sheet g + margin_x page sheet g
 
 abbrev pub to_top : (page sheet : Paper) → Grid → (row column : ℕ) → ℕ
 to_top page sheet g row column =
-    if g.turned then column * cell_width sheet g + margin_x page sheet g else (g.rows - (row + 1)) * cell_height sheet g + margin_y page sheet g
+    if g.turned then column * cell_width sheet g + margin_x page sheet g
+    else (g.rows - (row + 1)) * cell_height sheet g + margin_y page sheet g
 
 -- so many 10^-5 of a point
 abbrev pub in_points : ℕ → Measure
@@ -88,7 +92,8 @@ grid turned n columns = record { rows = n / columns; columns = columns; turned =
 -- the one grid, unless the other has as many cells and a larger scale
 abbrev pub better : (page sheet : Paper) → Bool → (n one other : ℕ) → ℕ
 better page sheet turned n one other =
-    if (n % other == 0) && nat_lt (scale_in page sheet (grid turned n one)) (scale_in page sheet (grid turned n other)) then other else one
+    if (n % other == 0) && nat_lt (scale_in page sheet (grid turned n one)) (scale_in page sheet (grid turned n other))
+    then other else one
 
 -- of the grids of n cells with so many columns at most, the first with the largest scale
 abbrev pub best_columns : (page sheet : Paper) → Bool → (n most : ℕ) → ℕ
@@ -100,14 +105,22 @@ best_of page sheet turned n = grid turned n (best_columns page sheet turned n n)
 
 -- upright, unless turned is larger
 abbrev pub larger : (page sheet : Paper) → (upright left : Grid) → Grid
-larger page sheet upright left = if nat_lt (scale_in page sheet upright) (scale_in page sheet left) then left else upright
+larger page sheet upright left = if nat_lt (scale_in page sheet upright) (scale_in page sheet left) then left
+    else upright
 
 abbrev pub best_grid : (page sheet : Paper) → ℕ → Grid
 best_grid page sheet n = larger page sheet (best_of page sheet false n) (best_of page sheet true n)
 
 -- a page alone, as it is; it is counted from 0
 abbrev pub alone : ℕ → Item
-alone k = record { page = k; from_end = false; turn = Upright; scale = pos 1_000_000_000; x = zero_points; y = zero_points }
+alone k = record {
+  page = k;
+  from_end = false;
+  turn = Upright;
+  scale = pos 1_000_000_000;
+  x = zero_points;
+  y = zero_points;
+}
 
 abbrev pub is_same : (page sheet : Paper) → Bool
 is_same page sheet = (nat_abs page.width == nat_abs sheet.width) && (nat_abs page.height == nat_abs sheet.height)
@@ -119,7 +132,8 @@ is_itself page sheet n = (n == 1) && is_same page sheet
 -- n pages on each sheet, as large as they can be; on a sheet of its own paper one page is left as it is
 abbrev pub n_up : (page sheet : Paper) → ℕ → Spec
 n_up page sheet n =
-    if is_itself page sheet n then record { modulo = 1; groups = (alone 0 ∷ []) ∷ [] } else in_grid page sheet (best_grid page sheet n) n
+    if is_itself page sheet n then record { modulo = 1; groups = (alone 0 ∷ []) ∷ [] }
+    else in_grid page sheet (best_grid page sheet n) n
 
 -- booklets
 
@@ -154,5 +168,6 @@ abbrev pub leaves : (page sheet : Paper) → (long_edge : Bool) → Spec
 leaves page sheet false = in_grid page sheet (beside true) 2
 leaves page sheet true = record {
   modulo = 4;
-  groups = map (item_in page sheet (beside true)) (range_with_len 0 2) ∷ map (back_in page sheet (beside true) 2) (range_with_len 0 2) ∷ [];
+  groups = map (item_in page sheet (beside true)) (range_with_len 0 2)
+      ∷ map (back_in page sheet (beside true) 2) (range_with_len 0 2) ∷ [];
 }

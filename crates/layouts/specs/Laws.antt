@@ -1,5 +1,6 @@
 -- What holds of the pages in a grid.
-use Rattle.std.specs.Prelude.{◌≡◌, ◌≢◌, ℕ, ◌+◌, ◌*◌, ◌/◌, ◌%◌, ◌<◌, ◌≤◌, ◌⊎◌, nat_abs, pos, ◌*ℤ◌, ◌-ℤ◌, Bool, true, false, List, [], ◌∷◌, map, ⊤, IsTrue}
+use Rattle.std.specs.Prelude.{◌≡◌, ◌≢◌, ℕ, ◌+◌, ◌*◌, ◌/◌, ◌%◌, ◌<◌, ◌≤◌, ◌⊎◌, nat_abs, pos, ◌*ℤ◌, ◌-ℤ◌, Bool, true}
+use Rattle.std.specs.Prelude.{false, List, [], ◌∷◌, map, ⊤, IsTrue}
 use Rattle.std.specs.List.{AllByRecursion, AllZip, range_with_len}
 use Rattle.profile.specs.Papers.{Paper, is_paper}
 use Rattle.profile.specs.Specification.{Item, Spec, Turn, Upright, Left, Right}
@@ -13,19 +14,22 @@ IsPaper paper = IsTrue (is_paper paper.width paper.height)
 
 -- each page in a cell lies on the sheet
 abbrev pub GridIsInside : Type 0
-GridIsInside = (page sheet : Paper) (g : Grid) (k : ℕ) → IsPaper page → IsPaper sheet → k < g.rows * g.columns → IsInside page sheet (item_in page sheet g k)
+GridIsInside = (page sheet : Paper) (g : Grid) (k : ℕ) → IsPaper page → IsPaper sheet → k < g.rows * g.columns
+    → IsInside page sheet (item_in page sheet g k)
 
 -- two pages in cells have no inner point in common
 abbrev pub GridIsApart : Type 0
 GridIsApart =
-    (page sheet : Paper) (g : Grid) (k l : ℕ) → IsPaper page → IsPaper sheet → k < g.rows * g.columns → l < g.rows * g.columns → k ≢ l
+    (page sheet : Paper) (g : Grid) (k l : ℕ) → IsPaper page → IsPaper sheet → k < g.rows * g.columns
+    → l < g.rows * g.columns → k ≢ l
     → AreApart page (item_in page sheet g k) (item_in page sheet g l)
 
 -- as one holds the sheet, page k stands in row k / c and column k % c: left of each page in a later column, and above each in a
 -- later row
 abbrev pub GridIsInOrder : Type 0
 GridIsInOrder =
-    (page sheet : Paper) (g : Grid) (k l : ℕ) → IsPaper page → IsPaper sheet → k < g.rows * g.columns → l < g.rows * g.columns
+    (page sheet : Paper) (g : Grid) (k l : ℕ) → IsPaper page → IsPaper sheet
+    → k < g.rows * g.columns → l < g.rows * g.columns
     → (k % g.columns < l % g.columns → IsLeftOf page (item_in page sheet g k) (item_in page sheet g l))
     × (k / g.columns < l / g.columns → IsAbove page (item_in page sheet g k) (item_in page sheet g l))
 
@@ -41,37 +45,48 @@ IsNotTiny page = (1_397_000_000_000 ≤ nat_abs page.width) × (1_397_000_000_00
 -- no grid of n cells, upright or turned, allows a scale that is larger by 10^-6 or more
 abbrev pub BestIsLarge : Type 0
 BestIsLarge =
-    (page sheet : Paper) (n : ℕ) (g : Grid) (scale : ℕ) → IsNotTiny page → 0 < n → g.rows * g.columns ≡ n → Allows page sheet g scale
+    (page sheet : Paper) (n : ℕ) (g : Grid) (scale : ℕ) → IsNotTiny page → 0 < n
+    → g.rows * g.columns ≡ n → Allows page sheet g scale
     → scale < scale_in page sheet (best_grid page sheet n) + 1_000
 
 -- the chosen grid has n cells
 abbrev pub BestHasCells : Type 0
-BestHasCells = (page sheet : Paper) (n : ℕ) → 0 < n → (best_grid page sheet n).rows * (best_grid page sheet n).columns ≡ n
+BestHasCells = (page sheet : Paper) (n : ℕ) → 0 < n
+    → (best_grid page sheet n).rows * (best_grid page sheet n).columns ≡ n
 
 -- each page of a sheet turned by half lies on the sheet too
 abbrev pub BackIsInside : Type 0
-BackIsInside = (page sheet : Paper) (g : Grid) (n k : ℕ) → IsPaper page → IsPaper sheet → k < g.rows * g.columns → IsInside page sheet (back_in page sheet g n k)
+BackIsInside = (page sheet : Paper) (g : Grid) (n k : ℕ) → IsPaper page → IsPaper sheet → k < g.rows * g.columns
+    → IsInside page sheet (back_in page sheet g n k)
 
 -- and as one holds it, page k is left of each in a later column
 abbrev pub BackIsInOrder : Type 0
 BackIsInOrder =
-    (page sheet : Paper) (g : Grid) (n k l : ℕ) → IsPaper page → IsPaper sheet → k < g.rows * g.columns → l < g.rows * g.columns
-    → k % g.columns < l % g.columns → IsLeftOf page (back_in page sheet g n k) (back_in page sheet g n l) × AreApart page (back_in page sheet g n k) (back_in page sheet g n l)
+    (page sheet : Paper) (g : Grid) (n k l : ℕ) → IsPaper page → IsPaper sheet
+    → k < g.rows * g.columns → l < g.rows * g.columns
+    → k % g.columns < l % g.columns → IsLeftOf page (back_in page sheet g n k) (back_in page sheet g n l)
+    × AreApart page (back_in page sheet g n k) (back_in page sheet g n l)
 
 -- the other stands where the one would, were the sheet turned by half about the middle of its whole 10^-5 of a point
 pub record IsHalfTurnOf (page sheet : Paper) (one other : Item) : Type 0 where
-  pub across : (p : Point) → (stands page other p).x ≡ (pos 1_270_000_000_000_000 *ℤ pos (whole (nat_abs sheet.width))) -ℤ (stands page one p).x
-  pub up : (p : Point) → (stands page other p).y ≡ (pos 1_270_000_000_000_000 *ℤ pos (whole (nat_abs sheet.height))) -ℤ (stands page one p).y
+  pub across : (p : Point)
+      → (stands page other p).x
+      ≡ (pos 1_270_000_000_000_000 *ℤ pos (whole (nat_abs sheet.width))) -ℤ (stands page one p).x
+  pub up : (p : Point)
+      → (stands page other p).y
+      ≡ (pos 1_270_000_000_000_000 *ℤ pos (whole (nat_abs sheet.height))) -ℤ (stands page one p).y
 
 abbrev pub BackIsHalfTurn : Type 0
-BackIsHalfTurn = (page sheet : Paper) (g : Grid) (n k : ℕ) → k < g.rows * g.columns → IsHalfTurnOf page sheet (item_in page sheet g k) (back_in page sheet g n k)
+BackIsHalfTurn = (page sheet : Paper) (g : Grid) (n k : ℕ) → k < g.rows * g.columns
+    → IsHalfTurnOf page sheet (item_in page sheet g k) (back_in page sheet g n k)
 
 -- the shift of the page is printed as it is: the matrix that is written is the item's own
 abbrev pub IsExact : (page : Paper) → Item → Type 0
 IsExact page item = printed_matrix (matrix_of page item) ≡ matrix_of page item
 
 abbrev pub PrintedAsItIs : Type 0
-PrintedAsItIs = (page sheet : Paper) (g : Grid) (n k : ℕ) → IsExact page (item_in page sheet g k) × IsExact page (back_in page sheet g n k)
+PrintedAsItIs = (page sheet : Paper) (g : Grid) (n k : ℕ) → IsExact page (item_in page sheet g k)
+    × IsExact page (back_in page sheet g n k)
 
 -- each two of them, the earlier one first
 abbrev pub EachTwo : (Item → Item → Type 0) → List Item → Type 0
@@ -120,9 +135,11 @@ pub record IsNUp (page sheet : Paper) (n : ℕ) (spec : Spec) : Type 0 where
 -- the sides of a leaf: one side, or for printers that flip on the long edge a front, and a back that is turned by half
 abbrev pub AreSides : (page sheet : Paper) → (long_edge : Bool) → (scale : ℕ) → Spec → Type 0
 AreSides page sheet false scale spec =
-    (front : List Item) × (spec.modulo ≡ 2) × (spec.groups ≡ front ∷ []) × ArePages 0 2 front × IsLaidOut page sheet Left scale 2 front
+    (front : List Item) × (spec.modulo ≡ 2) × (spec.groups ≡ front ∷ []) × ArePages 0 2 front
+    × IsLaidOut page sheet Left scale 2 front
 AreSides page sheet true scale spec =
-    (front back : List Item) × (spec.modulo ≡ 4) × (spec.groups ≡ front ∷ back ∷ []) × ArePages 0 2 front × ArePages 2 2 back × AllZip (IsHalfTurnOf page sheet) front back
+    (front back : List Item) × (spec.modulo ≡ 4) × (spec.groups ≡ front ∷ back ∷ []) × ArePages 0 2 front
+    × ArePages 2 2 back × AllZip (IsHalfTurnOf page sheet) front back
     × IsLaidOut page sheet Left scale 2 front × IsLaidOut page sheet Right scale 2 back
 
 -- two pages side by side on each side of a leaf, as large as any two side by side; the fold is parallel to the shorter edge, as
@@ -131,4 +148,5 @@ pub record IsBooklet (page sheet : Paper) (long_edge : Bool) (spec : Spec) : Typ
   pub fold : nat_abs sheet.width ≤ nat_abs sheet.height
   pub scale : ℕ
   pub sides : AreSides page sheet long_edge scale spec
-  pub large : (g : Grid) (t : ℕ) → IsNotTiny page → g.rows ≡ 1 → g.columns ≡ 2 → Allows page sheet g t → t < scale + 1_000
+  pub large : (g : Grid) (t : ℕ) → IsNotTiny page → g.rows ≡ 1 → g.columns ≡ 2
+      → Allows page sheet g t → t < scale + 1_000

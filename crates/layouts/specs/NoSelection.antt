@@ -3,7 +3,9 @@ use Rattle.std.specs.Prelude.{◌≡◌, ℕ, ◌<◌, ◌≤◌, true, false, L
 use Rattle.profile.specs.Numbers.{greatest_whole}
 use Rattle.profile.specs.Admissible.{most_groups}
 use Rattle.layouts.specs.declared.error.LayoutError.{LayoutError}
-use Rattle.layouts.specs.declared.error.LayoutError.TheVariants.{PagesOutOfRange, SideTooLong, FoldOnLongEdge, ScaleOutOfRange, DocumentTooLong, Syntax, PageNotInDocument, TooManyPages, NoPages, NoMemory}
+use Rattle.layouts.specs.declared.error.LayoutError.TheVariants.{PagesOutOfRange, SideTooLong, FoldOnLongEdge}
+use Rattle.layouts.specs.declared.error.LayoutError.TheVariants.{ScaleOutOfRange, DocumentTooLong, Syntax}
+use Rattle.layouts.specs.declared.error.LayoutError.TheVariants.{PageNotInDocument, TooManyPages, NoPages, NoMemory}
 use Rattle.layouts.specs.declared.ranges.Stop.{Stop}
 use Rattle.layouts.specs.declared.ranges.Stop.TheVariants as stop
 use Rattle.layouts.specs.declared.select.Which.{Which}
@@ -16,10 +18,13 @@ OfRanges text pages P = (pages ≤ greatest_whole) × (ranges : List Range) × A
 -- what each refusal says, in the order in which they are looked for
 abbrev pub RefusesSelection : List ℕ → Which → (pages : ℕ) → LayoutError → Type 0
 RefusesSelection text which pages DocumentTooLong = greatest_whole < pages
-RefusesSelection text which pages (Syntax place) = (pages ≤ greatest_whole) × ((ranges : List Range) → AreRanges text ranges → ⊥)
+RefusesSelection text which pages (Syntax place) = (pages ≤ greatest_whole)
+    × ((ranges : List Range) → AreRanges text ranges → ⊥)
 RefusesSelection text which pages (PageNotInDocument place) = OfRanges text pages (λ ranges. misses pages ranges ≡ true)
-RefusesSelection text which pages (TooManyPages place) = OfRanges text pages (λ ranges. (misses pages ranges ≡ false) × (most_groups < length (row_of which pages ranges)))
-RefusesSelection text which pages NoPages = OfRanges text pages (λ ranges. (misses pages ranges ≡ false) × (row_of which pages ranges ≡ []))
+RefusesSelection text which pages (TooManyPages place) = OfRanges text pages (λ ranges. (misses pages ranges ≡ false)
+    × (most_groups < length (row_of which pages ranges)))
+RefusesSelection text which pages NoPages = OfRanges text pages (λ ranges. (misses pages ranges ≡ false)
+    × (row_of which pages ranges ≡ []))
 RefusesSelection text which pages NoMemory = Unit {0}
 RefusesSelection text which pages PagesOutOfRange = ⊥
 RefusesSelection text which pages SideTooLong = ⊥

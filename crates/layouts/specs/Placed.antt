@@ -18,7 +18,8 @@ stands page item p = moved (finer (offset page item)) (turned item.turn (times i
 
 -- a whole point of the page stands where the item puts it: a law
 abbrev pub StandsWherePut : Type 0
-StandsWherePut = (page : Paper) (item : Item) (p : Point) → stands page item (times (pos 127_000_000_000) p) ≡ finer (put page item p)
+StandsWherePut = (page : Paper) (item : Item) (p : Point)
+    → stands page item (times (pos 127_000_000_000) p) ≡ finer (put page item p)
 
 -- the page has this point, in grains
 pub record IsOfPage (page : Paper) (p : Point) : Type 0 where
@@ -40,7 +41,8 @@ IsInside page sheet item = (p : Point) → IsOfPage page p → LiesOn sheet (sta
 
 -- measured so, no point of the one page lies behind one of the other
 abbrev pub ComesFirst : (Point → ℤ) → (page : Paper) → (one other : Item) → Type 0
-ComesFirst by page one other = (p q : Point) → IsOfPage page p → IsOfPage page q → by (stands page one p) ≤ℤ by (stands page other q)
+ComesFirst by page one other = (p q : Point) → IsOfPage page p → IsOfPage page q
+    → by (stands page one p) ≤ℤ by (stands page other q)
 
 abbrev pub across : Point → ℤ
 across p = p.x
@@ -51,7 +53,8 @@ up p = p.y
 -- a line along a side of the sheet parts them, and so they have no inner point in common
 abbrev pub AreApart : (page : Paper) → (one other : Item) → Type 0
 AreApart page one other =
-    (ComesFirst across page one other ⊎ ComesFirst across page other one) ⊎ (ComesFirst up page one other ⊎ ComesFirst up page other one)
+    (ComesFirst across page one other ⊎ ComesFirst across page other one)
+    ⊎ (ComesFirst up page one other ⊎ ComesFirst up page other one)
 
 -- a point of the sheet as one holds it to read pages of this turn
 abbrev pub held : Turn → Point → Point

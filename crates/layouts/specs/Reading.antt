@@ -13,11 +13,13 @@ use Rattle.layouts.specs.declared.ranges.Stop.TheVariants.{Stuck, NoMemory}
 -- a range whose first number was read, with what stands behind its minus sign, if one stands there
 abbrev pub range_from : ℕ → Option (List ℕ) → List ℕ → Range × List ℕ
 range_from p None text = (One p, text)
-range_from p (Some rest) text = if is_empty (digits rest) then (From p, rest) else (FromTo p (number_of (digits rest)), past_digits rest)
+range_from p (Some rest) text = if is_empty (digits rest) then (From p, rest)
+    else (FromTo p (number_of (digits rest)), past_digits rest)
 
 -- the range at the front, and what stands behind it
 unfoldable pub range_at : List ℕ → Option (Range × List ℕ)
-range_at text = if is_empty (digits text) then None else Some (range_from (number_of (digits text)) (byte_at 45 (past_digits text)) (past_digits text))
+range_at text = if is_empty (digits text) then None
+    else Some (range_from (number_of (digits text)) (byte_at 45 (past_digits text)) (past_digits text))
 
 abbrev pub row_at : List ℕ → Option (List Range × List ℕ)
 row_at text = joined_at 44 range_at (suc (length text)) text

@@ -1,8 +1,10 @@
 -- Why there is no layout.
-use Rattle.std.specs.Prelude.{◌≡◌, ◌⊎◌, ℕ, nat_abs, Bool, true, false, ◌&&◌, ◌||◌, nat_le, nat_lt, if◌then◌else◌, Option, Some, None}
+use Rattle.std.specs.Prelude.{◌≡◌, ◌⊎◌, ℕ, nat_abs, Bool, true, false, ◌&&◌, ◌||◌, nat_le, nat_lt, if◌then◌else◌}
+use Rattle.std.specs.Prelude.{Option, Some, None}
 use Rattle.profile.specs.Papers.{Paper}
 use Rattle.layouts.specs.declared.error.LayoutError.{LayoutError}
-use Rattle.layouts.specs.declared.error.LayoutError.TheVariants.{PagesOutOfRange, SideTooLong, FoldOnLongEdge, ScaleOutOfRange, NoMemory}
+use Rattle.layouts.specs.declared.error.LayoutError.TheVariants.{PagesOutOfRange, SideTooLong, FoldOnLongEdge}
+use Rattle.layouts.specs.declared.error.LayoutError.TheVariants.{ScaleOutOfRange, NoMemory}
 use Rattle.layouts.specs.Grids.{scale_in, best_grid, beside, is_itself}
 
 -- how many pages a sheet takes at most
@@ -35,14 +37,16 @@ abbrev pub why_not : (page sheet : Paper) → ℕ → Option LayoutError
 why_not page sheet n =
     if is_count n
     then (if are_reached page && are_reached sheet
-    then (if is_itself page sheet n || is_scale (scale_in page sheet (best_grid page sheet n)) then None else Some ScaleOutOfRange)
+    then (if is_itself page sheet n || is_scale (scale_in page sheet (best_grid page sheet n))
+    then None else Some ScaleOutOfRange)
     else Some SideTooLong)
     else Some PagesOutOfRange
 
 -- the sheet is no wider than high, and upright pages side by side would not be larger than turned ones
 abbrev pub folds_short : (page sheet : Paper) → Bool
 folds_short page sheet =
-    nat_le (nat_abs sheet.width) (nat_abs sheet.height) && nat_le (scale_in page sheet (beside false)) (scale_in page sheet (beside true))
+    nat_le (nat_abs sheet.width) (nat_abs sheet.height)
+    && nat_le (scale_in page sheet (beside false)) (scale_in page sheet (beside true))
 
 -- the first reason why a booklet can't be made on such sheets, if there is one
 abbrev pub why_no_booklet : (page sheet : Paper) → Option LayoutError

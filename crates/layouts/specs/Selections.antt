@@ -1,5 +1,6 @@
 -- Selections: which pages of a document, in which order. Pages are counted from 1.
-use Rattle.std.specs.Prelude.{◌≡◌, ℕ, ◌+◌, ◌-◌, ◌<◌, ◌≤◌, ◌%◌, nat_le, Bool, true, false, not, ◌&&◌, ◌==◌, if◌then◌else◌, List, [], ◌∷◌, ◌++◌, length, map, flat_map, Some, IsTrue}
+use Rattle.std.specs.Prelude.{◌≡◌, ℕ, ◌+◌, ◌-◌, ◌<◌, ◌≤◌, ◌%◌, nat_le, Bool, true, false, not, ◌&&◌, ◌==◌}
+use Rattle.std.specs.Prelude.{if◌then◌else◌, List, [], ◌∷◌, ◌++◌, length, map, flat_map, Some, IsTrue}
 use Rattle.std.specs.List.{range_with_len, list_any, AllByRecursion}
 use Rattle.profile.specs.Bytes.{comma, minus_sign}
 use Rattle.profile.specs.Specification.{IsJoined, IsDigits, Spec}
@@ -18,7 +19,8 @@ pub data Range : Type 0 where
 -- the text stands for this range: digits, which are read by value, and a minus sign
 abbrev pub IsRange : List ℕ → Range → Type 0
 IsRange text (One p) = IsDigits text p
-IsRange text (FromTo p q) = (first last : List ℕ) × (text ≡ first ++ minus_sign ∷ last) × IsDigits first p × IsDigits last q
+IsRange text (FromTo p q) = (first last : List ℕ) × (text ≡ first ++ minus_sign ∷ last)
+    × IsDigits first p × IsDigits last q
 IsRange text (From p) = (first : List ℕ) × (text ≡ first ++ minus_sign ∷ []) × IsDigits first p
 
 -- ranges with commas between them, one at least
@@ -83,7 +85,10 @@ selected pages row = record { modulo = pages; groups = map (λ page. alone (page
 abbrev pub SheetsAreRow : Type 0
 SheetsAreRow =
     (pages : ℕ) (row : List ℕ) → 0 < pages → AllByRecursion (λ page. IsTrue (is_page pages page)) row
-    → sheets (selected pages row) pages ≡ map (λ page. record { page = Some (page - 1); item = alone (page - 1) } ∷ []) row
+    → sheets (selected pages row) pages ≡ map (λ page. record {
+      page = Some (page - 1);
+      item = alone (page - 1);
+    } ∷ []) row
 
 -- the text stands for ranges whose pages the document has, and these are the pages kept of them: one at least, and as many as
 -- a specification takes at most

@@ -1,6 +1,7 @@
 -- Reading a number off the front of a text. Layers that read a grammar with numbers in it cite this; that it agrees with
 -- what a number text is, is proved.
-use Rattle.std.specs.Prelude.{◌≡◌, ℕ, ◌+◌, ◌*◌, ◌^◌, ℤ, Bool, true, false, ◌||◌, ◌==◌, if◌then◌else◌, List, [], ◌∷◌, ◌++◌, Option, Some, None}
+use Rattle.std.specs.Prelude.{◌≡◌, ℕ, ◌+◌, ◌*◌, ◌^◌, ℤ, Bool, true, false, ◌||◌, ◌==◌, if◌then◌else◌, List, [], ◌∷◌}
+use Rattle.std.specs.Prelude.{◌++◌, Option, Some, None}
 use Rattle.std.specs.Char.{is_ascii_digit}
 use Rattle.profile.specs.Bytes.{plus_sign, minus_sign, dot}
 use Rattle.profile.specs.Numbers.{signed, number_of, decimals_value}
@@ -49,7 +50,8 @@ is_empty (b ∷ text) = false
 abbrev pub number_from : Bool → List ℕ → Option (ℤ × List ℕ)
 number_from negative text =
     let point = past_digits text in
-    if is_empty (digits text ++ decimals_at point) then None else Some (value_of negative (digits text) (decimals_at point), past_decimals point)
+    if is_empty (digits text ++ decimals_at point) then None
+    else Some (value_of negative (digits text) (decimals_at point), past_decimals point)
 
 -- the value of the longest number at the front, and what stands behind it
 unfoldable pub number_at : List ℕ → Option (ℤ × List ℕ)

@@ -18,4 +18,5 @@ outcome_of (Err e) = Err (number_fault e)
 -- the same refusal, as reading off the front gives it
 abbrev pub IsRefused : List ℕ → NumberError → Type 0
 IsRefused bytes NotANumber = number_at bytes ≡ None
-IsRefused bytes (TooLarge n) = (n ≤ length bytes) × (v : ℤ) × (is_large v ≡ true) × (number_at bytes ≡ Some (v, drop n bytes))
+IsRefused bytes (TooLarge n) = (n ≤ length bytes) × (v : ℤ) × (is_large v ≡ true)
+    × (number_at bytes ≡ Some (v, drop n bytes))

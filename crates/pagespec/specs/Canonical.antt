@@ -13,7 +13,8 @@ abbrev pub LeavesPageOut : List ℕ → Type 0
 LeavesPageOut text =
     (item : WrittenItem)
     × (IsBareItem text item
-    ⊎ ((digits rest : List ℕ) × (modulo : ℕ) × (text ≡ digits ++ colon ∷ rest) × IsDigits digits modulo × IsBareItem rest item))
+    ⊎ ((digits rest : List ℕ) × (modulo : ℕ) × (text ≡ digits ++ colon ∷ rest)
+    × IsDigits digits modulo × IsBareItem rest item))
 
 -- the canonical text of what a text comes to is longer than it by one byte at most, and only if the text leaves its page number
 -- out: a law

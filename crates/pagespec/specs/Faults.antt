@@ -1,11 +1,14 @@
 -- The first fault, on what is kept of the items.
-use Rattle.std.specs.Prelude.{ℕ, Bool, ◌==◌, ◌||◌, nat_lt, nat_le, if◌then◌else◌, List, length, position, Option, Some, None, option_map}
+use Rattle.std.specs.Prelude.{ℕ, Bool, ◌==◌, ◌||◌, nat_lt, nat_le, if◌then◌else◌, List, length, position, Option, Some}
+use Rattle.std.specs.Prelude.{None, option_map}
 use Rattle.std.specs.List.{list_any}
 use Rattle.std.specs.Option.{option_or}
 use Rattle.profile.specs.Numbers.{greatest_whole}
 use Rattle.profile.specs.Admissible as profile
 use Rattle.pagespec.specs.declared.error.SpecError.{SpecError}
-use Rattle.pagespec.specs.declared.error.SpecError.TheVariants.{TooLong, Syntax, TooLarge, ModuloZero, PageOutOfBlock, ScaleZero, Repeated, TooManySlots, TooManyGroups, NoMemory}
+use Rattle.pagespec.specs.declared.error.SpecError.TheVariants.{TooLong, Syntax, TooLarge, ModuloZero, PageOutOfBlock}
+use Rattle.pagespec.specs.declared.error.SpecError.TheVariants.{ScaleZero, Repeated, TooManySlots, TooManyGroups}
+use Rattle.pagespec.specs.declared.error.SpecError.TheVariants.{NoMemory}
 use Rattle.pagespec.specs.declared.kept.KeptItem.{KeptItem}
 
 -- the fault that a refusal names, but for out of memory
@@ -22,7 +25,8 @@ fault_named TooManyGroups = Some profile.TooManyGroups
 fault_named NoMemory = None
 
 abbrev pub has_too_large : ℕ → List KeptItem → Bool
-has_too_large modulo items = nat_lt greatest_whole modulo || list_any (λ i. nat_lt greatest_whole i.page || i.modifiers.too_large) items
+has_too_large modulo items =
+    nat_lt greatest_whole modulo || list_any (λ i. nat_lt greatest_whole i.page || i.modifiers.too_large) items
 
 abbrev pub where_fails : Bool → SpecError → Option SpecError
 where_fails fails fault = if fails then Some fault else None

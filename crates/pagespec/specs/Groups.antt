@@ -41,7 +41,8 @@ pub record KeptGroups (groups : List (List WrittenItem)) (kept : Kept) : Type 0 
   pub lengths : kept.lengths.items ≡ map length groups
 
 abbrev pub GroupsRead : List ℕ → Kept → List ℕ → Type 0
-GroupsRead bytes kept rest = (groups : List (List WrittenItem)) × (groups_at bytes ≡ Some (groups, rest)) × KeptGroups groups kept
+GroupsRead bytes kept rest = (groups : List (List WrittenItem))
+    × (groups_at bytes ≡ Some (groups, rest)) × KeptGroups groups kept
 
 abbrev pub BareRead : List ℕ → KeptItem → Type 0
 BareRead bytes kept = (item : WrittenItem) × (bare_at bytes ≡ Some item) × ItemShows item kept

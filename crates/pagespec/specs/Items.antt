@@ -20,7 +20,14 @@ turn_of turn.Half = profile.Half
 turn_of turn.Right = profile.Right
 
 abbrev pub item_of : Item → profile.Item
-item_of i = record { page = i.page; from_end = i.from_end; turn = turn_of i.turn; scale = i.scale; x = measure_of i.offset.0; y = measure_of i.offset.1 }
+item_of i = record {
+  page = i.page;
+  from_end = i.from_end;
+  turn = turn_of i.turn;
+  scale = i.scale;
+  x = measure_of i.offset.0;
+  y = measure_of i.offset.1;
+}
 
 -- the groups, as lists of what their items stand for
 abbrev pub groups_of : List (Vec Item Global) → List (List profile.Item)

@@ -1,5 +1,6 @@
 -- What is kept of an item, against the item as it is written.
-use Rattle.std.specs.Prelude.{◌≡◌, ℕ, ◌%◌, ℤ, Bool, false, ◌||◌, nat_lt, min, List, [], ◌∷◌, length, count_by, Option, Some, None, option_map}
+use Rattle.std.specs.Prelude.{◌≡◌, ℕ, ◌%◌, ℤ, Bool, false, ◌||◌, nat_lt, min, List, [], ◌∷◌, length, count_by, Option}
+use Rattle.std.specs.Prelude.{Some, None, option_map}
 use Rattle.std.specs.List.{list_any}
 use Rattle.profile.specs.Specification.{Measure, Modifier, Quarters, Scaled, Moved, WrittenItem, quarters}
 use Rattle.profile.specs.Admissible.{has_large, is_scale, is_offset, is_flat}

@@ -1,5 +1,6 @@
 -- Reading a specification off a text, from the left.
-use Rattle.std.specs.Prelude.{ℕ, zero, suc, ℤ, Bool, false, ◌&&◌, ◌||◌, ◌==◌, if◌then◌else◌, List, [], ◌∷◌, length, Option, Some, None}
+use Rattle.std.specs.Prelude.{ℕ, zero, suc, ℤ, Bool, false, ◌&&◌, ◌||◌, ◌==◌, if◌then◌else◌, List, [], ◌∷◌, length}
+use Rattle.std.specs.Prelude.{Option, Some, None}
 use Rattle.profile.specs.Numbers.{number_of}
 use Rattle.profile.specs.Papers.{LengthUnit, Pt, Cm, Mm, In, Width, Height}
 use Rattle.profile.specs.Specification.{Measure, Modifier, Quarters, Scaled, Moved, WrittenItem, WrittenSpec}
@@ -8,7 +9,8 @@ use Rattle.lengths.specs.Reading.{digits, past_digits, is_empty, number_at}
 -- how many quarters to the left a letter stands for
 abbrev pub quarters_of : ℕ → ℕ
 quarters_of b =
-    if (b == 76) || (b == 108) then 1 else (if (b == 85) || (b == 117) then 2 else (if (b == 82) || (b == 114) then 3 else 0))
+    if (b == 76) || (b == 108) then 1
+    else (if (b == 85) || (b == 117) then 2 else (if (b == 82) || (b == 114) then 3 else 0))
 
 infixl 10 ◌>>=◌
 abbrev pub ◌>>=◌ : {A B : Type 0} → Option A → (A → Option B) → Option B
@@ -24,7 +26,10 @@ byte_at c (b ∷ text) = if b == c then Some text else None
 abbrev pub second_letter : ℕ → List ℕ → LengthUnit × List ℕ
 second_letter a [] = (Pt, a ∷ [])
 second_letter a (b ∷ text) =
-    if (a == 112) && (b == 116) then (Pt, text) else (if (a == 99) && (b == 109) then (Cm, text) else (if (a == 109) && (b == 109) then (Mm, text) else (if (a == 105) && (b == 110) then (In, text) else (Pt, a ∷ b ∷ text))))
+    if (a == 112) && (b == 116) then (Pt, text)
+    else (if (a == 99) && (b == 109) then (Cm, text)
+    else (if (a == 109) && (b == 109) then (Mm, text)
+    else (if (a == 105) && (b == 110) then (In, text) else (Pt, a ∷ b ∷ text))))
 
 -- the unit at the front, which is points where none stands
 abbrev pub unit_at : List ℕ → LengthUnit × List ℕ
@@ -39,7 +44,8 @@ measure_at text = number_at text >>= λ v. Some (measure_from v.0 (unit_at v.1))
 
 -- an offset behind its bracket
 unfoldable pub offset_at : List ℕ → Option (Modifier × List ℕ)
-offset_at text = measure_at text >>= λ x. byte_at 44 x.1 >>= λ t. measure_at t >>= λ y. byte_at 41 y.1 >>= λ rest. Some (Moved x.0 y.0, rest)
+offset_at text = measure_at text >>= λ x. byte_at 44 x.1 >>= λ t. measure_at t >>= λ y.
+    byte_at 41 y.1 >>= λ rest. Some (Moved x.0 y.0, rest)
 
 unfoldable pub scale_at : List ℕ → Option (Modifier × List ℕ)
 scale_at text = number_at text >>= λ v. Some (Scaled v.0, v.1)
@@ -47,13 +53,16 @@ scale_at text = number_at text >>= λ v. Some (Scaled v.0, v.1)
 unfoldable pub modifier_at : List ℕ → Option (Modifier × List ℕ)
 modifier_at [] = None
 modifier_at (b ∷ text) =
-    if b == 64 then scale_at text else (if b == 40 then offset_at text else (if quarters_of b == 0 then None else Some (Quarters (quarters_of b), text)))
+    if b == 64 then scale_at text
+    else (if b == 40 then offset_at text
+    else (if quarters_of b == 0 then None else Some (Quarters (quarters_of b), text)))
 
 abbrev pub with_modifier : Modifier → List Modifier × List ℕ → List Modifier × List ℕ
 with_modifier m more = (m ∷ more.0, more.1)
 
 -- the modifier that was read, if one was, and those behind it
-abbrev pub modifiers_or : (List ℕ → List Modifier × List ℕ) → List ℕ → Option (Modifier × List ℕ) → List Modifier × List ℕ
+abbrev pub modifiers_or : (List ℕ → List Modifier × List ℕ) → List ℕ
+    → Option (Modifier × List ℕ) → List Modifier × List ℕ
 modifiers_or more text None = ([], text)
 modifiers_or more text (Some m) = with_modifier m.0 (more m.1)
 
@@ -76,7 +85,9 @@ item_with from_end page ms = (record { from_end = from_end; page = page; modifie
 -- an item behind its minus
 abbrev pub item_from : Bool → List ℕ → Option (WrittenItem × List ℕ)
 item_from from_end text =
-    if is_empty (digits text) then None else Some (item_with from_end (number_of (digits text)) (modifiers_at (length (past_digits text)) (past_digits text)))
+    if is_empty (digits text) then None
+    else Some (item_with from_end (number_of (digits text))
+    (modifiers_at (length (past_digits text)) (past_digits text)))
 
 -- an item with its page number
 unfoldable pub item_at : List ℕ → Option (WrittenItem × List ℕ)
@@ -86,7 +97,8 @@ abbrev pub with_part : {X : Type 0} → X → List X × List ℕ → Option (Lis
 with_part x more = Some (x ∷ more.0, more.1)
 
 -- the parts behind a separator, if it stands there
-abbrev pub more_at : {X : Type 0} → (List ℕ → Option (List X × List ℕ)) → X × List ℕ → Option (List ℕ) → Option (List X × List ℕ)
+abbrev pub more_at : {X : Type 0} → (List ℕ → Option (List X × List ℕ)) → X × List ℕ
+    → Option (List ℕ) → Option (List X × List ℕ)
 more_at more x None = Some (x.0 ∷ [], x.1)
 more_at more x (Some text) = more text >>= λ xs. with_part x.0 xs
 
@@ -110,7 +122,8 @@ whole_groups_at text = groups_at text >>= whole
 
 -- the one item that may leave its page number out
 unfoldable pub bare_at : List ℕ → Option WrittenItem
-bare_at text = if is_empty text then None else whole (item_with (is_minus text) 0 (modifiers_at (length (past_minus text)) (past_minus text)))
+bare_at text = if is_empty text then None
+    else whole (item_with (is_minus text) 0 (modifiers_at (length (past_minus text)) (past_minus text)))
 
 abbrev pub or_bare : List ℕ → Option (List (List WrittenItem)) → Option (List (List WrittenItem))
 or_bare text None = bare_at text >>= λ i. Some ((i ∷ []) ∷ [])

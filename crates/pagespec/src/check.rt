@@ -1,5 +1,6 @@
 //! The checks on what a text stands for, each over all items or all groups, in their order.
-ghost use Rattle.std.specs.Prelude.{◌≡◌, ◌<◌, ◌^◌, ◌||◌, length, position, nat_lt, nat_le, option_map, if◌then◌else◌, Some};
+ghost use Rattle.std.specs.Prelude.{◌≡◌, ◌<◌, ◌^◌, ◌||◌, length, position, nat_lt, nat_le, option_map, if◌then◌else◌};
+ghost use Rattle.std.specs.Prelude.{Some};
 ghost use Rattle.std.specs.Option.{ForSome};
 ghost use Rattle.std.specs.List.{list_any};
 ghost use Rattle.profile.specs.Numbers.{greatest_whole};

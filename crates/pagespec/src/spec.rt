@@ -25,7 +25,8 @@ impl Model for Spec {
 
     ghost view = { λ s. record { modulo = s.modulo; groups = groups_of s.groups.items } };
 
-    ghost invariant = { λ s. IsAdmissible most_slots (record { modulo = s.modulo; groups = groups_of s.groups.items }) };
+    ghost invariant = { λ s.
+        IsAdmissible most_slots (record { modulo = s.modulo; groups = groups_of s.groups.items }) };
 }
 
 impl Spec {

@@ -1,7 +1,8 @@
 -- Which pages stand on which sheets. Pages, sheets, items and slots are counted from 0.
 -- Blocks, and pages counted from the end of the document by a minus, are of pstops(1), DESCRIPTION and EXAMPLES. That the
 -- last block is filled with blanks before pages are counted from the end is this project's own profile.
-use Rattle.std.specs.Prelude.{◌≡◌, ℕ, ◌+◌, ◌-◌, ◌*◌, ◌/◌, nat_lt, if◌then◌else◌, List, map, flat_map, Option, Some, None, length}
+use Rattle.std.specs.Prelude.{◌≡◌, ℕ, ◌+◌, ◌-◌, ◌*◌, ◌/◌, nat_lt, if◌then◌else◌, List, map, flat_map, Option, Some}
+use Rattle.std.specs.Prelude.{None, length}
 use Rattle.std.specs.List.{range_with_len}
 use Rattle.profile.specs.Specification.{Item, Spec}
 
@@ -27,7 +28,8 @@ pub record Slot : Type 0 where
 -- each block, block by block
 abbrev pub sheets_over : Spec → (entries : ℕ) → (entry : ℕ → Option ℕ) → List (List Slot)
 sheets_over spec entries entry =
-    flat_map (λ b. map (λ g. map (λ i. record { page = entry (place spec.modulo entries b i); item = i }) g) spec.groups)
+    flat_map (λ b. map (λ g.
+    map (λ i. record { page = entry (place spec.modulo entries b i); item = i }) g) spec.groups)
     (range_with_len 0 (blocks spec.modulo entries))
 
 -- the sheets of a specification on n pages
@@ -36,7 +38,8 @@ sheets spec n = sheets_over spec n (page_at n)
 
 -- there is a sheet for each group in each block: a law
 abbrev pub SheetCount : Type 0
-SheetCount = (spec : Spec) (entries : ℕ) (entry : ℕ → Option ℕ) → length (sheets_over spec entries entry) ≡ blocks spec.modulo entries * length spec.groups
+SheetCount = (spec : Spec) (entries : ℕ) (entry : ℕ → Option ℕ)
+    → length (sheets_over spec entries entry) ≡ blocks spec.modulo entries * length spec.groups
 
 -- a number of pages, and the sheets that they are placed on
 pub record Plan : Type 0 where

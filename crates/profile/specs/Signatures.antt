@@ -1,7 +1,8 @@
 -- Signatures: the pages in the order in which they are printed on leaves that are folded once, put into one another and bound.
 -- The order, and the blanks that fill up the last signature, are of psbook(1), option -s. How many sides a signature may have is
 -- this project's own profile.
-use Rattle.std.specs.Prelude.{⊤, ◌≡◌, ℕ, ◌+◌, ◌-◌, ◌*◌, ◌/◌, ◌%◌, ◌<◌, ◌≤◌, ◌==◌, if◌then◌else◌, List, length, map, flat_map, Option, Some, None, slice_index_or}
+use Rattle.std.specs.Prelude.{⊤, ◌≡◌, ℕ, ◌+◌, ◌-◌, ◌*◌, ◌/◌, ◌%◌, ◌<◌, ◌≤◌, ◌==◌, if◌then◌else◌, List, length, map}
+use Rattle.std.specs.Prelude.{flat_map, Option, Some, None, slice_index_or}
 use Rattle.std.specs.List.{range_with_len}
 use Rattle.profile.specs.Specification.{Spec}
 use Rattle.profile.specs.Sheets.{Slot, blocks, page_at, place, sheets, sheets_over}
@@ -24,11 +25,14 @@ AreSidesIfGiven (Some s) = AreSides s
 abbrev pub page_in_signature : (s position : ℕ) → ℕ
 page_in_signature s i =
     let j = i / 4 in
-    if i % 4 == 0 then s - 1 - 2 * j else (if i % 4 == 1 then 2 * j else (if i % 4 == 2 then 2 * j + 1 else s - 2 - 2 * j))
+    if i % 4 == 0 then s - 1 - 2 * j
+    else (if i % 4 == 1 then 2 * j else (if i % 4 == 2 then 2 * j + 1 else s - 2 - 2 * j))
 
 -- the row of n pages in signatures of s sides, one signature behind the other. The last one is filled up with blanks
 abbrev pub signature_row : (s n : ℕ) → List (Option ℕ)
-signature_row s n = flat_map (λ b. map (λ i. page_at n (b * s + page_in_signature s i)) (range_with_len 0 s)) (range_with_len 0 (blocks s n))
+signature_row s n =
+    flat_map (λ b. map (λ i. page_at n (b * s + page_in_signature s i)) (range_with_len 0 s))
+    (range_with_len 0 (blocks s n))
 
 -- an entry of a row; behind its end all is blank
 abbrev pub entry_of : List (Option ℕ) → ℕ → Option ℕ
@@ -52,7 +56,8 @@ abbrev pub WithoutSides : Type 0
 WithoutSides = (spec : Spec) (n : ℕ) →
     (sheets_in None spec n ≡ sheets spec n)
     × (sheets spec n
-    ≡ flat_map (λ b. map (λ g. map (λ i. record { page = page_at n (place spec.modulo n b i); item = i }) g) spec.groups)
+    ≡ flat_map (λ b. map (λ g.
+    map (λ i. record { page = page_at n (place spec.modulo n b i); item = i }) g) spec.groups)
     (range_with_len 0 (blocks spec.modulo n)))
     × (sheets spec n ≡ (let row = map Some (range_with_len 0 n) in sheets_over spec (length row) (entry_of row)))
 

@@ -1,5 +1,6 @@
 -- Units put one behind the other: the bytes that they are together, and the depth behind them.
-use Rattle.std.specs.Prelude.{◌≡◌, ℕ, ◌<◌, ◌≤◌, Bool, true, false, not, ◌&&◌, if◌then◌else◌, List, [], ◌∷◌, ◌++◌, length, map, flat_map, nat_eq, Option, Some, None, Ok}
+use Rattle.std.specs.Prelude.{◌≡◌, ℕ, ◌<◌, ◌≤◌, Bool, true, false, not, ◌&&◌, if◌then◌else◌, List, [], ◌∷◌, ◌++◌}
+use Rattle.std.specs.Prelude.{length, map, flat_map, nat_eq, Option, Some, None, Ok}
 use Rattle.std.specs.List.{starts_with}
 use Rattle.profile.specs.Bytes.{line}
 use Rattle.profile.specs.Units.{TextUnit, is_end, begins_block, first_unit, cut}

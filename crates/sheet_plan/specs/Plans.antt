@@ -1,5 +1,6 @@
 -- What is read off a plan, and what every plan keeps to.
-use Rattle.std.specs.Prelude.{◌≡◌, ℕ, ◌+◌, ◌/◌, ◌<◌, ◌≤◌, Bool, true, false, List, [], length, map, Option, Some, None, slice_get, slice_index_or, sum_by}
+use Rattle.std.specs.Prelude.{◌≡◌, ℕ, ◌+◌, ◌/◌, ◌<◌, ◌≤◌, Bool, true, false, List, [], length, map, Option, Some, None}
+use Rattle.std.specs.Prelude.{slice_get, slice_index_or, sum_by}
 use Rattle.profile.specs.Specification.{Spec, Item}
 use Rattle.profile.specs.Admissible.{IsAdmissible, most_slots}
 use Rattle.profile.specs.Sheets.{Plan, sheets, layout}
@@ -40,7 +41,8 @@ pub record IsSound (plan : Plan) : Type 0 where
   pub few_pages : plan.pages ≤ most_pages
   pub few_sheets : length plan.sheets ≤ most_sheets
   pub few_places : sum_by length plan.sheets ≤ most_places
-  pub few_slots : (s : ℕ) → s < length plan.sheets → (0 < length (pages_on plan s)) × (length (pages_on plan s) ≤ most_slots)
+  pub few_slots : (s : ℕ) → s < length plan.sheets → (0 < length (pages_on plan s))
+      × (length (pages_on plan s) ≤ most_slots)
   pub paged : (s k p : ℕ) → s < length plan.sheets → slice_get (pages_on plan s) k ≡ Some (Some p) → p < plan.pages
 
 -- some admissible specification has these sheets on the plan's pages, in signatures or not

@@ -1,5 +1,6 @@
 //! A specification expanded over a row of pages, from either end. Nothing of the sheets is stored: each slot is computed.
-ghost use Rattle.std.specs.Prelude.{◌≡◌, ◌≢◌, ℕ, ◌+◌, ◌-◌, ◌*◌, ◌^◌, ◌<◌, ◌≤◌, length, map, Some, Err, IfOk, IfErr, slice_get, slice_index_or, sum_by, [], ◌%◌};
+ghost use Rattle.std.specs.Prelude.{◌≡◌, ◌≢◌, ℕ, ◌+◌, ◌-◌, ◌*◌, ◌^◌, ◌<◌, ◌≤◌, length, map, Some, Err, IfOk, IfErr};
+ghost use Rattle.std.specs.Prelude.{slice_get, slice_index_or, sum_by, [], ◌%◌};
 ghost use Rattle.profile.specs.Admissible.{most_groups, most_slots};
 ghost use Rattle.profile.specs.Run.{plan_in};
 ghost use Rattle.profile.specs.Sheets.{blocks as blocks_of, place};
@@ -39,9 +40,13 @@ impl<'s> Model for Expansion<'s> {
     ghost use Rattle.sheet_plan.specs.Plans.{planned_in};
     ghost use Rattle.sheet_plan.specs.Refusals.{IsAccepted};
 
-    ghost view = { λ e. planned_in e.row.sides (record { modulo = e.modulo; groups = groups_of e.groups.now }) e.row.pages };
+    ghost view = { λ e. planned_in e.row.sides (record {
+      modulo = e.modulo;
+      groups = groups_of e.groups.now;
+    }) e.row.pages };
 
-    ghost invariant = { λ e. IsAccepted e.row.sides (record { modulo = e.modulo; groups = groups_of e.groups.now }) e.row.pages
+    ghost invariant = { λ e.
+        IsAccepted e.row.sides (record { modulo = e.modulo; groups = groups_of e.groups.now }) e.row.pages
         × (e.blocks ≡ blocks_of e.modulo (row_len e.row.sides e.row.pages)) };
 }
 
@@ -62,7 +67,8 @@ fn item_at<'s>(groups: &'s [Vec<Item>], sheet: u32, slot: u16) -> &'s Item
     requires some { 0 < length groups.now }
     requires few { length groups.now ≤ most_groups }
     requires slot { slot < length (slice_index_or (groups_of groups.now) (sheet % length groups.now) []) }
-    ensures { slice_get (slice_index_or (groups_of groups.now) (sheet % length groups.now) []) slot ≡ Some (item_of result.now) }
+    ensures { slice_get (slice_index_or (groups_of groups.now) (sheet % length groups.now) []) slot
+        ≡ Some (item_of result.now) }
 {
     let group = &groups[(sheet % groups.len() as u32) as usize];
     &group[slot as usize]

@@ -1,5 +1,6 @@
 //! The plan of a specification on a number of pages.
-ghost use Rattle.std.specs.Prelude.{◌≡◌, ℕ, ◌+◌, ◌*◌, ◌<◌, ◌≤◌, if◌then◌else◌, length, map, Ok, OnOk, IfOk, IfErr, Some, slice_get};
+ghost use Rattle.std.specs.Prelude.{◌≡◌, ℕ, ◌+◌, ◌*◌, ◌<◌, ◌≤◌, if◌then◌else◌, length, map, Ok, OnOk, IfOk, IfErr};
+ghost use Rattle.std.specs.Prelude.{Some, slice_get};
 ghost use Rattle.std.specs.Int.{bit_at};
 ghost use Rattle.std.specs.List.{range_with_len};
 ghost use Rattle.profile.specs.Admissible.{most_slots};
@@ -7,7 +8,8 @@ ghost use Rattle.profile.specs.Run.{plan_of, plan_in};
 ghost use Rattle.profile.specs.Sheets.{layout, sheets};
 ghost use Rattle.profile.specs.Signatures.{AreSides, AreSidesIfGiven, sheets_in};
 ghost use Rattle.pagespec.specs.Items.{item_of};
-ghost use Rattle.sheet_plan.specs.Plans.{planned, planned_in, pages_on, items_on, slot_groups, needs_page, IsSound, IsOfSpec};
+ghost use Rattle.sheet_plan.specs.Plans.{planned, planned_in, pages_on, items_on, slot_groups, needs_page, IsSound};
+ghost use Rattle.sheet_plan.specs.Plans.{IsOfSpec};
 ghost use Rattle.sheet_plan.specs.Places.{places_of, born_complete};
 ghost use Rattle.sheet_plan.specs.Laws.{ArePlaces, AreWithoutPages};
 ghost use Rattle.sheet_plan.specs.Refusals.{Refuses, RefusesIn};
@@ -72,7 +74,8 @@ impl<'s> Plan<'s> {
     ) -> Result<Plan<'s>, PlanError>
         requires { AreSides sides }
         ensures planned { IfOk result (λ plan. plan ≡ planned_in (Some sides) spec.now pages) }
-        ensures accepted { OnOk result (plan_in (Some sides) spec.now pages ≡ Ok (sheets_in (Some sides) spec.now pages)) }
+        ensures accepted { OnOk result (plan_in (Some sides) spec.now pages
+            ≡ Ok (sheets_in (Some sides) spec.now pages)) }
         ensures refused { IfErr result (RefusesIn (Some sides) spec.now pages) }
     {
         Plan::over(
@@ -89,7 +92,8 @@ impl<'s> Plan<'s> {
     fn over(alloc: Global, spec: &'s Spec, row: Row) -> Result<Plan<'s>, PlanError>
         requires { AreSidesIfGiven row.sides }
         ensures planned { IfOk result (λ plan. plan ≡ planned_in row.sides spec.now row.pages) }
-        ensures accepted { OnOk result (plan_in row.sides spec.now row.pages ≡ Ok (sheets_in row.sides spec.now row.pages)) }
+        ensures accepted { OnOk result (plan_in row.sides spec.now row.pages
+            ≡ Ok (sheets_in row.sides spec.now row.pages)) }
         ensures refused { IfErr result (RefusesIn row.sides spec.now row.pages) }
     {
         let expansion = Expansion::new(spec, row)?;
@@ -151,7 +155,8 @@ impl<'s> Plan<'s> {
     pub fn missing_at_start(&self, sheet: u32, group: u8) -> u64
         requires sheet { sheet < length self.now.sheets }
         requires group { group < slot_groups self.now sheet }
-        ensures bits { (j : ℕ) → j < 64 → bit_at result j ≡ (if needs_page self.now sheet (64 * group + j) then 1 else 0) }
+        ensures bits { (j : ℕ) → j < 64
+            → bit_at result j ≡ (if needs_page self.now sheet (64 * group + j) then 1 else 0) }
     {
         let first = 64 * u16::from(group);
         let end = self.slots(sheet).min(first + 64);
@@ -184,7 +189,8 @@ impl<'s> Plan<'s> {
 
 /// The places of each page, and the sheets that have none.
 fn listed(alloc: Global, expansion: &Expansion) -> Result<(PageIndex, Vec<u32>), AllocError>
-    ensures index { IfOk result (λ x. x.0 ≡ map (places_of (layout expansion.now)) (range_with_len 0 expansion.now.pages)) }
+    ensures index { IfOk result (λ x.
+        x.0 ≡ map (places_of (layout expansion.now)) (range_with_len 0 expansion.now.pages)) }
     ensures born { IfOk result (λ x. x.1.items ≡ born_complete (layout expansion.now)) }
 {
     let placed = placed_pages(alloc, expansion)?;
