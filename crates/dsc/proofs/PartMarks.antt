@@ -76,7 +76,7 @@ pub inside-end : (at : ℕ) (us : List NestedUnit) → end_from true at us ≡ a
 inside-end at [] = omega arith
 inside-end at (u ∷ us) = choose_end (begins_trailer u) at u us (inside-end (at + length u.unit.bytes) us) ∙ ap (λ vs. at + length (bytes_of vs)) (sym (before-cons begins_trailer u us))
 
--- up_to the first page
+-- up to the first page
 abbrev head_len : List NestedUnit → ℕ
 head_len us = length (bytes_of (up_to begins_page us))
 

@@ -34,7 +34,7 @@ first_start at (u ∷ us) = by_test (begins_page u)
     ∙ i ∙ (let z : length (bytes_of (up_to begins_page (u ∷ us))) ≡ length (u.unit.bytes ++ bytes_of (up_to begins_page us)) = ap length some in
     let e : next + length (bytes_of (up_to begins_page us)) ≡ at + length (bytes_of (up_to begins_page (u ∷ us))) = omega (arith, z, m) in e))
 
--- the p-th slice, starting_at where it begins to where the next one does, or all end
+-- the p-th slice, from where it begins to where the next one does, or all end
 abbrev pub slice_at : List ℕ → List ℕ → ℕ → ℕ → List ℕ
 slice_at text starts stop p = take (get_or starts (suc p) stop - get_or starts p 0) (drop (get_or starts p 0) text)
 

@@ -16,7 +16,7 @@ use Rattle.dsc.proofs.Slices.{text_whole, parts_whole}
 use Rattle.dsc.proofs.Rows.{cut-begins}
 use Rattle.dsc.proofs.Alone.{and-first, depth_behind, nested-drop, begins-drop, stands}
 
--- the rest starting_at a unit on at which the test passes: it stands alone, where that unit stands at depth 0
+-- the rest from a unit on at which the test passes: it stands alone, if that unit stands at depth 0
 from-stands : (d : ℕ) (ps : List TextUnit) (text rest : List ℕ) (q : NestedUnit → Bool) → ((u : NestedUnit) → q u ≡ true → u.depth ≡ 0) → BeginsWith ps text rest → StandAlone (starting_at q (nested_from d ps))
 from-stands d [] text rest q z h = stands [] [] [] refl
 from-stands d (p ∷ ps) text rest q z h = by_test (q (record { depth = d; unit = p }))

@@ -16,7 +16,7 @@ abbrev pub third_is : List ℕ → List (List ℕ) → Bool
 third_is name (b ∷ c ∷ more) = bytes_eq c name
 third_is name other = false
 
--- how long n lines or n bytes are, where there are so many
+-- how long n lines or n bytes are, if there are that many
 abbrev pub counted : Bool → ℕ → List ℕ → Result ℕ BlockFault
 counted in_lines n rest = or_short (if in_lines then lines_len n rest else bytes_len n rest)
 

@@ -11,7 +11,7 @@ abbrev pub drops_of : Drops → List ℕ → Bool
 drops_of PageSetup content = drops_in_page content
 drops_of DocumentSetup content = drops_in_header content
 
--- a unit is dropped, where this is said of the one before it
+-- whether a filter drops a unit, by whether it dropped the one before
 abbrev pub is_dropped : Drops → (was_dropped : Bool) → NestedUnit → Bool
 is_dropped drops was u = (is_outermost_line u && drops_of drops u.unit.content) || (was && continues u)
 

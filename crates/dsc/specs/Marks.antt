@@ -52,7 +52,7 @@ abbrev pub noted_end : List ℕ → Option ℕ → Bool → ℕ → Option ℕ
 noted_end starts (Some e) ends at = Some e
 noted_end starts None ends at = if nat_lt 0 (length starts) && ends then Some at else None
 
--- what a pass over the rest of a text finds, where so much was noted up_to
+-- what a pass over the rest of a text finds, if this was noted up to there
 abbrev pub scan_on : ℕ → List ℕ → Option ℕ → ℕ → ℕ → List ℕ → Result Marks FaultyBlock
 scan_on most starts stop depth at text =
     of_units (λ ps. marks_on most starts stop at (nested_from depth ps)) (cut_from (length text) at text)

@@ -15,7 +15,7 @@ ArePlain (suc lines) n text =
 abbrev pub BeginsPlain : ℕ → List ℕ → Type 0
 BeginsPlain n text = (lines : ℕ) × ArePlain lines n text
 
--- where the next line begins, from a byte on that is no line feed: at that byte, where a line end stands before it
+-- where the next line begins, from a byte on that is no line feed: at that byte, if a line end stands before it
 abbrev pub next_line : ℕ → List ℕ → ℕ
 next_line zero text = 0
 next_line (suc k) text = if is_end (slice_index text k) then suc k else suc k + line_len (drop (suc k) text)

@@ -26,7 +26,7 @@ abbrev pub Reads : {X Y E F : Type 0} → (X → Y) → (E → F) → Result X E
 Reads view told (Ok x) read = read ≡ Ok (view x)
 Reads view told (Err e) read = read ≡ Err (told e)
 
--- the same, where memory may be wanting: an error that tells no fault says nothing of the text
+-- the same, if memory may run out: an error that tells no fault says nothing of the text
 abbrev pub Gives : {X Y E F : Type 0} → (X → Y) → (E → Option F) → Result X E → Result Y F → Type 0
 Gives view told (Ok x) read = read ≡ Ok (view x)
 Gives view told (Err e) read = IfSome (told e) (λ f. read ≡ Err f)

@@ -1,4 +1,4 @@
-//! The prepared body of a page, which is a part of the page where that serves.
+//! The prepared body of a page, which is a part of the page if that serves.
 ghost use Rattle.std.specs.Prelude.{◌≡◌, ◌++◌, IfOk, IfErr, IfSome};
 ghost use Rattle.profile.specs.Filters.{ended, prepared};
 ghost use Rattle.dsc.specs.Views.{Gives};
@@ -11,8 +11,8 @@ use crate::filters::{Drops, Kept, end_line, filter, wants_end};
 use std::alloc::{AllocError, Global};
 use std::marker::Model;
 
-/// The prepared body of a page. Where it is one run of the page's bytes, it is a part of the page, and nothing is copied.
-/// A body takes 24 bytes, and its copy, where it has one, the memory of the copy.
+/// The prepared body of a page. If it is one run of the page's bytes, it is a part of the page, and nothing is copied.
+/// A body takes 24 bytes, and its copy, if it has one, the memory of the copy.
 #[derive(Drop)]
 pub struct Body<'d> {
     bytes: Bytes<'d>,
@@ -35,7 +35,7 @@ impl<'d> Model for Body<'d> {
 }
 
 impl<'d> Body<'d> {
-    /// The same body as `prepare` makes, without a copy where it is one run of the page's bytes: where outermost lines are
+    /// The same body as `prepare` makes, without a copy if it is one run of the page's bytes: if outermost lines are
     /// dropped at the page's start and end alone, and what is kept ends with a line end.
     /// Refused with BadCount or ShortData, for the page's first faulty data block, or with NoMemory. A page of a document has no
     /// faulty block.
@@ -92,7 +92,7 @@ fn body_of<'d>(alloc: Global, kept: Kept<'d>) -> Result<Body<'d>, AllocError>
     })
 }
 
-/// The one run that was kept, where no line end is wanted behind it.
+/// The one run that was kept, if no line end is wanted behind it.
 fn one_run<'d>(kept: &Kept<'d>) -> Option<&'d [u8]>
     ensures { IfSome result (λ part.
         part.now ≡ ended ((kept.now.copied.items ++ kept.now.held.now) ++ kept.now.run.now)) }

@@ -112,7 +112,7 @@ impl<'d> Document<'d> {
     }
 }
 
-/// This entry.
+/// This entry. A call, so that a proof has its value by name; so it is with the next two.
 fn entry(starts: &[usize], p: usize) -> usize
     requires { p < length starts.now }
     ensures { result ≡ slice_index_or starts.now p 0 }

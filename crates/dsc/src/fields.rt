@@ -38,7 +38,7 @@ pub fn next_field(text: &[u8]) -> Option<(&[u8], &[u8])>
     Some(from.split_at(len))
 }
 
-/// The number that the digits stand for, or the greatest one; None where a byte is no digit.
+/// The number that the digits stand for, or the greatest one; None if a byte is no digit.
 pub fn count_in(field: &[u8]) -> Option<usize>
     ensures { MatchOption result (list_all is_ascii_digit field.now ≡ false) (λ n.
         (list_all is_ascii_digit field.now ≡ true) × (n ≡ min (number_of field.now) usize.MAX)) }

@@ -27,7 +27,7 @@ pub enum Drops {
     DocumentSetup,
 }
 
-/// Whether a line with this content is dropped where it is outermost.
+/// Whether a line with this content is dropped if it is outermost.
 fn drops_line(drops: Drops, content: &[u8]) -> bool
     ensures { result ≡ drops_of drops content.now }
 {
@@ -51,7 +51,7 @@ fn drops_line(drops: Drops, content: &[u8]) -> bool
     }
 }
 
-/// Whether a unit is dropped, where this is said of the one before it.
+/// Whether the filter drops this unit; `was`: it dropped the one before.
 fn drops_unit(drops: Drops, was: bool, unit: &Unit<'_>, depth: usize) -> bool
     ensures { result ≡ is_dropped drops was (at_depth depth (unit_of unit.now)) }
 {
@@ -62,7 +62,7 @@ fn drops_unit(drops: Drops, was: bool, unit: &Unit<'_>, depth: usize) -> bool
 }
 
 /// What is kept of a text: what was copied of it, and behind that two runs of it that weren't. The second one may still
-/// grow: it has so many bytes, and behind these stands what wasn't walked over yet.
+/// grow: it has `run_len` bytes, and behind these stands what wasn't walked over yet.
 #[derive(Drop)]
 pub struct Kept<'d> {
     pub copied: Vec<u8>,
@@ -120,7 +120,7 @@ impl<'d> Kept<'d> {
     }
 }
 
-/// Copies a part, if it has bytes. There will be room for so many bytes.
+/// Copies a part, if it has bytes. There will be room for `room` bytes.
 fn copy(copied: &mut Vec<u8>, part: &[u8], room: usize) -> Result<(), AllocError>
     ensures { OnOk result (copied.new.items ≡ copied.old.items ++ part.now) }
 {
@@ -192,7 +192,7 @@ pub fn wants_end(bytes: &[u8]) -> bool
     }
 }
 
-/// Adds a line end where the last byte is none.
+/// Adds a line end if the last byte is none.
 pub fn end_line(kept: &mut Vec<u8>) -> Result<(), AllocError>
     ensures { OnOk result (kept.new.items ≡ ended kept.old.items) }
 {

@@ -62,7 +62,7 @@ fn meaning_of_comment(content: &[u8], depth: usize) -> Meaning
     }
 }
 
-/// What a unit means, where the depth before it is this.
+/// What a unit means, if the depth before it is this.
 pub fn meaning_of(unit: &Unit<'_>, depth: usize) -> Meaning
     requires { depth < usize.MAX }
     ensures page { result.is_page ≡ begins_page (at_depth depth (unit_of unit.now)) }

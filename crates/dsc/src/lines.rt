@@ -38,7 +38,7 @@ pub fn content_end(text: &[u8]) -> usize
     }
 }
 
-/// How long the first line is with its end, where its content is so long.
+/// How long the first line is with its end, if its content has this length.
 pub fn line_end_after(text: &[u8], content: usize) -> usize
     requires { content ≡ length (content_of text.now) }
     ensures value { result ≡ line_len text.now }
@@ -49,7 +49,7 @@ pub fn line_end_after(text: &[u8], content: usize) -> usize
     content + end_at(&text[content..])
 }
 
-/// How long the first lines are, where there are so many.
+/// How long the first lines are, if there are that many.
 pub fn lines_end(count: usize, text: &[u8]) -> Option<usize>
     ensures value { result ≡ lines_len count text.now }
     ensures within { IfSome result (λ n. n ≤ length text.now) }

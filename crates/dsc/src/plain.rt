@@ -6,7 +6,7 @@ ghost use Rattle.dsc.specs.Plain.{BeginsPlain, next_line};
 use crate::lines::{content_end, is_line_end, line_end_after};
 use memchr::memmem::Finder;
 
-/// How many bytes at the start of the text can be passed, by a search for two percent signs: up to the first two, or, where
+/// How many bytes at the start of the text can be passed, by a search for two percent signs: up to the first two, or, if
 /// these begin no line, behind the line that has them.
 pub fn plain_len(percent_signs: &Finder<'_>, text: &[u8]) -> usize
     requires { percent_signs.now ≡ codes "%%" }

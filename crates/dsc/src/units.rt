@@ -40,7 +40,7 @@ fn data_heading(content: &[u8]) -> Option<(&[u8], bool)>
     }
 }
 
-/// Whether the third field is `Lines`, where the first is read already.
+/// Whether the third field is `Lines`, if the first is read already.
 fn third_is_lines(behind: &[u8]) -> bool
     ensures { result ≡ third_is (codes "Lines") (fields_in behind.now) }
 {

@@ -76,7 +76,7 @@ fn lane_words(plan: &Plan) -> u32
     next.word + 1
 }
 
-// The lane of so many bits that comes next.
+// The lane of this many bits that comes next.
 fn fit(next: Lane, count: u8) -> Lane
     requires { (next.first ≤ 64) × (count ≤ 64) × (next.word < 1_000_000) }
     ensures { result ≡ fitted next count }

@@ -100,7 +100,7 @@ impl<'p> Calls for OneThread<'p> {
     }
 }
 
-// Marks a slot through a seat, where it isn't blank and the page has an index.
+// Marks a slot through a seat, if it isn't blank and the page has an index.
 fn mark_checked(
     table: &GatherTable,
     plan: &Plan,
@@ -141,7 +141,7 @@ fn close_checked(
     Some(table.close_group(seat, sheet, group))
 }
 
-// Publishes the page of a slot, where it has one, and marks the slot.
+// Publishes the page of a slot, if it has one, and marks the slot.
 fn bring_one(
     table: &GatherTable,
     plan: &Plan,

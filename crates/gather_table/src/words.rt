@@ -18,7 +18,7 @@ pub(crate) fn blank_bits(plan: &Plan, sheet: u32, group: u8) -> u64
     full_bits(group_size(plan.slots(sheet), group)) - plan.missing_at_start(sheet, group)
 }
 
-// How many groups a sheet of so many slots has.
+// How many groups a sheet of this many slots has.
 pub(crate) fn group_count(slots: u16) -> u8
     requires { slots ≤ 4_096 }
     ensures { result ≡ (slots + 63) / 64 }
@@ -39,7 +39,7 @@ pub(crate) fn group_size(slots: u16, group: u8) -> u16
     }
 }
 
-// All of so many slots or groups.
+// The bits of that many slots or groups, all set.
 pub(crate) fn full_bits(count: u16) -> u64
     requires { (0 < count) × (count ≤ 64) }
     ensures { result ≡ 2 ^ count - 1 }
@@ -47,7 +47,7 @@ pub(crate) fn full_bits(count: u16) -> u64
     u64::MAX >> (64 - count)
 }
 
-// The index of a page, by its word: the index and one more, or 0 where there is none.
+// The index of a page, by its word: the index and one more, or 0 if there is none.
 pub(crate) fn index_by(word: u64) -> Option<u32>
     requires { word ≤ 2 ^ 32 }
     ensures { result ≡ index_in word }
@@ -69,7 +69,7 @@ pub(crate) fn published_by(found: u64) -> Published
     }
 }
 
-// What a bit is to those that it found, where all are `full`: it was there, it is the last one, or another.
+// What a bit is to those that it found, if all are `full`: it was there, it is the last one, or another.
 pub(crate) fn reply_by(found: u64, bit: u64, full: u64) -> Reply
     ensures { result ≡ reply_in found bit full }
 {

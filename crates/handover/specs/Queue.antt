@@ -28,7 +28,7 @@ abbrev pub IsOldest : ℕ → List ℕ → Type 0
 IsOldest s [] = ⊥
 IsOldest s (x ∷ xs) = s ≡ x
 
--- the move may be made at this content: a put where there is room, and a take of the oldest
+-- the move may be made at this content: a put if there is room, and a take of the oldest
 abbrev pub Fits : (capacity : ℕ) → List ℕ → Move → Type 0
 Fits capacity sheets (Put s) = length sheets < capacity
 Fits capacity sheets (Take s) = IsOldest s sheets

@@ -11,7 +11,7 @@ use std::alloc::Global;
 use std::marker::Model;
 
 /// A page of a document with its prepared body: what is kept of its bytes when it is placed on a sheet (the page comments
-/// and the page setup lines of DSC 3.0 are dropped). It takes 48 bytes, and memory for a copy of the body only where that is no
+/// and the page setup lines of DSC 3.0 are dropped). It takes 48 bytes, and memory for a copy of the body only if that is no
 /// run of the page's bytes.
 #[derive(Drop)]
 pub struct Prepared<'d> {

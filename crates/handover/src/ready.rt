@@ -40,7 +40,7 @@ impl Model for Ready {
 }
 
 impl Ready {
-    /// A queue with room for so many sheets, at least one, and the pass that has all its shares.
+    /// A queue with room for this many sheets, at least one, and the pass that has all its shares.
     pub fn new(alloc: Global, capacity: u32) -> Result<(Ready, Pass), AllocError>
         requires { 0 < capacity }
         ensures capacity { IfOk result (λ made. made.0.capacity ≡ capacity) }
@@ -57,7 +57,7 @@ impl Ready {
     }
 
     /// Puts a sheet behind all others. It may wait for another thread that is in the way.
-    /// Refused with Full, which hands the sheet back, only where the queue was full at some moment of the call.
+    /// Refused with Full, which hands the sheet back, only if the queue was full at some moment of the call.
     pub fn put<R: Wait>(&self, rt: &R, pass: &mut Pass, sheet: u32) -> Result<(), Full>
         requires { IsPassOf self.now pass.old }
         ensures pass { IsPassOf self.now pass.new }
@@ -75,7 +75,7 @@ impl Ready {
     }
 
     /// Takes the oldest sheet. It may wait for another thread that is in the way.
-    /// None only where the queue was empty at some moment of the call.
+    /// None only if the queue was empty at some moment of the call.
     pub fn take<R: Wait>(&self, rt: &R, pass: &mut Pass) -> Option<u32>
         requires { IsPassOf self.now pass.old }
         ensures pass { IsPassOf self.now pass.new }

@@ -31,7 +31,7 @@ impl<'d> Shelf<'d> {
     }
 
     /// Puts a page on the shelf. It may spin while another thread makes room.
-    /// Refused with NoMemory, which hands the page back, and with ShelfFull, where the page's index has more than 32 bits.
+    /// Refused with NoMemory, which hands the page back, and with ShelfFull, if the page's index has more than 32 bits.
     pub fn put<R: Wait>(&self, rt: &R, prepared: Prepared<'d>) -> Result<Receipt<'d>, PutError<'d>>
         ensures put { IfOk result (λ receipt. IsOn self.now receipt × (receipt.value ≡ prepared.entry)) }
         ensures refused { IfErr result (GivesNoReceipt self.now prepared.entry) }
@@ -56,7 +56,7 @@ impl<'d> Shelf<'d> {
         self.list.value(&receipt.token)
     }
 
-    /// The page that was put at an index, where the shelf shows one.
+    /// The page that was put at an index, if the shelf shows one.
     pub fn at(&self, index: u32) -> Option<&Prepared<'d>>
         ensures shown { IfSome result (λ page. LiesAt self.now index page.now) }
         ensures prepared { IfSome result (λ page. IsPrepared page.now) }

@@ -110,7 +110,7 @@ impl<'q> Worker<'q> {
     }
 }
 
-// Puts these sheets, each again where the queue was full.
+// Puts these sheets, each again if the queue was full.
 fn put_all<R: Wait>(rt: &R, mut worker: Worker<'_>, sheets: Range<u32>) {
     for sheet in sheets {
         for _ in rt.forever() {

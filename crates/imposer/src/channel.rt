@@ -6,7 +6,7 @@ use crossbeam_channel::{Pass, RuledReceiver, RuledSender};
 use sheet_writer::Imposed;
 use std::marker::{Brand, PhantomData};
 
-/// The text of each sheet in the run's job: a number of a call that is picked when it is proved, and takes no part in it.
+/// Ghost parameter, chosen in the proof of each call; no code: the text that each sheet of the run's job has.
 pub(crate) trait Texts {
     ghost text: { ℕ → List ℕ };
 }

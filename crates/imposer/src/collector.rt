@@ -83,7 +83,7 @@ fn take_all<R: Wait, T: Texts, S: Sink>(
     }
 }
 
-/// Takes a sheet where one was finished, and waits a little where none was. False where nothing is to come, or nothing more is to
+/// Takes a sheet if one was finished, and waits a little if none was. False if nothing is to come, or nothing more is to
 /// be written.
 fn take_turn<R: Wait, T: Texts, S: Sink>(
     rt: &R,
@@ -114,7 +114,7 @@ fn take_turn<R: Wait, T: Texts, S: Sink>(
     !is_last
 }
 
-/// Takes a finished sheet, and writes those whose turn it is now. False where no sheet was there.
+/// Takes a finished sheet, and writes those whose turn it is now. False if no sheet was there.
 fn take_one<R: Wait, T: Texts, S: Sink>(
     rt: &R,
     job: &Job<'_, '_>,

@@ -212,7 +212,7 @@ fn put_blank_sheets<R: Wait, G: Gate>(
     }
 }
 
-/// The answer where memory was refused.
+/// The answer if memory was refused.
 fn out_of_memory<'d>(written: u64) -> Gathered<'d>
     ensures { result ≡ record { outcome = Err (NoMemory written); unshelved = None; tokens = None } }
 {

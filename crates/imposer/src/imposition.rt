@@ -119,7 +119,7 @@ fn append_shelved_slots<'d>(
     Ok(())
 }
 
-/// Looks up the page of a slot and appends the slot's text; nothing where it is blank.
+/// Looks up the page of a slot and appends the slot's text; nothing if it is blank.
 fn append_shelved<'d>(
     text: &mut Vec<u8>,
     openings: &mut Openings,

@@ -32,10 +32,10 @@ pub enum RunError {
     Document(DscError),
     #[error(transparent)]
     Plan(PlanError),
-    /// Memory was refused after the sink had taken so many bytes, which are the first of the output.
+    /// Memory was refused after the sink had taken that many bytes, which are the first of the output.
     #[error("out of memory")]
     NoMemory { written: u64 },
-    /// The sink failed after it had taken so many bytes, which are the first of the output.
+    /// The sink failed after it had taken that many bytes, which are the first of the output.
     #[error("cannot write output")]
     Write { written: u64 },
 }

@@ -19,7 +19,7 @@ const BYTES_AROUND: usize = 512;
 /// How many sheets there are in a window at most.
 const MOST_SHEETS: usize = 4_096;
 
-/// The sheets that may be imposed: so many, from the one on that is written next. Texts that wait for their turn take memory,
+/// The sheets that may be imposed: `len` of them, from the one on that is written next. Texts that wait for their turn take memory,
 /// so an imposer only holds the number of a sheet that lies further on, and imposes it when the window has come near.
 #[derive(Drop)]
 pub(crate) struct Window {

@@ -151,7 +151,7 @@ half_turned Left = Right
 half_turned Half = Upright
 half_turned Right = Left
 
--- the place of page k in its cell, where the whole sheet is turned by half; it is page n + k of a block
+-- the place of page k in its cell, if the whole sheet is turned by half; it is page n + k of a block
 abbrev pub back_in : (page sheet : Paper) → Grid → (n k : ℕ) → Item
 back_in page sheet g n k = record {
   page = n + k;

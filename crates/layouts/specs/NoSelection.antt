@@ -31,7 +31,7 @@ RefusesSelection text which pages SideTooLong = ⊥
 RefusesSelection text which pages FoldOnLongEdge = ⊥
 RefusesSelection text which pages ScaleOutOfRange = ⊥
 
--- a row stopped, where it is longer than a specification takes; or no memory was left
+-- a row stopped, since it is longer than a specification takes; or no memory was left
 abbrev pub IsFull : (row : List ℕ) → Stop → Type 0
 IsFull row (stop.Stuck left) = most_groups < length row
 IsFull row stop.NoMemory = Unit {0}

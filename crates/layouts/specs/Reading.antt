@@ -34,7 +34,7 @@ range_of (code.One p) = One p
 range_of (code.FromTo p q) = FromTo p q
 range_of (code.From p) = From p
 
--- its numbers, or 100,000 where they are more
+-- its numbers, or 100,000 if they are more
 abbrev pub with_cap : Range → Range
 with_cap (One p) = One (min least_large p)
 with_cap (FromTo p q) = FromTo (min least_large p) (min least_large q)
@@ -43,7 +43,7 @@ with_cap (From p) = From (min least_large p)
 abbrev pub ranges_of : List Standing → List Range
 ranges_of standing = map (λ s. range_of s.range) standing
 
--- reading stopped, where nothing is to be read; or no memory was left
+-- reading stopped, since nothing is to be read; or no memory was left
 abbrev pub IsStop : {X : Type 0} → Option X → Stop → Type 0
 IsStop read (Stuck left) = read ≡ None
 IsStop read NoMemory = Unit {0}

@@ -7,8 +7,8 @@ use super::grid::Grid;
 use super::scale::scale_in;
 use lengths::Paper;
 
-/// The grid of n cells, upright or turned, that takes the largest pages: upright where both take as large ones, and
-/// with the fewest columns where several do.
+/// The grid of n cells, upright or turned, that takes the largest pages: upright if both take as large ones, and
+/// with the fewest columns if several do.
 pub fn best_grid(page: &Paper, sheet: &Paper, n: u32) -> Grid
     requires some { 0 < n }
     ensures { result ≡ best_grid_of page.now sheet.now n }

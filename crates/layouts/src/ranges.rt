@@ -26,7 +26,7 @@ pub struct Standing {
 /// Why a step ended before its end.
 #[derive(Clone, Copy)]
 pub enum Stop {
-    /// At the place in the text where so many bytes are left.
+    /// At the place in the text where this many bytes are left.
     Stuck(usize),
     NoMemory,
 }
@@ -130,7 +130,7 @@ fn read_byte(byte: u8, bytes: &[u8]) -> Option<&[u8]>
     }
 }
 
-/// Where the first range stands of which a document of so many pages hasn't both ends.
+/// Where the first range stands of which a document of this many pages hasn't both ends.
 pub fn first_missing(ranges: &[Standing], pages: u32) -> Option<usize>
     ensures { let ranges = ranges_of ranges.now in
         MatchOption result (misses pages ranges ≡ false) (λ left. misses pages ranges ≡ true) }

@@ -36,7 +36,7 @@ impl Which {
 
 /// The pages that a text names, each alone on a sheet as it is, in the order in which they are named and as often as
 /// they are named. The text has ranges with commas between them: `7`, `3-9`, `9-3`, which counts down, or `5-`, which
-/// goes to the last page. Pages are counted from 1, and the document has so many.
+/// goes to the last page. Pages are counted from 1, and the document has this many.
 pub fn selection(alloc: Global, text: &str, which: Which, pages: u32) -> Result<Spec, LayoutError>
     ensures selected { IfOk result (IsSelection text.now which pages) }
     ensures refused { IfErr result (RefusesSelection text.now which pages) }

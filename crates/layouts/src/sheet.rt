@@ -17,7 +17,7 @@ use std::alloc::Global;
 /// How many pages a sheet takes at most.
 const MOST_ON_SHEET: u32 = 1_024;
 
-/// So many pages of one paper on each sheet of another or the same, from 1 to 1,024: in rows and columns, upright or
+/// This many pages of one paper on each sheet of another or the same, from 1 to 1,024: in rows and columns, upright or
 /// turned to the left, as large as they can be, each in the middle of its cell. One page on a sheet of its own paper
 /// is left as it is.
 pub fn nup(alloc: Global, n: u32, page: &Paper, sheet: &Paper) -> Result<Spec, LayoutError>

@@ -107,7 +107,7 @@ fn sent(numbers: &[i64], x: i64, y: i64) -> Option<(i64, i64)> {
     }
 }
 
-/// A point of the sheet as one holds it, where pages are turned by so many quarters to the left.
+/// A point of the sheet as one holds it, if pages are turned by this many quarters to the left.
 fn as_held(quarters: u32, point: (i64, i64)) -> (i64, i64) {
     let (x, y) = point;
     match quarters {

@@ -22,7 +22,7 @@ impl Model for Grains {
 }
 
 impl Grains {
-    /// So many grains, where that is in range.
+    /// That many grains, if that is in range.
     pub fn new(count: i128) -> Option<Grains>
         ensures fits { IsSome result ↔ FitsGrains count }
         ensures value { IfSome result (λ g. g ≡ count) }
@@ -42,7 +42,7 @@ impl Grains {
         self.count
     }
 
-    /// So many grains, where that is known to be in range.
+    /// That many grains, which is known to be in range.
     pub(crate) fn of(count: i128) -> Grains
         requires { FitsGrains count }
         ensures { result ≡ count }

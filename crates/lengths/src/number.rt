@@ -34,7 +34,7 @@ impl Number {
         billionths: 1_000_000_000,
     };
 
-    /// The number of so many 10^-9, where that is in range.
+    /// The number of that many 10^-9, if that is in range.
     pub fn new(billionths: i64) -> Option<Number>
         ensures fits { IsSome result ↔ FitsNumber billionths }
         ensures value { IfSome result (λ n. n ≡ billionths) }

@@ -32,7 +32,7 @@ impl Model for Paper {
 }
 
 impl Paper {
-    /// The paper of this width and height, where both are in range.
+    /// The paper of this width and height, if both are in range.
     pub fn new(width: Grains, height: Grains) -> Option<Paper>
         ensures fits { IsSome result ↔ IsTrue (is_paper width height) }
         ensures sides { IfSome result (λ p. p ≡ record { width = width; height = height }) }
@@ -44,7 +44,7 @@ impl Paper {
         }
     }
 
-    /// A paper of so many points.
+    /// A paper of this many points.
     pub(crate) fn of_points(width: u32, height: u32) -> Paper
         requires width { (0 < width) × (width < 7_200_000) }
         requires height { (0 < height) × (height < 7_200_000) }

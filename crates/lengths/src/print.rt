@@ -11,7 +11,7 @@ use super::number::Number;
 use itoa::Buffer;
 use std::alloc::AllocError;
 
-/// Appends a length in points, rounded to five decimals, half away from zero. Where memory is refused, nothing is appended.
+/// Appends a length in points, rounded to five decimals, half away from zero. If memory is refused, nothing is appended.
 pub fn print_points(grains: Grains, out: &mut Vec<u8>) -> Result<(), AllocError>
     ensures appended { OnOk result (out.new.items ≡ out.old.items ++ points_text grains) }
     ensures unchanged { OnErr result (out.new.items ≡ out.old.items) }
@@ -21,7 +21,7 @@ pub fn print_points(grains: Grains, out: &mut Vec<u8>) -> Result<(), AllocError>
     append_decimal(rounded(grains.get(), 1_270_000) as i64, 5, out)
 }
 
-/// Appends a number in full. Where memory is refused, nothing is appended.
+/// Appends a number in full. If memory is refused, nothing is appended.
 pub fn print_scale(number: Number, out: &mut Vec<u8>) -> Result<(), AllocError>
     ensures appended { OnOk result (out.new.items ≡ out.old.items ++ scale_text number) }
     ensures unchanged { OnErr result (out.new.items ≡ out.old.items) }
@@ -31,7 +31,7 @@ pub fn print_scale(number: Number, out: &mut Vec<u8>) -> Result<(), AllocError>
     append_decimal(number.billionths(), 9, out)
 }
 
-/// Appends a number as a page specification writes it: in full, but with no `0` before a dot. Where memory is refused, nothing
+/// Appends a number as a page specification writes it: in full, but with no `0` before a dot. If memory is refused, nothing
 /// is appended.
 pub fn print_number(number: Number, out: &mut Vec<u8>) -> Result<(), AllocError>
     ensures appended { OnOk result (out.new.items ≡ out.old.items ++ number_text number) }
@@ -89,7 +89,7 @@ fn decimals_of_part(digits: &mut Buffer, places: u32, part: u64) -> &[u8]
     decimals(digits.format(10u64.pow(places) + part).as_bytes())
 }
 
-/// The digits of a whole part, which is left out where it is 0 and decimals stand behind it.
+/// The digits of a whole part, which is left out if it is 0 and decimals stand behind it.
 fn unless_dot_follows<'a>(whole: u64, digits: &'a [u8], decimals: &[u8]) -> &'a [u8]
     requires { digits.now ≡ decimal whole }
     ensures value { result.now ≡ whole_text whole decimals.now }
@@ -125,7 +125,7 @@ fn without_last_zeros(digits: &[u8]) -> &[u8]
     rest
 }
 
-/// Appends a minus where the number is negative, its whole part, and the decimals behind a dot where there are any.
+/// Appends a minus if the number is negative, its whole part, and the decimals behind a dot if there are any.
 fn append(
     negative: bool,
     whole: &[u8],

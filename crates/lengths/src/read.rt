@@ -42,7 +42,7 @@ pub fn read_number(bytes: &[u8]) -> Result<(Number, usize), NumberError>
     scan(bytes)
 }
 
-/// The digits at the front, by their value or as 100,000 where that is more, and what stands behind them.
+/// The digits at the front, by their value or as 100,000 if that is more, and what stands behind them.
 pub fn read_digits(bytes: &[u8]) -> Option<(u32, &[u8])>
     ensures { let front = digits bytes.now in MatchOption result (front ≡ []) (λ x.
         (front ≢ []) × (x.0 ≡ min least_large (number_of front)) × (x.1.now ≡ past_digits bytes.now)) }
@@ -120,7 +120,7 @@ fn digits_len(bytes: &[u8]) -> usize
     bytes.len()
 }
 
-/// What the digits stand for, or 100,000 where that is more.
+/// What the digits stand for, or 100,000 if that is more.
 fn capped(digits: &[u8]) -> u32
     requires { AllPass is_ascii_digit digits.now }
     ensures { result ≡ min least_large (number_of digits.now) }

@@ -170,7 +170,7 @@ fn lengths_are_printed_in_points(rt: HostRuntime) -> Result<(), Fail> {
     Ok(())
 }
 
-/// A paper's sides in points, where it has whole ones.
+/// A paper's sides in points, if it has whole ones.
 fn points(paper: Paper) -> (i128, i128) {
     (
         paper.width().get() / 127_000_000_000,

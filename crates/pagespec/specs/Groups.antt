@@ -9,7 +9,7 @@ use Rattle.pagespec.specs.declared.groups.Kept.{Kept}
 use Rattle.pagespec.specs.declared.groups.Stop.{Stop}
 use Rattle.pagespec.specs.declared.groups.Stop.TheVariants.{Stuck, NoMemory}
 
--- where a reader is stuck, nothing is read; out of memory says nothing
+-- if a reader is stuck, nothing is read; out of memory says nothing
 abbrev pub IsStop : {X : Type 0} → Option X → Stop → Type 0
 IsStop o (Stuck left) = o ≡ None
 IsStop o NoMemory = Unit {0}

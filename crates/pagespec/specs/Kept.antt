@@ -27,7 +27,7 @@ first_offset (Moved x y ∷ ms) = Some (x, y)
 abbrev pub is_repeated : List Modifier → Bool
 is_repeated ms = nat_lt 1 (count_by is_scale ms) || nat_lt 1 (count_by is_offset ms)
 
--- what is known where no number is too large
+-- what is known if no number is too large
 pub record Known (ms : List Modifier) (s : Modifiers) : Type 0 where
   pub scale : s.scale ≡ first_scale ms
   pub offset : option_map (λ m. (measure_of m.0, measure_of m.1)) s.offset ≡ first_offset ms

@@ -31,7 +31,7 @@ second_letter a (b ∷ text) =
     else (if (a == 109) && (b == 109) then (Mm, text)
     else (if (a == 105) && (b == 110) then (In, text) else (Pt, a ∷ b ∷ text))))
 
--- the unit at the front, which is points where none stands
+-- the unit at the front, which is points if none stands
 abbrev pub unit_at : List ℕ → LengthUnit × List ℕ
 unit_at [] = (Pt, [])
 unit_at (a ∷ text) = if a == 119 then (Width, text) else (if a == 104 then (Height, text) else second_letter a text)

@@ -38,7 +38,7 @@ pub fn first_fault(modulo: u32, items: &[KeptItem], lengths: &[usize]) -> Option
     where_fails(too_large(modulo, items), SpecError::TooLarge).or(zero)
 }
 
-/// This fault, where the check fails.
+/// This fault, if the check fails.
 fn where_fails(fails: bool, fault: SpecError) -> Option<SpecError>
     ensures { result ≡ (if fails then Some fault else None) }
 {

@@ -34,8 +34,8 @@ pub struct Item {
     /// Blocks are counted from the end.
     pub from_end: bool,
     pub turn: Turn,
-    /// Above zero; 1 where no scale is written.
+    /// Above zero; 1 if no scale is written.
     pub scale: Number,
-    /// 0 pt and 0 pt where no offset is written.
+    /// 0 pt and 0 pt if no offset is written.
     pub offset: (Measure, Measure),
 }

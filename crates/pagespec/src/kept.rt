@@ -1,4 +1,4 @@
-//! What is kept of an item while a text is read: enough to tell every fault of it, and the item itself where it has none.
+//! What is kept of an item while a text is read: enough to tell every fault of it, and the item itself if it has none.
 ghost use Rattle.std.specs.Prelude.{◌≡◌, ◌∷◌, ◌++◌, [], List, None, MatchResult, not, int_le, pos};
 ghost use Rattle.profile.specs.Specification.{Modifier as WrittenModifier};
 ghost use Rattle.pagespec.specs.Reading.{is_minus, past_minus, item_at};
@@ -75,7 +75,7 @@ fn is_above_zero(v: Number) -> bool
 #[derive(Clone, Copy)]
 pub struct KeptItem {
     pub from_end: bool,
-    /// The page number, or 100,000 where it is more.
+    /// The page number, or 100,000 if it is more.
     pub page: u32,
     pub modifiers: Modifiers,
 }

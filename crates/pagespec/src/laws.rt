@@ -1,7 +1,7 @@
 //! Laws of specifications. The functions do nothing.
 ghost use Rattle.pagespec.specs.Canonical.{CanonicalIsTaken, CanonicalIsShort};
 
-/// Where a text is taken, the canonical text of what it comes to is taken too, and comes to the same.
+/// If a text is taken, the canonical text of what it comes to is taken too, and comes to the same.
 pub fn canonical_is_taken()
     ensures { CanonicalIsTaken }
 {}

@@ -1,5 +1,5 @@
 //! Page specifications, as pstops takes them: which pages stand on a sheet, in which order, turned, scaled and moved how.
-//! A text is read once, refused by name where it isn't admissible, and written again in its canonical form.
+//! A text is read once, refused by name if it isn't admissible, and written again in its canonical form.
 #![tactic(auto)]
 
 mod check;

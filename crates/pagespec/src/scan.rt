@@ -12,7 +12,7 @@ use lengths::{Number, NumberError, Unit, read_number};
 /// A modifier as it stands. A number over 99,999 isn't kept, only that it stood there.
 #[derive(Clone, Copy)]
 pub enum Modifier {
-    /// So many quarters to the left.
+    /// This many quarters to the left.
     Turn(u8),
     Scale(Number),
     Offset(Measure, Measure),
@@ -43,7 +43,7 @@ pub fn read_modifier(bytes: &[u8]) -> Result<(Modifier, &[u8]), usize>
     }
 }
 
-/// The quarter turns that a letter stands for; 0 where it is no turn.
+/// The quarter turns that a letter stands for; 0 if it is no turn.
 fn quarters_of(letter: u8) -> u8
     ensures value { result ≡ quarters_of letter }
     ensures few { result < 4 }
@@ -103,7 +103,7 @@ fn offset_of(x: Option<Measure>, y: Option<Measure>) -> Modifier
     }
 }
 
-/// A number and a unit; None where the number is too large.
+/// A number and a unit; None if the number is too large.
 fn read_measure(bytes: &[u8]) -> Result<(Option<Measure>, &[u8], usize), usize>
     ensures { MatchResult result (λ x. MeasureRead bytes.now x.0 x.1.now)
         (λ left. measure_at bytes.now ≡ None) }
@@ -121,7 +121,7 @@ fn read_measure(bytes: &[u8]) -> Result<(Option<Measure>, &[u8], usize), usize>
     }
 }
 
-/// The unit at the front, which is points where none stands. The first letter of a unit of two may stand there alone.
+/// The unit at the front, which is points if none stands. The first letter of a unit of two may stand there alone.
 fn read_unit(bytes: &[u8]) -> (Unit, &[u8], usize)
     ensures unit { (unit_at bytes.now).0 ≡ length_unit result.0 }
     ensures rest { (unit_at bytes.now).1 ≡ result.1.now }
@@ -148,7 +148,7 @@ pub fn read_byte(byte: u8, bytes: &[u8]) -> Option<&[u8]>
     }
 }
 
-/// How many bytes are left behind a sign and a dot, where no number stands at the start.
+/// How many bytes are left behind a sign and a dot, if no number stands at the start.
 fn left_in_number(bytes: &[u8]) -> usize {
     match bytes {
         [b'+' | b'-', b'.', rest @ ..] | [b'+' | b'-' | b'.', rest @ ..] => rest.len(),

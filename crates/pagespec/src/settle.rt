@@ -1,4 +1,4 @@
-//! What the items of a text come to, where they have no fault.
+//! What the items of a text come to, if they have no fault.
 ghost use Rattle.std.specs.Prelude.{◌≡◌, map, IfOk, unwrap_or};
 ghost use Rattle.profile.specs.Specification as profile;
 ghost use Rattle.pagespec.specs.Items.{item_of, turn_of, groups_of, measure_of};
@@ -39,7 +39,7 @@ fn settled_group(alloc: Global, kept: &[KeptItem]) -> Result<Vec<Item>, AllocErr
     Ok(group)
 }
 
-/// What an item comes to: the scale is 1 and the offset 0 pt and 0 pt where none is written.
+/// What an item comes to: the scale is 1 and the offset 0 pt and 0 pt if none is written.
 fn settled_item(kept: KeptItem) -> Item
     ensures { item_of result ≡ settled_kept kept }
 {

@@ -14,7 +14,7 @@ use lengths::{Number, Unit, print_number};
 use std::alloc::{AllocError, Global};
 
 /// The canonical text of a specification, which is one that `read_spec` takes and reads as the same specification: the modulo
-/// where it isn't 1, page numbers without leading zeros, one letter for a turn, and no scale, offset or unit that changes nothing.
+/// if it isn't 1, page numbers without leading zeros, one letter for a turn, and no scale, offset or unit that changes nothing.
 pub fn write_spec(alloc: Global, spec: &Spec) -> Result<String, AllocError>
     ensures canonical { IfOk result (λ text. string_bytes text ≡ profile.canonical spec.now) }
     ensures taken { IfOk result (λ text. Takes most_slots (string_bytes text) spec.now) }
@@ -25,7 +25,7 @@ pub fn write_spec(alloc: Global, spec: &Spec) -> Result<String, AllocError>
     Ok(ascii_text(out))
 }
 
-/// The modulo and its colon, where it isn't 1.
+/// The modulo and its colon, if it isn't 1.
 fn append_modulo(modulo: u32, out: &mut Vec<u8>) -> Result<(), AllocError>
     ensures { OnOk result (out.new.items ≡ out.old.items ++ profile.modulo_text modulo) }
 {
@@ -107,7 +107,7 @@ fn turn_letter(turn: Turn) -> &'static [u8]
     }
 }
 
-/// The scale behind its sign, where it isn't 1.
+/// The scale behind its sign, if it isn't 1.
 fn append_scale(scale: Number, out: &mut Vec<u8>) -> Result<(), AllocError>
     ensures { OnOk result (out.new.items ≡ out.old.items ++ profile.scale_part scale) }
 {
@@ -118,7 +118,7 @@ fn append_scale(scale: Number, out: &mut Vec<u8>) -> Result<(), AllocError>
     print_number(scale, out)
 }
 
-/// The offset in parentheses, where it isn't 0 pt and 0 pt.
+/// The offset in parentheses, if it isn't 0 pt and 0 pt.
 fn append_offset(x: &Measure, y: &Measure, out: &mut Vec<u8>) -> Result<(), AllocError>
     ensures { OnOk result (out.new.items ≡ out.old.items ++ profile.offset_part (measure_of x.now) (measure_of y.now)) }
 {

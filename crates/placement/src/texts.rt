@@ -15,7 +15,7 @@ use pagespec::Item;
 use std::alloc::AllocError;
 
 /// Appends the six numbers of a matrix in brackets: the first four in full, the shift in points, rounded to five decimals.
-/// Where memory is refused, nothing is appended.
+/// If memory is refused, nothing is appended.
 pub fn matrix_text(matrix: &Matrix, out: &mut Vec<u8>) -> Result<(), AllocError>
     ensures appended { OnOk result (out.new.items ≡ out.old.items ++ text_of (numbers_of matrix.now)) }
     ensures unchanged { OnErr result (out.new.items ≡ out.old.items) }
@@ -28,8 +28,8 @@ pub fn matrix_text(matrix: &Matrix, out: &mut Vec<u8>) -> Result<(), AllocError>
 }
 
 /// Appends what stands before a page placed by this item: its `save`, a `showpage` that does nothing, the matrix, a clip to the
-/// paper, which is placed with the page, and a line that draws a border of this width round it, where one is asked for.
-/// Where memory is refused, nothing is appended.
+/// paper, which is placed with the page, and a line that draws a border of this width round it, if one is asked for.
+/// If memory is refused, nothing is appended.
 pub fn opening_text(
     item: &Item,
     paper: &Paper,
@@ -48,7 +48,7 @@ pub fn opening_text(
     undo_if_refused(appended, len, out)
 }
 
-/// Appends what stands behind a placed page: the `restore` of its `save`. Where memory is refused, nothing is appended.
+/// Appends what stands behind a placed page: the `restore` of its `save`. If memory is refused, nothing is appended.
 pub fn closing_text(out: &mut Vec<u8>) -> Result<(), AllocError>
     ensures appended { OnOk result (out.new.items ≡ out.old.items ++ closing) }
     ensures unchanged { OnErr result (out.new.items ≡ out.old.items) }
@@ -58,7 +58,7 @@ pub fn closing_text(out: &mut Vec<u8>) -> Result<(), AllocError>
     out.extend_from_slice(b"ImposeSave restore\n")
 }
 
-/// Takes back what stands past this length, where an append was refused.
+/// Takes back what stands past this length, if an append was refused.
 fn undo_if_refused(
     appended: Result<(), AllocError>,
     len: usize,

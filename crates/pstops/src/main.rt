@@ -23,7 +23,7 @@ fn main(rt: HostRuntime) -> ExitCode {
     };
     match told {
         Ok((status, line)) => {
-            // Where standard error takes no line there is nobody to tell.
+            // If standard error takes no line there is nobody to tell.
             let _ = rt.stderr().write_all(line.as_slice());
             ExitCode::from(status)
         }

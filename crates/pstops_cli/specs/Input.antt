@@ -8,7 +8,7 @@ use Rattle.pstops_cli.specs.declared.input.ReadFault.TheVariants.{Device, NoMemo
 abbrev pub most_bytes : ℕ
 most_bytes = 1_073_741_825
 
--- at Ok the first bytes that remained were moved to the buffer's front, 0 of them only where none remained; at Err none
+-- at Ok the first bytes that remained were moved to the buffer's front, 0 of them only if none remained; at Err none
 abbrev pub Fills : {E : Type 0} → (old new : Option (List ℕ)) → Result ℕ E → (buffer : List ℕ) → Type 0
 Fills old new r buffer = MatchResult r (λ k. Consumes old new (take k buffer) × (k ≡ 0 → IsAtEnd new)) (λ _. Keeps old new)
 
@@ -16,7 +16,7 @@ Fills old new r buffer = MatchResult r (λ k. Consumes old new (take k buffer) �
 abbrev pub Counts : {T E : Type 0} → (old new : ℕ) → Result T E → Type 0
 Counts old new r = MatchResult r (λ _. new ≡ old) (λ _. new ≡ old + 1)
 
--- the first n of the bytes that remained, all where there were fewer
+-- the first n of the bytes that remained, all if there were fewer
 abbrev pub IsFirst : (n : ℕ) → Option (List ℕ) → List ℕ → Type 0
 IsFirst n remaining bytes = IfSome remaining (λ all. bytes ≡ take n all)
 

@@ -83,7 +83,7 @@ fault_text (fault.Run e) = run_text e
 abbrev pub report_text : Report → List ℕ
 report_text r = codes "pages " ++ (decimal r.pages ++ (codes ", sheets " ++ (decimal r.sheets ++ (codes ", bytes " ++ decimal r.bytes))))
 
--- ---- the exit statuses: 1 where what was asked for is refused, 2 where the words are, 3 where memory, reading or writing
+-- ---- the exit statuses: 1 if what was asked for is refused, 2 if the words are, 3 if memory, reading or writing
 -- failed
 
 abbrev pub command_status : CommandFault → ℕ

@@ -22,7 +22,7 @@ pub record Ends (a : runs.Request) (told told' : Option (List ℕ)) (failures fa
   pub refused : IfErr ended (λ e. IsRefusal a e)
   -- after an error the sink has the first bytes of the output, as many as the error says, and none after a refusal
   pub written : IfErr ended (λ e. HasWritten a told told' e)
-  -- the sink didn't fail where the run finished, and else as often as the error allows: once where a write failed
+  -- the sink didn't fail if the run finished, and else as often as the error allows: once if a write failed
   pub steady : OnOk ended (failures' ≡ failures)
   pub failed : IfErr ended (λ e. FailedIn e failures failures')
 
@@ -30,7 +30,7 @@ abbrev pub outcome_status : Result Report RunError → ℕ
 outcome_status (Ok report) = 0
 outcome_status (Err e) = run_status e
 
--- a finished run says nothing where the request is quiet
+-- a finished run says nothing if the request is quiet
 abbrev pub is_silent : (quiet : Bool) → Result Report RunError → Bool
 is_silent quiet (Ok report) = quiet
 is_silent quiet (Err e) = false
@@ -39,7 +39,7 @@ abbrev pub outcome_line : (quiet : Bool) → Result Report RunError → List ℕ
 outcome_line quiet (Ok report) = if quiet then [] else said (report_text report)
 outcome_line quiet (Err e) = said (run_text e)
 
--- its status and line; or 3 and no line, where there is one to say and it found no memory
+-- its status and line; or 3 and no line, if there is one to say and it found no memory
 abbrev pub IsTold : (quiet : Bool) → Result Report RunError → (status : ℕ) → (told : List ℕ) → Type 0
 IsTold quiet ended status told =
     ((status ≡ outcome_status ended) × (told ≡ outcome_line quiet ended))

@@ -44,7 +44,7 @@ LengthsAreNumbers = (paper : Paper) (text : List ℕ) (length : ℤ) → (length
 
 -- ---- the paper and the border
 
--- a paper by its name, a4 where there is none
+-- a paper by its name, a4 if there is none
 abbrev pub paper_or_a4 : Option (List ℕ) → Option Paper
 paper_or_a4 name = paper_named (unwrap_or name (codes "a4"))
 
@@ -74,7 +74,7 @@ number_of text =
     let digits = without_leading_plus text in
     if is_numeral digits && nat_lt (digits_value 10 digits) (2 ^ 32) then Some (digits_value 10 digits) else None
 
--- as many workers as the text says, 2 where there is none. The command takes no text but a number from 1 to 16
+-- as many workers as the text says, 2 if there is none. The command takes no text but a number from 1 to 16
 abbrev pub count_named : Option (List ℕ) → ℕ
 count_named text = unwrap_or (option_and_then number_of text) 2
 

@@ -18,9 +18,9 @@ use std::alloc::{AllocError, Global};
 pub struct Request {
     /// The page specification, as it was written.
     pub spec: String,
-    /// The file that is read; standard input where there is none.
+    /// The file that is read; standard input if there is none.
     pub infile: Option<String>,
-    /// The file that is written; standard output where there is none.
+    /// The file that is written; standard output if there is none.
     pub outfile: Option<String>,
     /// What a run is told besides.
     pub options: Options,
@@ -55,10 +55,10 @@ impl From<AllocError> for CommandFault {
 ///
 /// `-q` leaves the report line out, and SPECS is a page specification, which isn't looked at here. `-s` asks for signatures of so
 /// many sides, a whole number from 4 to 1,000,000; that it is a multiple of four isn't looked at here either. `-p` names the paper,
-/// which is a4 where none is named; `-w` replaces its width and `-h` its height. `-d` asks for a border of this width round
+/// which is a4 if none is named; `-w` replaces its width and `-h` its height. `-d` asks for a border of this width round
 /// each page, and a width of 0 for none. A length is a number and its unit, `pt`, `cm`, `mm` or `in`, without which it is
 /// in points. `-j` and `-k` are how many threads prepare pages and how many impose sheets: whole numbers from 1 to 16, 2
-/// where they aren't named.
+/// if they aren't named.
 ///
 /// Words that the command doesn't take are `BadWords`, and so are other values of `-s`, `-j` and `-k`. Among words that it
 /// takes, a paper without a name comes first as `UnknownPaper`, then as `BadLength` the values of `-w` and `-h`, which are
@@ -69,7 +69,7 @@ pub fn read_command(alloc: Global, words: &[String]) -> Result<Request, CommandF
     ensures read { IfOk result (Reads (matches_of pstops (map string_bytes words.now))) }
     ensures workers { IfOk result (λ request. AreWorkers request.options.workers) }
     ensures sides { IfOk result (λ request. AreInRange request.options.sides) }
-    // BadWords comes only where the command doesn't take the words, and another refusal only where a value is no paper or
+    // BadWords comes only if the command doesn't take the words, and another refusal only if a value is no paper or
     // no length.
     ensures refused { IfErr result (Refuses (map string_bytes words.now)) }
     // What the command takes and finds is a function of the words, since it is a simple one.
@@ -149,7 +149,7 @@ fn sides_of(matches: &ArgMatches<'_>) -> Option<u32>
     number_at(matches, "sides")
 }
 
-// The number of workers that an argument names, 2 where it isn't there.
+// The number of workers that an argument names, 2 if it isn't there.
 fn count_of(matches: &ArgMatches<'_>, id: &str) -> u32
     ensures { result ≡ meaning.count_named (one_of id.now (rows_of (found_of matches.now))) }
 {

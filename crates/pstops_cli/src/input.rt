@@ -22,7 +22,7 @@ pub struct SourceFault {}
 
 /// What bytes are read from.
 pub trait Source {
-    // The bytes still to come, where the source tells them.
+    // The bytes still to come, if the source tells them.
     ghost remaining: { Self → Option (List ℕ) } = { λ _. None };
 
     // How often it has failed.
@@ -98,7 +98,7 @@ impl From<SourceFault> for ReadFault {
     }
 }
 
-/// The bytes of the source to its end, or the first [`MOST_BYTES`] of them where it has more.
+/// The bytes of the source to its end, or the first [`MOST_BYTES`] of them if it has more.
 ///
 /// They are read straight into the vector, whose length grows by a piece at a time as it fills. After a fault the bytes
 /// that were read are lost.
@@ -107,9 +107,9 @@ pub fn read_input<S: Source>(alloc: Global, source: &mut S) -> Result<Vec<u8>, R
     ensures within { IfOk result (λ bytes. vec_len bytes ≤ most_bytes) }
     ensures read { IfOk result (λ bytes. IsFirst most_bytes (S.remaining source.old) bytes.items) }
     ensures rest { IfOk result (λ bytes. Consumes (S.remaining source.old) (S.remaining source.new) bytes.items) }
-    // It ends after so many bytes, whatever comes of it.
+    // It ends after that many bytes, whatever comes of it.
     ensures most { ConsumesAtMost most_bytes (S.remaining source.old) (S.remaining source.new) }
-    // It is Device where the source failed in the call, and only there.
+    // It is Device if the source failed in the call, and only then.
     ensures steady { OnOk result (S.failures source.new ≡ S.failures source.old) }
     ensures refused { IfErr result (IsFaultOf (S.failures source.old) (S.failures source.new)) }
 {

@@ -25,7 +25,7 @@ pub enum Fault {
 
 /// The exit status of a fault and its line for standard error, which names the program and ends with a line feed.
 ///
-/// The status is 1 for a refused specification, document or plan, 2 for a bad command line or bad options, and 3 where
+/// The status is 1 for a refused specification, document or plan, 2 for a bad command line or bad options, and 3 if
 /// memory, reading or writing failed.
 pub fn fault_line(alloc: Global, fault: &Fault) -> Result<(u8, Vec<u8>), AllocError>
     ensures status { IfOk result (λ told. told.0 ≡ status_of_fault fault.now) }

@@ -14,10 +14,10 @@ use std::alloc::{AllocError, Global};
 use std::sync::Wait;
 use std::thread::Threads;
 
-/// Runs a request on an input, and gives the exit status and the line for standard error, which is empty where there is
+/// Runs a request on an input, and gives the exit status and the line for standard error, which is empty if there is
 /// none.
 ///
-/// The status is 0 where the run finished, and its line is then the report unless the request is quiet. Where the line
+/// The status is 0 if the run finished, and its line is then the report unless the request is quiet. If the line
 /// finds no memory it is empty and the status is 3.
 pub fn run_request<R: Threads + Wait + Sync, S: Sink>(
     rt: &R,
@@ -31,7 +31,7 @@ pub fn run_request<R: Threads + Wait + Sync, S: Sink>(
     ensures told { (ended : Result ReportValue RunErrorValue)
         × Ends (asked_by request.now input.now) (S.told sink.old) (S.told sink.new) (S.failures sink.old) (S.failures sink.new) ended
         × IsTold request.now.quiet ended result.0 result.1.items }
-    // Status 0 comes only where exactly the output was written.
+    // Status 0 comes only if exactly the output was written.
     ensures finished { result.0 ≡ 0 → Accepted (asked_by request.now input.now) (λ spec us.
         Appends (S.told sink.old) (S.told sink.new) (output (frame_of request.now.options) request.now.options.sides spec us)) }
 {
@@ -58,7 +58,7 @@ fn status_and_line(
 ) -> Result<(u8, Vec<u8>), AllocError>
     ensures status { IfOk result (λ told. told.0 ≡ outcome_status ended) }
     ensures line { IfOk result (λ told. told.1.items ≡ outcome_line quiet ended) }
-    // No memory is asked for where nothing is said.
+    // No memory is asked for if nothing is said.
     ensures spoken { OnErr result (is_silent quiet ended ≡ false) }
 {
     match ended {

@@ -56,7 +56,7 @@ fn with_height(paper: Paper, height: Option<&str>) -> Option<Paper>
     }
 }
 
-// The width of a border, where there is to be one.
+// The width of a border, if there is to be one.
 fn border_named(paper: &Paper, width: Option<&str>) -> Option<Option<Grains>>
     ensures { result ≡ meaning.border_named paper.now (option_map (λ s. s.now) width.entry) }
 {

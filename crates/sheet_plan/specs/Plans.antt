@@ -15,7 +15,7 @@ planned spec n = record { pages = n; sheets = sheets spec n }
 abbrev pub planned_in : (sides : Option ℕ) → Spec → ℕ → Plan
 planned_in sides spec n = record { pages = n; sheets = sheets_in sides spec n }
 
--- the slots of a sheet, each with its page, or None where it is blank
+-- the slots of a sheet, each with its page, or None if it is blank
 abbrev pub pages_on : Plan → ℕ → List (Option ℕ)
 pages_on plan s = slice_index_or (layout plan).sheets s []
 

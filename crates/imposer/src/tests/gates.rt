@@ -63,7 +63,7 @@ impl Gate for Meeting {
     fn after(&self, _step: Step) {}
 }
 
-/// Two pages on two sheets, where these steps meet: how many of them were entered, and how many waits ran out.
+/// Two pages on two sheets, if these steps meet: how many of them were entered, and how many waits ran out.
 fn run_meeting<R: Threads + Wait + Abort + Sync>(
     rt: &R,
     alloc: Global,

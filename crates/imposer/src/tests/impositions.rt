@@ -17,7 +17,7 @@ use std::process::Abort;
 use std::sync::Wait;
 use std::test::Fail;
 
-// Publishes the page of the first slot, where it has one, and marks that slot. None where a look doesn't show the sheet complete.
+// Publishes the page of the first slot, if it has one, and marks that slot. None if a look doesn't show the sheet complete.
 fn bring_first(
     table: &GatherTable<'_>,
     plan: &Plan,
@@ -43,7 +43,7 @@ fn bring_first(
     Some((published, marked))
 }
 
-// Imposes the first sheet, where this page stands on the shelf at the index of the sheet's own page.
+// Imposes the first sheet, if this page stands on the shelf at the index of the sheet's own page.
 fn impose_beside<'d, R: Abort + Wait>(
     rt: &R,
     alloc: Global,
@@ -66,7 +66,7 @@ fn impose_beside<'d, R: Abort + Wait>(
     Ok(impose(alloc, &mut seat, job, &table, &shelf, 0))
 }
 
-// The same of the first of two sheets, where the page has this number; and the sheet's text.
+// The same of the first of two sheets, if the page has this number; and the sheet's text.
 fn impose_first<R: Abort + Wait>(
     rt: &R,
     alloc: Global,
@@ -99,7 +99,7 @@ fn a_sheet_of_its_own_page_has_its_text(rt: HostRuntime) -> Result<(), Fail> {
     Ok(())
 }
 
-// Imposes the first sheet, where a look shows it complete as it is.
+// Imposes the first sheet, if a look shows it complete as it is.
 fn impose_untouched(
     alloc: Global,
     plan: &Plan,

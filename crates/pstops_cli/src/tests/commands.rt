@@ -172,7 +172,7 @@ fn papers_and_borders(rt: HostRuntime) -> Result<(), Fail> {
             106_934_000_000_000,
             360_000_000_000,
         ),
-        // -w and -h replace a side of the paper, also where they stand before its name.
+        // -w and -h replace a side of the paper, also if they stand before its name.
         (
             "-h1in -p LETTER 0",
             77_724_000_000_000,
