@@ -1,5 +1,6 @@
 -- What the answers of a gathering mean.
-use Rattle.std.specs.Prelude.{◌≡◌, ℕ, ◌≤◌, List, [], length, Option, Result, Ok, Err, MatchResult, IfSome, IsSomeAnd, IsNone, ⊤}
+use Rattle.std.specs.Prelude.{◌≡◌, ℕ, ◌≤◌, List, [], length, Option, Result, Ok, Err, MatchResult, IfSome, IsSomeAnd}
+use Rattle.std.specs.Prelude.{IsNone, ⊤}
 use Rattle.std.specs.Io.KnownBytes.{Appends}
 use Rattle.profile.specs.Sheets.{layout}
 use Rattle.histories.specs.Seats.{whole_share}
@@ -65,8 +66,11 @@ pub record AreWhole (table : TableView) (queue : QueueView) (its_seat : SeatView
   pub pass_share : its_pass.share ≡ whole_share
 
 -- how a run answers whose workers have ended, wherever its collector began: their tokens come back, but after out of memory
-pub record Concludes (job : JobView) (old new : Option (List ℕ)) (before after : ℕ) (p : Progress) (ended : Holding) (gathered : Gathered) : Type 0 where
-  pub answers : (start : Option (List ℕ)) (first : ℕ) → Stands job start old first before p → Answers job start new first after gathered.outcome
-  pub tokens : MatchResult gathered.outcome (λ _. IsSomeAnd gathered.tokens (λ t. ⊤)) (λ e. HandsBackTokens e gathered.tokens)
+pub record Concludes (job : JobView) (old new : Option (List ℕ)) (before after : ℕ) (p : Progress) (ended : Holding)
+    (gathered : Gathered) : Type 0 where
+  pub answers : (start : Option (List ℕ)) (first : ℕ) → Stands job start old first before p
+      → Answers job start new first after gathered.outcome
+  pub tokens : MatchResult gathered.outcome (λ _. IsSomeAnd gathered.tokens (λ t. ⊤)) (λ e.
+      HandsBackTokens e gathered.tokens)
   pub same : IfSome gathered.tokens (λ t. (t.0 ≡ ended.tokens.seat) × (t.1 ≡ ended.tokens.pass))
   pub unshelved : gathered.unshelved ≡ ended.unshelved

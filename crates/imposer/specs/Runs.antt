@@ -50,7 +50,8 @@ abbrev pub IsRefusal : Request → RunError → Type 0
 IsRefusal r error.Options = AreOptions r.options → ⊥
 IsRefusal r (error.Spec e) = AreOptions r.options × IsSomeAnd (fault_named e) (λ f. Refuses most_slots r.spec f)
 IsRefusal r (error.Document e) =
-    AreOptions r.options × ((spec : Spec) × Takes most_slots r.spec spec) × IsSomeAnd (dsc.fault_told e) (λ f. document_of r.input ≡ Err f)
+    AreOptions r.options × ((spec : Spec) × Takes most_slots r.spec spec)
+    × IsSomeAnd (dsc.fault_told e) (λ f. document_of r.input ≡ Err f)
 IsRefusal r (error.Plan e) =
     AreOptions r.options
     × ((spec : Spec) × (us : List NestedUnit) × Takes most_slots r.spec spec × (document_of r.input ≡ Ok us)
@@ -61,7 +62,8 @@ IsRefusal r (error.Write written) = Accepted r (λ spec us. ⊤)
 -- the first bytes of the output of an accepted request, as many as were written
 abbrev pub WrotePart : Request → Option (List ℕ) → Option (List ℕ) → ℕ → Type 0
 WrotePart r old new written =
-    Accepted r (λ spec us. let whole = output (frame_of r.options) r.options.sides spec us in (written ≤ length whole) × Appends old new (take written whole))
+    Accepted r (λ spec us. let whole = output (frame_of r.options) r.options.sides spec us in (written ≤ length whole)
+    × Appends old new (take written whole))
 
 -- what the sink has taken after an error
 abbrev pub HasWritten : Request → Option (List ℕ) → Option (List ℕ) → RunError → Type 0
@@ -83,7 +85,8 @@ FailedIn (error.NoMemory written) before after = (after ≡ before) ⊎ (after �
 FailedIn (error.Write written) before after = after ≡ before + 1
 
 -- the numbers of a report
-pub record Reports (frame : Frame) (sides : Option ℕ) (spec : Spec) (us : List NestedUnit) (report : Report) : Type 0 where
+pub record Reports (frame : Frame) (sides : Option ℕ) (spec : Spec) (us : List NestedUnit)
+    (report : Report) : Type 0 where
   pub page_count : report.pages ≡ length (pages us)
   pub sheet_count : report.sheets ≡ length (sheets_in sides spec (length (pages us)))
   pub born_blank : report.born ≡ length (born_complete (layout (planned_in sides spec (length (pages us)))))
@@ -110,5 +113,6 @@ pub record IsGiven (r : Request) (chosen : Options) (given : Given) : Type 0 whe
 -- output was written as it says
 abbrev pub AnswersRequest : Request → (old new : Option (List ℕ)) → (before after : ℕ) → Result Report RunError → Type 0
 AnswersRequest r old new before after (Ok report) =
-    Accepted r (λ spec us. Appends old new (output (frame_of r.options) r.options.sides spec us) × Reports (frame_of r.options) r.options.sides spec us report) × (after ≡ before)
+    Accepted r (λ spec us. Appends old new (output (frame_of r.options) r.options.sides spec us)
+    × Reports (frame_of r.options) r.options.sides spec us report) × (after ≡ before)
 AnswersRequest r old new before after (Err e) = IsRefusal r e × HasWritten r old new e × FailedIn e before after

@@ -1,5 +1,6 @@
 //! The part of a run in which all its workers start and end.
-ghost use Rattle.std.specs.Prelude.{◌≡◌, ℕ, ◌<◌, ◌≤◌, List, Option, None, Err, length, IfOk, IfErr, IfSome, IsNone, IsSome, IsSomeAnd, MatchResult, OnOk, ⊤};
+ghost use Rattle.std.specs.Prelude.{◌≡◌, ℕ, ◌<◌, ◌≤◌, List, Option, None, Err, length, IfOk, IfErr, IfSome, IsNone};
+ghost use Rattle.std.specs.Prelude.{IsSome, IsSomeAnd, MatchResult, OnOk, ⊤};
 ghost use Rattle.std.specs.Io.KnownBytes.{Appends};
 ghost use Rattle.profile.specs.Sheets.{layout};
 ghost use Rattle.profile.specs.Filters.{trailer_text};
@@ -14,7 +15,8 @@ ghost use Rattle.imposer.specs.Delivery.{HandedOn};
 ghost use Rattle.sheet_writer.specs.Writing.{AreEarly, EndsAt};
 ghost use Rattle.imposer.specs.Tokens.{AreTokens, AreUnused};
 ghost use Rattle.imposer.specs.Gathered.{IsGathered, IsHandedOn};
-ghost use Rattle.imposer.specs.Gathering.{IsFreshSeat, IsFreshPass, ReportsOf, WrotePartOf, HandsBackTokens, AreWhole, Answers, Concludes};
+ghost use Rattle.imposer.specs.Gathering.{IsFreshSeat, IsFreshPass, ReportsOf, WrotePartOf, HandsBackTokens, AreWhole};
+ghost use Rattle.imposer.specs.Gathering.{Answers, Concludes};
 
 use crate::channel::Texts;
 use crate::collector::{CollectorInput, CollectorState};
@@ -73,7 +75,8 @@ pub fn gather<'j, 'd, R: Threads + Wait + Sync, G: Gate + Sync, S: Sink>(
     requires countable { S.failures sink.old < u64.MAX }
 
     // At Ok exactly the output was appended, and the report has its numbers.
-    ensures finished { IfOk result.outcome (λ report. Appends (S.told sink.old) (S.told sink.new) (output_of job.now) × ReportsOf job.now report) }
+    ensures finished { IfOk result.outcome (λ report. Appends (S.told sink.old) (S.told sink.new) (output_of job.now)
+        × ReportsOf job.now report) }
 
     // After an error the sink has taken as much of the output as the error says.
     ensures written { IfErr result.outcome (WrotePartOf job.now (S.told sink.old) (S.told sink.new)) }
@@ -81,12 +84,14 @@ pub fn gather<'j, 'd, R: Threads + Wait + Sync, G: Gate + Sync, S: Sink>(
     ensures failed { IfErr result.outcome (λ e. FailedIn e (S.failures sink.old) (S.failures sink.new)) }
 
     // Seat and pass come back whole, but after out of memory.
-    ensures handed_back { MatchResult result.outcome (λ _. IsSomeAnd result.tokens (λ t. ⊤)) (λ e. HandsBackTokens e result.tokens) }
+    ensures handed_back { MatchResult result.outcome (λ _. IsSomeAnd result.tokens (λ t. ⊤)) (λ e.
+        HandsBackTokens e result.tokens) }
     ensures whole { IfSome result.tokens (λ t. AreWhole table.now ready.now t.0 t.1) }
 
     // One publish for each page, one mark for each needed slot, one closing for each group of a wide sheet that has such a
     // slot, and exactly one completing call for each sheet that has pages.
-    ensures gathered { OnOk result.outcome (IsNone result.unshelved → IfSome result.tokens (λ t. IsGathered table.now.layout t.0.front)) }
+    ensures gathered { OnOk result.outcome (IsNone result.unshelved
+        → IfSome result.tokens (λ t. IsGathered table.now.layout t.0.front)) }
 
     // A token that comes back is that of an entry of this shelf.
     ensures unshelved { IfSome result.unshelved (IsOn shelf.now) }
@@ -123,9 +128,12 @@ fn gather_as<'d, T: Texts + Send + Sync, R: Threads + Wait + Sync, G: Gate + Syn
     requires tokens { AreTokens shared.now.table.now shared.now.ready.now whole_share tokens × AreUnused tokens }
     requires workers { AreWorkers workers }
     requires countable { S.failures sink.old < u64.MAX }
-    ensures outcome { Answers shared.now.job.now (S.told sink.old) (S.told sink.new) (S.failures sink.old) (S.failures sink.new) result.outcome }
-    ensures tokens { MatchResult result.outcome (λ _. IsSomeAnd result.tokens (λ t. ⊤)) (λ e. HandsBackTokens e result.tokens) }
-    ensures whole { IfSome result.tokens (λ t. AreWhole shared.now.table.now shared.now.ready.now t.0 t.1 × IsHandedOn t.1.front × (IsNone result.unshelved → IsGathered shared.now.table.now.layout t.0.front)) }
+    ensures outcome { Answers shared.now.job.now (S.told sink.old) (S.told sink.new) (S.failures sink.old)
+        (S.failures sink.new) result.outcome }
+    ensures tokens { MatchResult result.outcome (λ _. IsSomeAnd result.tokens (λ t. ⊤)) (λ e.
+        HandsBackTokens e result.tokens) }
+    ensures whole { IfSome result.tokens (λ t. AreWhole shared.now.table.now shared.now.ready.now t.0 t.1
+        × IsHandedOn t.1.front × (IsNone result.unshelved → IsGathered shared.now.table.now.layout t.0.front)) }
     ensures unshelved { IfSome result.unshelved (IsOn shared.now.shelf.now) }
 {
     let alloc = shared.alloc;
@@ -232,13 +240,18 @@ fn finish<'d, S: Sink>(
     ended: Option<Holding<'d>>,
 ) -> Gathered<'d>
     requires countable { IsSome ended → state.old.progress.halted ≡ None → S.failures state.old.sink.now < u64.MAX }
-    requires next { IsSome ended → state.old.progress.halted ≡ None → state.old.progress.next ≤ length job.now.plan.sheets }
+    requires next { IsSome ended → state.old.progress.halted ≡ None
+        → state.old.progress.next ≤ length job.now.plan.sheets }
     requires early { IsSome ended → AreEarly job.now state.old.early.now.places.items }
     requires trailer { trailer.now ≡ trailer_text job.now.units }
     ensures same_sink { state.new.sink.ghost_name ≡ state.old.sink.ghost_name }
-    ensures ended { IfSome ended.entry (λ e. Concludes job.now (S.told state.old.sink.now) (S.told state.new.sink.now) (S.failures state.old.sink.now) (S.failures state.new.sink.now) state.old.progress e result) }
-    ensures missing { IsNone ended.entry → (result ≡ record { outcome = Err (NoMemory state.old.progress.written); unshelved = None; tokens = None })
-        × (S.told state.new.sink.now ≡ S.told state.old.sink.now) × (S.failures state.new.sink.now ≡ S.failures state.old.sink.now) }
+    ensures ended { IfSome ended.entry (λ e.
+        Concludes job.now (S.told state.old.sink.now) (S.told state.new.sink.now) (S.failures state.old.sink.now)
+        (S.failures state.new.sink.now) state.old.progress e result) }
+    ensures missing { IsNone ended.entry
+        → (result ≡ record { outcome = Err (NoMemory state.old.progress.written); unshelved = None; tokens = None })
+        × (S.told state.new.sink.now ≡ S.told state.old.sink.now)
+        × (S.failures state.new.sink.now ≡ S.failures state.old.sink.now) }
 {
     match ended {
         Some(ended) => conclude(alloc, job, state, trailer, ended),
@@ -259,7 +272,8 @@ fn conclude<'d, S: Sink>(
     requires early { AreEarly job.now state.old.early.now.places.items }
     requires trailer { trailer.now ≡ trailer_text job.now.units }
     ensures same_sink { state.new.sink.ghost_name ≡ state.old.sink.ghost_name }
-    ensures ended { Concludes job.now (S.told state.old.sink.now) (S.told state.new.sink.now) (S.failures state.old.sink.now) (S.failures state.new.sink.now) state.old.progress ended.entry result }
+    ensures ended { Concludes job.now (S.told state.old.sink.now) (S.told state.new.sink.now)
+        (S.failures state.old.sink.now) (S.failures state.new.sink.now) state.old.progress ended.entry result }
 {
     let rest = write_rest(alloc, job, state.sink, state.progress, state.early, trailer);
     let Holding { tokens, unshelved } = ended;

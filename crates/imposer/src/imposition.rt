@@ -1,5 +1,6 @@
 //! A sheet is made of the pages that are shelved.
-ghost use Rattle.std.specs.Prelude.{◌≡◌, ℕ, ◌+◌, ◌-◌, ◌<◌, ◌≤◌, ◌++◌, ◌∷◌, [], IfOk, OnOk, OnErr, MatchResult, length, Some, slice_get, slice_index_or};
+ghost use Rattle.std.specs.Prelude.{◌≡◌, ℕ, ◌+◌, ◌-◌, ◌<◌, ◌≤◌, ◌++◌, ◌∷◌, [], IfOk, OnOk, OnErr, MatchResult, length};
+ghost use Rattle.std.specs.Prelude.{Some, slice_get, slice_index_or};
 ghost use Rattle.profile.specs.Parts.{pages};
 ghost use Rattle.profile.specs.Sheets.{Slot, layout};
 ghost use Rattle.profile.specs.Output.{slot_text};

@@ -8,7 +8,8 @@ ghost use Rattle.sheet_plan.specs.Plans.{planned_in};
 ghost use Rattle.sheet_plan.specs.Refusals.{RefusesIn};
 ghost use Rattle.imposer.specs.Gathering.{Answers};
 ghost use Rattle.imposer.specs.Workers.{AreOptions, AreWorkers};
-ghost use Rattle.imposer.specs.Runs.{Request, request, frame_of, Accepted, IsRefusal, HasWritten, Reports, FailedIn, IsUnwritten, IsGiven, AnswersRequest};
+ghost use Rattle.imposer.specs.Runs.{Request, request, frame_of, Accepted, IsRefusal, HasWritten, Reports, FailedIn};
+ghost use Rattle.imposer.specs.Runs.{IsUnwritten, IsGiven, AnswersRequest};
 
 use crate::gate::Gate;
 use crate::gathering::gather;
@@ -45,11 +46,13 @@ pub fn run<R: Threads + Wait + Sync, G: Gate + Sync, S: Sink>(
     requires countable { S.failures sink.old < u64.MAX }
     // Exactly the output was appended, and the report has its numbers.
     ensures finished { IfOk result (λ report. Accepted (request options.now spec.now input.now) (λ spec us.
-        Appends (S.told sink.old) (S.told sink.new) (output (frame_of options.now) options.now.sides spec us) × Reports (frame_of options.now) options.now.sides spec us report)) }
+        Appends (S.told sink.old) (S.told sink.new) (output (frame_of options.now) options.now.sides spec us)
+        × Reports (frame_of options.now) options.now.sides spec us report)) }
     // An error names the first check that fails.
     ensures refused { IfErr result (λ e. IsRefusal (request options.now spec.now input.now) e) }
     // After an error the sink has taken as much of the output as the error says, and nothing after a refusal.
-    ensures written { IfErr result (λ e. HasWritten (request options.now spec.now input.now) (S.told sink.old) (S.told sink.new) e) }
+    ensures written { IfErr result (λ e.
+        HasWritten (request options.now spec.now input.now) (S.told sink.old) (S.told sink.new) e) }
     // At Ok the sink didn't fail in the call, and after an error as often as the error allows: at Write once.
     ensures steady { OnOk result (S.failures sink.new ≡ S.failures sink.old) }
     ensures failed { IfErr result (λ e. FailedIn e (S.failures sink.old) (S.failures sink.new)) }
@@ -98,7 +101,8 @@ fn run_read<R: Threads + Wait + Sync, G: Gate + Sync, S: Sink>(
 ) -> Result<Report, RunError>
     requires options { AreOptions options.now }
     requires countable { S.failures sink.old < u64.MAX }
-    ensures { (r : Request) → IsGiven r options.now given.now → AnswersRequest r (S.told sink.old) (S.told sink.new) (S.failures sink.old) (S.failures sink.new) result }
+    ensures { (r : Request) → IsGiven r options.now given.now
+        → AnswersRequest r (S.told sink.old) (S.told sink.new) (S.failures sink.old) (S.failures sink.new) result }
 {
     let plan = match plan_pages(alloc, &given.spec, given.document.pages(), options.sides) {
         Ok(plan) => plan,

@@ -8,9 +8,11 @@ use Rattle.profile.specs.Placement.{Matrix, matrix_of, matrix_text}
 
 -- the opening bracket and the first four numbers
 abbrev pub scales_text : Matrix → List ℕ
-scales_text m = codes "[" ++ scale_text m.a ++ codes " " ++ scale_text m.b ++ codes " " ++ scale_text m.c ++ codes " " ++ scale_text m.d
+scales_text m = codes "[" ++ scale_text m.a ++ codes " " ++ scale_text m.b ++ codes " " ++ scale_text m.c
+    ++ codes " " ++ scale_text m.d
 
 -- the `save`, the `showpage` that does nothing, and the matrix
 abbrev pub placing_text : Paper → Item → List ℕ
 placing_text paper item =
-    line (codes "userdict /ImposeSave save put") ++ line (codes "userdict /showpage {} put") ++ line (matrix_text (matrix_of paper item) ++ codes " concat")
+    line (codes "userdict /ImposeSave save put") ++ line (codes "userdict /showpage {} put")
+    ++ line (matrix_text (matrix_of paper item) ++ codes " concat")

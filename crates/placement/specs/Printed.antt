@@ -25,7 +25,8 @@ nearest g = rounded g 1_270_000 *ℤ pos 10_000
 
 -- a matrix is printed as its four scales, and its shift to the nearest 10^-5 of a point
 abbrev pub PrintedIsRow : Type 0
-PrintedIsRow = (m : Matrix) → FitsMatrix m → IsRow (matrix_text m) (m.a ∷ m.b ∷ m.c ∷ m.d ∷ nearest m.tx ∷ nearest m.ty ∷ [])
+PrintedIsRow = (m : Matrix) → FitsMatrix m
+    → IsRow (matrix_text m) (m.a ∷ m.b ∷ m.c ∷ m.d ∷ nearest m.tx ∷ nearest m.ty ∷ [])
 
 -- a text is one row of numbers at most
 abbrev pub OneRow : Type 0

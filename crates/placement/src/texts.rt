@@ -98,7 +98,8 @@ fn append_opening(
 #[tactic(auto, using(crate::proofs::Keeping::keeps_more))]
 fn append_placing(item: &Item, paper: &Paper, out: &mut Vec<u8>) -> Result<(), AllocError>
     ensures appended { OnOk result (out.new.items ≡ out.old.items ++ placing_text paper.now (item_of item.now)) }
-    ensures full { OnErr result (vec_capacity out.old < vec_len out.old + length (placing_text paper.now (item_of item.now))) }
+    ensures full { OnErr result (vec_capacity out.old < vec_len out.old
+        + length (placing_text paper.now (item_of item.now))) }
     ensures kept { Keeps out.old out.new }
 {
     append_text(
@@ -125,7 +126,8 @@ fn append_matrix(matrix: &Matrix, out: &mut Vec<u8>) -> Result<(), AllocError>
 #[tactic(auto, using(crate::proofs::Keeping::keeps_more))]
 fn append_scales(matrix: &Matrix, out: &mut Vec<u8>) -> Result<(), AllocError>
     ensures appended { OnOk result (out.new.items ≡ out.old.items ++ scales_text (numbers_of matrix.now)) }
-    ensures full { OnErr result (vec_capacity out.old < vec_len out.old + length (scales_text (numbers_of matrix.now))) }
+    ensures full { OnErr result (vec_capacity out.old < vec_len out.old
+        + length (scales_text (numbers_of matrix.now))) }
     ensures kept { Keeps out.old out.new }
 {
     append_scale(b"[", matrix.a, out)?;

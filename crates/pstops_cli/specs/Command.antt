@@ -1,9 +1,11 @@
 -- The command line:
 -- pstops [-q] [-s sides] [-p paper] [-w W] [-h H] [-d width] [-j preparers] [-k imposers] SPECS [INFILE [OUTFILE]].
-use Rattle.std.specs.Prelude.{◌≡◌, ◌≢◌, ◌∷◌, ◌&&◌, Bool, true, false, not, List, [], Some, None, Option, Result, Ok, Err, codes, string_bytes, ℕ, ⊤, is_some, map, option_map, pos}
+use Rattle.std.specs.Prelude.{◌≡◌, ◌≢◌, ◌∷◌, ◌&&◌, Bool, true, false, not, List, [], Some, None, Option, Result, Ok}
+use Rattle.std.specs.Prelude.{Err, codes, string_bytes, ℕ, ⊤, is_some, map, option_map, pos}
 use Rattle.std.specs.List.{list_any}
 use Rattle.std.specs.Str.{bytes_eq}
-use Rattle.clap.specs.Words.{AddsArg, AddsInTurn, App, Row, Rule, Text, app_of, args_of, fault_of, first_of, first_value, found_of, groups_of, matches_of, new_app, new_rule, one_of, rows_of, rule_of}
+use Rattle.clap.specs.Words.{AddsArg, AddsInTurn, App, Row, Rule, Text, app_of, args_of, fault_of, first_of}
+use Rattle.clap.specs.Words.{first_value, found_of, groups_of, matches_of, new_app, new_rule, one_of, rows_of, rule_of}
 use Rattle.clap.specs.Simple.{Shape, on_top}
 use Rattle.clap.specs.declared.builder.action.ArgAction.TheVariants.{Set, SetTrue}
 use Rattle.clap.specs.declared.builder.arg.Arg.{Arg}
@@ -17,7 +19,8 @@ use Rattle.imposer.specs.Workers.{AreWorkers}
 use Rattle.pstops_cli.specs.declared.command.Request.{Request}
 use Rattle.pstops_cli.specs.declared.command.CommandFault.{CommandFault}
 use Rattle.pstops_cli.specs.declared.command.CommandFault.TheVariants.{BadLength, BadWords, NoMemory, UnknownPaper}
-use Rattle.pstops_cli.specs.Values.{AreInRange, letter_d, letter_h, letter_j, letter_k, letter_p, letter_s, letter_w, options_named, sides_named, workers_named}
+use Rattle.pstops_cli.specs.Values.{AreInRange, letter_d, letter_h, letter_j, letter_k, letter_p, letter_s, letter_w}
+use Rattle.pstops_cli.specs.Values.{options_named, sides_named, workers_named}
 
 -- ---- the command
 
@@ -88,7 +91,8 @@ sides_found found = sides_named (one_of (codes "sides") found)
 -- what the values found name, or the fault of the first of -p, -w, -h and -d, in this order, that names nothing
 abbrev pub options_found : (found : List Row) → Result Options CommandFault
 options_found found =
-    options_named (first_of (codes "paper") found) (first_of (codes "width") found) (first_of (codes "height") found) (first_of (codes "border") found)
+    options_named (first_of (codes "paper") found) (first_of (codes "width") found) (first_of (codes "height") found)
+    (first_of (codes "border") found)
     (sides_found found) (workers_found found)
 
 -- the request is what was found

@@ -10,7 +10,8 @@ most_bytes = 1_073_741_825
 
 -- at Ok the first bytes that remained were moved to the buffer's front, 0 of them only if none remained; at Err none
 abbrev pub Fills : {E : Type 0} → (old new : Option (List ℕ)) → Result ℕ E → (buffer : List ℕ) → Type 0
-Fills old new r buffer = MatchResult r (λ k. Consumes old new (take k buffer) × (k ≡ 0 → IsAtEnd new)) (λ _. Keeps old new)
+Fills old new r buffer = MatchResult r (λ k. Consumes old new (take k buffer)
+    × (k ≡ 0 → IsAtEnd new)) (λ _. Keeps old new)
 
 -- the failures after a call: one more at Err
 abbrev pub Counts : {T E : Type 0} → (old new : ℕ) → Result T E → Type 0

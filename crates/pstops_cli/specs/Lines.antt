@@ -44,7 +44,8 @@ spec_text spec.TooLong = codes "specification: too long"
 spec_text (spec.Syntax at) = codes "specification: syntax error at byte " ++ decimal at
 spec_text spec.TooLarge = codes "specification: number too large"
 spec_text spec.ModuloZero = codes "specification: modulo is zero"
-spec_text (spec.PageOutOfBlock item) = codes "specification: item " ++ decimal item ++ codes ": page number not below modulo"
+spec_text (spec.PageOutOfBlock item) =
+    codes "specification: item " ++ decimal item ++ codes ": page number not below modulo"
 spec_text (spec.ScaleZero item) = codes "specification: item " ++ decimal item ++ codes ": scale not above zero"
 spec_text (spec.Repeated item) = codes "specification: item " ++ decimal item ++ codes ": modifier repeated"
 spec_text (spec.TooManySlots group) = codes "specification: group " ++ decimal group ++ codes ": too many items"
@@ -81,7 +82,8 @@ fault_text fault.Create = cannot_write
 fault_text (fault.Run e) = run_text e
 
 abbrev pub report_text : Report → List ℕ
-report_text r = codes "pages " ++ (decimal r.pages ++ (codes ", sheets " ++ (decimal r.sheets ++ (codes ", bytes " ++ decimal r.bytes))))
+report_text r = codes "pages "
+    ++ (decimal r.pages ++ (codes ", sheets " ++ (decimal r.sheets ++ (codes ", bytes " ++ decimal r.bytes))))
 
 -- ---- the exit statuses: 1 if what was asked for is refused, 2 if the words are, 3 if memory, reading or writing
 -- failed

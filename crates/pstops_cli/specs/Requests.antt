@@ -1,5 +1,6 @@
 -- The run of a request, and what is said of how it ended.
-use Rattle.std.specs.Prelude.{◌≡◌, ◌⊎◌, ℕ, Bool, false, if◌then◌else◌, List, [], Option, Result, Ok, Err, IfOk, IfErr, OnOk, string_bytes}
+use Rattle.std.specs.Prelude.{◌≡◌, ◌⊎◌, ℕ, Bool, false, if◌then◌else◌, List, [], Option, Result, Ok, Err, IfOk, IfErr}
+use Rattle.std.specs.Prelude.{OnOk, string_bytes}
 use Rattle.std.specs.Io.KnownBytes.{Appends}
 use Rattle.profile.specs.Output.{output}
 use Rattle.imposer.specs.Runs.{Accepted, FailedIn, HasWritten, IsRefusal, Reports, frame_of, request}
@@ -15,9 +16,12 @@ asked_by r input = request r.options (string_bytes r.spec) input
 
 -- a run of what was asked for ended so, between these bytes and failures of its sink: what a run promises of an Ok and of
 -- each error
-pub record Ends (a : runs.Request) (told told' : Option (List ℕ)) (failures failures' : ℕ) (ended : Result Report RunError) : Type 0 where
+pub record Ends (a : runs.Request) (told told' : Option (List ℕ)) (failures failures' : ℕ)
+    (ended : Result Report RunError) : Type 0 where
   -- at Ok exactly the output was appended, and the report has its numbers
-  pub finished : IfOk ended (λ r. Accepted a (λ spec us. Appends told told' (output (frame_of a.options) a.options.sides spec us) × Reports (frame_of a.options) a.options.sides spec us r))
+  pub finished : IfOk ended (λ r.
+      Accepted a (λ spec us. Appends told told' (output (frame_of a.options) a.options.sides spec us)
+      × Reports (frame_of a.options) a.options.sides spec us r))
   -- a refusal names the first check that fails
   pub refused : IfErr ended (λ e. IsRefusal a e)
   -- after an error the sink has the first bytes of the output, as many as the error says, and none after a refusal

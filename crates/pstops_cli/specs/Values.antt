@@ -1,5 +1,7 @@
 -- What the values of the options stand for.
-use Rattle.std.specs.Prelude.{⊤, ◌≤◌, ◌≡◌, ◌↔◌, ◌++◌, ◌^◌, ◌&&◌, ℕ, ℤ, false, pos, int_le, nat_lt, unwrap_or, ok_or, option_map, option_and_then, if◌then◌else◌, List, [], Option, Some, None, Result, Ok, Err, codes}
+use Rattle.std.specs.Prelude.{⊤, ◌≤◌, ◌≡◌, ◌↔◌, ◌++◌, ◌^◌, ◌&&◌, ℕ, ℤ, false, pos, int_le, nat_lt, unwrap_or, ok_or}
+use Rattle.std.specs.Prelude.{option_map, option_and_then, if◌then◌else◌, List, [], Option, Some, None, Result, Ok, Err}
+use Rattle.std.specs.Prelude.{codes}
 use Rattle.std.specs.Str.{bytes_eq}
 use Rattle.std.specs.Str.Parse.{digits_value, without_leading_plus}
 use Rattle.clap.specs.ValueTests.{is_numeral}
@@ -25,7 +27,8 @@ unit_named text =
 -- so many of the unit that stands behind the number
 abbrev pub length_of : Paper → Option (ℤ × List ℕ) → Option ℤ
 length_of paper None = None
-length_of paper (Some (number, rest)) = if is_large number then None else option_map (grains paper number) (unit_named rest)
+length_of paper (Some (number, rest)) = if is_large number then None
+    else option_map (grains paper number) (unit_named rest)
 
 -- a length in grains: the longest number at the start, up to 99,999.999999999, and its unit. None of these units asks for
 -- the paper
@@ -35,12 +38,14 @@ length_named paper text = length_of paper (number_at text)
 -- the text is a number text, with a unit or nothing behind it, and names this length
 abbrev pub IsLength : Paper → (text : List ℕ) → (length : ℤ) → Type 0
 IsLength paper text length =
-    (number unit : List ℕ) × (v : ℤ) × (u : LengthUnit) × (text ≡ number ++ unit) × IsNumber number v × (is_large v ≡ false)
+    (number unit : List ℕ) × (v : ℤ) × (u : LengthUnit) × (text ≡ number ++ unit)
+    × IsNumber number v × (is_large v ≡ false)
     × (unit_named unit ≡ Some u) × (length ≡ grains paper v u)
 
 -- a law: what is read off a text's front is all that its parts can be
 abbrev pub LengthsAreNumbers : Type 0
-LengthsAreNumbers = (paper : Paper) (text : List ℕ) (length : ℤ) → (length_named paper text ≡ Some length) ↔ IsLength paper text length
+LengthsAreNumbers = (paper : Paper) (text : List ℕ) (length : ℤ) → (length_named paper text ≡ Some length)
+    ↔ IsLength paper text length
 
 -- ---- the paper and the border
 
@@ -51,12 +56,16 @@ paper_or_a4 name = paper_named (unwrap_or name (codes "a4"))
 -- the paper with another width, which is above zero and no more than a paper's may be
 abbrev pub with_width : Paper → Option (List ℕ) → Option Paper
 with_width paper None = Some paper
-with_width paper (Some text) = option_and_then (λ width. if is_side width then Some (record paper { width = width }) else None) (length_named paper text)
+with_width paper (Some text) =
+    option_and_then (λ width. if is_side width then Some (record paper { width = width })
+    else None) (length_named paper text)
 
 -- the paper with another height
 abbrev pub with_height : Paper → Option (List ℕ) → Option Paper
 with_height paper None = Some paper
-with_height paper (Some text) = option_and_then (λ height. if is_side height then Some (record paper { height = height }) else None) (length_named paper text)
+with_height paper (Some text) =
+    option_and_then (λ height. if is_side height then Some (record paper { height = height })
+    else None) (length_named paper text)
 
 -- the border of this width: there is none of the width 0, and no width is below 0
 abbrev pub border_of : (width : ℤ) → Option (Option ℤ)
@@ -120,7 +129,8 @@ letter_s = 115
 
 -- what the values of -p, -w, -h and -d name beside these sides of a signature and workers, or the fault of the first, in this
 -- order, that names no paper or no length that its option takes
-unfoldable pub options_named : (paper width height border : Option (List ℕ)) → (signature : Option ℕ) → Workers → Result Options CommandFault
+unfoldable pub options_named : (paper width height border : Option (List ℕ)) → (signature : Option ℕ) → Workers
+    → Result Options CommandFault
 options_named paper width height border signature workers =
     and_then (ok_or (paper_or_a4 paper) UnknownPaper) (λ named.
     and_then (ok_or (with_width named width) (BadLength letter_w)) (λ wide.

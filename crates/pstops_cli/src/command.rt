@@ -2,7 +2,9 @@
 ghost use Rattle.std.specs.Prelude.{◌≡◌, IfOk, IfErr, codes, is_some, map, option_map, true, string_bytes};
 ghost use Rattle.clap.specs.Words.{first_of, first_value, found_of, is_simple, matches_of, one_of, rows_of, rule_of};
 ghost use Rattle.imposer.specs.Workers.{AreWorkers};
-ghost use Rattle.pstops_cli.specs.Command.{Finds, IsChain, ParseRefuses, Reads, RefusesFound, Refuses, Takes, counted_rule, flag_rule, has_true, options_found, positional_rule, pstops, ranged_rule, rules, sides_found, valued_rule, workers_found};
+ghost use Rattle.pstops_cli.specs.Command.{Finds, IsChain, ParseRefuses, Reads, RefusesFound, Refuses, Takes};
+ghost use Rattle.pstops_cli.specs.Command.{counted_rule, flag_rule, has_true, options_found, positional_rule, pstops};
+ghost use Rattle.pstops_cli.specs.Command.{ranged_rule, rules, sides_found, valued_rule, workers_found};
 ghost use Rattle.pstops_cli.specs.Values.{AreInRange};
 ghost use Rattle.pstops_cli.specs.Values as meaning;
 ghost use Rattle.pstops_cli.specs.declared.command.CommandFault.TheVariants.{NoMemory};

@@ -1,5 +1,6 @@
 //! Reading a whole input.
-ghost use Rattle.std.specs.Prelude.{◌≡◌, ◌+◌, ◌^◌, ◌<◌, ◌≤◌, ℕ, List, None, Option, IfOk, IfErr, OnOk, OnErr, vec_len, length, take, drop};
+ghost use Rattle.std.specs.Prelude.{◌≡◌, ◌+◌, ◌^◌, ◌<◌, ◌≤◌, ℕ, List, None, Option, IfOk, IfErr, OnOk, OnErr, vec_len};
+ghost use Rattle.std.specs.Prelude.{length, take, drop};
 ghost use Rattle.std.specs.Io.KnownBytes.{Consumes, IsAtEnd, Keeps};
 ghost use Rattle.pstops_cli.specs.Input.{ConsumesAtMost, Counts, Fills, IsFaultOf, IsFirst, most_bytes};
 ghost use Rattle.pstops_cli.specs.declared.input.ReadFault.TheVariants.{Device, NoMemory};

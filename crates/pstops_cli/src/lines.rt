@@ -1,6 +1,10 @@
 //! What is said on standard error, and with which exit status the program ends.
 ghost use Rattle.std.specs.Prelude.{◌≡◌, IfOk, string_bytes};
-ghost use Rattle.pstops_cli.specs.Lines.{command_text as text_of_command, document_text as text_of_document, fault_status as status_of_fault, fault_text as text_of_fault, plan_text as text_of_plan, read_text as text_of_read, report_text as text_of_report, run_status as status_of_run, run_text as text_of_run, said, spec_text as text_of_spec};
+ghost use Rattle.pstops_cli.specs.Lines.{command_text as text_of_command, document_text as text_of_document};
+ghost use Rattle.pstops_cli.specs.Lines.{fault_status as status_of_fault, fault_text as text_of_fault};
+ghost use Rattle.pstops_cli.specs.Lines.{plan_text as text_of_plan, read_text as text_of_read};
+ghost use Rattle.pstops_cli.specs.Lines.{report_text as text_of_report, run_status as status_of_run};
+ghost use Rattle.pstops_cli.specs.Lines.{run_text as text_of_run, said, spec_text as text_of_spec};
 
 use crate::command::CommandFault;
 use crate::input::ReadFault;

@@ -29,11 +29,13 @@ pub fn run_request<R: Threads + Wait + Sync, S: Sink>(
     requires countable { S.failures sink.old < u64.MAX }
     // The run ended in some way, with all that a run promises of it, and that way has this status and this line.
     ensures told { (ended : Result ReportValue RunErrorValue)
-        × Ends (asked_by request.now input.now) (S.told sink.old) (S.told sink.new) (S.failures sink.old) (S.failures sink.new) ended
+        × Ends (asked_by request.now input.now) (S.told sink.old) (S.told sink.new)
+        (S.failures sink.old) (S.failures sink.new) ended
         × IsTold request.now.quiet ended result.0 result.1.items }
     // Status 0 comes only if exactly the output was written.
     ensures finished { result.0 ≡ 0 → Accepted (asked_by request.now input.now) (λ spec us.
-        Appends (S.told sink.old) (S.told sink.new) (output (frame_of request.now.options) request.now.options.sides spec us)) }
+        Appends (S.told sink.old) (S.told sink.new)
+        (output (frame_of request.now.options) request.now.options.sides spec us)) }
 {
     let ended = run(
         rt,

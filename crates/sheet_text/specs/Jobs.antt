@@ -1,5 +1,6 @@
 -- What is to be imposed: a plan of the pages of a document, and how they are placed.
-use Rattle.std.specs.Prelude.{ℕ, ◌+◌, List, [], ◌++◌, length, flat_map, slice_index_or, codes, decimal, ℤ, pos, int_lt, Bool, true, Option, Some, None}
+use Rattle.std.specs.Prelude.{ℕ, ◌+◌, List, [], ◌++◌, length, flat_map, slice_index_or, codes, decimal, ℤ, pos, int_lt}
+use Rattle.std.specs.Prelude.{Bool, true, Option, Some, None}
 use Rattle.std.specs.List.{enumerate_from}
 use Rattle.profile.specs.Bytes.{line}
 use Rattle.profile.specs.Sheets.{Slot, Plan}

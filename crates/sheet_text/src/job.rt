@@ -23,9 +23,14 @@ pub struct Job<'j, 'd> {
 impl<'j, 'd> Model for Job<'j, 'd> {
     ghost Value = { JobView };
 
-    ghost view = { λ j. record { plan = j.plan.now; units = j.document.now; frame = record { paper = j.paper; border = j.border } } };
+    ghost view = { λ j. record {
+      plan = j.plan.now;
+      units = j.document.now;
+      frame = record { paper = j.paper; border = j.border };
+    } };
 
-    ghost invariant = { λ j. (j.plan.now.pages ≡ length (pages j.document.now)) × (j.sheets ≡ length j.plan.now.sheets) × IsSound j.plan.now };
+    ghost invariant = { λ j. (j.plan.now.pages ≡ length (pages j.document.now))
+        × (j.sheets ≡ length j.plan.now.sheets) × IsSound j.plan.now };
 }
 
 impl<'j, 'd> Job<'j, 'd> {
@@ -38,7 +43,11 @@ impl<'j, 'd> Job<'j, 'd> {
     ) -> Self
         requires same_pages { plan.now.pages ≡ length (pages document.now) }
         requires border { IsTrue (is_border border) }
-        ensures { result ≡ record { plan = plan.now; units = document.now; frame = record { paper = paper; border = border } } }
+        ensures { result ≡ record {
+          plan = plan.now;
+          units = document.now;
+          frame = record { paper = paper; border = border };
+        } }
     {
         Job {
             plan,

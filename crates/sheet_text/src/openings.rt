@@ -26,7 +26,8 @@ struct Opening {
     paper: Paper,
     border: Option<Grains>,
     text: Vec<u8>,
-    ghost opens: { let frame : Frame = record { paper = paper; border = border } in text.items ≡ opening frame (item_of item) },
+    ghost opens: { let frame : Frame = record { paper = paper; border = border }
+        in text.items ≡ opening frame (item_of item) },
 }
 
 impl Openings {

@@ -15,7 +15,8 @@ use Rattle.sheet_writer.specs.declared.writing.Progress.{Progress}
 abbrev pub front_text : JobView → ℕ → List ℕ
 front_text job n =
     preamble_text (length job.plan.sheets) job.units
-    ++ flat_map (λ (s, slots). sheet_text job.frame (pages job.units) s slots) (take n (enumerate_from 0 job.plan.sheets))
+    ++ flat_map (λ (s, slots).
+    sheet_text job.frame (pages job.units) s slots) (take n (enumerate_from 0 job.plan.sheets))
 
 -- the first n bytes of the output were written, and nothing else
 abbrev pub WroteFirst : JobView → (old new : Option (List ℕ)) → ℕ → Type 0
@@ -23,9 +24,11 @@ WroteFirst job old new n = (n ≤ length (output_of job)) × Appends old new (ta
 
 -- the header and the sheets before the next one were written; after a halt, some first part of the output. The sink failed
 -- only if the halt says so
-abbrev pub StandsAt : JobView → (old new : Option (List ℕ)) → (before after : ℕ) → (next written : ℕ) → Option Halt → Type 0
+abbrev pub StandsAt : JobView → (old new : Option (List ℕ)) → (before after : ℕ)
+    → (next written : ℕ) → Option Halt → Type 0
 StandsAt job old new before after next written None =
-    (next ≤ length job.plan.sheets) × (written ≡ length (front_text job next)) × Appends old new (front_text job next) × (after ≡ before)
+    (next ≤ length job.plan.sheets) × (written ≡ length (front_text job next))
+    × Appends old new (front_text job next) × (after ≡ before)
 StandsAt job old new before after next written (Some Failed) = WroteFirst job old new written × (after ≡ before + 1)
 StandsAt job old new before after next written (Some NoMemory) = WroteFirst job old new written × (after ≡ before)
 
@@ -35,24 +38,30 @@ Stands job old new before after p = StandsAt job old new before after p.next p.w
 
 -- wherever the writing began, it still stands right
 abbrev pub GoesOn : JobView → (old new : Option (List ℕ)) → (before after : ℕ) → Progress → Progress → Type 0
-GoesOn job old new before after p q = (start : Option (List ℕ)) (first : ℕ) → Stands job start old first before p → Stands job start new first after q
+GoesOn job old new before after p q = (start : Option (List ℕ)) (first : ℕ) → Stands job start old first before p
+    → Stands job start new first after q
 
 -- the whole output was written; or some first part of it, after a halt
 abbrev pub EndsAt : JobView → (old new : Option (List ℕ)) → (before after : ℕ) → (written : ℕ) → Option Halt → Type 0
-EndsAt job old new before after written None = (written ≡ length (output_of job)) × Appends old new (output_of job) × (after ≡ before)
+EndsAt job old new before after written None = (written ≡ length (output_of job))
+    × Appends old new (output_of job) × (after ≡ before)
 EndsAt job old new before after written (Some why) = StandsAt job old new before after 0 written (Some why)
 
 -- wherever the writing began, it ended right
 abbrev pub EndsAfter : JobView → (old new : Option (List ℕ)) → (before after : ℕ) → Progress → Progress → Type 0
 EndsAfter job old new before after p q =
-    (start : Option (List ℕ)) (first : ℕ) → Stands job start old first before p → EndsAt job start new first after q.written q.halted
+    (start : Option (List ℕ)) (first : ℕ) → Stands job start old first before p
+    → EndsAt job start new first after q.written q.halted
 
 -- what became of a text that was handed to the sink
-abbrev pub Handed : List ℕ → (old new : Option (List ℕ)) → (before after : ℕ) → (written written' : ℕ) → Option Halt → Type 0
-Handed text old new before after written written' None = (written' ≡ written + length text) × Appends old new text × (after ≡ before)
+abbrev pub Handed : List ℕ → (old new : Option (List ℕ)) → (before after : ℕ)
+    → (written written' : ℕ) → Option Halt → Type 0
+Handed text old new before after written written' None = (written' ≡ written + length text)
+    × Appends old new text × (after ≡ before)
 Handed text old new before after written written' (Some Failed) =
     (k : ℕ) × (k ≤ length text) × (written' ≡ written + k) × Appends old new (take k text) × (after ≡ before + 1)
-Handed text old new before after written written' (Some NoMemory) = (written' ≡ written) × Keeps old new × (after ≡ before)
+Handed text old new before after written written' (Some NoMemory) = (written' ≡ written)
+    × Keeps old new × (after ≡ before)
 
 -- each sheet that came before its turn has its text
 abbrev pub AreEarly : JobView → List (Option Imposed) → Type 0

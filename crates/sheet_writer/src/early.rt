@@ -44,7 +44,8 @@ impl Early {
 
     /// Takes the text of a sheet, if it came.
     pub fn take(&mut self, sheet: u32) -> Option<Vec<u8>>
-        ensures text { (job : JobView) → AreEarly job self.old.places.items → IfSome result (λ text. text.items ≡ text_of job sheet) }
+        ensures text { (job : JobView) → AreEarly job self.old.places.items
+            → IfSome result (λ text. text.items ≡ text_of job sheet) }
         ensures left { (job : JobView) → AreEarly job self.old.places.items → AreEarly job self.new.places.items }
     {
         let place = sheet as usize % self.places.len().max(1);

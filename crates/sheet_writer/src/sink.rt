@@ -1,5 +1,6 @@
 //! Where a run writes.
-ghost use Rattle.std.specs.Prelude.{◌≡◌, ℕ, ◌+◌, ◌-◌, ◌^◌, ◌<◌, ◌≤◌, List, Option, Some, None, length, take, IfOk, IfErr, OnOk, OnErr, [], vec_len, vec_capacity};
+ghost use Rattle.std.specs.Prelude.{◌≡◌, ℕ, ◌+◌, ◌-◌, ◌^◌, ◌<◌, ◌≤◌, List, Option, Some, None, length, take, IfOk};
+ghost use Rattle.std.specs.Prelude.{IfErr, OnOk, OnErr, [], vec_len, vec_capacity};
 ghost use Rattle.std.specs.Io.KnownBytes.{Appends, Keeps};
 ghost use Rattle.sheet_writer.specs.Memory.{MemoryState, acceptable, IsSpent, after_taking};
 
@@ -104,7 +105,13 @@ pub struct MemorySink {
 impl Model for MemorySink {
     ghost Value = { MemoryState };
 
-    ghost view = { λ s. record { bytes = s.bytes.items; room = s.room; per_call = s.per_call; calls = s.calls; failures = s.failures } };
+    ghost view = { λ s. record {
+      bytes = s.bytes.items;
+      room = s.room;
+      per_call = s.per_call;
+      calls = s.calls;
+      failures = s.failures;
+    } };
 
     ghost invariant = { λ s. (vec_len s.bytes ≤ s.room) × (s.room ≤ vec_capacity s.bytes) };
 }
@@ -112,7 +119,13 @@ impl Model for MemorySink {
 impl MemorySink {
     /// Reserves the room, so that no later call needs memory.
     pub fn new(alloc: Global, room: usize, per_call: usize, calls: u64) -> Result<Self, AllocError>
-        ensures { IfOk result (λ s. s ≡ record { bytes = []; room = room; per_call = per_call; calls = calls; failures = 0 }) }
+        ensures { IfOk result (λ s. s ≡ record {
+          bytes = [];
+          room = room;
+          per_call = per_call;
+          calls = calls;
+          failures = 0;
+        }) }
     {
         let bytes = Vec::with_capacity(alloc, room)?;
         Ok(MemorySink {

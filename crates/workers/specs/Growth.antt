@@ -7,7 +7,8 @@ abbrev pub StaysGathered : {H : Type 0} → (H → ℕ → ℕ → H → Type 0)
 StaysGathered gathered old new = (first : _) (count : ℕ) → gathered first count 0 old → gathered first count 0 new
 
 -- with the next preparer's part one more is joined
-abbrev pub GainsPreparer : {H : Type 0} → (H → ℕ → ℕ → H → Type 0) → (ℕ → ℕ → H → Type 0) → (all theirs new : H) → Type 0
+abbrev pub GainsPreparer : {H : Type 0} → (H → ℕ → ℕ → H → Type 0) → (ℕ → ℕ → H → Type 0)
+    → (all theirs new : H) → Type 0
 GainsPreparer gathered prepared all theirs new =
     (first : _) (count k : ℕ) → gathered first count k all → prepared count k theirs → gathered first count (k + 1) new
 
@@ -18,4 +19,5 @@ GainsImposer gathered imposed all theirs new =
 
 -- if it began before any preparer was joined, all of them are joined at the end
 abbrev pub GathersAll : {H : Type 0} → (H → ℕ → ℕ → H → Type 0) → (count : ℕ) → H → Option H → Type 0
-GathersAll gathered count old ended = (first : _) → gathered first count 0 old → IfSome ended (gathered first count count)
+GathersAll gathered count old ended = (first : _) → gathered first count 0 old
+    → IfSome ended (gathered first count count)

@@ -37,7 +37,8 @@ pub(crate) fn start<
     requires share { (0 < preparers) × (preparers + imposers < W.share shared.now held.old) }
     requires ticket { W.sends shared.now ticket }
     ensures held { W.is_held shared.now held.new }
-    ensures share { IfSome result (λ t. W.share shared.now held.new ≡ W.share shared.now held.old - preparers - imposers) }
+    ensures share { IfSome result (λ t.
+        W.share shared.now held.new ≡ W.share shared.now held.old - preparers - imposers) }
     ensures gathered { StaysGathered (W.has_gathered shared.now) held.old held.new }
     ensures preparers { IfSome result (λ t. vec_len t.0 ≡ preparers) }
     ensures imposers { IfSome result (λ t. vec_len t.1 ≡ imposers) }
