@@ -8,4 +8,5 @@ pub mod Faults
 pub mod Tasks
 pub mod Refusals
 pub mod Telling
+pub mod Unread
 pub mod Statuses

@@ -6,29 +6,33 @@ const SHOWN_BEFORE: usize = 50;
 
 const SHOWN_BEHIND: usize = 20;
 
-/// Two lines behind a line end: the text round the place, and a caret below it. Nothing if the text has bytes that
-/// don't take one column each.
+/// Two lines behind a line end: the text round the place, and a caret below it. Two dots stand for what is cut off, and a
+/// question mark for a control character. Nothing if the text ends before the place.
 pub(crate) fn caret_below(alloc: Global, text: &str, place: usize) -> Result<String, AllocError> {
-    let bytes = text.as_bytes();
-    if place > bytes.len() || !bytes.iter().all(|b| is_column(*b)) {
+    if place > text.len() {
         return Ok(String::new(alloc));
     }
     let start = place.saturating_sub(SHOWN_BEFORE);
-    let end = place.saturating_add(SHOWN_BEHIND).min(bytes.len());
-    let mut out = Vec::new(alloc);
-    out.extend_from_slice(b"\n  ")?;
-    out.extend_from_slice(&bytes[start..end])?;
-    out.extend_from_slice(b"\n  ")?;
-    out.resize(out.len() + (place - start), b' ')?;
-    out.push(b'^')?;
-    match String::from_utf8(out) {
-        Ok(text) => Ok(text),
-        Err(_) => Ok(String::new(alloc)),
+    let end = place.saturating_add(SHOWN_BEHIND);
+    let mut above = String::from_str(alloc, "\n  ")?;
+    let mut below = String::from_str(alloc, "\n  ")?;
+    if start > 0 {
+        above.push_str("..")?;
+        below.push_str("  ")?;
     }
-}
-
-fn is_column(byte: u8) -> bool {
-    32 <= byte && byte <= 126
+    for (at, letter) in text.char_indices() {
+        if start <= at && at < end {
+            above.push(if letter.is_control() { '?' } else { letter })?;
+            if at < place {
+                below.push(' ')?;
+            }
+        }
+    }
+    if end < text.len() {
+        above.push_str("..")?;
+    }
+    below.push('^')?;
+    format!(in alloc; "{above}{below}")
 }
 
 /// Where an item of a specification stands, counted from 0 over the whole text.
@@ -59,6 +63,27 @@ fn place_behind(text: &[u8], count: u32, of_items: bool) -> usize {
                 start = at + 1;
             }
             _ => {}
+        }
+    }
+    start
+}
+
+/// Where the first number over 99,999 stands in a specification: a sixth digit shows it, of those that aren't decimals
+/// or zeros in front.
+pub(crate) fn large_place(text: &str) -> usize {
+    let mut start = 0usize;
+    let mut digits = 0u32;
+    let mut is_decimal = false;
+    for (at, byte) in text.as_bytes().iter().enumerate() {
+        if !byte.is_ascii_digit() {
+            start = at + 1;
+            digits = 0;
+            is_decimal = *byte == b'.';
+        } else if !is_decimal && (digits > 0 || *byte != b'0') {
+            digits = digits.saturating_add(1);
+            if digits > 5 {
+                return start;
+            }
         }
     }
     start

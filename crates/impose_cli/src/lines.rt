@@ -3,7 +3,7 @@ ghost use Rattle.std.specs.Prelude.{◌≡◌};
 ghost use Rattle.pstops_cli.specs.Lines.{run_status as status_of_run};
 ghost use Rattle.impose_cli.specs.Statuses.{fault_status as status_of_fault, words_status as status_of_words};
 
-use crate::caret::{caret_below, group_place, item_place};
+use crate::caret::{caret_below, group_place, item_place, large_place};
 use crate::fault::{CommandFault, Fault, PaperOption};
 use crate::request::{Layout, Request};
 use crate::task::{Finished, PaperOrigin};
@@ -304,14 +304,19 @@ fn run_text(
 ) -> Result<String, AllocError> {
     match error {
         RunError::Options => String::from_str(alloc, "bad options"),
-        RunError::Spec(error) => spec_text(alloc, error, spec_of(request)),
         RunError::Document(error) => document_text(alloc, error, input_name(request)),
         RunError::Plan(error) => plan_text(alloc, error),
-        RunError::NoMemory { written: 0 } => String::from_str(alloc, "out of memory"),
+        RunError::Spec(SpecError::NoMemory) | RunError::NoMemory { written: 0 } => {
+            String::from_str(alloc, "out of memory")
+        }
+        RunError::Spec(error) => spec_text(alloc, error, spec_of(request)),
         RunError::NoMemory { written } => format!(in alloc; "out of memory after {written} bytes"),
         RunError::Write { written } => written_text(alloc, *written, request),
     }
 }
+
+/// How many sheets a specification has at most.
+const MOST_GROUPS: u32 = 10_000;
 
 fn spec_of(request: Option<&Request>) -> &str {
     match request {
@@ -326,68 +331,51 @@ fn spec_of(request: Option<&Request>) -> &str {
 }
 
 fn spec_text(alloc: Global, error: &SpecError, spec: &str) -> Result<String, AllocError> {
+    let message = match error {
+        SpecError::Syntax(at) if *at < spec.len() => format!(in alloc;
+            "syntax error at byte {at}; what stands at the caret can't follow"
+        )?,
+        error => String::from_str(alloc, spec_message(error))?,
+    };
+    let message = format!(in alloc; "specification: {message}")?;
+    match spec_place(error, spec) {
+        Some(place) => shown(alloc, message, spec, place),
+        None => Ok(message),
+    }
+}
+
+fn spec_message(error: &SpecError) -> &'static str {
     match error {
-        SpecError::TooLong => String::from_str(
-            alloc,
-            "specification: longer than 65,536 bytes; impose in several runs",
-        ),
-        SpecError::Syntax(at) => {
-            let message = if *at < spec.len() {
-                format!(in alloc;
-                    "specification: syntax error at byte {at}; what stands at the caret can't follow"
-                )?
-            } else {
-                String::from_str(
-                    alloc,
-                    "specification: incomplete; more has to follow at the caret",
-                )?
-            };
-            shown(alloc, message, spec, *at)
-        }
-        SpecError::TooLarge => String::from_str(
-            alloc,
-            "specification: a number is over 99,999; take a smaller one",
-        ),
+        SpecError::TooLong => "longer than 65,536 bytes; impose in several runs",
+        SpecError::Syntax(_) => "incomplete; more has to follow at the caret",
+        SpecError::TooLarge => "a number is over 99,999; take a smaller one",
         SpecError::ModuloZero => {
-            let message = String::from_str(
-                alloc,
-                "specification: the modulo is zero; for single pages leave it and its colon out",
-            )?;
-            shown(alloc, message, spec, 0)
+            "the modulo is zero; for single pages leave it and its colon out"
         }
-        SpecError::PageOutOfBlock(item) => {
-            let message = String::from_str(
-                alloc,
-                "specification: the page number is not below the modulo; pages are counted from 0 in each block",
-            )?;
-            shown(alloc, message, spec, item_place(spec, *item))
+        SpecError::PageOutOfBlock(_) => {
+            "the page number is not below the modulo; pages are counted from 0 in each block"
         }
-        SpecError::ScaleZero(item) => {
-            let message = String::from_str(
-                alloc,
-                "specification: the scale is not above zero; for pages of their own size leave it out",
-            )?;
-            shown(alloc, message, spec, item_place(spec, *item))
+        SpecError::ScaleZero(_) => {
+            "the scale is not above zero; for pages of their own size leave it out"
         }
-        SpecError::Repeated(item) => {
-            let message = String::from_str(
-                alloc,
-                "specification: a second scale or offset; leave one out",
-            )?;
-            shown(alloc, message, spec, item_place(spec, *item))
-        }
-        SpecError::TooManySlots(group) => {
-            let message = String::from_str(
-                alloc,
-                "specification: a sheet takes at most 4,096 pages",
-            )?;
-            shown(alloc, message, spec, group_place(spec, *group))
-        }
-        SpecError::TooManyGroups => String::from_str(
-            alloc,
-            "specification: more than 10,000 sheets; impose in several runs",
-        ),
-        SpecError::NoMemory => String::from_str(alloc, "out of memory"),
+        SpecError::Repeated(_) => "a second scale or offset; leave one out",
+        SpecError::TooManySlots(_) => "a sheet takes at most 4,096 pages",
+        SpecError::TooManyGroups => "more than 10,000 sheets; impose in several runs",
+        SpecError::NoMemory => "out of memory",
+    }
+}
+
+/// Where a specification is at fault, if that is at one place.
+fn spec_place(error: &SpecError, spec: &str) -> Option<usize> {
+    match error {
+        SpecError::Syntax(at) => Some(*at),
+        SpecError::TooLarge => Some(large_place(spec)),
+        SpecError::ModuloZero => Some(0),
+        SpecError::PageOutOfBlock(item) => Some(item_place(spec, *item)),
+        SpecError::ScaleZero(item) | SpecError::Repeated(item) => Some(item_place(spec, *item)),
+        SpecError::TooManySlots(group) => Some(group_place(spec, *group)),
+        SpecError::TooManyGroups => Some(group_place(spec, MOST_GROUPS)),
+        SpecError::TooLong | SpecError::NoMemory => None,
     }
 }
 

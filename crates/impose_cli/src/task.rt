@@ -3,12 +3,14 @@ ghost use Rattle.std.specs.Prelude.{◌≡◌, ◌<◌, ◌≤◌, IfErr, IfOk, 
 ghost use Rattle.std.specs.Io.KnownBytes.{Appends};
 ghost use Rattle.profile.specs.Output.{output};
 ghost use Rattle.layouts.specs.Grids.{leaves, n_up};
+ghost use Rattle.layouts.specs.Refusals.{why_not, why_no_booklet};
 ghost use Rattle.layouts.specs.Selections.{IsSelection};
 ghost use Rattle.imposer.specs.Runs.{Accepted, FailedIn, HasWritten, IsRefusal, Reports, frame_of};
 ghost use Rattle.profile.specs.Specification.{Spec as SpecValue};
 ghost use Rattle.impose_cli.specs.Faults.{of_selection as selection_fault, without_memory};
 ghost use Rattle.impose_cli.specs.Tasks.{Finishes, HasPages, IsPlaced, IsTask, IsWritten, asked_by, fours, page_found, sheet_found, taken_text};
 ghost use Rattle.impose_cli.specs.Refusals.{Failed, LeavesWritten, RefusesDocument, RefusesLayout, RefusesRanges, RefusesRequest, RefusesTask};
+ghost use Rattle.impose_cli.specs.Unread.{IsPossible, IsSpecification, RefusesSpecification, RefusesUnread};
 ghost use Rattle.impose_cli.specs.Telling.{IsFaultOf};
 ghost use Rattle.impose_cli.specs.declared.request.Layout.TheVariants as layout;
 
@@ -67,25 +69,49 @@ const WORKERS: Workers = Workers {
 
 /// The checks of a layout that don't ask for the document, so that a mistake is told before a byte is read: those of a
 /// specification, and if the paper of the pages is named those of pages on sheets.
-pub fn check_layout(alloc: Global, request: &Request) -> Result<(), Fault> {
+pub fn check_layout(alloc: Global, request: &Request) -> Result<(), Fault>
+    ensures possible { OnOk result (IsPossible request.now.layout request.now.page request.now.sheet) }
+    ensures refused { IfErr result (RefusesUnread request.now.layout request.now.page request.now.sheet) }
+{
     match (&request.layout, &request.page) {
-        (Layout::Spec(specs), _) => match read_spec(alloc, specs.as_str()) {
-            Ok(_) => Ok(()),
-            Err(error) => Err(Fault::Run(RunError::from(error))),
-        },
+        (Layout::Spec(specs), _) => check_spec(alloc, specs.as_str()),
         (Layout::NUp(count), Some(page)) => {
-            match nup(alloc, *count, page, sheet_of(&request.sheet, page)) {
-                Ok(_) => Ok(()),
-                Err(error) => Err(Fault::from(error)),
-            }
+            check_nup(alloc, *count, page, sheet_of(&request.sheet, page))
         }
         (Layout::Booklet { long_edge, .. }, Some(page)) => {
-            match booklet(alloc, page, sheet_of(&request.sheet, page), *long_edge) {
-                Ok(_) => Ok(()),
-                Err(error) => Err(Fault::from(error)),
-            }
+            check_booklet(alloc, page, sheet_of(&request.sheet, page), *long_edge)
         }
         _ => Ok(()),
+    }
+}
+
+fn check_spec(alloc: Global, specs: &str) -> Result<(), Fault>
+    ensures possible { OnOk result (IsSpecification specs.now) }
+    ensures refused { IfErr result (RefusesSpecification specs.now) }
+{
+    match read_spec(alloc, specs) {
+        Ok(_) => Ok(()),
+        Err(error) => Err(Fault::Run(RunError::from(error))),
+    }
+}
+
+fn check_nup(alloc: Global, count: u32, page: &Paper, sheet: &Paper) -> Result<(), Fault>
+    ensures possible { OnOk result (why_not page.now sheet.now count ≡ None) }
+    ensures refused { IfErr result (RefusesLayout (layout.NUp count) page.now sheet.now 0) }
+{
+    match nup(alloc, count, page, sheet) {
+        Ok(_) => Ok(()),
+        Err(error) => Err(Fault::from(error)),
+    }
+}
+
+fn check_booklet(alloc: Global, page: &Paper, sheet: &Paper, long_edge: bool) -> Result<(), Fault>
+    ensures possible { OnOk result (why_no_booklet page.now sheet.now ≡ None) }
+    ensures refused { IfErr result (RefusesLayout (layout.Booklet None long_edge) page.now sheet.now 0) }
+{
+    match booklet(alloc, page, sheet, long_edge) {
+        Ok(_) => Ok(()),
+        Err(error) => Err(Fault::from(error)),
     }
 }
 

@@ -1,0 +1,18 @@
+use Rattle.std.proofs.Common.{sym, subst, None}
+use Rattle.layouts.specs.Refusals.{why_no_booklet}
+use Rattle.impose_cli.specs.Refusals.{RefusesLayout}
+use Rattle.impose_cli.specs.declared.request.Layout.TheVariants as layout
+use Rattle.impose_cli.proofs.Placing.{refuses_layout}
+use Rattle.impose_cli.proofs.task.check_booklet.Goals as goal
+use Rattle.impose_cli.proofs.task.check_booklet.Goals.{in-Ok, in-Err}
+
+pub returns-clause-refused : goal.returns-clause-refused
+returns-clause-refused c =
+    let l = layout.Booklet None c.args.long_edge in
+    let page = c.args.page.now in
+    let sheet = c.args.sheet.now in
+    elim c.match-booklet.branch [
+      in-Ok w ↦ rw w.result-is tt
+    | in-Err w ↦ rw w.result-is (subst (RefusesLayout l page sheet 0) (sym w.from.ensures)
+      (refuses_layout (why_no_booklet page sheet) l page sheet (λ e is. is) w.in-Err.error w.in-Err.ensures.refused))
+    ]
