@@ -12,6 +12,11 @@
  *   write-torn   a write moves half of its bytes, and those behind it fail (ENOSPC), as on a device that gets full
  *   open         a file isn't opened   (EMFILE)     open-memory        (ENOMEM)
  *   thread       a thread isn't started (EAGAIN)
+ *
+ * With the kind "asked" the program itself says when. It asks for ASKED and N bytes more, which no machine has: from then
+ * on the Nth malloc or realloc is refused (and all behind it if COUNT is 0), until it asks for ASKED bytes. These are
+ * granted if anything was refused meanwhile. Both kinds of request get a small piece of memory if they are granted. A dot
+ * behind the bytes in REFUSE_TOLD ends those of one such time. FIRST has no meaning.
  */
 #define _GNU_SOURCE
 #include <dlfcn.h>
@@ -78,8 +83,44 @@ static unsigned long refused(const char *name, const void *caller) {
 
 #define REFUSED(name) refused(name, __builtin_return_address(0))
 
+#define ASKED ((size_t)1 << 62)
+
+static atomic_ulong awaited, refusals;
+
+/* Whether the program speaks to this library. What it is answered then is the piece of memory in ANSWER. */
+static int is_asked(size_t size, void **answer) {
+    if (size < ASKED || strcmp(kind, "asked") != 0)
+        return 0;
+    *answer = size > ASKED || atomic_load(&refusals) > 0 ? __libc_malloc(1) : 0;
+    if (size == ASKED)
+        syscall(SYS_write, told, ".", 1);
+    atomic_store(&awaited, size - ASKED);
+    atomic_store(&refusals, 0);
+    atomic_store(&calls, 0);
+    return 1;
+}
+
+/* Whether this growth is one that the program wants refused. */
+static int is_refused_as_asked(const void *caller) {
+    uintptr_t from = (uintptr_t)caller;
+    unsigned long wanted = atomic_load(&awaited);
+    if (wanted == 0 || from < program_start || from >= program_end)
+        return 0;
+    unsigned long number = atomic_fetch_add(&calls, 1) + 1;
+    if (number < wanted || (count != 0 && number >= wanted + count))
+        return 0;
+    atomic_fetch_add(&refusals, 1);
+    syscall(SYS_write, told, "x", 1);
+    return 1;
+}
+
+#define REFUSED_AS_ASKED() is_refused_as_asked(__builtin_return_address(0))
+
 void *malloc(size_t size) {
-    if (REFUSED("alloc")) {
+    void *answer;
+    if (is_asked(size, &answer))
+        return answer;
+    if (REFUSED("alloc") || REFUSED_AS_ASKED()) {
         errno = ENOMEM;
         return 0;
     }
@@ -87,7 +128,7 @@ void *malloc(size_t size) {
 }
 
 void *realloc(void *old, size_t size) {
-    if (REFUSED("alloc")) {
+    if (REFUSED("alloc") || REFUSED_AS_ASKED()) {
         errno = ENOMEM;
         return 0;
     }

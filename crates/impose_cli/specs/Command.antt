@@ -54,10 +54,12 @@ abbrev pub nup_app : App
 nup_app = subcommand_app (codes "nup") (ranged 1 1_024 (required_rule (codes "count")) ∷ [])
 
 abbrev pub booklet_app : App
-booklet_app = subcommand_app (codes "booklet") (ranged 4 1_000_000 (option_rule (codes "signature")) ∷ flag_rule (codes "long-edge") ∷ [])
+booklet_app = subcommand_app (codes "booklet") (ranged 4 1_000_000 (option_rule (codes "signature"))
+    ∷ flag_rule (codes "long-edge") ∷ [])
 
 abbrev pub select_app : App
-select_app = subcommand_app (codes "select") (required_rule (codes "ranges") ∷ flag_rule (codes "odd") ∷ flag_rule (codes "even") ∷ [])
+select_app = subcommand_app (codes "select") (required_rule (codes "ranges") ∷ flag_rule (codes "odd")
+    ∷ flag_rule (codes "even") ∷ [])
 
 abbrev pub spec_app : App
 spec_app = subcommand_app (codes "spec") (required_rule (codes "specs") ∷ [])

@@ -50,7 +50,8 @@ WhyNot (layout.Spec specs) page sheet pages e = ⊥
 -- the fault is out of memory, or the layout's
 abbrev pub RefusesLayout : Layout → (page sheet : Paper) → (pages : ℕ) → Fault → Type 0
 RefusesLayout l page sheet pages (fault.Layout e) = WhyNot l page sheet pages e
-RefusesLayout l page sheet pages (fault.NoSuchPage place n) = (n ≡ pages) × WhyNot l page sheet pages (PageNotInDocument place)
+RefusesLayout l page sheet pages (fault.NoSuchPage place n) = (n ≡ pages)
+    × WhyNot l page sheet pages (PageNotInDocument place)
 RefusesLayout l page sheet pages (fault.Run e) = fault.Run e ≡ without_memory
 RefusesLayout l page sheet pages fault.NoInput = ⊥
 RefusesLayout l page sheet pages fault.Pdf = ⊥
@@ -61,7 +62,8 @@ RefusesLayout l page sheet pages (fault.Write written cause) = ⊥
 -- what a refusal of ranges says
 abbrev pub RefusesRanges : (ranges : List ℕ) → Which → (pages : ℕ) → Fault → Type 0
 RefusesRanges ranges which pages (fault.Layout e) = RefusesSelection ranges which pages e
-RefusesRanges ranges which pages (fault.NoSuchPage place n) = (n ≡ pages) × RefusesSelection ranges which pages (PageNotInDocument place)
+RefusesRanges ranges which pages (fault.NoSuchPage place n) = (n ≡ pages)
+    × RefusesSelection ranges which pages (PageNotInDocument place)
 RefusesRanges ranges which pages (fault.Run e) = fault.Run e ≡ without_memory
 RefusesRanges ranges which pages fault.NoInput = ⊥
 RefusesRanges ranges which pages fault.Pdf = ⊥
@@ -76,7 +78,8 @@ abbrev pub RefusesTask : Request → (input : List ℕ) → Fault → Type 0
 RefusesTask r input f =
     (f ≡ without_memory)
     ⊎ (RefusesDocument input f
-    ⊎ ((n : ℕ) × HasPages input n × RefusesLayout r.layout (page_found r.page input).0 (sheet_found r.sheet (page_found r.page input).0) n f))
+    ⊎ ((n : ℕ) × HasPages input n
+    × RefusesLayout r.layout (page_found r.page input).0 (sheet_found r.sheet (page_found r.page input).0) n f))
 
 -- the fault is one of the run of the request's task, with this error
 pub record IsOfRun (P : Task → RunError → Type 0) (r : Request) (input : List ℕ) (f : Fault) : Type 0 where

@@ -1,5 +1,6 @@
 -- Lengths and sizes of paper, as people write them.
-use Rattle.std.specs.Prelude.{ℕ, ℤ, ◌+◌, ◌==◌, if◌then◌else◌, is_some, nat_lt, not, List, length, take, drop, Option, None}
+use Rattle.std.specs.Prelude.{ℕ, ℤ, ◌+◌, ◌==◌, if◌then◌else◌, is_some, nat_lt, not, List, length, take, drop, Option}
+use Rattle.std.specs.Prelude.{None}
 use Rattle.std.specs.List.{prefix_len}
 use Rattle.profile.specs.Papers.{Paper, paper_named}
 use Rattle.document_paper.specs.Media.{a4, paper_of}
@@ -18,7 +19,8 @@ x_at text = prefix_len (λ b. not (b == letter_x)) text
 
 -- a width and a height, with the first x between them
 abbrev pub size_of : List ℕ → Option Paper
-size_of text = if nat_lt (x_at text) (length text) then paper_of (length_named (take (x_at text) text)) (length_named (drop (x_at text + 1) text)) else None
+size_of text = if nat_lt (x_at text) (length text)
+    then paper_of (length_named (take (x_at text) text)) (length_named (drop (x_at text + 1) text)) else None
 
 -- a paper with this name, or of this size
 abbrev pub size_named : List ℕ → Option Paper

@@ -16,7 +16,8 @@ pub record ReadsSizes (found : List Row) (page sheet : Option Paper) (border : O
 
 -- a refusal of an option's value
 abbrev pub RefusesSize : PaperOption → (found : List Row) → CommandFault → Type 0
-RefusesSize option found (fault.UnknownPaper other text) = (other ≡ option) × NamesNoSize option found (string_bytes text)
+RefusesSize option found (fault.UnknownPaper other text) = (other ≡ option)
+    × NamesNoSize option found (string_bytes text)
 RefusesSize option found fault.NoMemory = ⊤
 RefusesSize option found fault.Lacking = ⊥
 RefusesSize option found fault.OddAndEven = ⊥
@@ -27,7 +28,8 @@ RefusesSize option found (fault.BadBorder text) = ⊥
 
 -- a refusal of the border's
 abbrev pub RefusesBorder : (found : List Row) → CommandFault → Type 0
-RefusesBorder found (fault.BadBorder text) = (first_of (codes "border") found ≡ Some (string_bytes text)) × (border_found found ≡ None)
+RefusesBorder found (fault.BadBorder text) = (first_of (codes "border") found ≡ Some (string_bytes text))
+    × (border_found found ≡ None)
 RefusesBorder found fault.NoMemory = ⊤
 RefusesBorder found (fault.UnknownPaper option text) = ⊥
 RefusesBorder found fault.Lacking = ⊥
@@ -39,7 +41,8 @@ RefusesBorder found fault.NoText = ⊥
 -- a refusal of one of them, each behind those before it
 abbrev pub RefusesSizes : (found : List Row) → CommandFault → Type 0
 RefusesSizes found (fault.UnknownPaper OfPages text) = NamesNoSize OfPages found (string_bytes text)
-RefusesSizes found (fault.UnknownPaper OfSheets text) = (is_some (size_found OfPages found) ≡ true) × NamesNoSize OfSheets found (string_bytes text)
+RefusesSizes found (fault.UnknownPaper OfSheets text) = (is_some (size_found OfPages found) ≡ true)
+    × NamesNoSize OfSheets found (string_bytes text)
 RefusesSizes found (fault.BadBorder text) = HasPapers found × RefusesBorder found (fault.BadBorder text)
 RefusesSizes found fault.NoMemory = ⊤
 RefusesSizes found fault.Lacking = ⊥

@@ -1,5 +1,6 @@
 -- What is imposed, and how: a request for a document.
-use Rattle.std.specs.Prelude.{◌≡◌, ℕ, ◌+◌, ◌*◌, ◌/◌, Bool, true, false, if◌then◌else◌, unwrap_or, List, length, Option, Some, None, Ok, string_bytes}
+use Rattle.std.specs.Prelude.{◌≡◌, ℕ, ◌+◌, ◌*◌, ◌/◌, Bool, true, false, if◌then◌else◌, unwrap_or, List, length, Option}
+use Rattle.std.specs.Prelude.{Some, None, Ok, string_bytes}
 use Rattle.profile.specs.Papers.{Paper}
 use Rattle.profile.specs.Specification.{Spec, canonical}
 use Rattle.profile.specs.Admissible.{Takes, most_slots}
@@ -65,7 +66,8 @@ pub record IsTask (request : Request) (input : List ℕ) (task : Task) : Type 0 
   pub page_count : ℕ
   pub document : HasPages input page_count
   pub page : (task.options.paper, task.origin) ≡ page_found request.page input
-  pub placed : IsPlaced request.layout task.options.paper (sheet_found request.sheet task.options.paper) page_count (string_bytes task.spec) task.options.sides
+  pub placed : IsPlaced request.layout task.options.paper (sheet_found request.sheet task.options.paper) page_count
+      (string_bytes task.spec) task.options.sides
   pub text : task.text.items ≡ taken_text request.is_guarded (sheet_found request.sheet task.options.paper) input
   pub border : task.options.border ≡ request.border
   pub workers : task.options.workers ≡ record { preparers = 2; imposers = 2 }
@@ -79,8 +81,10 @@ asked_by t = runs.request t.options (string_bytes t.spec) t.text.items
 -- the specification to which a layout comes, and the sides of a signature, for so many pages of a paper
 abbrev pub LaysOut : Layout → (page sheet : Paper) → (pages : ℕ) → Spec → (sides : Option ℕ) → Type 0
 LaysOut (layout.NUp n) page sheet pages spec sides = (spec ≡ n_up page sheet n) × (sides ≡ None)
-LaysOut (layout.Booklet signature long_edge) page sheet pages spec sides = (spec ≡ leaves page sheet long_edge) × (sides ≡ Some (unwrap_or signature (fours pages)))
-LaysOut (layout.Selection ranges which) page sheet pages spec sides = IsSelection (string_bytes ranges) which pages spec × (sides ≡ None)
+LaysOut (layout.Booklet signature long_edge) page sheet pages spec sides = (spec ≡ leaves page sheet long_edge)
+    × (sides ≡ Some (unwrap_or signature (fours pages)))
+LaysOut (layout.Selection ranges which) page sheet pages spec sides = IsSelection (string_bytes ranges) which pages spec
+    × (sides ≡ None)
 LaysOut (layout.Spec specs) page sheet pages spec sides = Takes most_slots (string_bytes specs) spec × (sides ≡ None)
 
 -- the request was carried out for this document: exactly the output was appended that the profile defines for the layout's

@@ -36,6 +36,7 @@ abbrev pub RefusesUnread : Layout → (named sheet : Option Paper) → Fault →
 RefusesUnread (layout.Spec specs) named sheet f = RefusesSpecification (string_bytes specs) f
 RefusesUnread (layout.NUp n) (Some page) sheet f = RefusesLayout (layout.NUp n) page (sheet_found sheet page) 0 f
 RefusesUnread (layout.NUp n) None sheet f = ⊥
-RefusesUnread (layout.Booklet signature long_edge) (Some page) sheet f = RefusesLayout (layout.Booklet signature long_edge) page (sheet_found sheet page) 0 f
+RefusesUnread (layout.Booklet signature long_edge) (Some page) sheet f =
+    RefusesLayout (layout.Booklet signature long_edge) page (sheet_found sheet page) 0 f
 RefusesUnread (layout.Booklet signature long_edge) None sheet f = ⊥
 RefusesUnread (layout.Selection ranges which) named sheet f = ⊥

@@ -1,5 +1,6 @@
 -- What the words ask for, by the rows that the command finds among them.
-use Rattle.std.specs.Prelude.{◌≡◌, ◌⊎◌, ◌%◌, ◌==◌, ⊤, [], ℕ, ℤ, Bool, true, false, not, if◌then◌else◌, is_some, option_map, List, Option, Some, None, codes, string_bytes}
+use Rattle.std.specs.Prelude.{◌≡◌, ◌⊎◌, ◌%◌, ◌==◌, ⊤, [], ℕ, ℤ, Bool, true, false, not, if◌then◌else◌, is_some}
+use Rattle.std.specs.Prelude.{option_map, List, Option, Some, None, codes, string_bytes}
 use Rattle.std.specs.Str.{bytes_eq}
 use Rattle.clap.specs.Words.{IsAmong, Row, Text, fault_of, first_of, kind_of, one_of, subcommand_of}
 use Rattle.profile.specs.Papers.{Paper}
@@ -72,10 +73,13 @@ file_asked (Some text) = file_of text
 abbrev pub AsksFor : (name : Text) → (found : List Row) → Layout → Type 0
 AsksFor name found (layout.NUp n) = (name ≡ codes "nup") × (number_found (codes "count") found ≡ Some n)
 AsksFor name found (layout.Booklet signature long_edge) =
-    (name ≡ codes "booklet") × (number_found (codes "signature") found ≡ signature) × (is_folded signature ≡ true) × (has_flag (codes "long-edge") found ≡ long_edge)
+    (name ≡ codes "booklet") × (number_found (codes "signature") found ≡ signature) × (is_folded signature ≡ true)
+    × (has_flag (codes "long-edge") found ≡ long_edge)
 AsksFor name found (layout.Selection ranges which) =
-    (name ≡ codes "select") × (first_of (codes "ranges") found ≡ Some (string_bytes ranges)) × (which_found found ≡ Some which)
-AsksFor name found (layout.Spec specs) = (name ≡ codes "spec") × (first_of (codes "specs") found ≡ Some (string_bytes specs))
+    (name ≡ codes "select") × (first_of (codes "ranges") found ≡ Some (string_bytes ranges))
+    × (which_found found ≡ Some which)
+AsksFor name found (layout.Spec specs) = (name ≡ codes "spec")
+    × (first_of (codes "specs") found ≡ Some (string_bytes specs))
 
 -- the request is what was found
 pub record Reads (name : Text) (found : List Row) (r : Request) : Type 0 where
@@ -124,8 +128,10 @@ is_complete name found =
 
 -- what a refusal of a layout says of what was found
 abbrev pub RefusesArguments : (name : Text) → (found : List Row) → CommandFault → Type 0
-RefusesArguments name found (fault.BadSignature sides) = (name ≡ codes "booklet") × (number_found (codes "signature") found ≡ Some sides) × (is_folded (Some sides) ≡ false)
-RefusesArguments name found fault.OddAndEven = (name ≡ codes "select") × (has_flag (codes "odd") found ≡ true) × (has_flag (codes "even") found ≡ true)
+RefusesArguments name found (fault.BadSignature sides) = (name ≡ codes "booklet")
+    × (number_found (codes "signature") found ≡ Some sides) × (is_folded (Some sides) ≡ false)
+RefusesArguments name found fault.OddAndEven = (name ≡ codes "select") × (has_flag (codes "odd") found ≡ true)
+    × (has_flag (codes "even") found ≡ true)
 RefusesArguments name found fault.Lacking = is_complete name found ≡ false
 RefusesArguments name found fault.NoMemory = ⊤
 RefusesArguments name found (fault.Words error) = ⊥
@@ -136,9 +142,12 @@ RefusesArguments name found (fault.BadBorder text) = ⊥
 -- what a refusal says of what was found, and of what was looked at before: --paper, --sheet, --border, the layout
 abbrev pub RefusesFound : (name : Text) → (found : List Row) → CommandFault → Type 0
 RefusesFound name found (fault.UnknownPaper OfPages text) = NamesNoSize OfPages found (string_bytes text)
-RefusesFound name found (fault.UnknownPaper OfSheets text) = (is_some (size_found OfPages found) ≡ true) × NamesNoSize OfSheets found (string_bytes text)
-RefusesFound name found (fault.BadBorder text) = HasPapers found × (first_of (codes "border") found ≡ Some (string_bytes text)) × (border_found found ≡ None)
-RefusesFound name found (fault.BadSignature sides) = HasSizes found × RefusesArguments name found (fault.BadSignature sides)
+RefusesFound name found (fault.UnknownPaper OfSheets text) = (is_some (size_found OfPages found) ≡ true)
+    × NamesNoSize OfSheets found (string_bytes text)
+RefusesFound name found (fault.BadBorder text) = HasPapers found
+    × (first_of (codes "border") found ≡ Some (string_bytes text)) × (border_found found ≡ None)
+RefusesFound name found (fault.BadSignature sides) = HasSizes found
+    × RefusesArguments name found (fault.BadSignature sides)
 RefusesFound name found fault.OddAndEven = HasSizes found × RefusesArguments name found fault.OddAndEven
 RefusesFound name found fault.Lacking = HasSizes found × RefusesArguments name found fault.Lacking
 RefusesFound name found fault.NoMemory = ⊤
@@ -150,11 +159,14 @@ abbrev pub Refuses : (words : List Text) → CommandFault → Type 0
 Refuses words (fault.Words error) = IsAmong (kind_of error) (fault_of impose words)
 Refuses words fault.NoText = ⊥
 Refuses words fault.NoMemory = ⊤
-Refuses words (fault.UnknownPaper option text) = Entered words (λ name found. RefusesFound name found (fault.UnknownPaper option text))
+Refuses words (fault.UnknownPaper option text) =
+    Entered words (λ name found. RefusesFound name found (fault.UnknownPaper option text))
 Refuses words (fault.BadBorder text) = Entered words (λ name found. RefusesFound name found (fault.BadBorder text))
-Refuses words (fault.BadSignature sides) = Entered words (λ name found. RefusesFound name found (fault.BadSignature sides))
+Refuses words (fault.BadSignature sides) =
+    Entered words (λ name found. RefusesFound name found (fault.BadSignature sides))
 Refuses words fault.OddAndEven = Entered words (λ name found. RefusesFound name found fault.OddAndEven)
-Refuses words fault.Lacking = (subcommand_of impose words ≡ None) ⊎ Entered words (λ name found. RefusesFound name found fault.Lacking)
+Refuses words fault.Lacking = (subcommand_of impose words ≡ None)
+    ⊎ Entered words (λ name found. RefusesFound name found fault.Lacking)
 
 -- what a refusal says of the words before what was found is looked at
 abbrev pub ParseRefuses : (words : List Text) → CommandFault → Type 0

@@ -5,7 +5,9 @@ ghost use Rattle.pstops_cli.specs.Command.{has_true};
 ghost use Rattle.pstops_cli.specs.Values as values;
 ghost use Rattle.document_paper.specs.Media.{a4};
 ghost use Rattle.impose_cli.specs.Command.{impose};
-ghost use Rattle.impose_cli.specs.Words.{AsksFor, Entered, ParseRefuses, Reads, Refuses, RefusesFound, RefusesArguments, border_found, file_asked, has_flag, number_found, paper_id, size_found, which_found, which_of as of_both};
+ghost use Rattle.impose_cli.specs.Words.{AsksFor, Entered, ParseRefuses, Reads, Refuses, RefusesFound};
+ghost use Rattle.impose_cli.specs.Words.{RefusesArguments, border_found, file_asked, has_flag, number_found, paper_id};
+ghost use Rattle.impose_cli.specs.Words.{size_found, which_found, which_of as of_both};
 ghost use Rattle.impose_cli.specs.Sizing.{ReadsSizes, RefusesBorder, RefusesSize, RefusesSizes};
 
 use crate::arguments::command;

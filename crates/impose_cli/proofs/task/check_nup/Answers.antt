@@ -12,7 +12,7 @@ returns-clause-refused c =
     let page = c.args.page.now in
     let sheet = c.args.sheet.now in
     elim c.match-nup.branch [
-      in-Ok w ↦ rw w.result-is tt
-    | in-Err w ↦ rw w.result-is (subst (RefusesLayout l page sheet 0) (sym w.from.ensures)
-      (refuses_layout (why_not page sheet c.args.count) l page sheet (λ e is. is) w.in-Err.error w.in-Err.ensures.refused))
+      | in-Ok w ↦ rw w.result-is tt
+      | in-Err w ↦ rw w.result-is (subst (RefusesLayout l page sheet 0) (sym w.from.ensures)
+          (refuses_layout (why_not page sheet c.args.count) l page sheet (λ e is. is) w.in-Err.error w.in-Err.ensures.refused))
     ]

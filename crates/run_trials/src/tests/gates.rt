@@ -1,0 +1,176 @@
+//! Gates at which as many threads wait for each other as a run was told to start: one with fewer never comes past them, and
+//! one that makes the sheets on its caller's thread doesn't come to them.
+ghost use Rattle.std.specs.Prelude.{None};
+
+use super::{document_of, workers};
+use imposer::{Gate, Open, Report, RunError, Sink, SinkFault, Step, run};
+use std::alloc::Global;
+use std::process::Abort;
+use std::sync::Wait;
+use std::sync::atomic::AtomicUsize;
+use std::sync::atomic::Ordering::SeqCst;
+use std::test::Fail;
+use std::thread;
+use std::thread::Threads;
+
+/// How often a wait yields before it runs out.
+const YIELDS: u32 = 20_000_000;
+
+/// How many pages the document has, each on a sheet of its own.
+const PAGES: u32 = 16;
+
+/// Which steps meet.
+#[derive(Clone, Copy)]
+enum Steps {
+    Pages,
+    Sheets,
+}
+
+impl Steps {
+    fn has(self, step: Step) -> bool {
+        match self {
+            Steps::Pages => matches!(step, Step::Deliver(_)),
+            Steps::Sheets => matches!(step, Step::Impose(_)),
+        }
+    }
+}
+
+/// Each of the steps waits until so many were entered. What was entered is told by a bit for each page or sheet.
+#[derive(Drop)]
+struct Barrier {
+    steps: Steps,
+    height: usize,
+    entered: AtomicUsize,
+    bits: AtomicUsize,
+    run_out: AtomicUsize,
+}
+
+impl Barrier {
+    /// Waits until so many steps were entered, or any wait ran out.
+    fn wait(&self) {
+        for _ in 0..YIELDS {
+            if self.entered.load(SeqCst) >= self.height || self.run_out.load(SeqCst) > 0 {
+                return;
+            }
+            thread::yield_now();
+        }
+        self.run_out.fetch_add(1, SeqCst);
+    }
+}
+
+/// The bit of a page or a sheet, of which there are few.
+fn bit_of(step: Step) -> usize {
+    let (Step::Deliver(number) | Step::Impose(number)) = step;
+    if number < PAGES {
+        1 << number
+    } else {
+        1 << PAGES
+    }
+}
+
+impl Gate for Barrier {
+    fn before(&self, step: Step) {
+        if self.steps.has(step) {
+            self.bits.fetch_or(bit_of(step), SeqCst);
+            self.entered.fetch_add(1, SeqCst);
+            self.wait();
+        }
+    }
+
+    fn after(&self, _step: Step) {}
+}
+
+/// Takes all bytes.
+#[derive(Drop)]
+struct Everything {}
+
+impl Sink for Everything {
+    ghost told = { λ _. None };
+
+    ghost failures = { λ _. 0 };
+
+    fn accept(&mut self, bytes: &[u8]) -> Result<usize, SinkFault> {
+        Ok(bytes.len())
+    }
+}
+
+/// Sixteen pages on sixteen sheets by so many workers of each kind, which all meet at these steps: how many were entered, which,
+/// and how many waits ran out.
+fn run_barrier<R: Threads + Wait + Abort + Sync>(
+    rt: &R,
+    alloc: Global,
+    steps: Steps,
+    count: u32,
+) -> Result<(Report, [usize; 3]), RunError> {
+    let gate = Barrier {
+        steps,
+        height: count as usize,
+        entered: AtomicUsize::new(0),
+        bits: AtomicUsize::new(0),
+        run_out: AtomicUsize::new(0),
+    };
+    let text = document_of(alloc, PAGES)?;
+    let options = workers(rt, count, count);
+    let mut sink = Everything {};
+    let report = run(rt, alloc, text.as_bytes(), "0", &options, &gate, &mut sink)?;
+    let entered = gate.entered.load(SeqCst);
+    Ok((
+        report,
+        [entered, gate.bits.load(SeqCst), gate.run_out.load(SeqCst)],
+    ))
+}
+
+/// Four workers of each kind meet at these steps, and sixteen of each; each page or sheet was entered once.
+fn assert_meet<R: Threads + Wait + Abort + Sync>(
+    rt: &R,
+    alloc: Global,
+    steps: Steps,
+) -> Result<(), RunError> {
+    for count in [4, 16] {
+        let (report, met) = run_barrier(rt, alloc, steps, count)?;
+        assert_eq!(rt; met, [16, 0xffff, 0], "{count}");
+        assert_eq!(rt; (report.sheets, report.swept), (16, 0), "{count}");
+    }
+    Ok(())
+}
+
+#[test]
+fn as_many_preparers_run_as_were_asked_for(rt: HostRuntime) -> Result<(), Fail> {
+    Ok(assert_meet(&rt, rt.alloc(), Steps::Pages)?)
+}
+
+#[test]
+fn as_many_imposers_run_as_were_asked_for(rt: HostRuntime) -> Result<(), Fail> {
+    Ok(assert_meet(&rt, rt.alloc(), Steps::Sheets)?)
+}
+
+/// How many sheets of a run on one page were made at the end.
+fn swept_of_one<R: Threads + Wait + Abort + Sync>(
+    rt: &R,
+    alloc: Global,
+    text: &str,
+    count: u32,
+) -> Result<u32, RunError> {
+    let options = workers(rt, count, count);
+    let mut sink = Everything {};
+    let report = run(
+        rt,
+        alloc,
+        text.as_bytes(),
+        "0",
+        &options,
+        &Open {},
+        &mut sink,
+    )?;
+    Ok(report.swept)
+}
+
+#[test]
+fn short_runs_leave_no_sheet_to_the_end(rt: HostRuntime) -> Result<(), Fail> {
+    let text = document_of(rt.alloc(), 1)?;
+    for round in 0..200u32 {
+        let swept = swept_of_one(&rt, rt.alloc(), &text, 1 + round % 2)?;
+        assert_eq!(rt; swept, 0, "round {round}");
+    }
+    Ok(())
+}
