@@ -18,8 +18,8 @@ use Rattle.sheet_plan.specs.Places.{born_complete, is_blank}
 use Rattle.sheet_text.specs.Jobs.{JobView, output_of}
 use Rattle.imposer.specs.Workers.{AreOptions}
 use Rattle.sheet_writer.specs.Writing.{WroteFirst}
-use Rattle.imposer.specs.Gathering.{Answers}
-use Rattle.imposer.specs.Runs.{Request, frame_of, IsAccepted, Accepted, Reports, IsRefusal, IsUnwritten, HasWritten, WrotePart, FailedIn, IsGiven, AnswersRequest}
+use Rattle.imposer.specs.Gathering.{AnswersAt}
+use Rattle.imposer.specs.Runs.{Request, frame_of, IsAccepted, Accepted, Reports, IsRefusal, IsUnwritten, HasWritten, WrotePart, FailedIn, IsGiven, AnswersRequestAt}
 use Rattle.imposer.specs.declared.options.Options.{Options}
 use Rattle.imposer.specs.declared.runs.Given.{Given}
 use Rattle.imposer.specs.declared.outcome.RunError.{RunError}
@@ -63,14 +63,14 @@ unwritten_steady (error.NoMemory written) n none = inl refl
 unwritten_steady (error.Write written) n none = absurd none
 
 -- a refusal before anything was written
-pub refused_answers : (r : Request) (told : Option (List ℕ)) (n : ℕ) (e : RunError) → IsRefusal r e → IsUnwritten e → AnswersRequest r told told n n (Err e)
+pub refused_answers : (r : Request) (told : Option (List ℕ)) (n : ℕ) (e : RunError) → IsRefusal r e → IsUnwritten e → AnswersRequestAt r told told n n (Err e)
 refused_answers r told n e refusal none = (refusal, unwritten_kept r told e none, unwritten_steady e n none)
 
 -- what a job that was made of an accepted request answers is the request's answer
 pub job_answers : (r : Request) (chosen : Options) (given : Given) (plan : Plan) (n : ℕ) (job : JobView) (old new : Option (List ℕ)) (before after : ℕ) (result : Result Report RunError)
     → IsGiven r chosen given → n ≡ length (pages given.document) → plan ≡ planned_in chosen.sides given.spec n → plan_in chosen.sides given.spec n ≡ Ok (sheets_in chosen.sides given.spec n)
     → job ≡ record { plan = plan; units = given.document; frame = frame_of chosen }
-    → Answers job old new before after result → AnswersRequest r old new before after result
+    → AnswersAt job old new before after result → AnswersRequestAt r old new before after result
 job_answers r chosen given plan n job old new before after result is count plan_is accepted job_is = by_result result
   where
     us : List NestedUnit
@@ -91,7 +91,7 @@ job_answers r chosen given plan n job old new before after result is count plan_
     part : (w : ℕ) → WroteFirst job old new w → WrotePart r old new w
     part w wrote = (given.spec, us, taken, subst (λ t. (w ≤ length t) × Appends old new (take w t)) whole wrote)
 
-    by_result : (result : Result Report RunError) → Answers job old new before after result → AnswersRequest r old new before after result
+    by_result : (result : Result Report RunError) → AnswersAt job old new before after result → AnswersRequestAt r old new before after result
     by_result (Ok report) answers = (
       (
         given.spec,
@@ -118,23 +118,23 @@ job_answers r chosen given plan n job old new before after result is count plan_
     by_result (Err (error.Write w)) answers = ((given.spec, us, taken, tt), part w answers.0, answers.1)
 
 -- the clauses of a run, one by one
-pub says_finished : (r : Request) (old new : Option (List ℕ)) (before after : ℕ) (result : Result Report RunError) → AnswersRequest r old new before after result
+pub says_finished : (r : Request) (old new : Option (List ℕ)) (before after : ℕ) (result : Result Report RunError) → AnswersRequestAt r old new before after result
     → IfOk result (λ report. Accepted r (λ spec us. Appends old new (output (frame_of r.options) r.options.sides spec us) × Reports (frame_of r.options) r.options.sides spec us report))
 says_finished r old new before after (Ok report) answers = answers.0
 says_finished r old new before after (Err e) answers = tt
 
-pub says_refused : (r : Request) (old new : Option (List ℕ)) (before after : ℕ) (result : Result Report RunError) → AnswersRequest r old new before after result → IfErr result (λ e. IsRefusal r e)
+pub says_refused : (r : Request) (old new : Option (List ℕ)) (before after : ℕ) (result : Result Report RunError) → AnswersRequestAt r old new before after result → IfErr result (λ e. IsRefusal r e)
 says_refused r old new before after (Ok report) answers = tt
 says_refused r old new before after (Err e) answers = answers.0
 
-pub says_written : (r : Request) (old new : Option (List ℕ)) (before after : ℕ) (result : Result Report RunError) → AnswersRequest r old new before after result → IfErr result (λ e. HasWritten r old new e)
+pub says_written : (r : Request) (old new : Option (List ℕ)) (before after : ℕ) (result : Result Report RunError) → AnswersRequestAt r old new before after result → IfErr result (λ e. HasWritten r old new e)
 says_written r old new before after (Ok report) answers = tt
 says_written r old new before after (Err e) answers = answers.1
 
-pub says_steady : (r : Request) (old new : Option (List ℕ)) (before after : ℕ) (result : Result Report RunError) → AnswersRequest r old new before after result → OnOk result (after ≡ before)
+pub says_steady : (r : Request) (old new : Option (List ℕ)) (before after : ℕ) (result : Result Report RunError) → AnswersRequestAt r old new before after result → OnOk result (after ≡ before)
 says_steady r old new before after (Ok report) answers = answers.1
 says_steady r old new before after (Err e) answers = tt
 
-pub says_failed : (r : Request) (old new : Option (List ℕ)) (before after : ℕ) (result : Result Report RunError) → AnswersRequest r old new before after result → IfErr result (λ e. FailedIn e before after)
+pub says_failed : (r : Request) (old new : Option (List ℕ)) (before after : ℕ) (result : Result Report RunError) → AnswersRequestAt r old new before after result → IfErr result (λ e. FailedIn e before after)
 says_failed r old new before after (Ok report) answers = tt
 says_failed r old new before after (Err e) answers = answers.2

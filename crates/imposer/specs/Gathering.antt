@@ -1,6 +1,6 @@
 -- What the answers of a gathering mean.
-use Rattle.std.specs.Prelude.{◌≡◌, ℕ, ◌≤◌, List, [], length, Option, Result, Ok, Err, MatchResult, IfSome, IsSomeAnd}
-use Rattle.std.specs.Prelude.{IsNone, ⊤}
+use Rattle.std.specs.Prelude.{◌≡◌, ℕ, ◌≤◌, List, [], length, Option, None, Result, Ok, Err, MatchResult, IfSome}
+use Rattle.std.specs.Prelude.{IsSomeAnd, IsNone, ⊤}
 use Rattle.std.specs.Io.KnownBytes.{Appends}
 use Rattle.profile.specs.Sheets.{layout}
 use Rattle.histories.specs.Seats.{whole_share}
@@ -51,10 +51,25 @@ HandsBackTokens (error.Plan e) tokens = ⊥
 HandsBackTokens (error.NoMemory written) tokens = IsNone tokens
 HandsBackTokens (error.Write written) tokens = IsSomeAnd tokens (λ t. ⊤)
 
--- what the answer says of the sink, which took the whole output or a part of it
-abbrev pub Answers : JobView → (old new : Option (List ℕ)) → (before after : ℕ) → Result Report RunError → Type 0
-Answers job old new before after (Ok report) = Appends old new (output_of job) × (after ≡ before) × ReportsOf job report
-Answers job old new before after (Err e) = WrotePartOf job old new e × FailedIn e before after
+-- what the answer says of a sink that had these bytes and this many failures, and which took the whole output or a part
+-- of it
+abbrev pub AnswersAt : JobView → (old new : Option (List ℕ)) → (before after : ℕ) → Result Report RunError → Type 0
+AnswersAt job old new before after (Ok report) = Appends old new (output_of job) × (after ≡ before)
+    × ReportsOf job report
+AnswersAt job old new before after (Err e) = WrotePartOf job old new e × FailedIn e before after
+
+-- what the answer says of a sink, which `told` and `failures` see
+abbrev pub Answers : {S : Type 0} → (told : S → Option (List ℕ)) → (failures : S → ℕ) → JobView → (old new : S)
+    → Result Report RunError → Type 0
+Answers told failures job old new outcome = AnswersAt job (told old) (told new) (failures old) (failures new) outcome
+
+-- nothing was written
+abbrev pub IsUntouched : {S : Type 0} → (told : S → Option (List ℕ)) → (failures : S → ℕ) → (old new : S) → Type 0
+IsUntouched told failures old new = (told new ≡ told old) × (failures new ≡ failures old)
+
+-- the answer if what a worker held is missing
+abbrev pub GivesUp : ℕ → Gathered → Type 0
+GivesUp written gathered = gathered ≡ record { outcome = Err (error.NoMemory written); unshelved = None; tokens = None }
 
 -- a seat and a pass that have all shares again
 pub record AreWhole (table : TableView) (queue : QueueView) (its_seat : SeatView) (its_pass : PassView) : Type 0 where
@@ -66,11 +81,17 @@ pub record AreWhole (table : TableView) (queue : QueueView) (its_seat : SeatView
   pub pass_share : its_pass.share ≡ whole_share
 
 -- how a run answers whose workers have ended, wherever its collector began: their tokens come back, but after out of memory
-pub record Concludes (job : JobView) (old new : Option (List ℕ)) (before after : ℕ) (p : Progress) (ended : Holding)
+pub record ConcludesAt (job : JobView) (old new : Option (List ℕ)) (before after : ℕ) (p : Progress) (ended : Holding)
     (gathered : Gathered) : Type 0 where
   pub answers : (start : Option (List ℕ)) (first : ℕ) → Stands job start old first before p
-      → Answers job start new first after gathered.outcome
+      → AnswersAt job start new first after gathered.outcome
   pub tokens : MatchResult gathered.outcome (λ _. IsSomeAnd gathered.tokens (λ t. ⊤)) (λ e.
       HandsBackTokens e gathered.tokens)
   pub same : IfSome gathered.tokens (λ t. (t.0 ≡ ended.tokens.seat) × (t.1 ≡ ended.tokens.pass))
   pub unshelved : gathered.unshelved ≡ ended.unshelved
+
+-- the same, of a sink that `told` and `failures` see
+abbrev pub Concludes : {S : Type 0} → (told : S → Option (List ℕ)) → (failures : S → ℕ) → JobView → (old new : S)
+    → Progress → Holding → Gathered → Type 0
+Concludes told failures job old new p ended gathered =
+    ConcludesAt job (told old) (told new) (failures old) (failures new) p ended gathered

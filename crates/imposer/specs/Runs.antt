@@ -110,9 +110,16 @@ pub record IsGiven (r : Request) (chosen : Options) (given : Given) : Type 0 whe
   pub document : document_of r.input ≡ Ok given.document
 
 -- what a run answers: at Ok exactly the output was written; an error names the first check that fails, and as much of the
--- output was written as it says
-abbrev pub AnswersRequest : Request → (old new : Option (List ℕ)) → (before after : ℕ) → Result Report RunError → Type 0
-AnswersRequest r old new before after (Ok report) =
+-- output was written as it says. The sink had these bytes and this many failures
+abbrev pub AnswersRequestAt : Request → (old new : Option (List ℕ)) → (before after : ℕ)
+    → Result Report RunError → Type 0
+AnswersRequestAt r old new before after (Ok report) =
     Accepted r (λ spec us. Appends old new (output (frame_of r.options) r.options.sides spec us)
     × Reports (frame_of r.options) r.options.sides spec us report) × (after ≡ before)
-AnswersRequest r old new before after (Err e) = IsRefusal r e × HasWritten r old new e × FailedIn e before after
+AnswersRequestAt r old new before after (Err e) = IsRefusal r e × HasWritten r old new e × FailedIn e before after
+
+-- the same, of a sink that `told` and `failures` see
+abbrev pub AnswersRequest : {S : Type 0} → (told : S → Option (List ℕ)) → (failures : S → ℕ) → Request → (old new : S)
+    → Result Report RunError → Type 0
+AnswersRequest told failures r old new answer =
+    AnswersRequestAt r (told old) (told new) (failures old) (failures new) answer

@@ -4,7 +4,7 @@ ghost use Rattle.crossbeam_channel.specs.Claims.{IsSeatAt};
 ghost use Rattle.crossbeam_channel.specs.Ends.{receives_on};
 ghost use Rattle.profile.specs.Filters.{preamble_text};
 ghost use Rattle.sheet_text.specs.Jobs.{text_of};
-ghost use Rattle.sheet_writer.specs.Writing.{Stands, GoesOn, AreEarly};
+ghost use Rattle.sheet_writer.specs.Writing.{StandsSince, GoesOn, AreEarly};
 
 use crate::channel::{SheetReceiver, SheetRule, Texts, Ticket};
 use crate::window::Window;
@@ -50,8 +50,7 @@ impl<'s, 'j, 'd, 'a, T: Texts, S: Sink> Collector<CollectorState<'a, S>>
         × (S.failures state.sink.now < 18_446_744_073_709_551_615) };
 
     ghost collected = { λ input old new.
-        Stands input.job.now (S.told old.sink.now) (S.told new.sink.now) (S.failures old.sink.now)
-        (S.failures new.sink.now) new.progress
+        StandsSince S.told S.failures input.job.now old.sink.now new.sink.now new.progress
         × AreEarly input.job.now new.early.now.places.items };
 
     fn collect<R: Wait>(&self, rt: &R, state: &mut CollectorState<'a, S>) {
@@ -75,8 +74,8 @@ fn take_all<R: Wait, T: Texts, S: Sink>(
     requires early { AreEarly input.now.job.now state.old.early.now.places.items }
     ensures early { AreEarly input.now.job.now state.new.early.now.places.items }
     ensures same { state.new.sink.ghost_name ≡ state.old.sink.ghost_name }
-    ensures goes_on { GoesOn input.now.job.now (S.told state.old.sink.now) (S.told state.new.sink.now)
-        (S.failures state.old.sink.now) (S.failures state.new.sink.now) state.old.progress state.new.progress }
+    ensures goes_on { GoesOn S.told S.failures input.now.job.now state.old.sink.now state.new.sink.now
+        state.old.progress state.new.progress }
 {
     let backoff = Backoff::new();
     for _ in rt.forever() {
@@ -103,8 +102,8 @@ fn take_turn<R: Wait, T: Texts, S: Sink>(
     ensures going { IsTrue result → state.new.progress.halted ≡ None }
     ensures early { AreEarly input.now.job.now state.new.early.now.places.items }
     ensures same { state.new.sink.ghost_name ≡ state.old.sink.ghost_name }
-    ensures goes_on { GoesOn input.now.job.now (S.told state.old.sink.now) (S.told state.new.sink.now)
-        (S.failures state.old.sink.now) (S.failures state.new.sink.now) state.old.progress state.new.progress }
+    ensures goes_on { GoesOn S.told S.failures input.now.job.now state.old.sink.now state.new.sink.now
+        state.old.progress state.new.progress }
     ensures steady { IsTrue result → S.failures state.new.sink.now ≡ S.failures state.old.sink.now }
 {
     // Asked before the channel is: what the last imposer sent is there then.
@@ -133,8 +132,8 @@ fn take_one<R: Wait, T: Texts, S: Sink>(
     ensures ticket { IsSeatAt (receives_on receiver.now) state.new.ticket.now }
     ensures early { AreEarly job.now state.new.early.now.places.items }
     ensures same { state.new.sink.ghost_name ≡ state.old.sink.ghost_name }
-    ensures goes_on { GoesOn job.now (S.told state.old.sink.now) (S.told state.new.sink.now)
-        (S.failures state.old.sink.now) (S.failures state.new.sink.now) state.old.progress state.new.progress }
+    ensures goes_on { GoesOn S.told S.failures job.now state.old.sink.now state.new.sink.now
+        state.old.progress state.new.progress }
     ensures steady { state.new.progress.halted ≡ None → S.failures state.new.sink.now ≡ S.failures state.old.sink.now }
     ensures nothing { result ≡ false → state.new.progress.halted ≡ None }
 {

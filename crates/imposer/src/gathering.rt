@@ -16,7 +16,7 @@ ghost use Rattle.sheet_writer.specs.Writing.{AreEarly, EndsAt};
 ghost use Rattle.imposer.specs.Tokens.{AreTokens, AreUnused};
 ghost use Rattle.imposer.specs.Gathered.{IsGathered, IsHandedOn};
 ghost use Rattle.imposer.specs.Gathering.{IsFreshSeat, IsFreshPass, ReportsOf, WrotePartOf, HandsBackTokens, AreWhole};
-ghost use Rattle.imposer.specs.Gathering.{Answers, Concludes};
+ghost use Rattle.imposer.specs.Gathering.{Answers, Concludes, GivesUp, IsUntouched};
 
 use crate::channel::Texts;
 use crate::collector::{CollectorInput, CollectorState};
@@ -128,8 +128,7 @@ fn gather_as<'d, T: Texts + Send + Sync, R: Threads + Wait + Sync, G: Gate + Syn
     requires tokens { AreTokens shared.now.table.now shared.now.ready.now whole_share tokens × AreUnused tokens }
     requires workers { AreWorkers workers }
     requires countable { S.failures sink.old < u64.MAX }
-    ensures outcome { Answers shared.now.job.now (S.told sink.old) (S.told sink.new) (S.failures sink.old)
-        (S.failures sink.new) result.outcome }
+    ensures outcome { Answers S.told S.failures shared.now.job.now sink.old sink.new result.outcome }
     ensures tokens { MatchResult result.outcome (λ _. IsSomeAnd result.tokens (λ t. ⊤)) (λ e.
         HandsBackTokens e result.tokens) }
     ensures whole { IfSome result.tokens (λ t. AreWhole shared.now.table.now shared.now.ready.now t.0 t.1
@@ -222,7 +221,7 @@ fn put_blank_sheets<R: Wait, G: Gate>(
 
 /// The answer if memory was refused.
 fn out_of_memory<'d>(written: u64) -> Gathered<'d>
-    ensures { result ≡ record { outcome = Err (NoMemory written); unshelved = None; tokens = None } }
+    ensures { GivesUp written result }
 {
     Gathered {
         outcome: Err(RunError::NoMemory { written }),
@@ -245,13 +244,10 @@ fn finish<'d, S: Sink>(
     requires early { IsSome ended → AreEarly job.now state.old.early.now.places.items }
     requires trailer { trailer.now ≡ trailer_text job.now.units }
     ensures same_sink { state.new.sink.ghost_name ≡ state.old.sink.ghost_name }
-    ensures ended { IfSome ended.entry (λ e.
-        Concludes job.now (S.told state.old.sink.now) (S.told state.new.sink.now) (S.failures state.old.sink.now)
-        (S.failures state.new.sink.now) state.old.progress e result) }
-    ensures missing { IsNone ended.entry
-        → (result ≡ record { outcome = Err (NoMemory state.old.progress.written); unshelved = None; tokens = None })
-        × (S.told state.new.sink.now ≡ S.told state.old.sink.now)
-        × (S.failures state.new.sink.now ≡ S.failures state.old.sink.now) }
+    ensures ended { IfSome ended.entry (λ e. Concludes S.told S.failures job.now state.old.sink.now state.new.sink.now
+        state.old.progress e result) }
+    ensures missing { IsNone ended.entry → GivesUp state.old.progress.written result
+        × IsUntouched S.told S.failures state.old.sink.now state.new.sink.now }
 {
     match ended {
         Some(ended) => conclude(alloc, job, state, trailer, ended),
@@ -272,8 +268,8 @@ fn conclude<'d, S: Sink>(
     requires early { AreEarly job.now state.old.early.now.places.items }
     requires trailer { trailer.now ≡ trailer_text job.now.units }
     ensures same_sink { state.new.sink.ghost_name ≡ state.old.sink.ghost_name }
-    ensures ended { Concludes job.now (S.told state.old.sink.now) (S.told state.new.sink.now)
-        (S.failures state.old.sink.now) (S.failures state.new.sink.now) state.old.progress ended.entry result }
+    ensures ended { Concludes S.told S.failures job.now state.old.sink.now state.new.sink.now state.old.progress
+        ended.entry result }
 {
     let rest = write_rest(alloc, job, state.sink, state.progress, state.early, trailer);
     let Holding { tokens, unshelved } = ended;

@@ -102,7 +102,7 @@ fn run_read<R: Threads + Wait + Sync, G: Gate + Sync, S: Sink>(
     requires options { AreOptions options.now }
     requires countable { S.failures sink.old < u64.MAX }
     ensures { (r : Request) → IsGiven r options.now given.now
-        → AnswersRequest r (S.told sink.old) (S.told sink.new) (S.failures sink.old) (S.failures sink.new) result }
+        → AnswersRequest S.told S.failures r sink.old sink.new result }
 {
     let plan = match plan_pages(alloc, &given.spec, given.document.pages(), options.sides) {
         Ok(plan) => plan,
@@ -141,7 +141,7 @@ fn run_job<R: Threads + Wait + Sync, G: Gate + Sync, S: Sink>(
 ) -> Result<Report, RunError>
     requires workers { AreWorkers workers }
     requires countable { S.failures sink.old < u64.MAX }
-    ensures { Answers job.now (S.told sink.old) (S.told sink.new) (S.failures sink.old) (S.failures sink.new) result }
+    ensures { Answers S.told S.failures job.now sink.old sink.new result }
 {
     let Ok((table, seat)) = GatherTable::new(alloc, job.plan()) else {
         return Err(RunError::NoMemory { written: 0 });

@@ -12,7 +12,7 @@ use Rattle.profile.specs.Parts.{pages}
 use Rattle.profile.specs.Filters.{preamble_text, trailer_text}
 use Rattle.profile.specs.Output.{sheet_text}
 use Rattle.sheet_text.specs.Jobs.{JobView, text_of, output_of}
-use Rattle.sheet_writer.specs.Writing.{front_text, WroteFirst, StandsAt, EndsAt, Handed, AreEarly}
+use Rattle.sheet_writer.specs.Writing.{front_text, WroteFirst, StandsAt, EndsAt, HandedAt, AreEarly}
 use Rattle.sheet_writer.specs.declared.early.Imposed.{Imposed}
 use Rattle.sheet_writer.specs.declared.writing.Halt.{Halt}
 use Rattle.sheet_writer.specs.declared.writing.Halt.TheVariants.{Failed, NoMemory}
@@ -55,7 +55,7 @@ wrote_front job start old new n so_far same =
 -- a text that makes the front of n sheets that of m
 handed_behind : (job : JobView) (start old new : Option (List ℕ)) (first before after : ℕ) (n m written written' : ℕ) (text : List ℕ) (h : Option Halt)
     → front_text job n ++ text ≡ front_text job m → m ≤ length job.plan.sheets
-    → Handed text old new before after written written' h → StandsAt job start old first before n written None → StandsAt job start new first after m written' h
+    → HandedAt text old new before after written written' h → StandsAt job start old first before n written None → StandsAt job start new first after m written' h
 handed_behind job start old new first before after n m written written' text None grown within (more, appended, steady) (small, count, so_far, kept) = (
   within,
   more ∙ ap (λ k. k + length text) count ∙ sym (length-append (front_text job n) text) ∙ ap (λ t. length t) grown,
@@ -74,7 +74,7 @@ handed_behind job start old new first before after n m written written' text (So
 -- the next sheet was handed to the sink
 pub sheet_handed : (job : JobView) (start old new : Option (List ℕ)) (first before after : ℕ) (n written written' : ℕ) (text : List ℕ) (h : Option Halt)
     → n < length job.plan.sheets → text ≡ text_of job n
-    → Handed text old new before after written written' h → StandsAt job start old first before n written None → StandsAt job start new first after (n + 1) written' h
+    → HandedAt text old new before after written written' h → StandsAt job start old first before n written None → StandsAt job start new first after (n + 1) written' h
 sheet_handed job start old new first before after n written written' text h within is =
     handed_behind job start old new first before after n (n + 1) written written' text h
     (ap (λ t. front_text job n ++ t) is ∙ job_sheet_more job (preamble_text (length job.plan.sheets) job.units) n within) (omega arith)
@@ -82,7 +82,7 @@ sheet_handed job start old new first before after n written written' text h with
 -- the header was handed to it, before anything else
 pub header_handed : (job : JobView) (old new : Option (List ℕ)) (before after written : ℕ) (text : List ℕ) (h : Option Halt)
     → text ≡ preamble_text (length job.plan.sheets) job.units
-    → Handed text old new before after 0 written h → StandsAt job old new before after 0 written h
+    → HandedAt text old new before after 0 written h → StandsAt job old new before after 0 written h
 header_handed job old new before after written text None is (more, appended, steady) =
     let whole : text ≡ front_text job 0 = is ∙ sym (append-nil _) in
     (omega arith, omega (arith, more, ap (λ t. length t) whole), subst (Appends old new) whole appended, steady)
@@ -144,7 +144,7 @@ whole_output job n text all is = output_is job (length job.plan.sheets) n _ _ _ 
 -- the trailer was handed to the sink, behind all sheets
 pub trailer_handed : (job : JobView) (start old new : Option (List ℕ)) (first before after : ℕ) (n written written' : ℕ) (text : List ℕ) (h : Option Halt)
     → n ≡ length job.plan.sheets → text ≡ trailer_text job.units
-    → Handed text old new before after written written' h → StandsAt job start old first before n written None → EndsAt job start new first after written' h
+    → HandedAt text old new before after written written' h → StandsAt job start old first before n written None → EndsAt job start new first after written' h
 trailer_handed job start old new first before after n written written' text None all is (more, appended, steady) (small, count, so_far, kept) =
     let whole : front_text job n ++ text ≡ output_of job = whole_output job n text all is in (
       more ∙ ap (λ k. k + length text) count ∙ sym (length-append (front_text job n) text) ∙ ap (λ t. length t) whole,

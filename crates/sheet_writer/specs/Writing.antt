@@ -36,10 +36,18 @@ StandsAt job old new before after next written (Some NoMemory) = WroteFirst job 
 abbrev pub Stands : JobView → (old new : Option (List ℕ)) → (before after : ℕ) → Progress → Type 0
 Stands job old new before after p = StandsAt job old new before after p.next p.written p.halted
 
+-- Below `told` says of a sink which bytes it has taken, if it tells them, and `failures` how often it failed.
+
+-- so much was written since
+abbrev pub StandsSince : {S : Type 0} → (told : S → Option (List ℕ)) → (failures : S → ℕ) → JobView → (old new : S)
+    → Progress → Type 0
+StandsSince told failures job old new p = Stands job (told old) (told new) (failures old) (failures new) p
+
 -- wherever the writing began, it still stands right
-abbrev pub GoesOn : JobView → (old new : Option (List ℕ)) → (before after : ℕ) → Progress → Progress → Type 0
-GoesOn job old new before after p q = (start : Option (List ℕ)) (first : ℕ) → Stands job start old first before p
-    → Stands job start new first after q
+abbrev pub GoesOn : {S : Type 0} → (told : S → Option (List ℕ)) → (failures : S → ℕ) → JobView → (old new : S)
+    → Progress → Progress → Type 0
+GoesOn told failures job old new p q = (start : Option (List ℕ)) (first : ℕ)
+    → Stands job start (told old) first (failures old) p → Stands job start (told new) first (failures new) q
 
 -- the whole output was written; or some first part of it, after a halt
 abbrev pub EndsAt : JobView → (old new : Option (List ℕ)) → (before after : ℕ) → (written : ℕ) → Option Halt → Type 0
@@ -48,20 +56,27 @@ EndsAt job old new before after written None = (written ≡ length (output_of jo
 EndsAt job old new before after written (Some why) = StandsAt job old new before after 0 written (Some why)
 
 -- wherever the writing began, it ended right
-abbrev pub EndsAfter : JobView → (old new : Option (List ℕ)) → (before after : ℕ) → Progress → Progress → Type 0
-EndsAfter job old new before after p q =
-    (start : Option (List ℕ)) (first : ℕ) → Stands job start old first before p
-    → EndsAt job start new first after q.written q.halted
+abbrev pub EndsAfter : {S : Type 0} → (told : S → Option (List ℕ)) → (failures : S → ℕ) → JobView → (old new : S)
+    → Progress → Progress → Type 0
+EndsAfter told failures job old new p q = (start : Option (List ℕ)) (first : ℕ)
+    → Stands job start (told old) first (failures old) p
+    → EndsAt job start (told new) first (failures new) q.written q.halted
 
--- what became of a text that was handed to the sink
-abbrev pub Handed : List ℕ → (old new : Option (List ℕ)) → (before after : ℕ)
+-- what became of a text that was handed to a sink that had these bytes and this many failures
+abbrev pub HandedAt : List ℕ → (old new : Option (List ℕ)) → (before after : ℕ)
     → (written written' : ℕ) → Option Halt → Type 0
-Handed text old new before after written written' None = (written' ≡ written + length text)
+HandedAt text old new before after written written' None = (written' ≡ written + length text)
     × Appends old new text × (after ≡ before)
-Handed text old new before after written written' (Some Failed) =
+HandedAt text old new before after written written' (Some Failed) =
     (k : ℕ) × (k ≤ length text) × (written' ≡ written + k) × Appends old new (take k text) × (after ≡ before + 1)
-Handed text old new before after written written' (Some NoMemory) = (written' ≡ written)
+HandedAt text old new before after written written' (Some NoMemory) = (written' ≡ written)
     × Keeps old new × (after ≡ before)
+
+-- what became of a text that was handed to a sink
+abbrev pub Handed : {S : Type 0} → (told : S → Option (List ℕ)) → (failures : S → ℕ) → List ℕ → (old new : S)
+    → (written written' : ℕ) → Option Halt → Type 0
+Handed told failures text old new written written' halt =
+    HandedAt text (told old) (told new) (failures old) (failures new) written written' halt
 
 -- each sheet that came before its turn has its text
 abbrev pub AreEarly : JobView → List (Option Imposed) → Type 0

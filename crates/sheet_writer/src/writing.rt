@@ -29,8 +29,7 @@ pub struct Progress {
 /// Hands the sink a text, and counts its bytes.
 pub fn write_text<S: Sink>(sink: &mut S, progress: Progress, text: &[u8]) -> Progress
     requires countable { S.failures sink.old < u64.MAX }
-    ensures handed { Handed text.now (S.told sink.old) (S.told sink.new) (S.failures sink.old)
-        (S.failures sink.new) progress.written result.written result.halted }
+    ensures handed { Handed S.told S.failures text.now sink.old sink.new progress.written result.written result.halted }
     ensures next { result.next ≡ progress.next }
 {
     let Some(total) = progress.written.checked_add(text.len() as u64) else {
@@ -71,8 +70,7 @@ fn write_sheet<S: Sink>(
     requires going { (progress.halted ≡ None) × (progress.next < length job.now.plan.sheets)
         × (progress.next < 4_294_967_295) }
     requires text { text.now ≡ text_of job.now progress.next }
-    ensures goes_on { GoesOn job.now (S.told sink.old) (S.told sink.new) (S.failures sink.old)
-        (S.failures sink.new) progress result }
+    ensures goes_on { GoesOn S.told S.failures job.now sink.old sink.new progress result }
     ensures next { result.next ≡ progress.next + 1 }
     ensures steady { result.halted ≡ None → S.failures sink.new ≡ S.failures sink.old }
 {
@@ -93,8 +91,7 @@ pub fn write_early<S: Sink>(
     requires countable { S.failures sink.old < u64.MAX }
     requires going { progress.halted ≡ None }
     requires early { AreEarly job.now early.old.places.items }
-    ensures goes_on { GoesOn job.now (S.told sink.old) (S.told sink.new) (S.failures sink.old)
-        (S.failures sink.new) progress result }
+    ensures goes_on { GoesOn S.told S.failures job.now sink.old sink.new progress result }
     ensures early { AreEarly job.now early.new.places.items }
     ensures steady { result.halted ≡ None → S.failures sink.new ≡ S.failures sink.old }
 {
@@ -132,8 +129,7 @@ pub fn write_rest<S: Sink>(
     requires next { progress.halted ≡ None → progress.next ≤ length job.now.plan.sheets }
     requires early { AreEarly job.now early.old.places.items }
     requires trailer { trailer.now ≡ trailer_text job.now.units }
-    ensures ended { EndsAfter job.now (S.told sink.old) (S.told sink.new) (S.failures sink.old)
-        (S.failures sink.new) progress result.progress }
+    ensures ended { EndsAfter S.told S.failures job.now sink.old sink.new progress result.progress }
     ensures swept { result.swept ≤ length job.now.plan.sheets }
 {
     let mut progress = progress;

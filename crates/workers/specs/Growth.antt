@@ -1,5 +1,5 @@
--- How what is gathered grows. `gathered` is a run's `has_gathered`: with what it began, how many preparers there are in all and how many
--- of them are joined, and what is held.
+-- How what is gathered grows. `gathered` is a run's `has_gathered`: with what it began, how many preparers there are in
+-- all and how many of them are joined, and what is held.
 use Rattle.std.specs.Prelude.{ℕ, ◌+◌, Option, IfSome}
 
 -- what was gathered before any preparer was joined is still gathered

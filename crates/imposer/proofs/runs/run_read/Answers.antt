@@ -12,7 +12,7 @@ pub returns-in-Err : goal.returns-in-Err
 returns-in-Err g c = λ r is.
     let refused = subst (λ (o : Options). RefusesIn o.sides c.args.given.now.spec c.pages.result c.in-Err.error) (sym is.same_options) c.in-Err.ensures.refused in
     let said = refused_plan r c.in-Err.error c.args.given.now.spec c.args.given.now.document _ is.options is.takes is.document c.pages.ensures.count refused in
-    subst (λ e. AnswersRequest r (g.S.Sink.told c.args.sink.now) (g.S.Sink.told c.args.sink.now) (g.S.Sink.failures c.args.sink.now) (g.S.Sink.failures c.args.sink.now) (Err e)) (sym c.from.ensures)
+    subst (λ e. AnswersRequest g.S.Sink.told g.S.Sink.failures r c.args.sink.now c.args.sink.now (Err e)) (sym c.from.ensures)
     (refused_answers r (g.S.Sink.told c.args.sink.now) (g.S.Sink.failures c.args.sink.now) (of_plan c.in-Err.error) said.0 said.1)
 
 pub new-job-requires-clause-border : goal.new-job-requires-clause-border
