@@ -1,8 +1,10 @@
 //! The channel of finished sheets, from the imposers to the collector.
 ghost use Rattle.std.specs.Prelude.{◌≡◌, ℕ, List, [], All, ⊤};
+ghost use Rattle.sheet_text.specs.Jobs.{text_of};
 
 use crossbeam_channel::protocol::{Lesson, Outcome, Protocol, Split};
 use crossbeam_channel::{Pass, RuledReceiver, RuledSender};
+use sheet_text::Job;
 use sheet_writer::Imposed;
 use std::marker::{Brand, PhantomData};
 
@@ -38,6 +40,14 @@ impl<T: Texts> Split<()> for SheetRule<T> {
     ghost left = { λ v. v };
 
     ghost right = { λ v. v };
+}
+
+/// The job of a run, whose sheets have the texts that the rule speaks of.
+#[derive(Drop)]
+pub(crate) struct RuledJob<'s, 'j, 'd, T: Texts> {
+    pub(crate) job: &'s Job<'j, 'd>,
+    pub(crate) of: PhantomData<T>,
+    ghost texts: { (s : ℕ) → T.text s ≡ text_of job.now s },
 }
 
 /// What a thread needs to send or to receive.

@@ -3,10 +3,9 @@ ghost use Rattle.std.specs.Prelude.{◌≡◌, ℕ, ◌+◌, ◌<◌, ◌≤◌,
 ghost use Rattle.crossbeam_channel.specs.Claims.{IsSeatAt};
 ghost use Rattle.crossbeam_channel.specs.Ends.{receives_on};
 ghost use Rattle.profile.specs.Filters.{preamble_text};
-ghost use Rattle.sheet_text.specs.Jobs.{text_of};
 ghost use Rattle.sheet_writer.specs.Writing.{StandsSince, GoesOn, AreEarly};
 
-use crate::channel::{SheetReceiver, SheetRule, Texts, Ticket};
+use crate::channel::{RuledJob, SheetReceiver, SheetRule, Texts, Ticket};
 use crate::window::Window;
 use crossbeam_utils::Backoff;
 use sheet_text::Job;
@@ -20,11 +19,14 @@ use workers::Collector;
 #[derive(Drop)]
 pub(crate) struct CollectorInput<'s, 'j, 'd, T: Texts> {
     pub(crate) job: &'s Job<'j, 'd>,
+    /// The same job, with the texts of the channel's rule.
+    pub(crate) ruled: &'s RuledJob<'s, 'j, 'd, T>,
     /// How many imposers haven't ended.
     pub(crate) working: &'s AtomicU32,
     pub(crate) receiver: &'s SheetReceiver<T>,
     /// It moves as sheets are written.
     pub(crate) window: &'s Window,
+    ghost same_job: { ruled.now.job.now ≡ job.now },
 }
 
 /// What the collector writes to, and the sheets that came before their turn. It owns no memory, so that what becomes of the
@@ -42,8 +44,7 @@ impl<'s, 'j, 'd, 'a, T: Texts, S: Sink> Collector<CollectorState<'a, S>>
     for CollectorInput<'s, 'j, 'd, T> {
     ghost reference = { λ input state. state.sink.ghost_name };
 
-    ghost is_ready_to_collect = { λ input state. ((k : ℕ) → T.text k ≡ text_of input.job.now k)
-        × IsSeatAt (receives_on input.receiver.now) state.ticket.now
+    ghost is_ready_to_collect = { λ input state. IsSeatAt (receives_on input.receiver.now) state.ticket.now
         × (state.header.now ≡ preamble_text (length input.job.now.plan.sheets) input.job.now.units)
         × (state.progress ≡ record { next = 0; written = 0; halted = None })
         × AreEarly input.job.now state.early.now.places.items
@@ -68,7 +69,6 @@ fn take_all<R: Wait, T: Texts, S: Sink>(
     state: &mut CollectorState<'_, S>,
 )
     requires countable { S.failures state.old.sink.now < u64.MAX }
-    requires texts { (s : ℕ) → T.text s ≡ text_of input.now.job.now s }
     requires ticket { IsSeatAt (receives_on input.now.receiver.now) state.old.ticket.now }
     requires going { state.old.progress.halted ≡ None }
     requires early { AreEarly input.now.job.now state.old.early.now.places.items }
@@ -94,7 +94,6 @@ fn take_turn<R: Wait, T: Texts, S: Sink>(
     state: &mut CollectorState<'_, S>,
 ) -> bool
     requires countable { S.failures state.old.sink.now < u64.MAX }
-    requires texts { (s : ℕ) → T.text s ≡ text_of input.now.job.now s }
     requires ticket { IsSeatAt (receives_on input.now.receiver.now) state.old.ticket.now }
     requires going { state.old.progress.halted ≡ None }
     requires early { AreEarly input.now.job.now state.old.early.now.places.items }
@@ -108,7 +107,7 @@ fn take_turn<R: Wait, T: Texts, S: Sink>(
 {
     // Asked before the channel is: what the last imposer sent is there then.
     let is_last = input.working.load(SeqCst) == 0;
-    if take_one(rt, input.job, input.receiver, state) {
+    if take_one(rt, input, state) {
         input.window.move_to(state.progress.next);
         backoff.reset();
         return state.progress.halted.is_none();
@@ -120,27 +119,28 @@ fn take_turn<R: Wait, T: Texts, S: Sink>(
 /// Takes a finished sheet, and writes those whose turn it is now. False if no sheet was there.
 fn take_one<R: Wait, T: Texts, S: Sink>(
     rt: &R,
-    job: &Job<'_, '_>,
-    receiver: &SheetReceiver<T>,
+    input: &CollectorInput<'_, '_, '_, T>,
     state: &mut CollectorState<'_, S>,
 ) -> bool
     requires countable { S.failures state.old.sink.now < u64.MAX }
-    requires texts { (s : ℕ) → T.text s ≡ text_of job.now s }
-    requires ticket { IsSeatAt (receives_on receiver.now) state.old.ticket.now }
+    requires ticket { IsSeatAt (receives_on input.now.receiver.now) state.old.ticket.now }
     requires going { state.old.progress.halted ≡ None }
-    requires early { AreEarly job.now state.old.early.now.places.items }
-    ensures ticket { IsSeatAt (receives_on receiver.now) state.new.ticket.now }
-    ensures early { AreEarly job.now state.new.early.now.places.items }
+    requires early { AreEarly input.now.job.now state.old.early.now.places.items }
+    ensures ticket { IsSeatAt (receives_on input.now.receiver.now) state.new.ticket.now }
+    ensures early { AreEarly input.now.job.now state.new.early.now.places.items }
     ensures same { state.new.sink.ghost_name ≡ state.old.sink.ghost_name }
-    ensures goes_on { GoesOn S.told S.failures job.now state.old.sink.now state.new.sink.now
+    ensures goes_on { GoesOn S.told S.failures input.now.job.now state.old.sink.now state.new.sink.now
         state.old.progress state.new.progress }
     ensures steady { state.new.progress.halted ≡ None → S.failures state.new.sink.now ≡ S.failures state.old.sink.now }
     ensures nothing { result ≡ false → state.new.progress.halted ≡ None }
 {
-    let Ok(done) = receiver.try_recv_as::<SheetRule<T>, R>(rt, state.ticket) else {
+    let Ok(done) = input
+        .receiver
+        .try_recv_as::<SheetRule<T>, R>(rt, state.ticket)
+    else {
         return false;
     };
     state.early.put(done);
-    state.progress = write_early(job, state.sink, state.progress, state.early);
+    state.progress = write_early(input.job, state.sink, state.progress, state.early);
     true
 }

@@ -18,7 +18,7 @@ ghost use Rattle.imposer.specs.Gathered.{IsGathered, IsHandedOn};
 ghost use Rattle.imposer.specs.Gathering.{IsFreshSeat, IsFreshPass, ReportsOf, WrotePartOf, HandsBackTokens, AreWhole};
 ghost use Rattle.imposer.specs.Gathering.{Answers, Concludes, GivesUp, IsUntouched};
 
-use crate::channel::Texts;
+use crate::channel::{RuledJob, Texts};
 use crate::collector::{CollectorInput, CollectorState};
 use crate::gate::Gate;
 use crate::options::Workers;
@@ -32,7 +32,7 @@ use handover::{Overflow, Pass, Ready, Shelf};
 use sheet_text::Job;
 use sheet_writer::{Halt, Progress, Rest, Sink, write_rest};
 use std::alloc::Global;
-use std::marker::Brand;
+use std::marker::{Brand, PhantomData};
 use std::sync::Wait;
 use std::sync::atomic::AtomicU32;
 use std::thread::Threads;
@@ -151,12 +151,18 @@ fn gather_as<'d, T: Texts + Send + Sync, R: Threads + Wait + Sync, G: Gate + Syn
         mut receiving,
         sending,
     } = setup;
+    let ruled = RuledJob {
+        job: &*job,
+        of: PhantomData,
+    };
     let worker_input = WorkerInput {
         shared: &*shared,
         sender: &sender,
+        ruled: &ruled,
     };
     let collector_input = CollectorInput {
         job,
+        ruled: &ruled,
         working: &shared.working,
         receiver: &receiver,
         window: &shared.window,

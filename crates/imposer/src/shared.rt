@@ -2,7 +2,7 @@
 ghost use Rattle.std.specs.Prelude.{◌≡◌};
 ghost use Rattle.profile.specs.Sheets.{layout};
 
-use crate::channel::{SheetSender, Texts};
+use crate::channel::{RuledJob, SheetSender, Texts};
 use crate::window::Window;
 use gather_table::GatherTable;
 use handover::{Ready, Shelf};
@@ -33,4 +33,7 @@ pub(crate) struct Shared<'s, 'j, 'd, G> {
 pub(crate) struct WorkerInput<'s, 'j, 'd, T: Texts, G> {
     pub(crate) shared: &'s Shared<'s, 'j, 'd, G>,
     pub(crate) sender: &'s SheetSender<T>,
+    /// The same job, with the texts of the channel's rule.
+    pub(crate) ruled: &'s RuledJob<'s, 'j, 'd, T>,
+    ghost same_job: { ruled.now.job.now ≡ shared.now.job.now },
 }
