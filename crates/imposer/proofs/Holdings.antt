@@ -8,8 +8,8 @@ use Rattle.gather_table.specs.Laws.{completes}
 use Rattle.gather_table.specs.Shared.{SeatView}
 use Rattle.handover.specs.Passes.{PassView}
 use Rattle.handover.specs.Shelves.{IsOn}
-use Rattle.imposer.specs.Delivery.{CloseWhatTheyFill}
-use Rattle.imposer.specs.Duty.{Duty, worth, shares, owed}
+use Rattle.run_steps.specs.Delivery.{CloseWhatTheyFill}
+use Rattle.run_steps.specs.Duty.{Duty, worth, shares, owed}
 use Rattle.imposer.specs.Joining.{AreInOrderSince}
 use Rattle.imposer.specs.Tokens as held
 use Rattle.imposer.specs.Tokens.{AreTokens, AreUnused, AreOfBoth, done, put}
@@ -18,7 +18,7 @@ use Rattle.imposer.specs.declared.shared.Shared.{Shared}
 use Rattle.imposer.specs.declared.tokens.Tokens.{Tokens}
 use Rattle.imposer.specs.declared.tokens.Holding.{Holding}
 use Rattle.imposer.proofs.Held.{closes_both}
-use Rattle.imposer.proofs.Shares.{together}
+use Rattle.run_steps.proofs.Shares.{together}
 
 -- a holding of which shares were given away has done the same
 pub given_away : {G : Type 0} (run : Shared G) (first : Tokens) (count joined n m : ℕ) (old : Holding) (seat : SeatView) (pass : PassView)

@@ -1,14 +1,6 @@
 pub mod Made
 pub mod Refusals
-pub mod Marks
-pub mod PlacesOf
-pub mod HandingOn
-pub mod LookUps
-pub mod Shares
 pub mod Held
 pub mod Holdings
-pub mod Closings
-pub mod Counts
 pub mod HandedOn
-pub mod Reading
 pub mod Ends

@@ -1,7 +1,7 @@
 -- What each worker of a run promises, and what is known of all that are joined.
 use Rattle.std.specs.Prelude.{◌≡◌, ℕ, IfSome, IsNone}
 use Rattle.handover.specs.Shelves.{IsOn}
-use Rattle.imposer.specs.Duty.{Duty, share_below, shares}
+use Rattle.run_steps.specs.Duty.{Duty, share_below, shares}
 use Rattle.imposer.specs.Tokens.{AreTokens, AreUnused, AreInOrder, done}
 use Rattle.imposer.specs.Joining.{AreInOrderSince}
 use Rattle.imposer.specs.declared.shared.Shared.{Shared}

@@ -29,8 +29,8 @@ pub(crate) struct CollectorInput<'s, 'j, 'd, T: Texts> {
     ghost same_job: { ruled.now.job.now ≡ job.now },
 }
 
-/// What the collector writes to, and the sheets that came before their turn. It owns no memory, so that what becomes of the
-/// sink is known to whom it belongs.
+/// What the collector writes to, and the sheets that came before their turn. It owns no memory, so that what becomes of
+/// the sink is known to whom it belongs.
 #[derive(Drop)]
 pub(crate) struct CollectorState<'a, S> {
     pub(crate) sink: &'a mut S,
@@ -85,8 +85,8 @@ fn take_all<R: Wait, T: Texts, S: Sink>(
     }
 }
 
-/// Takes a sheet if one was finished, and waits a little if none was. False if nothing is to come, or nothing more is to
-/// be written.
+/// Takes a sheet if one was finished, and waits a little if none was. False if nothing is to come, or nothing more is
+/// to be written.
 fn take_turn<R: Wait, T: Texts, S: Sink>(
     rt: &R,
     input: &CollectorInput<'_, '_, '_, T>,

@@ -11,10 +11,10 @@ ghost use Rattle.imposer.specs.declared.outcome.RunError.TheVariants.{NoMemory};
 ghost use Rattle.sheet_text.specs.Jobs.{text_of, output_of};
 ghost use Rattle.imposer.specs.Workers.{AreWorkers};
 ghost use Rattle.imposer.specs.Runs.{FailedIn};
-ghost use Rattle.imposer.specs.Delivery.{HandedOn};
+ghost use Rattle.run_steps.specs.Delivery.{HandedOn};
 ghost use Rattle.sheet_writer.specs.Writing.{AreEarly, EndsAt};
 ghost use Rattle.imposer.specs.Tokens.{AreTokens, AreUnused};
-ghost use Rattle.imposer.specs.Gathered.{IsGathered, IsHandedOn};
+ghost use Rattle.run_steps.specs.Gathered.{IsGathered, IsHandedOn};
 ghost use Rattle.imposer.specs.Gathering.{IsFreshSeat, IsFreshPass, ReportsOf, WrotePartOf, HandsBackTokens, AreWhole};
 ghost use Rattle.imposer.specs.Gathering.{Answers, Concludes, GivesUp, IsUntouched};
 
@@ -49,11 +49,11 @@ pub struct Gathered<'d> {
     pub tokens: Option<(Seat, Pass)>,
 }
 
-/// Lets preparers deliver the document's pages and imposers impose the sheets, while the caller's thread writes them in order,
-/// each as soon as all before it are written. What no imposer sent is made at the end, in its place.
+/// Lets preparers deliver the document's pages and imposers impose the sheets, while the caller's thread writes them in
+/// order, each as soon as all before it are written. What no imposer sent is made at the end, in its place.
 ///
-/// The table is one of the job's plan, seat and pass have seen nothing yet, and the queue has room for every sheet. Each
-/// worker has a seat and a pass of its own, which are joined when it ends.
+/// The table is one of the job's plan, seat and pass have seen nothing yet, and the queue has room for every sheet.
+/// Each worker has a seat and a pass of its own, which are joined when it ends.
 pub fn gather<'j, 'd, R: Threads + Wait + Sync, G: Gate + Sync, S: Sink>(
     rt: &R,
     alloc: Global,
@@ -88,8 +88,8 @@ pub fn gather<'j, 'd, R: Threads + Wait + Sync, G: Gate + Sync, S: Sink>(
         HandsBackTokens e result.tokens) }
     ensures whole { IfSome result.tokens (λ t. AreWhole table.now ready.now t.0 t.1) }
 
-    // One publish for each page, one mark for each needed slot, one closing for each group of a wide sheet that has such a
-    // slot, and exactly one completing call for each sheet that has pages.
+    // One publish for each page, one mark for each needed slot, one closing for each group of a wide sheet that has
+    // such a slot, and exactly one completing call for each sheet that has pages.
     ensures gathered { OnOk result.outcome (IsNone result.unshelved
         → IfSome result.tokens (λ t. IsGathered table.now.layout t.0.front)) }
 

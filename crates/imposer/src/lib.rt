@@ -3,12 +3,9 @@
 
 mod channel;
 mod collector;
-mod delivery;
 mod gate;
 mod gathering;
 mod imposing;
-mod imposition;
-pub mod laws;
 mod options;
 mod outcome;
 mod preparing;
@@ -21,12 +18,11 @@ mod tokens;
 mod window;
 mod work;
 
-pub use delivery::{DeliverError, Delivered, deliver};
 pub use gate::{Gate, Open, Step};
 pub use gathering::{Gathered, gather};
-pub use imposition::{ImposeError, impose};
 pub use options::{Options, Workers};
 pub use outcome::{Report, RunError};
+pub use run_steps::{DeliverError, Delivered, ImposeError, deliver, impose, laws};
 pub use runs::run;
 pub use sheet_text::{Job, sheet_text};
 pub use sheet_writer::{Imposed, MemorySink, Sink, SinkFault, WriteSink};

@@ -11,8 +11,8 @@ use sheet_text::Job;
 use sheet_writer::Early;
 use std::alloc::{AllocError, Global};
 
-/// The texts round the sheets, places for sheets that come before their turn, and the channel of finished sheets, with a
-/// ticket for the collector and one for the imposers.
+/// The texts round the sheets, places for sheets that come before their turn, and the channel of finished sheets, with
+/// a ticket for the collector and one for the imposers.
 #[derive(Drop)]
 pub(crate) struct Setup<T: Texts> {
     pub(crate) header: Vec<u8>,

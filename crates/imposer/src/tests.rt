@@ -1,7 +1,5 @@
-//! Runs on small documents and on many pages, refusals, sinks, gates, deliveries, impositions and wide sheets.
-mod deliveries;
+//! Runs on small documents, on many pages and on wide sheets, refusals, sinks and gates.
 mod gates;
-mod impositions;
 mod many_pages;
 mod refusals;
 mod signatures;

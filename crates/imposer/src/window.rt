@@ -19,8 +19,9 @@ const BYTES_AROUND: usize = 512;
 /// How many sheets there are in a window at most.
 const MOST_SHEETS: usize = 4_096;
 
-/// The sheets that may be imposed: `len` of them, from the one on that is written next. Texts that wait for their turn take memory,
-/// so an imposer only holds the number of a sheet that lies further on, and imposes it when the window has come near.
+/// The sheets that may be imposed: `len` of them, from the one on that is written next. Texts that wait for their turn
+/// take memory, so an imposer only holds the number of a sheet that lies further on, and imposes it when the window has
+/// come near.
 #[derive(Drop)]
 pub(crate) struct Window {
     /// The sheet that is written next.
@@ -124,8 +125,8 @@ impl Held {
         Some(sheet)
     }
 
-    /// Whether some are held and the window has moved since this was last asked. Then it is better to wait for these than to
-    /// take more off the queue, which other imposers may want.
+    /// Whether some are held and the window has moved since this was last asked. Then it is better to wait for these
+    /// than to take more off the queue, which other imposers may want.
     pub(crate) fn come_nearer(&mut self, end: u32) -> bool {
         let moved = self.looked_to != end;
         self.looked_to = end;

@@ -175,7 +175,8 @@ struct Told {
     after: AtomicUsize,
 }
 
-/// What a step adds: one to its own eight bits of the word. All steps that two pages on two sheets don't have share the rest.
+/// What a step adds: one to its own eight bits of the word. All steps that two pages on two sheets don't have share the
+/// rest.
 fn one_more(step: Step) -> usize {
     match step {
         Step::Deliver(0) => 1,

@@ -1,6 +1,6 @@
 //! What is refused first, and how a refusal reads.
 use super::{ONE_PAGE, TWO_UP, workers};
-use crate::{ImposeError, MemorySink, Open, RunError, run};
+use crate::{MemorySink, Open, RunError, run};
 use dsc::DscError;
 use pagespec::SpecError;
 use sheet_plan::PlanError;
@@ -69,19 +69,6 @@ fn each_refusal_has_its_message(rt: HostRuntime) -> Result<(), Fail> {
         ),
         (RunError::NoMemory { written: 7 }, "out of memory"),
         (RunError::Write { written: 7 }, "cannot write output"),
-    ];
-    for (error, message) in &messages {
-        let text = format!(in rt.alloc(); "{error}")?;
-        assert_eq!(rt; text.as_str(), *message);
-    }
-    Ok(())
-}
-
-#[test]
-fn each_refused_sheet_has_its_message(rt: HostRuntime) -> Result<(), Fail> {
-    let messages = [
-        (ImposeError::NoMemory, "out of memory"),
-        (ImposeError::NotShown, "a page is not on the shelf"),
     ];
     for (error, message) in &messages {
         let text = format!(in rt.alloc(); "{error}")?;

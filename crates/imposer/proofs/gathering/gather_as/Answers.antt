@@ -5,7 +5,7 @@ use Rattle.sheet_plan.specs.Places.{born_complete}
 use Rattle.imposer.specs.Tokens as tokens
 use Rattle.imposer.specs.Tokens.{AreTokens}
 use Rattle.imposer.specs.declared.tokens.Tokens.{Tokens}
-use Rattle.imposer.proofs.Counts.{table_has_pages}
+use Rattle.run_steps.proofs.Counts.{table_has_pages}
 use Rattle.imposer.proofs.Ends.{sink_answers, gathered_unshelved, gathered_whole}
 use Rattle.imposer.proofs.HandedOn.{started_puts}
 use Rattle.imposer.proofs.Held.{are_tokens, seat_of, pass_of, pass_handed_on}

@@ -1,5 +1,5 @@
 use Rattle.std.proofs.Common.{rules}
-use Rattle.imposer.proofs.HandingOn.{put_or_full, one_more}
+use Rattle.run_steps.proofs.HandingOn.{put_or_full, one_more}
 use Rattle.imposer.proofs.gathering.put_blank_sheets.Goals as goal
 
 pub loop-k-preserved : goal.loop-k-preserved

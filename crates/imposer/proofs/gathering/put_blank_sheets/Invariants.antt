@@ -1,6 +1,6 @@
 use Rattle.std.proofs.Common.{ℕ, List, take}
 use Rattle.handover.specs.Passes.{IsPassOf}
-use Rattle.imposer.specs.Delivery.{HandedOn}
+use Rattle.run_steps.specs.Delivery.{HandedOn}
 use Rattle.imposer.proofs.gathering.put_blank_sheets.Given as goal
 
 abbrev pub invariant-loop-k : goal.invariant-loop-k

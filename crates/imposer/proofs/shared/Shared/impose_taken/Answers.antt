@@ -1,7 +1,7 @@
 use Rattle.std.specs.Prelude.{length}
-use Rattle.imposer.specs.LookUps.{pages_of}
+use Rattle.run_steps.specs.LookUps.{pages_of}
 use Rattle.imposer.proofs.shared.Shared.impose_taken.Goals as goal
-use Rattle.imposer.proofs.Reading.{reads_look_ups, reads_until, reads_both}
+use Rattle.run_steps.proofs.Reading.{reads_look_ups, reads_until, reads_both}
 
 pub returns-in-Ok-clause-reads : goal.returns-in-Ok-clause-reads
 returns-in-Ok-clause-reads g c =

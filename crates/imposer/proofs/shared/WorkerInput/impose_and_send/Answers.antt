@@ -1,4 +1,4 @@
-use Rattle.imposer.proofs.Reading.{tokens_read, done_read, closes_read}
+use Rattle.imposer.proofs.Held.{tokens_read, done_read, closes_read}
 use Rattle.imposer.proofs.shared.WorkerInput.impose_and_send.Goals as goal
 
 pub returns-in_err-imposed-clause-tokens : goal.returns-in_err-imposed-clause-tokens

@@ -1,0 +1,21 @@
+use Rattle.std.proofs.Common.{ap, ◌++◌, ◌∙◌}
+use Rattle.profile.specs.Output.{opening_text, closing_text}
+use Rattle.run_steps.proofs.imposition.Imposition.append_shelved.Goals as goal
+use Rattle.run_steps.proofs.LookUps.{has_index, page_in, same_job}
+use Rattle.sheet_text.proofs.Slots.{slot_placed}
+
+pub find_shelved-requires-clause-index : goal.find_shelved-requires-clause-index
+find_shelved-requires-clause-index c =
+    has_index _ _ c.args.self.now.table.now.layout c.args.seat.now c.args.sheet c.args.slot _ _ (same_job c.args.self.now.job.now c.plan.result.now c.plan.ensures.value) c.args.self.now.same_plan c.requires.seat.1 c.share.ensures.seat c.requires.complete c.page_of.ensures.value c.in-Some.is
+
+pub returns-in-Ok-append_placed-clause-text : goal.returns-in-Ok-append_placed-clause-text
+returns-in-Ok-append_placed-clause-text c = λ it at.
+    c.in-Ok-append_placed.ensures it at
+    ∙ ap (λ b. c.args.text.now.items ++ (opening_text c.args.self.now.job.now.frame it.item ++ b ++ closing_text)) c.body.ensures.body
+    ∙ ap (λ t. c.args.text.now.items ++ t) (slot_placed _ _ c.args.sheet c.args.slot _ _ it _ _ (same_job c.args.self.now.job.now c.plan.result.now c.plan.ensures.value) c.page_of.ensures.value c.in-Some.is c.in-Ok.ensures.raw c.in-Ok.ensures.prepared at)
+
+pub returns-in-Err-clause-has_page : goal.returns-in-Err-clause-has_page
+returns-in-Err-clause-has_page c = (c.in-Some.page, page_in _ _ c.args.sheet c.args.slot _ _ (same_job c.args.self.now.job.now c.plan.result.now c.plan.ensures.value) c.page_of.ensures.value c.in-Some.is)
+
+pub returns-in-Err-append_placed-clause-has_page : goal.returns-in-Err-append_placed-clause-has_page
+returns-in-Err-append_placed-clause-has_page c = (c.in-Some.page, page_in _ _ c.args.sheet c.args.slot _ _ (same_job c.args.self.now.job.now c.plan.result.now c.plan.ensures.value) c.page_of.ensures.value c.in-Some.is)

@@ -1,0 +1,236 @@
+//! A page is put on the shelf, published and marked.
+ghost use Rattle.std.specs.Prelude.{◌≡◌, ℕ, ◌<◌, ◌≤◌, ◌+◌, ◌++◌, [], ◌∷◌, List, length, All, filter};
+ghost use Rattle.std.specs.Prelude.{IfOk, IfErr, MatchResult, vec_capacity, if◌then◌else◌};
+ghost use Rattle.profile.specs.Sheets.{layout};
+ghost use Rattle.gather_table.specs.Shared.{IsSeatOf, Makes};
+ghost use Rattle.handover.specs.Passes.{IsPassOf};
+ghost use Rattle.handover.specs.Shelves.{IsOn};
+ghost use Rattle.run_steps.specs.Delivery.{IsReady, is_filling, place_calls, answer_list, completes_sheet};
+ghost use Rattle.run_steps.specs.Delivery.{calls_of, AreAnswered, completed, HandedOn};
+ghost use Rattle.run_steps.specs.HandingBack.{HandsBack};
+
+use gather_table::{Closing, GatherTable, Published, Reply, Seat};
+use handover::{Full, Overflow, Pass, Prepared, PutError, Ready, Receipt, Shelf};
+use sheet_plan::Plan;
+use std::alloc::{AllocError, Global};
+use std::sync::Wait;
+
+/// What a delivery did.
+#[derive(Drop)]
+pub struct Delivered<'d> {
+    /// By which the page is read from the shelf.
+    pub receipt: Receipt<'d>,
+    /// Whether the page is published at the receipt's index, or kept the index that it had.
+    pub published: Published,
+    /// The answer of each mark, one for each place of the page, in order.
+    pub replies: Vec<Reply>,
+    /// The answer of each closing, one for each group of a wide sheet that a mark filled, in order.
+    pub closings: Vec<Closing>,
+    /// The sheets that the page completed and that the queue had no room for, in order.
+    pub handed_back: Vec<u32>,
+}
+
+/// Why a page was not delivered. Table and queue are as they were, and so are seat and pass.
+#[derive(Drop)]
+pub enum DeliverError<'d> {
+    /// A growth was refused. The shelf is as it was too, and the page comes back.
+    NoMemory(Prepared<'d>),
+    /// The page is on the shelf, at an index past those that a receipt can name.
+    ShelfFull(Overflow<'d>),
+}
+
+/// Puts a page on the shelf, publishes it, and marks its places in order. If a mark fills a group of a wide sheet, the
+/// group is closed next, before any other place is marked. If a mark or a closing completes a sheet, the sheet is put
+/// on the queue next. It may wait for other threads that are at the shelf or the queue.
+///
+/// The table is one of the plan. Each growth is made before anything is called, so a refused one leaves all as it was.
+pub fn deliver<'d, R: Wait>(
+    rt: &R,
+    alloc: Global,
+    seat: &mut Seat,
+    pass: &mut Pass,
+    table: &GatherTable<'_>,
+    shelf: &Shelf<'d>,
+    ready: &Ready,
+    plan: &Plan<'_>,
+    prepared: Prepared<'d>,
+) -> Result<Delivered<'d>, DeliverError<'d>>
+    requires seat { IsSeatOf table.now seat.old }
+    requires pass { IsPassOf ready.now pass.old }
+    requires plan { table.now.layout ≡ layout plan.now }
+    requires page { prepared.page < plan.now.pages }
+
+    // At Ok the seat published the page at the receipt's index and marked its places, each once and in order, with the
+    // closing of each group directly after the mark that filled it, and called nothing else.
+    ensures called { MatchResult result
+        (λ d. Makes seat.old (calls_of table.now.layout prepared.entry.page d) seat.new)
+        (λ e. seat.new ≡ seat.old) }
+    ensures answered { IfOk result (λ d.
+        AreAnswered table.now.layout prepared.entry.page d.replies.items d.closings.items) }
+    ensures seat { IsSeatOf table.now seat.new }
+
+    // At Ok each sheet that the page completed was put on the queue, in order, but for those handed back.
+    ensures handed_on { MatchResult result
+        (λ d. HandedOn ready.now (completed (calls_of table.now.layout prepared.entry.page d)) d.handed_back.items
+        pass.old pass.new)
+        (λ e. pass.new ≡ pass.old) }
+    ensures pass { IsPassOf ready.now pass.new }
+    ensures receipt { IfOk result (λ d. IsOn shelf.now d.receipt × (d.receipt.value ≡ prepared.entry)) }
+    ensures refused { IfErr result (HandsBack shelf.now prepared.entry) }
+{
+    let page = prepared.page();
+    let places = plan.slots_of_page(page);
+    let Ok(room) = Marked::with_room(alloc, places.len()) else {
+        return Err(DeliverError::NoMemory(prepared));
+    };
+    let receipt = match shelf.put(rt, prepared) {
+        Ok(receipt) => receipt,
+        Err(error) => match error {
+            PutError::NoMemory(prepared) => return Err(DeliverError::NoMemory(prepared)),
+            PutError::ShelfFull(overflow) => return Err(DeliverError::ShelfFull(overflow)),
+        },
+    };
+    let published = table.publish(seat, page, receipt.index());
+    let marked = mark_places(rt, table, seat, ready, pass, places, room);
+    Ok(Delivered {
+        receipt,
+        published,
+        replies: marked.replies,
+        closings: marked.closings,
+        handed_back: marked.handed_back,
+    })
+}
+
+// What was answered at the places of a page, and the sheets that were handed back.
+#[derive(Drop)]
+struct Marked {
+    replies: Vec<Reply>,
+    closings: Vec<Closing>,
+    handed_back: Vec<u32>,
+}
+
+impl Marked {
+    /// None yet, with room for those of this many places.
+    fn with_room(alloc: Global, places: usize) -> Result<Self, AllocError>
+        ensures replies { IfOk result (λ a. (a.replies.items ≡ []) × (places ≤ vec_capacity a.replies)) }
+        ensures closings { IfOk result (λ a. (a.closings.items ≡ []) × (places ≤ vec_capacity a.closings)) }
+        ensures handed_back { IfOk result (λ a. (a.handed_back.items ≡ []) × (places ≤ vec_capacity a.handed_back)) }
+    {
+        Ok(Marked {
+            replies: Vec::with_capacity(alloc, places)?,
+            closings: Vec::with_capacity(alloc, places)?,
+            handed_back: Vec::with_capacity(alloc, places)?,
+        })
+    }
+}
+
+/// Marks the places in order, each with the closing and the put that follow from its mark. There is room for all that
+/// is answered.
+fn mark_places<R: Wait>(
+    rt: &R,
+    table: &GatherTable<'_>,
+    seat: &mut Seat,
+    ready: &Ready,
+    pass: &mut Pass,
+    places: &[(u32, u16)],
+    room: Marked,
+) -> Marked
+    requires seat { IsSeatOf table.now seat.old }
+    requires pass { IsPassOf ready.now pass.old }
+    requires places { All (IsReady table.now.layout seat.old.front) places.now }
+    requires replies { (room.replies.items ≡ []) × (length places.now ≤ vec_capacity room.replies) }
+    requires closings { (room.closings.items ≡ []) × (length places.now ≤ vec_capacity room.closings) }
+    requires handed_back { (room.handed_back.items ≡ []) × (length places.now ≤ vec_capacity room.handed_back) }
+    ensures called { Makes seat.old (place_calls places.now result.replies.items result.closings.items) seat.new }
+    ensures replies { length result.replies.items ≡ length places.now }
+    ensures closings { length result.closings.items ≡ length (filter is_filling result.replies.items) }
+    ensures pass { IsPassOf ready.now pass.new }
+    ensures handed_on { HandedOn ready.now
+        (completed (place_calls places.now result.replies.items result.closings.items)) result.handed_back.items
+        pass.old pass.new }
+{
+    let Marked {
+        mut replies,
+        mut closings,
+        mut handed_back,
+    } = room;
+    for place in places {
+        let (reply, closing) = mark_and_close(table, seat, *place);
+        replies.push_reserved(reply);
+        push_closing(&mut closings, closing);
+        let completed = completes_sheet(reply, closing);
+        hand_on_completed(rt, ready, pass, place.0, completed, &mut handed_back);
+    }
+    Marked {
+        replies,
+        closings,
+        handed_back,
+    }
+}
+
+/// Marks the place, and closes the group if the mark filled one.
+fn mark_and_close(
+    table: &GatherTable<'_>,
+    seat: &mut Seat,
+    place: (u32, u16),
+) -> (Reply, Option<Closing>)
+    requires seat { IsSeatOf table.now seat.old }
+    requires place { IsReady table.now.layout seat.old.front place }
+    ensures called { Makes seat.old (place_calls (place ∷ []) (result.0 ∷ []) (answer_list result.1)) seat.new }
+    ensures answered { length (answer_list result.1) ≡ length (filter is_filling (result.0 ∷ [])) }
+{
+    let (sheet, slot) = place;
+    let reply = table.mark(seat, sheet, slot);
+    let Reply::Fills(group) = reply else {
+        return (reply, None);
+    };
+    let closing = table.close_group(seat, sheet, group);
+    (reply, Some(closing))
+}
+
+/// Adds the answer of a closing, if there was one, to the answers, for which there is room.
+fn push_closing(closings: &mut Vec<Closing>, closing: Option<Closing>)
+    requires room { length closings.old.items < vec_capacity closings.old }
+    ensures items { closings.new.items ≡ closings.old.items ++ answer_list closing }
+    ensures room { vec_capacity closings.old ≤ vec_capacity closings.new }
+{
+    if let Some(closing) = closing {
+        closings.push_reserved(closing);
+    }
+}
+
+/// Whether a mark that was answered so completed its sheet, or the closing of the group that it filled did.
+fn completes_sheet(reply: Reply, closing: Option<Closing>) -> bool
+    ensures { result ≡ completes_sheet reply closing }
+{
+    match (reply, closing) {
+        (Reply::Completing, _) => true,
+        (Reply::Fills(_), Some(Closing::Completing)) => true,
+        _ => false,
+    }
+}
+
+/// Puts the sheet on the queue if it was completed.
+fn hand_on_completed<R: Wait>(
+    rt: &R,
+    ready: &Ready,
+    pass: &mut Pass,
+    sheet: u32,
+    completed: bool,
+    handed_back: &mut Vec<u32>,
+)
+    requires pass { IsPassOf ready.now pass.old }
+    requires room { length handed_back.old.items < vec_capacity handed_back.old }
+    ensures pass { IsPassOf ready.now pass.new }
+    ensures room { vec_capacity handed_back.old ≤ vec_capacity handed_back.new }
+    ensures few { length handed_back.new.items ≤ length handed_back.old.items + 1 }
+    ensures handed_on { (back : List ℕ) × (handed_back.new.items ≡ handed_back.old.items ++ back)
+        × HandedOn ready.now (if completed then sheet ∷ [] else []) back pass.old pass.new }
+{
+    if !completed {
+        return;
+    }
+    if let Err(Full(sheet)) = ready.put(rt, pass, sheet) {
+        handed_back.push_reserved(sheet);
+    }
+}

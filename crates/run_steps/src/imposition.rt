@@ -1,0 +1,202 @@
+//! A sheet is made of the pages that are shelved.
+ghost use Rattle.std.specs.Prelude.{◌≡◌, ℕ, ◌+◌, ◌-◌, ◌<◌, ◌≤◌, ◌++◌, ◌∷◌, [], IfOk, OnOk, OnErr, MatchResult, length};
+ghost use Rattle.std.specs.Prelude.{Some, slice_get, slice_index_or, true};
+ghost use Rattle.profile.specs.Parts.{pages};
+ghost use Rattle.profile.specs.Sheets.{Slot, layout};
+ghost use Rattle.profile.specs.Output.{slot_text};
+ghost use Rattle.sheet_plan.specs.Plans.{pages_on};
+ghost use Rattle.gather_table.specs.History.{PageAt, IsComplete};
+ghost use Rattle.gather_table.specs.Shared.{IsSeatOf, Made};
+ghost use Rattle.handover.specs.Pages.{IsPrepared};
+ghost use Rattle.sheet_text.specs.Jobs.{slots_of, slots_text, text_of};
+ghost use Rattle.run_steps.specs.Reading.{OnlyReads};
+ghost use Rattle.run_steps.specs.LookUps.{pages_of, LooksUp, LooksUpUntil, LooksAt, HasIndex};
+
+use gather_table::{GatherTable, Seat};
+use handover::{Prepared, Shelf};
+use sheet_text::{Job, Openings, append_placed, begin_sheet, end_sheet};
+use sheet_writer::Imposed;
+use std::alloc::Global;
+use thiserror::Error;
+
+/// Why a sheet wasn't imposed.
+#[derive(Debug, Drop, Error)]
+pub enum ImposeError {
+    #[error("out of memory")]
+    NoMemory,
+    /// The shelf showed no entry at a page's index, or one that isn't the document's page.
+    #[error("a page is not on the shelf")]
+    NotShown,
+}
+
+/// Makes the text of a complete sheet, counted from 0, of the pages that stand on the shelf. The text is that of
+/// `sheet_text`. The table is one for the job's plan, and the seat has seen the sheet complete: a look that was
+/// answered 0 shows it. Each page of the sheet is looked up in slot order. After a refusal some of the first were, and
+/// at `NotShown` one at least.
+pub fn impose<'d>(
+    alloc: Global,
+    seat: &mut Seat,
+    job: &Job<'_, 'd>,
+    table: &GatherTable<'_>,
+    shelf: &Shelf<'d>,
+    sheet: u32,
+) -> Result<Imposed, ImposeError>
+    requires seat { IsSeatOf table.now seat.old }
+    requires table { table.now.layout ≡ layout job.now.plan }
+    requires sheet { sheet < length job.now.plan.sheets }
+    requires complete { IsComplete table.now.layout seat.old.front sheet }
+    ensures text { IfOk result (λ m. (m.sheet ≡ sheet) × (m.text.items ≡ text_of job.now sheet)) }
+    ensures looked_up { MatchResult result
+        (λ m. LooksUp (pages_of table.now.layout sheet) (length (pages_of table.now.layout sheet)) seat.old seat.new)
+        (λ e. LooksUpUntil (pages_of table.now.layout sheet) e seat.old seat.new) }
+{
+    let imposition = Imposition {
+        job: &*job,
+        table: &*table,
+        shelf: &*shelf,
+    };
+    imposition.impose(alloc, &mut Openings::new(alloc), seat, sheet)
+}
+
+/// What sheets are imposed of: a job, the table of its plan, and the shelf on which the pages stand.
+#[derive(Drop)]
+pub struct Imposition<'s, 'j, 't, 'd> {
+    pub job: &'s Job<'j, 'd>,
+    pub table: &'s GatherTable<'t>,
+    pub shelf: &'s Shelf<'d>,
+    ghost same_plan: { table.now.layout ≡ layout job.now.plan },
+}
+
+impl<'s, 'j, 't, 'd> Imposition<'s, 'j, 't, 'd> {
+    /// Does what `impose` does, with texts before placed pages that were kept from other sheets.
+    pub fn impose(
+        &self,
+        alloc: Global,
+        openings: &mut Openings,
+        seat: &mut Seat,
+        sheet: u32,
+    ) -> Result<Imposed, ImposeError>
+        requires seat { IsSeatOf self.now.table.now seat.old }
+        requires sheet { sheet < length self.now.job.now.plan.sheets }
+        requires complete { IsComplete self.now.table.now.layout seat.old.front sheet }
+        ensures text { IfOk result (λ m. (m.sheet ≡ sheet) × (m.text.items ≡ text_of self.now.job.now sheet)) }
+        ensures looked_up { MatchResult result
+            (λ m. LooksUp (pages_of self.now.table.now.layout sheet) (length (pages_of self.now.table.now.layout sheet))
+            seat.old seat.new)
+            (λ e. LooksUpUntil (pages_of self.now.table.now.layout sheet) e seat.old seat.new) }
+    {
+        let job = self.job;
+        let Ok(mut text) = begin_sheet(alloc, job, sheet) else {
+            return Err(ImposeError::NoMemory);
+        };
+        match self.append_shelved_slots(&mut text, openings, seat, sheet) {
+            Ok(()) => {}
+            Err(error) => return Err(error),
+        }
+        let Ok(()) = end_sheet(&mut text) else {
+            return Err(ImposeError::NoMemory);
+        };
+        Ok(Imposed { sheet, text })
+    }
+
+    /// Looks up the pages of all slots of a sheet, in order, and appends the slots' texts.
+    fn append_shelved_slots(
+        &self,
+        text: &mut Vec<u8>,
+        openings: &mut Openings,
+        seat: &mut Seat,
+        sheet: u32,
+    ) -> Result<(), ImposeError>
+        requires seat { IsSeatOf self.now.table.now seat.old }
+        requires sheet { sheet < length self.now.job.now.plan.sheets }
+        requires complete { IsComplete self.now.table.now.layout seat.old.front sheet }
+        ensures text { OnOk result (text.new.items ≡ text.old.items
+            ++ slots_text self.now.job.now (slots_of self.now.job.now sheet)) }
+        ensures looked_up { MatchResult result
+            (λ m. LooksUp (pages_of self.now.table.now.layout sheet) (length (pages_of self.now.table.now.layout sheet))
+            seat.old seat.new)
+            (λ e. (n : ℕ) × (0 < n) × LooksUp (pages_of self.now.table.now.layout sheet) n seat.old seat.new) }
+    {
+        let job = self.job;
+        let plan = job.plan();
+        for slot in 0..plan.slots(sheet) {
+            match self.append_shelved(text, openings, seat, sheet, slot) {
+                Ok(()) => {}
+                Err(error) => return Err(error),
+            }
+        }
+        Ok(())
+    }
+
+    /// Looks up the page of a slot and appends the slot's text; nothing if it is blank.
+    fn append_shelved(
+        &self,
+        text: &mut Vec<u8>,
+        openings: &mut Openings,
+        seat: &mut Seat,
+        sheet: u32,
+        slot: u16,
+    ) -> Result<(), ImposeError>
+        requires seat { IsSeatOf self.now.table.now seat.old }
+        requires sheet { sheet < length self.now.job.now.plan.sheets }
+        requires slot { slot < length (pages_on self.now.job.now.plan sheet) }
+        requires complete { IsComplete self.now.table.now.layout seat.old.front sheet }
+        ensures text { OnOk result ((it : Slot) → slice_get (slots_of self.now.job.now sheet) slot ≡ Some it →
+            text.new.items ≡ text.old.items
+            ++ slot_text self.now.job.now.frame (pages self.now.job.now.units) it.page it.item) }
+        ensures looked_up { LooksAt (slice_get (pages_on self.now.job.now.plan sheet) slot) seat.old seat.new }
+        ensures has_page { OnErr result ((page : ℕ)
+            × (slice_get (pages_on self.now.job.now.plan sheet) slot ≡ Some (Some page))) }
+    {
+        let job = self.job;
+        let Some(page) = job.plan().page_of(sheet, slot) else {
+            return Ok(());
+        };
+
+        // The seat tells that its front is a legal history, in which the pages of a complete sheet have an index.
+        seat.share();
+        let shown = match self.find_shelved(seat, page) {
+            Ok(shown) => shown,
+            Err(error) => return Err(error),
+        };
+        match append_placed(text, openings, job, sheet, slot, shown.body()) {
+            Ok(()) => Ok(()),
+            Err(_) => Err(ImposeError::NoMemory),
+        }
+    }
+
+    /// Looks up a page that has an index, and finds it on the shelf.
+    fn find_shelved(&self, seat: &mut Seat, page: u32) -> Result<&'s Prepared<'d>, ImposeError>
+        requires seat { IsSeatOf self.now.table.now seat.old }
+        requires in_table { page < self.now.table.now.layout.pages }
+        requires in_document { page < length (pages self.now.job.now.units) }
+        requires index { HasIndex self.now.table.now.layout seat.old.front page }
+        ensures looked_up { LooksAt (Some (Some page)) seat.old seat.new }
+        ensures page { IfOk result (λ shown. shown.now.page ≡ page) }
+        ensures raw { IfOk result (λ shown. shown.now.raw ≡ slice_index_or (pages self.now.job.now.units) page []) }
+        ensures prepared { IfOk result (λ shown. IsPrepared shown.now) }
+    {
+        let job = self.job;
+        let Some(index) = self.table.page_at(seat, page) else {
+            unreachable!();
+        };
+        let Some(shown) = self.shelf.at(index) else {
+            return Err(ImposeError::NotShown);
+        };
+        if shown.page() != page || shown.raw() != job.document().page(page) {
+            return Err(ImposeError::NotShown);
+        }
+        Ok(shown)
+    }
+}
+
+/// Whether a look shows the sheet complete: no slot of it is missing, or, if it is wide, no group of it is open.
+pub fn is_complete(seat: &mut Seat, table: &GatherTable<'_>, sheet: u32) -> bool
+    requires seat { IsSeatOf table.now seat.old }
+    requires sheet { sheet < length table.now.layout.sheets }
+    ensures seat { IsSeatOf table.now seat.new }
+    ensures reads { OnlyReads seat.old seat.new }
+    ensures complete { result ≡ true → IsComplete table.now.layout seat.new.front sheet }
+{
+    table.look(seat, sheet) == 0
+}

@@ -1,0 +1,31 @@
+//! What holds of the calls of a run, by the definitions alone. The functions do nothing: each one's contract is a law.
+ghost use Rattle.run_steps.specs.Delivery.{DeliveriesClose, CompletedAreCounted};
+ghost use Rattle.run_steps.specs.Duty.{DeliveriesWeigh, SharesAreAll};
+ghost use Rattle.run_steps.specs.Gathered.{GathersAll};
+
+/// A delivery does what its page wants done.
+pub fn deliveries_weigh()
+    ensures { DeliveriesWeigh }
+{}
+
+/// The shares of all preparers together are what all pages want done.
+pub fn shares_are_all()
+    ensures { SharesAreAll }
+{}
+
+/// A seat that has all shares, whose own calls did what all pages want done and closed each group that they filled, has
+/// seen each page published once, each slot marked once that holds a page, each group of a wide sheet with such a slot
+/// closed once, and every sheet completed.
+pub fn gathers_all()
+    ensures { GathersAll }
+{}
+
+/// A delivery closes each group of a wide sheet that its marks fill.
+pub fn deliveries_close()
+    ensures { DeliveriesClose }
+{}
+
+/// A sheet stands as often among those that calls completed as there are calls that completed it.
+pub fn completed_are_counted()
+    ensures { CompletedAreCounted }
+{}

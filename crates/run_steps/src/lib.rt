@@ -1,0 +1,12 @@
+//! The two steps of a run: a page is delivered, and a sheet is imposed. Any number of threads may make them beside each
+//! other.
+#![tactic(auto)]
+
+mod delivery;
+mod imposition;
+pub mod laws;
+#[cfg(test)]
+mod tests;
+
+pub use delivery::{DeliverError, Delivered, deliver};
+pub use imposition::{ImposeError, Imposition, impose, is_complete};
