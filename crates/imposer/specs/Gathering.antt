@@ -9,6 +9,7 @@ use Rattle.gather_table.specs.Shared.{TableView, SeatView, IsSeat, IsSeatOf}
 use Rattle.handover.specs.Passes.{QueueView, PassView, IsPass, IsPassOf}
 use Rattle.sheet_text.specs.Jobs.{JobView, output_of}
 use Rattle.sheet_writer.specs.Writing.{WroteFirst, Stands}
+use Rattle.imposer.specs.Outcomes.{AfterError}
 use Rattle.imposer.specs.Runs.{FailedIn}
 use Rattle.sheet_writer.specs.declared.writing.Progress.{Progress}
 use Rattle.imposer.specs.declared.tokens.Holding.{Holding}
@@ -35,21 +36,11 @@ pub record ReportsOf (job : JobView) (report : Report) : Type 0 where
 
 -- out of memory and a failed write are the only errors, and as much of the output was written as they say
 abbrev pub WrotePartOf : JobView → (old new : Option (List ℕ)) → RunError → Type 0
-WrotePartOf job old new error.Options = ⊥
-WrotePartOf job old new (error.Spec e) = ⊥
-WrotePartOf job old new (error.Document e) = ⊥
-WrotePartOf job old new (error.Plan e) = ⊥
-WrotePartOf job old new (error.NoMemory written) = WroteFirst job old new written
-WrotePartOf job old new (error.Write written) = WroteFirst job old new written
+WrotePartOf job old new e = AfterError e ⊥ (WroteFirst job old new) (WroteFirst job old new)
 
 -- the tokens come back, but after out of memory
 abbrev pub HandsBackTokens : {T : Type 0} → RunError → Option T → Type 0
-HandsBackTokens error.Options tokens = ⊥
-HandsBackTokens (error.Spec e) tokens = ⊥
-HandsBackTokens (error.Document e) tokens = ⊥
-HandsBackTokens (error.Plan e) tokens = ⊥
-HandsBackTokens (error.NoMemory written) tokens = IsNone tokens
-HandsBackTokens (error.Write written) tokens = IsSomeAnd tokens (λ t. ⊤)
+HandsBackTokens e tokens = AfterError e ⊥ (λ written. IsNone tokens) (λ written. IsSomeAnd tokens (λ t. ⊤))
 
 -- what the answer says of a sink that had these bytes and this many failures, and which took the whole output or a part
 -- of it

@@ -1,4 +1,5 @@
--- What an error of a part makes of a run, before anything was written.
+-- What an error of a part makes of a run, before anything was written; and what holds after an error of a run.
+use Rattle.std.specs.Prelude.{ℕ}
 use Rattle.pagespec.specs.declared.error.SpecError.{SpecError}
 use Rattle.pagespec.specs.declared.error.SpecError.TheVariants as spec
 use Rattle.sheet_plan.specs.declared.error.PlanError.{PlanError}
@@ -22,3 +23,13 @@ of_document other = error.Document other
 abbrev pub of_plan : PlanError → RunError
 of_plan plan.NoMemory = no_memory
 of_plan other = error.Plan other
+
+-- what holds after an error: `refused` after a refusal, before which nothing was written, and of the number of bytes that
+-- were written `spent` after out of memory and `failed` after a failed write
+abbrev pub AfterError : RunError → (refused : Type 0) → (spent failed : ℕ → Type 0) → Type 0
+AfterError error.Options refused spent failed = refused
+AfterError (error.Spec e) refused spent failed = refused
+AfterError (error.Document e) refused spent failed = refused
+AfterError (error.Plan e) refused spent failed = refused
+AfterError (error.NoMemory written) refused spent failed = spent written
+AfterError (error.Write written) refused spent failed = failed written

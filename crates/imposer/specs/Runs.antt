@@ -14,6 +14,7 @@ use Rattle.pagespec.specs.Faults.{fault_named}
 use Rattle.sheet_plan.specs.Plans.{planned_in}
 use Rattle.sheet_plan.specs.Places.{born_complete}
 use Rattle.imposer.specs.Faults.{plan_fault_told}
+use Rattle.imposer.specs.Outcomes.{AfterError}
 use Rattle.imposer.specs.declared.outcome.RunError.{RunError}
 use Rattle.imposer.specs.declared.outcome.RunError.TheVariants as error
 use Rattle.imposer.specs.declared.options.Options.{Options}
@@ -67,22 +68,14 @@ WrotePart r old new written =
 
 -- what the sink has taken after an error
 abbrev pub HasWritten : Request → Option (List ℕ) → Option (List ℕ) → RunError → Type 0
-HasWritten r old new error.Options = Keeps old new
-HasWritten r old new (error.Spec e) = Keeps old new
-HasWritten r old new (error.Document e) = Keeps old new
-HasWritten r old new (error.Plan e) = Keeps old new
-HasWritten r old new (error.NoMemory written) = ((written ≡ 0) × Keeps old new) ⊎ WrotePart r old new written
-HasWritten r old new (error.Write written) = WrotePart r old new written
+HasWritten r old new e = AfterError e (Keeps old new)
+    (λ written. ((written ≡ 0) × Keeps old new) ⊎ WrotePart r old new written) (WrotePart r old new)
 
 -- how often the sink had failed before a run that ended so, and after it: a failed write is one failure, and out of memory
 -- may have met one too
 abbrev pub FailedIn : RunError → (before after : ℕ) → Type 0
-FailedIn error.Options before after = after ≡ before
-FailedIn (error.Spec e) before after = after ≡ before
-FailedIn (error.Document e) before after = after ≡ before
-FailedIn (error.Plan e) before after = after ≡ before
-FailedIn (error.NoMemory written) before after = (after ≡ before) ⊎ (after ≡ before + 1)
-FailedIn (error.Write written) before after = after ≡ before + 1
+FailedIn e before after = AfterError e (after ≡ before) (λ written. (after ≡ before) ⊎ (after ≡ before + 1))
+    (λ written. after ≡ before + 1)
 
 -- the numbers of a report
 pub record Reports (frame : Frame) (sides : Option ℕ) (spec : Spec) (us : List NestedUnit)
@@ -95,12 +88,7 @@ pub record Reports (frame : Frame) (sides : Option ℕ) (spec : Spec) (us : List
 
 -- nothing was written
 abbrev pub IsUnwritten : RunError → Type 0
-IsUnwritten error.Options = ⊤
-IsUnwritten (error.Spec e) = ⊤
-IsUnwritten (error.Document e) = ⊤
-IsUnwritten (error.Plan e) = ⊤
-IsUnwritten (error.NoMemory written) = written ≡ 0
-IsUnwritten (error.Write written) = ⊥
+IsUnwritten e = AfterError e ⊤ (λ written. written ≡ 0) (λ written. ⊥)
 
 -- the request was read: its options are taken, its specification is this one, and its input is cut into these units
 pub record IsGiven (r : Request) (chosen : Options) (given : Given) : Type 0 where
