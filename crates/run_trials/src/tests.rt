@@ -2,6 +2,7 @@
 mod gates;
 mod growth;
 mod sinks;
+mod windows;
 
 use imposer::{Options, Workers};
 use lengths::{Paper, paper_by_name};

@@ -54,7 +54,7 @@ impl Openings {
         let start = out.as_slice().len();
         opening_text(item, &job.paper, job.border, out)?;
         let (_, text) = out.as_slice().split_at(start);
-        self.keep(job, item, text);
+        self.keep(job, item, text)?;
         Ok(())
     }
 
@@ -78,24 +78,22 @@ impl Openings {
         Ok(false)
     }
 
-    /// Keeps a text, if few are kept and there is memory for it.
-    fn keep(&mut self, job: &Job<'_, '_>, item: &Item, text: &[u8])
+    /// Keeps a text, if few are kept.
+    fn keep(&mut self, job: &Job<'_, '_>, item: &Item, text: &[u8]) -> Result<(), AllocError>
         requires { text.now ≡ opening job.now.frame (item_of item.now) }
     {
         if self.kept.len() >= MOST_KEPT {
-            return;
+            return Ok(());
         }
-        let Ok(copy) = Vec::from_slice(self.alloc, text) else {
-            return;
-        };
+        let copy = Vec::from_slice(self.alloc, text)?;
         let opening = Opening {
             item: *item,
             paper: job.paper,
             border: job.border,
             text: copy,
         };
-        // If memory is refused, it is printed again the next time.
-        let _is_kept = self.kept.push(opening).is_ok();
+        self.kept.push(opening)?;
+        Ok(())
     }
 }
 

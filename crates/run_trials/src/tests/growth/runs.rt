@@ -6,35 +6,55 @@ use super::{MOST, has_refused, refuse};
 use dsc::Document;
 use gather_table::GatherTable;
 use handover::{Ready, Shelf};
-use imposer::{Gathered, Job, MemorySink, Open, Options, RunError, Workers, gather, run};
+use imposer::{
+    Gate, Gathered, Job, MemorySink, Open, Options, RunError, Step, Workers, gather, run,
+};
 use pagespec::read_spec;
 use sheet_plan::Plan;
 use std::alloc::{AllocError, Global};
 use std::process::Abort;
 use std::sync::Wait;
 use std::test::Fail;
+use std::thread;
 use std::thread::Threads;
 
 /// More bytes than a run here writes.
-const ROOM: usize = 1_000_000;
+const ROOM: usize = 2_000_000;
+
+/// The first page is delivered late, so that sheets of others are there and wait for their turn.
+#[derive(Drop)]
+struct Late {}
+
+impl Gate for Late {
+    fn before(&self, step: Step) {
+        if step == Step::Deliver(0) {
+            for _ in 0..1_000u32 {
+                thread::yield_now();
+            }
+        }
+    }
+
+    fn after(&self, _step: Step) {}
+}
 
 /// A booklet: from the last page and the first towards the middle.
 const BOOKLET: &str = "4:-3L@.7(21cm,0)+0L@.7(21cm,14.85cm),1L@.7(21cm,0)+-2L@.7(21cm,14.85cm)";
 
 /// Runs with the growth of this number refused: the sink, how many bytes the run says that were written, None if it finished,
 /// and whether a growth was refused.
-fn run_refused<R: Threads + Wait + Abort + Sync>(
+fn run_refused<R: Threads + Wait + Abort + Sync, G: Gate + Sync>(
     rt: &R,
     alloc: Global,
     number: u32,
     text: &str,
     items: &str,
     options: &Options,
+    gate: &G,
 ) -> Result<(MemorySink, Option<u64>, bool), AllocError> {
     let mut sink = MemorySink::new(alloc, ROOM, ROOM, 1_000)?;
     let input = text.as_bytes();
     refuse(alloc, number);
-    let answer = run(rt, alloc, input, items, options, &Open {}, &mut sink);
+    let answer = run(rt, alloc, input, items, options, gate, &mut sink);
     let is_refused = has_refused(alloc);
     match answer {
         Ok(_) => Ok((sink, None, is_refused)),
@@ -61,22 +81,23 @@ fn is_right(holds: bool, written: Option<u64>, is_refused: bool) -> bool {
 
 /// Each growth of the run is refused in turn. Threads grow what they grow in any order, so the end is where none of
 /// some numbers behind one another was refused.
-fn refuse_each<R: Threads + Wait + Abort + Sync>(
+fn refuse_each<R: Threads + Wait + Abort + Sync, G: Gate + Sync>(
     rt: &R,
     alloc: Global,
     text: &str,
     items: &str,
     counts: (u32, u32),
+    gate: &G,
     holds: bool,
 ) -> Result<(), AllocError> {
     let options = workers(rt, counts.0, counts.1);
-    let (output, _, is_refused) = run_refused(rt, alloc, MOST, text, items, &options)?;
+    let (output, _, is_refused) = run_refused(rt, alloc, MOST, text, items, &options, gate)?;
     assert!(rt; !is_refused);
     let mut unrefused = 0u32;
     for number in 1..MOST {
         if unrefused < 4 {
             let (sink, written, is_refused) = run_refused(
-                rt, alloc, number, text, items, &options,
+                rt, alloc, number, text, items, &options, gate,
             )?;
             assert_written(rt, output.bytes(), &sink, written);
             assert!(rt; is_right(holds, written, is_refused), "growth {number}");
@@ -91,11 +112,11 @@ fn refuse_each<R: Threads + Wait + Abort + Sync>(
     Ok(())
 }
 
-/// Twelve pages of 60,000 bytes each, so that most sheets lie too far ahead to be imposed at once.
-fn large_pages(alloc: Global) -> Result<String, AllocError> {
-    let lines = "% a line\n".repeat(alloc, 6_666)?;
+/// So many pages of so many lines of nine bytes.
+fn large_pages(alloc: Global, pages: u32, lines: usize) -> Result<String, AllocError> {
+    let lines = "% a line\n".repeat(alloc, lines)?;
     let mut text = String::from_str(alloc, "%!PS-Adobe-3.0\n")?;
-    for page in 1..=12u32 {
+    for page in 1..=pages {
         let heading = format!(in alloc; "%%Page: {page} {page}\n")?;
         text.push_str(&heading)?;
         text.push_str(&lines)?;
@@ -106,26 +127,39 @@ fn large_pages(alloc: Global) -> Result<String, AllocError> {
 #[test]
 fn runs_by_few(rt: HostRuntime) -> Result<(), Fail> {
     let two = document_of(rt.alloc(), 2)?;
-    refuse_each(&rt, rt.alloc(), &two, TWO_UP, (1, 1), false)?;
+    refuse_each(&rt, rt.alloc(), &two, TWO_UP, (1, 1), &Open {}, false)?;
     let five = document_of(rt.alloc(), 5)?;
-    refuse_each(&rt, rt.alloc(), &five, BOOKLET, (1, 1), false)?;
+    refuse_each(&rt, rt.alloc(), &five, BOOKLET, (1, 1), &Open {}, false)?;
     let eight = document_of(rt.alloc(), 8)?;
-    refuse_each(&rt, rt.alloc(), &eight, TWO_UP, (2, 3), false)?;
+    refuse_each(&rt, rt.alloc(), &eight, TWO_UP, (2, 3), &Open {}, false)?;
     Ok(())
 }
 
 #[test]
 fn runs_by_many(rt: HostRuntime) -> Result<(), Fail> {
     let eight = document_of(rt.alloc(), 8)?;
-    refuse_each(&rt, rt.alloc(), &eight, TWO_UP, (16, 16), false)?;
+    refuse_each(&rt, rt.alloc(), &eight, TWO_UP, (16, 16), &Open {}, false)?;
     Ok(())
 }
 
+// Eight sheets of twelve lie in the window, of those with pages of 60,000 bytes.
 #[test]
 fn runs_whose_sheets_wait_for_their_turn(rt: HostRuntime) -> Result<(), Fail> {
-    let large = large_pages(rt.alloc())?;
-    refuse_each(&rt, rt.alloc(), &large, "0", (1, 1), true)?;
-    refuse_each(&rt, rt.alloc(), &large, "0", (2, 3), true)?;
+    let large = large_pages(rt.alloc(), 12, 6_666)?;
+    for counts in [(1, 1), (2, 3)] {
+        refuse_each(&rt, rt.alloc(), &large, "0", counts, &Open {}, true)?;
+    }
+    Ok(())
+}
+
+// Two sheets of six lie in the window. The first one is completed last: its page is the last, or is delivered late.
+#[test]
+fn runs_whose_first_sheet_comes_last(rt: HostRuntime) -> Result<(), Fail> {
+    let huge = large_pages(rt.alloc(), 6, 33_333)?;
+    refuse_each(&rt, rt.alloc(), &huge, "-0", (1, 1), &Open {}, true)?;
+    for counts in [(2, 1), (3, 2)] {
+        refuse_each(&rt, rt.alloc(), &huge, "0", counts, &Late {}, true)?;
+    }
     Ok(())
 }
 
@@ -194,7 +228,7 @@ fn gather_pairs<R: Threads + Wait + Abort + Sync>(
 fn gatherings(rt: HostRuntime) -> Result<(), Fail> {
     let text = document_of(rt.alloc(), 8)?;
     let options = workers(&rt, 1, 1);
-    let (output, _, _) = run_refused(&rt, rt.alloc(), MOST, &text, TWO_UP, &options)?;
+    let (output, _, _) = run_refused(&rt, rt.alloc(), MOST, &text, TWO_UP, &options, &Open {})?;
     let mut unrefused = 0u32;
     for number in 1..MOST {
         if unrefused < 4 {

@@ -1,0 +1,11 @@
+use Rattle.std.proofs.Common.{arith, ◌≡◌}
+use Rattle.call_trials.proofs.tests.callers.is_complete.Goals as goal
+use Rattle.imposer.proofs.Reading.{reads_look, seat_stays, seen_complete}
+
+pub returns-clause-seat : goal.returns-clause-seat
+returns-clause-seat c = seat_stays _ _ _ c.requires.seat (reads_look _ _ c.args.sheet c.look.result c.look.ensures)
+
+pub returns-clause-complete : goal.returns-clause-complete
+returns-clause-complete c = λ is.
+    let zero_is : c.look.result ≡ 0 = grind arith in
+    seen_complete c.args.table.now _ _ c.args.sheet c.look.result c.requires.seat c.look.ensures zero_is

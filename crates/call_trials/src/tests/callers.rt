@@ -1,0 +1,139 @@
+//! A caller of a table, a shelf and a queue, with a seat and a pass of its own.
+ghost use Rattle.std.specs.Prelude.{◌≡◌, ◌<◌, true, length};
+ghost use Rattle.profile.specs.Sheets.{layout};
+ghost use Rattle.gather_table.specs.History.{IsComplete};
+ghost use Rattle.gather_table.specs.Shared.{IsSeatOf};
+ghost use Rattle.handover.specs.Passes.{IsPassOf};
+
+use gather_table::{GatherTable, Seat};
+use handover::{Pass, Prepared, Ready, Shelf};
+use imposer::{DeliverError, Delivered, ImposeError, Imposed, Job, deliver, impose};
+use std::alloc::Global;
+use std::sync::Wait;
+
+/// A caller that gathers the pages of a job. The table is one of the job's plan.
+#[derive(Drop)]
+pub(super) struct Caller<'s, 'j, 't, 'd> {
+    pub(super) job: &'s Job<'j, 'd>,
+    pub(super) table: &'s GatherTable<'t>,
+    pub(super) shelf: &'s Shelf<'d>,
+    pub(super) ready: &'s Ready,
+    pub(super) seat: Seat,
+    pub(super) pass: Pass,
+    ghost same_plan: { table.now.layout ≡ layout job.now.plan },
+    ghost seated: { IsSeatOf table.now seat },
+    ghost passed: { IsPassOf ready.now pass },
+}
+
+/// A caller with this seat and this pass.
+pub(super) fn caller_of<'s, 'j, 't, 'd>(
+    job: &'s Job<'j, 'd>,
+    table: &'s GatherTable<'t>,
+    shelf: &'s Shelf<'d>,
+    ready: &'s Ready,
+    seat: Seat,
+    pass: Pass,
+) -> Caller<'s, 'j, 't, 'd>
+    requires plan { table.now.layout ≡ layout job.now.plan }
+    requires seat { IsSeatOf table.now seat }
+    requires pass { IsPassOf ready.now pass }
+{
+    Caller {
+        job,
+        table,
+        shelf,
+        ready,
+        seat,
+        pass,
+    }
+}
+
+impl<'s, 'j, 't, 'd> Caller<'s, 'j, 't, 'd> {
+    /// Delivers a page. None for one that the job doesn't have.
+    pub(super) fn deliver<R: Wait>(
+        &mut self,
+        rt: &R,
+        alloc: Global,
+        prepared: Prepared<'d>,
+    ) -> Option<Result<Delivered<'d>, DeliverError<'d>>> {
+        let plan = self.job.plan();
+        if prepared.page() >= plan.pages() {
+            return None;
+        }
+        Some(deliver(
+            rt,
+            alloc,
+            &mut self.seat,
+            &mut self.pass,
+            self.table,
+            self.shelf,
+            self.ready,
+            plan,
+            prepared,
+        ))
+    }
+
+    /// What is missing of a sheet. None for one that the job doesn't have.
+    pub(super) fn look(&mut self, sheet: u32) -> Option<u64> {
+        if sheet >= self.job.sheets() {
+            return None;
+        }
+        Some(self.table.look(&mut self.seat, sheet))
+    }
+
+    /// The index of a page. None also for one that the job doesn't have.
+    pub(super) fn page_at(&mut self, page: u32) -> Option<u32> {
+        if page >= self.job.plan().pages() {
+            return None;
+        }
+        self.table.page_at(&mut self.seat, page)
+    }
+
+    /// The oldest sheet of the queue.
+    pub(super) fn take<R: Wait>(&mut self, rt: &R) -> Option<u32> {
+        self.ready.take(rt, &mut self.pass)
+    }
+
+    /// Another caller of the same, with a share of one. None if this one has no more than that.
+    pub(super) fn another(&mut self) -> Option<Caller<'s, 'j, 't, 'd>> {
+        if self.seat.share() < 2 || self.pass.share() < 2 {
+            return None;
+        }
+        let seat = self.table.split(&mut self.seat, 1);
+        let pass = self.ready.split(&mut self.pass, 1);
+        Some(Caller {
+            job: self.job,
+            table: self.table,
+            shelf: self.shelf,
+            ready: self.ready,
+            seat,
+            pass,
+        })
+    }
+
+    /// Imposes a sheet. None for one that isn't complete or that the job doesn't have.
+    pub(super) fn impose(self, alloc: Global, sheet: u32) -> Option<Result<Imposed, ImposeError>> {
+        let Caller {
+            job,
+            table,
+            shelf,
+            ready: _,
+            mut seat,
+            pass: _,
+        } = self;
+        if sheet >= job.sheets() || !is_complete(&mut seat, table, sheet) {
+            return None;
+        }
+        Some(impose(alloc, &mut seat, job, table, shelf, sheet))
+    }
+}
+
+/// Whether a look shows the sheet complete.
+fn is_complete(seat: &mut Seat, table: &GatherTable<'_>, sheet: u32) -> bool
+    requires seat { IsSeatOf table.now seat.old }
+    requires sheet { sheet < length table.now.layout.sheets }
+    ensures seat { IsSeatOf table.now seat.new }
+    ensures complete { result ≡ true → IsComplete table.now.layout seat.new.front sheet }
+{
+    table.look(seat, sheet) == 0
+}

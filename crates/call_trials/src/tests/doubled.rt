@@ -1,0 +1,379 @@
+//! Each page of a document is delivered more than once, by one caller and by several at once: each sheet is completed once.
+use super::callers::{Caller, caller_of};
+use super::{a4, document_of};
+use dsc::Document;
+use gather_table::{Closing, GatherTable, Published, Reply};
+use handover::{Prepared, Ready, Shelf};
+use imposer::{Delivered, Job, sheet_text};
+use pagespec::read_spec;
+use sheet_plan::Plan;
+use std::alloc::{AllocError, Global};
+use std::process::Abort;
+use std::sync::Wait;
+use std::test::Fail;
+use std::thread;
+use std::thread::Threads;
+
+/// What a caller was told of a page that stands in one slot.
+#[derive(Clone, Copy, Debug)]
+struct Told {
+    index: u32,
+    published: Published,
+    reply: Reply,
+    closing: Option<Closing>,
+}
+
+/// What was told of a delivery that handed nothing back. None for a page that stands in several slots or none.
+fn told_of(delivered: &Delivered<'_>) -> Option<Told> {
+    if delivered.replies.len() != 1 || !delivered.handed_back.is_empty() {
+        return None;
+    }
+    Some(Told {
+        index: delivered.receipt.index(),
+        published: delivered.published,
+        reply: *delivered.replies.first()?,
+        closing: delivered.closings.first().copied(),
+    })
+}
+
+/// Delivers a page. Refused also for a page that isn't there, and for one of which more or less is told than of a page in one
+/// slot.
+fn deliver_page<R: Wait>(
+    rt: &R,
+    alloc: Global,
+    caller: &mut Caller<'_, '_, '_, '_>,
+    page: u32,
+) -> Result<Told, AllocError> {
+    let document = caller.job.document();
+    if page >= document.pages() {
+        return Err(AllocError);
+    }
+    let Ok(prepared) = Prepared::new(alloc, page, document.page(page)) else {
+        return Err(AllocError);
+    };
+    let Some(Ok(delivered)) = caller.deliver(rt, alloc, prepared) else {
+        return Err(AllocError);
+    };
+    match told_of(&delivered) {
+        Some(told) => Ok(told),
+        None => Err(AllocError),
+    }
+}
+
+/// Which page comes first.
+#[derive(Clone, Copy)]
+enum Order {
+    Ascending,
+    Descending,
+}
+
+/// Delivers all pages in this order: what was told of each, from the first page on.
+fn deliver_all<R: Wait>(
+    rt: &R,
+    alloc: Global,
+    caller: &mut Caller<'_, '_, '_, '_>,
+    order: Order,
+) -> Result<Vec<Told>, AllocError> {
+    let mut all = Vec::new(alloc);
+    let pages = caller.job.document().pages();
+    for step in 0..pages {
+        let page = match order {
+            Order::Ascending => step,
+            Order::Descending => pages - 1 - step,
+        };
+        all.push(deliver_page(rt, alloc, caller, page)?)?;
+    }
+    if matches!(order, Order::Descending) {
+        all.reverse();
+    }
+    Ok(all)
+}
+
+/// The same by a caller of a thread's own.
+fn deliver_own<R: Wait>(
+    rt: &R,
+    alloc: Global,
+    caller: Caller<'_, '_, '_, '_>,
+    order: Order,
+) -> Result<Vec<Told>, AllocError> {
+    let mut caller = caller;
+    deliver_all(rt, alloc, &mut caller, order)
+}
+
+/// What two callers were told.
+type Both = Result<(Vec<Told>, Vec<Told>), AllocError>;
+
+/// One thread delivers all pages ascending and one descending.
+fn deliver_by_two<R: Threads + Wait + Sync>(
+    rt: &R,
+    alloc: Global,
+    one: Caller<'_, '_, '_, '_>,
+    other: Caller<'_, '_, '_, '_>,
+) -> Both {
+    let (up, down) = thread::join(
+        rt,
+        move || deliver_own(rt, alloc, one, Order::Ascending),
+        move || deliver_own(rt, alloc, other, Order::Descending),
+    );
+    Ok((up?, down?))
+}
+
+/// Two other callers of the same.
+fn two_others<'s, 'j, 't, 'd>(
+    caller: &mut Caller<'s, 'j, 't, 'd>,
+) -> Result<(Caller<'s, 'j, 't, 'd>, Caller<'s, 'j, 't, 'd>), AllocError> {
+    let (Some(one), Some(other)) = (caller.another(), caller.another()) else {
+        return Err(AllocError);
+    };
+    Ok((one, other))
+}
+
+/// Who delivers the pages.
+#[derive(Clone, Copy)]
+enum Callers {
+    One,
+    Two,
+    Four,
+}
+
+/// The same by one caller, which delivers all pages ascending and then descending.
+fn deliver_by_one<R: Wait>(
+    rt: &R,
+    alloc: Global,
+    caller: &mut Caller<'_, '_, '_, '_>,
+) -> Result<Vec<Vec<Told>>, AllocError> {
+    let up = deliver_all(rt, alloc, caller, Order::Ascending)?;
+    let down = deliver_all(rt, alloc, caller, Order::Descending)?;
+    Ok(vec![in alloc; up, down]?)
+}
+
+/// The same by two threads and by the two others that each of two threads starts.
+fn deliver_by_four<R: Threads + Wait + Sync>(
+    rt: &R,
+    alloc: Global,
+    caller: &mut Caller<'_, '_, '_, '_>,
+) -> Result<Vec<Vec<Told>>, AllocError> {
+    let (first, second) = two_others(caller)?;
+    let (third, fourth) = two_others(caller)?;
+    let (one, other) = thread::join(
+        rt,
+        move || deliver_by_two(rt, alloc, first, second),
+        move || deliver_by_two(rt, alloc, third, fourth),
+    );
+    let (a, b) = one?;
+    let (c, d) = other?;
+    Ok(vec![in alloc; a, b, c, d]?)
+}
+
+/// What was told of each page, in each time that it was delivered.
+fn deliver_by<R: Threads + Wait + Sync>(
+    rt: &R,
+    alloc: Global,
+    caller: &mut Caller<'_, '_, '_, '_>,
+    callers: Callers,
+) -> Result<Vec<Vec<Told>>, AllocError> {
+    match callers {
+        Callers::One => deliver_by_one(rt, alloc, caller),
+        Callers::Two => {
+            let (first, second) = two_others(caller)?;
+            let (one, other) = deliver_by_two(rt, alloc, first, second)?;
+            Ok(vec![in alloc; one, other]?)
+        }
+        Callers::Four => deliver_by_four(rt, alloc, caller),
+    }
+}
+
+/// What was told of a page, each time that it was delivered.
+fn told_of_page(alloc: Global, all: &[Vec<Told>], page: usize) -> Result<Vec<Told>, AllocError> {
+    let mut told = Vec::with_capacity(alloc, all.len())?;
+    for pages in all {
+        match pages.get(page) {
+            Some(one) => told.push(*one)?,
+            None => return Err(AllocError),
+        }
+    }
+    Ok(told)
+}
+
+/// The index at which the page was stored, if it was stored once.
+fn index_of(all: &[Told]) -> Option<u32> {
+    let mut index = None;
+    for told in all {
+        if told.published == Published::Stored {
+            if index.is_some() {
+                return None;
+            }
+            index = Some(told.index);
+        }
+    }
+    index
+}
+
+/// It was stored once, and each other time it is told at that index.
+fn is_stored_once(all: &[Told]) -> bool {
+    let Some(index) = index_of(all) else {
+        return false;
+    };
+    for told in all {
+        if told.published != Published::Stored && told.published != Published::Held(index) {
+            return false;
+        }
+    }
+    true
+}
+
+/// How often the page's slot was missing.
+fn count_marked(all: &[Told]) -> u32 {
+    let mut count = 0u32;
+    for told in all {
+        if told.reply != Reply::Repeated {
+            count = count.saturating_add(1);
+        }
+    }
+    count
+}
+
+/// How often the page completed its sheet.
+fn count_completed(all: &[Told]) -> u32 {
+    let mut count = 0u32;
+    for told in all {
+        if told.reply == Reply::Completing || told.closing == Some(Closing::Completing) {
+            count = count.saturating_add(1);
+        }
+    }
+    count
+}
+
+/// Each page was stored once and marked once, and each sheet of so many slots was completed once.
+fn assert_each_once<R: Abort>(
+    rt: &R,
+    alloc: Global,
+    all: &[Vec<Told>],
+    pages: usize,
+    slots: usize,
+) -> Result<(), AllocError> {
+    let mut completed = 0u32;
+    for page in 0..pages {
+        let told = told_of_page(alloc, all, page)?;
+        assert!(rt; is_stored_once(&told), "page {page}");
+        assert_eq!(rt; count_marked(&told), 1, "page {page}");
+        completed = completed.saturating_add(count_completed(&told));
+        if page % slots.max(1) == slots.saturating_sub(1) {
+            assert_eq!(rt; completed, 1, "the sheet of page {page}");
+            completed = 0;
+        }
+    }
+    Ok(())
+}
+
+/// Imposes a sheet, which must be complete and have its text.
+fn assert_imposed<R: Abort>(
+    rt: &R,
+    alloc: Global,
+    caller: &mut Caller<'_, '_, '_, '_>,
+    sheet: u32,
+) -> Result<(), AllocError> {
+    let job = caller.job;
+    assert!(rt; sheet < job.sheets());
+    let Some(another) = caller.another() else {
+        return Err(AllocError);
+    };
+    let Some(Ok(imposed)) = another.impose(alloc, sheet) else {
+        panic!(rt; "sheet {sheet} isn't imposed");
+    };
+    let text = sheet_text(alloc, job, sheet)?;
+    assert!(rt; imposed.text.as_slice() == text.as_slice());
+    Ok(())
+}
+
+/// The queue gives each sheet once, each has its text, and then the queue gives none.
+fn assert_queue<R: Wait + Abort>(
+    rt: &R,
+    alloc: Global,
+    caller: &mut Caller<'_, '_, '_, '_>,
+) -> Result<(), AllocError> {
+    let mut taken = Vec::new(alloc);
+    for _ in 0..caller.job.sheets() {
+        let Some(sheet) = caller.take(rt) else {
+            panic!(rt; "a sheet is missing");
+        };
+        assert_imposed(rt, alloc, caller, sheet)?;
+        taken.push(sheet)?;
+    }
+    assert_eq!(rt; caller.take(rt), None);
+    taken.sort()?;
+    for (place, sheet) in taken.iter().enumerate() {
+        assert_eq!(rt; *sheet as usize, place);
+    }
+    Ok(())
+}
+
+/// Delivers each page of a job more than once, on sheets of so many slots.
+fn deliver_job<R: Threads + Wait + Sync + Abort>(
+    rt: &R,
+    alloc: Global,
+    caller: Caller<'_, '_, '_, '_>,
+    slots: usize,
+    callers: Callers,
+) -> Result<(), AllocError> {
+    let mut caller = caller;
+    let pages = caller.job.document().pages() as usize;
+    let all = deliver_by(rt, alloc, &mut caller, callers)?;
+    assert!(rt; all.len() > 1);
+    assert_each_once(rt, alloc, all.as_slice(), pages, slots)?;
+    assert_queue(rt, alloc, &mut caller)
+}
+
+/// So many pages a sheet, each in one slot.
+fn pages_per_sheet(alloc: Global, slots: u32) -> Result<String, AllocError> {
+    let mut text = format!(in alloc; "{slots}:0")?;
+    for page in 1..slots {
+        let item = format!(in alloc; "+{page}")?;
+        text.push_str(&item)?;
+    }
+    Ok(text)
+}
+
+/// The same of a document of so many pages, with room in the queue for each sheet once.
+fn deliver_document<R: Threads + Wait + Sync + Abort>(
+    rt: &R,
+    alloc: Global,
+    pages: u32,
+    slots: u32,
+    callers: Callers,
+) -> Result<(), Fail> {
+    let text = document_of(alloc, pages)?;
+    let items = pages_per_sheet(alloc, slots)?;
+    let spec = read_spec(alloc, &items)?;
+    let document = Document::read(alloc, text.as_bytes())?;
+    let plan = Plan::new(alloc, &spec, document.pages())?;
+    let sheets = pages / slots.max(1);
+    assert_eq!(rt; (document.pages(), plan.sheets()), (pages, sheets));
+    let job = Job::new(&plan, &document, a4(rt), None);
+    let (table, seat) = GatherTable::new(alloc, &plan)?;
+    let shelf = Shelf::new(alloc)?;
+    let (ready, pass) = Ready::new(alloc, plan.sheets().max(1))?;
+    let caller = caller_of(&job, &table, &shelf, &ready, seat, pass);
+    Ok(deliver_job(rt, alloc, caller, slots as usize, callers)?)
+}
+
+#[test]
+fn one_caller_delivers_each_page_twice(rt: HostRuntime) -> Result<(), Fail> {
+    deliver_document(&rt, rt.alloc(), 20, 2, Callers::One)?;
+    deliver_document(&rt, rt.alloc(), 130, 65, Callers::One)?;
+    Ok(())
+}
+
+#[test]
+fn two_threads_deliver_each_page_at_once(rt: HostRuntime) -> Result<(), Fail> {
+    deliver_document(&rt, rt.alloc(), 20, 2, Callers::Two)?;
+    deliver_document(&rt, rt.alloc(), 130, 65, Callers::Two)?;
+    Ok(())
+}
+
+#[test]
+fn four_threads_deliver_each_page_at_once(rt: HostRuntime) -> Result<(), Fail> {
+    deliver_document(&rt, rt.alloc(), 20, 2, Callers::Four)?;
+    deliver_document(&rt, rt.alloc(), 130, 65, Callers::Four)?;
+    Ok(())
+}

@@ -1,0 +1,315 @@
+//! Pages so large that only a few sheets lie in the window of those that may be imposed: the others wait until their turn is
+//! near, unless the sheet that is written next may never come.
+ghost use Rattle.std.specs.Prelude.{None};
+
+use super::workers;
+use imposer::{Gate, Open, Report, RunError, Sink, SinkFault, Step, run};
+use std::alloc::{AllocError, Global};
+use std::process::Abort;
+use std::sync::Wait;
+use std::sync::atomic::AtomicUsize;
+use std::sync::atomic::Ordering::SeqCst;
+use std::test::Fail;
+use std::thread;
+use std::thread::Threads;
+
+/// How often a wait yields before it runs out.
+const YIELDS: u32 = 20_000_000;
+
+/// How many pages the documents here have.
+const PAGES: usize = 6;
+
+/// How many bytes a page has, so that two of them are more than the texts of a window.
+const PAGE_LEN: usize = 300_000;
+
+/// The pages in their order, each on a sheet of its own.
+const FORWARD: &str = "0";
+
+/// The same from the last one on.
+const BACKWARD: &str = "-0";
+
+/// Six pages of comments.
+fn large_pages(alloc: Global) -> Result<String, AllocError> {
+    let mut text = String::from_str(alloc, "%!PS-Adobe-3.0\n")?;
+    let lines = "% a line\n".repeat(alloc, PAGE_LEN / 9 + 1)?;
+    for page in 1..=PAGES {
+        let heading = format!(in alloc; "%%Page: {page} {page}\n")?;
+        text.push_str(&heading)?;
+        text.push_str(&lines)?;
+    }
+    text.push_str("%%Trailer\n")?;
+    Ok(text)
+}
+
+/// What a run's threads tell each other here.
+#[derive(Drop)]
+struct Words {
+    /// How many bytes the sink took.
+    accepted: AtomicUsize,
+    /// How many calls the sink refused.
+    refused: AtomicUsize,
+    /// How many pages were delivered.
+    delivered: AtomicUsize,
+    /// How many sheets are being imposed or were.
+    imposed: AtomicUsize,
+    /// How many waits ran out.
+    run_out: AtomicUsize,
+    /// How many sheets were imposed too far before their turn.
+    too_early: AtomicUsize,
+}
+
+impl Words {
+    fn new() -> Self {
+        Words {
+            accepted: AtomicUsize::new(0),
+            refused: AtomicUsize::new(0),
+            delivered: AtomicUsize::new(0),
+            imposed: AtomicUsize::new(0),
+            run_out: AtomicUsize::new(0),
+            too_early: AtomicUsize::new(0),
+        }
+    }
+
+    /// Waits until the word is so high, or any wait ran out.
+    fn wait_for(&self, word: &AtomicUsize, height: usize) {
+        for _ in 0..YIELDS {
+            if word.load(SeqCst) >= height || self.run_out.load(SeqCst) > 0 {
+                return;
+            }
+            thread::yield_now();
+        }
+        self.run_out.fetch_add(1, SeqCst);
+    }
+}
+
+/// Takes so many bytes and then fails. Others can read how many it took.
+#[derive(Drop)]
+struct LimitedSink<'w> {
+    words: &'w Words,
+    room: usize,
+    failures: u64,
+}
+
+impl<'w> Sink for LimitedSink<'w> {
+    ghost told = { λ _. None };
+
+    ghost failures = { λ s. s.failures };
+
+    fn accept(&mut self, bytes: &[u8]) -> Result<usize, SinkFault> {
+        let taken = bytes.len().min(self.room);
+        if taken == 0 {
+            self.failures += 1;
+            self.words.refused.fetch_add(1, SeqCst);
+            return Err(SinkFault {});
+        }
+        self.room -= taken;
+        self.words.accepted.fetch_add(taken, SeqCst);
+        Ok(taken)
+    }
+}
+
+/// The page of the first sheet is delivered last: when all others were delivered, and as many sheets are imposed as lie in the
+/// window behind the first. A sheet is imposed too early if as many sheets as lie in a window, and this one, come behind what
+/// was written.
+#[derive(Drop)]
+struct FirstSheetLast<'w> {
+    words: &'w Words,
+    first_page: u32,
+    window: usize,
+}
+
+impl<'w> Gate for FirstSheetLast<'w> {
+    fn before(&self, step: Step) {
+        match step {
+            Step::Deliver(page) => {
+                if page == self.first_page {
+                    self.words.wait_for(&self.words.delivered, PAGES - 1);
+                    self.words
+                        .wait_for(&self.words.imposed, self.window.saturating_sub(1));
+                }
+            }
+            Step::Impose(sheet) => {
+                let written = self.words.accepted.load(SeqCst) / PAGE_LEN;
+                if sheet as usize >= written.saturating_add(self.window) {
+                    self.words.too_early.fetch_add(1, SeqCst);
+                }
+                self.words.imposed.fetch_add(1, SeqCst);
+            }
+        }
+    }
+
+    fn after(&self, step: Step) {
+        if matches!(step, Step::Deliver(_)) {
+            self.words.delivered.fetch_add(1, SeqCst);
+        }
+    }
+}
+
+/// Runs with this gate and a sink with so much room.
+fn run_into<R: Threads + Wait + Abort + Sync, G: Gate + Sync>(
+    rt: &R,
+    alloc: Global,
+    input: &str,
+    items: &str,
+    counts: (u32, u32),
+    words: &Words,
+    room: usize,
+    gate: &G,
+) -> Result<Report, RunError> {
+    let mut sink = LimitedSink {
+        words,
+        room,
+        failures: 0,
+    };
+    let options = workers(rt, counts.0, counts.1);
+    run(
+        rt,
+        alloc,
+        input.as_bytes(),
+        items,
+        &options,
+        gate,
+        &mut sink,
+    )
+}
+
+/// Runs with the first sheet last: each sheet is imposed by a worker, and none too early.
+fn assert_first_last<R: Threads + Wait + Abort + Sync>(
+    rt: &R,
+    alloc: Global,
+    input: &str,
+    items: &str,
+    counts: (u32, u32),
+) -> Result<(), RunError> {
+    let words = Words::new();
+    let first_page = if items == FORWARD {
+        0
+    } else {
+        PAGES as u32 - 1
+    };
+    let gate = FirstSheetLast {
+        words: &words,
+        first_page,
+        window: (counts.1 as usize).max(2),
+    };
+    let report = run_into(rt, alloc, input, items, counts, &words, usize::MAX, &gate)?;
+    assert_eq!(rt; words.run_out.load(SeqCst), 0);
+    assert_eq!(rt; words.too_early.load(SeqCst), 0);
+    assert_eq!(rt; words.imposed.load(SeqCst), PAGES);
+    assert_eq!(rt; (report.sheets, report.swept), (6, 0));
+    Ok(())
+}
+
+// The page of the first sheet has a preparer of its own, or it is the last one of the only preparer.
+#[test]
+fn no_sheet_is_imposed_far_before_its_turn(rt: HostRuntime) -> Result<(), Fail> {
+    let input = large_pages(rt.alloc())?;
+    for imposers in [1, 2, 4] {
+        assert_first_last(&rt, rt.alloc(), &input, FORWARD, (6, imposers))?;
+        assert_first_last(&rt, rt.alloc(), &input, BACKWARD, (6, imposers))?;
+        assert_first_last(&rt, rt.alloc(), &input, BACKWARD, (1, imposers))?;
+    }
+    Ok(())
+}
+
+/// The run ends with a failed write behind so many bytes, and no wait ran out.
+fn assert_stopped<R: Abort>(rt: &R, answer: Result<Report, RunError>, words: &Words, room: usize) {
+    let Err(RunError::Write { written }) = answer else {
+        panic!(rt; "another answer with room for {room} bytes");
+    };
+    assert_eq!(rt; (written, words.accepted.load(SeqCst)), (room as u64, room));
+    assert_eq!(rt;
+        (words.refused.load(SeqCst), words.run_out.load(SeqCst)),
+        (1, 0)
+    );
+}
+
+#[test]
+fn no_turn_is_waited_for_behind_a_failed_write(rt: HostRuntime) -> Result<(), Fail> {
+    let input = large_pages(rt.alloc())?;
+    for counts in [(1, 1), (2, 2), (6, 4)] {
+        for items in [FORWARD, BACKWARD] {
+            for room in [0, 500_000, 1_500_000] {
+                let words = Words::new();
+                let answer = run_into(
+                    &rt,
+                    rt.alloc(),
+                    &input,
+                    items,
+                    counts,
+                    &words,
+                    room,
+                    &Open {},
+                );
+                assert_stopped(&rt, answer, &words, room);
+            }
+        }
+    }
+    Ok(())
+}
+
+/// Where an imposer waits until the sink has failed.
+#[derive(Clone, Copy)]
+enum Waits {
+    BeforeSheet,
+    BehindSheet,
+}
+
+/// Only the first sheet comes to the collector before the sink has failed: the others wait here for that.
+#[derive(Drop)]
+struct FailureFirst<'w> {
+    words: &'w Words,
+    waits: Waits,
+}
+
+impl<'w> FailureFirst<'w> {
+    fn wait(&self, step: Step) {
+        if let Step::Impose(sheet) = step {
+            if sheet > 0 {
+                self.words.wait_for(&self.words.refused, 1);
+            }
+        }
+    }
+}
+
+impl<'w> Gate for FailureFirst<'w> {
+    fn before(&self, step: Step) {
+        if matches!(self.waits, Waits::BeforeSheet) {
+            self.wait(step);
+        }
+    }
+
+    fn after(&self, step: Step) {
+        if matches!(self.waits, Waits::BehindSheet) {
+            self.wait(step);
+        }
+    }
+}
+
+// The only preparer delivers the first sheet's page first, so an imposer takes that sheet first.
+#[test]
+fn sheets_are_under_way_as_the_sink_fails(rt: HostRuntime) -> Result<(), Fail> {
+    let input = large_pages(rt.alloc())?;
+    for waits in [Waits::BeforeSheet, Waits::BehindSheet] {
+        for imposers in [1, 2, 4] {
+            let words = Words::new();
+            let gate = FailureFirst {
+                words: &words,
+                waits,
+            };
+            let counts = (1, imposers);
+            let answer = run_into(
+                &rt,
+                rt.alloc(),
+                &input,
+                FORWARD,
+                counts,
+                &words,
+                100_000,
+                &gate,
+            );
+            assert_stopped(&rt, answer, &words, 100_000);
+        }
+    }
+    Ok(())
+}
