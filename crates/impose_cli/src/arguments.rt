@@ -101,6 +101,7 @@ fn subcommand<'a>(
     with_own.args(common(alloc)?)
 }
 
+/// The arguments that every subcommand has, in the order of `common_rules` (specs/Command.antt).
 fn common<'a>(alloc: Global) -> Result<Vec<Arg<'a>>, AllocError>
     ensures { IfOk result (λ v. map rule_of v.items ≡ common_rules) }
 {
