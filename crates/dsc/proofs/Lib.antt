@@ -12,9 +12,12 @@ pub mod Headings
 pub mod DataLengths
 pub mod Alone
 pub mod Scans
+pub mod BodyMarks
 pub mod PartMarks
 pub mod Reading
 pub mod Filtering
+pub mod PageBodies
 pub mod Slices
+pub mod FoundBodies
 pub mod Trailers
 pub mod Preambles

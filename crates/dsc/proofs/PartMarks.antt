@@ -43,14 +43,18 @@ and-false : (a b : Bool) → b ≡ false → (a && b) ≡ false
 and-false true b e = e
 and-false false b e = refl
 
--- a page's line is no trailer's
-pub exclusive : (u : NestedUnit) → begins_page u ≡ true → begins_trailer u ≡ false
-exclusive u h =
+-- a page's line is outermost, and this is its key
+pub page_key : (u : NestedUnit) → begins_page u ≡ true → (is_outermost_line u ≡ true) × (key u.unit.content ≡ codes "%%Page")
+page_key u h =
     let comment : is_comment (codes "%%Page") u.unit.content ≡ true = and-second (is_outermost_line u) (is_comment (codes "%%Page") u.unit.content) h in
     let named : bytes_eq (key u.unit.content) (codes "%%Page") ≡ true = or-none _ (and-first (has_key (codes "%%Page" ∷ []) u.unit.content) _ comment) in
-    let same : key u.unit.content ≡ codes "%%Page" = (bytes_eq-Decides (key u.unit.content) (codes "%%Page")).0 named in
+    (and-first (is_outermost_line u) (is_comment (codes "%%Page") u.unit.content) h, (bytes_eq-Decides (key u.unit.content) (codes "%%Page")).0 named)
+
+-- it is no trailer's
+pub exclusive : (u : NestedUnit) → begins_page u ≡ true → begins_trailer u ≡ false
+exclusive u h =
     and-false (is_outermost_line u) (has_key (codes "%%Trailer" ∷ codes "%%EOF" ∷ []) u.unit.content)
-    (ap (λ k. list_any (bytes_eq k) (codes "%%Trailer" ∷ codes "%%EOF" ∷ [])) same)
+    (ap (λ k. list_any (bytes_eq k) (codes "%%Trailer" ∷ codes "%%EOF" ∷ [])) (page_key u h).1)
 
 starts-step : (pg : Bool) (at : ℕ) (a b : List ℕ) (c d : List ℕ) → a ≡ c → b ≡ d → (if pg then at ∷ a else b) ≡ (if pg then at ∷ c else d)
 starts-step true at a b c d e f = ap (λ t. at ∷ t) e
@@ -77,22 +81,22 @@ inside-end at [] = omega arith
 inside-end at (u ∷ us) = choose_end (begins_trailer u) at u us (inside-end (at + length u.unit.bytes) us) ∙ ap (λ vs. at + length (bytes_of vs)) (sym (before-cons begins_trailer u us))
 
 -- up to the first page
-abbrev head_len : List NestedUnit → ℕ
+abbrev pub head_len : List NestedUnit → ℕ
 head_len us = length (bytes_of (up_to begins_page us))
 
-abbrev body_from : List NestedUnit → List NestedUnit
+abbrev pub body_from : List NestedUnit → List NestedUnit
 body_from us = up_to begins_trailer (starting_at begins_page us)
 
-head-more : (u : NestedUnit) (us : List NestedUnit) → begins_page u ≡ false → head_len (u ∷ us) ≡ length u.unit.bytes + head_len us
+pub head-more : (u : NestedUnit) (us : List NestedUnit) → begins_page u ≡ false → head_len (u ∷ us) ≡ length u.unit.bytes + head_len us
 head-more u us e = ap (λ vs. length (bytes_of vs)) (before-cons begins_page u us ∙ ap (λ t. cond t [] (u ∷ up_to begins_page us)) e) ∙ length-append u.unit.bytes (bytes_of (up_to begins_page us))
 
-body-more : (u : NestedUnit) (us : List NestedUnit) → begins_page u ≡ false → body_from (u ∷ us) ≡ body_from us
+pub body-more : (u : NestedUnit) (us : List NestedUnit) → begins_page u ≡ false → body_from (u ∷ us) ≡ body_from us
 body-more u us e = ap (up_to begins_trailer) (from-cons begins_page u us ∙ ap (λ t. cond t (u ∷ us) (starting_at begins_page us)) e)
 
-head-none : (u : NestedUnit) (us : List NestedUnit) → begins_page u ≡ true → head_len (u ∷ us) ≡ 0
+pub head-none : (u : NestedUnit) (us : List NestedUnit) → begins_page u ≡ true → head_len (u ∷ us) ≡ 0
 head-none u us e = ap (λ vs. length (bytes_of vs)) (before-cons begins_page u us ∙ ap (λ t. cond t [] (u ∷ up_to begins_page us)) e)
 
-body-all : (u : NestedUnit) (us : List NestedUnit) → begins_page u ≡ true → body_from (u ∷ us) ≡ u ∷ up_to begins_trailer us
+pub body-all : (u : NestedUnit) (us : List NestedUnit) → begins_page u ≡ true → body_from (u ∷ us) ≡ u ∷ up_to begins_trailer us
 body-all u us e = ap (up_to begins_trailer) (from-cons begins_page u us ∙ ap (λ t. cond t (u ∷ us) (starting_at begins_page us)) e) ∙ before-cons begins_trailer u us
     ∙ ap (λ t. cond t [] (u ∷ up_to begins_trailer us)) (exclusive u e)
 

@@ -137,7 +137,7 @@ preamble_found text start sheets s c e =
     )
 
 -- the same from what a document keeps true
-pub preamble_at : (text starts items : List ℕ) (stop n start sheets : ℕ) → HasItsParts text starts stop → n ≡ line_len text → items ≡ starts → start ≡ get_or items 0 0 → PreambleFound text n start sheets
+pub preamble_at : {bodies : List ℕ} (text starts items : List ℕ) (stop n start sheets : ℕ) → HasItsParts text starts bodies stop → n ≡ line_len text → items ≡ starts → start ≡ get_or items 0 0 → PreambleFound text n start sheets
 preamble_at text starts items stop n start sheets i e r s =
     let us : List NestedUnit = units_of text in
     let first : start ≡ length (bytes_of (preamble us)) =

@@ -53,6 +53,18 @@ end_same : (starts : List ℕ) (stop : Option ℕ) (at : ℕ) → noted_end star
 end_same starts (Some e) at = refl
 end_same starts None at = ap (λ t. if t then Some at else None) (and_false (nat_lt 0 (length starts)))
 
+-- no start is lost
+no_fewer : (most : ℕ) (starts : List ℕ) (stop : Option ℕ) (page ends : Bool) (at : ℕ) → length starts ≤ length (noted_starts most starts stop page ends at)
+no_fewer most starts (Some e) page ends at = omega arith
+no_fewer most starts None page ends at = by_test (nat_lt 0 (length starts) && ends)
+    (λ is. rw is (omega arith))
+    (λ isnt. rw isnt (by_test (page && nat_lt (length starts) most)
+    (λ is. rw is (let l = length-append starts (at ∷ []) in omega (arith, l)))
+    (λ isnt_. rw isnt_ (omega arith))))
+
+pub fewer : (most limit : ℕ) (starts new : List ℕ) (stop : Option ℕ) (page ends : Bool) (at : ℕ) → new ≡ noted_starts most starts stop page ends at → length new < limit → length starts < limit
+fewer most limit starts new stop page ends at e few = let l = no_fewer most starts stop page ends at in let same = ap length e in omega (arith, l, same, few)
+
 -- what was noted up to this byte
 record Noted : Type 0 where
   pub starts : List ℕ

@@ -196,7 +196,7 @@ page_found text starts stop p c s t h =
     get_or-map f (x ∷ xs) (suc p) = get_or-map f xs p
 
 -- the same from what a document keeps true: the page stands between its start and its end
-pub page_at : (text starts row : List ℕ) (stop p start end : ℕ) (us : List NestedUnit) → HasItsParts text starts stop → units_of text ≡ us → p < length (pages us)
+pub page_at : {bodies : List ℕ} (text starts row : List ℕ) (stop p start end : ℕ) (us : List NestedUnit) → HasItsParts text starts bodies stop → units_of text ≡ us → p < length (pages us)
     → row ≡ starts → start ≡ get_or row p 0 → end ≡ get_or row (p + 1) stop
     → (p < length row) × (start ≤ end) × (end ≤ length text) × (take (end - start) (drop start text) ≡ get_or (pages us) p [])
 page_at text starts row stop p start end us i v h r s e =

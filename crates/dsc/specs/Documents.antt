@@ -4,12 +4,14 @@ use Rattle.profile.specs.Units.{cut}
 use Rattle.profile.specs.Run.{document_of}
 use Rattle.dsc.specs.Units.{or_none, units_of}
 use Rattle.dsc.specs.Marks.{starts_of, end_of}
+use Rattle.dsc.specs.BodyStarts.{AreBodyStarts}
 
--- the text is a document, its pages begin at these bytes, and end at this one
-pub record HasItsParts (text : List ℕ) (starts : List ℕ) (stop : ℕ) : Type 0 where
+-- the text is a document, its pages and their bodies begin at these bytes, and its pages end at this one
+pub record HasItsParts (text : List ℕ) (starts : List ℕ) (bodies : List ℕ) (stop : ℕ) : Type 0 where
   pub accepted : document_of text ≡ Ok (units_of text)
   pub is_cut : cut text ≡ Ok (or_none (cut text))
   pub starts_are : starts ≡ starts_of (units_of text)
   pub some : 0 < length starts
   pub few : length starts ≤ 1_000_000
   pub stop_is : stop ≡ end_of (units_of text)
+  pub bodies_are : AreBodyStarts (units_of text) bodies

@@ -7,6 +7,7 @@ pub mod Fields
 pub mod Views
 pub mod Laws
 pub mod Marks
+pub mod BodyStarts
 pub mod Faults
 pub mod Units
 pub mod Documents

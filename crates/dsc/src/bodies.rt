@@ -50,6 +50,18 @@ impl<'d> Body<'d> {
         }
     }
 
+    /// A run of a page's bytes as its body, if no line end is wanted behind it.
+    pub(crate) fn of_run(run: &'d [u8]) -> Option<Body<'d>>
+        ensures { IfSome result (λ b. b ≡ ended run.now) }
+    {
+        if !wants_end(run) {
+            return Some(Body {
+                bytes: Bytes::Part(run),
+            });
+        }
+        None
+    }
+
     /// Its bytes.
     pub fn as_slice(&self) -> &[u8]
         ensures { result.now ≡ self.now }

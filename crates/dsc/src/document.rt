@@ -1,12 +1,14 @@
 //! A document with its parts.
-ghost use Rattle.std.specs.Prelude.{◌≡◌, ◌+◌, ◌-◌, ◌<◌, ◌≤◌, [], length, take, drop, slice_index_or, IfOk, IfErr, Ok};
+ghost use Rattle.std.specs.Prelude.{◌≡◌, ◌+◌, ◌-◌, ◌<◌, ◌≤◌, [], length, take, drop, slice_index_or};
+ghost use Rattle.std.specs.Prelude.{IfOk, IfErr, IfSome, Ok};
 ghost use Rattle.profile.specs.Parts.{pages};
-ghost use Rattle.profile.specs.Filters.{preamble_text, trailer_text};
+ghost use Rattle.profile.specs.Filters.{preamble_text, trailer_text, prepared};
 ghost use Rattle.profile.specs.Run.{document_of};
 ghost use Rattle.dsc.specs.Views.{Gives};
 ghost use Rattle.dsc.specs.Faults.{fault_told, PassedFirstChecks};
 ghost use Rattle.dsc.specs.Laws.{HasBody};
 
+use crate::bodies::Body;
 use crate::errors::{DscError, widen};
 use crate::filters::{end_line, filter_header, with_count};
 use crate::lines::{content_end, line_end_after};
@@ -18,7 +20,8 @@ use std::marker::Model;
 #[derive(Drop)]
 pub struct Document<'d> {
     text: &'d [u8],
-    starts: Vec<usize>,
+    starts: Vec<u32>,
+    bodies: Vec<u32>,
     stop: usize,
 }
 
@@ -32,7 +35,7 @@ impl<'d> Model for Document<'d> {
 
     ghost view = { λ d. units_of d.text.now };
 
-    ghost invariant = { λ d. HasItsParts d.text.now d.starts.items d.stop };
+    ghost invariant = { λ d. HasItsParts d.text.now d.starts.items d.bodies.items d.stop };
 }
 
 impl<'d> Document<'d> {
@@ -50,8 +53,8 @@ impl<'d> Document<'d> {
         if !text.starts_with(b"%!") {
             return Err(DscError::NotPostScript);
         }
-        let seen = match scan(alloc, text) {
-            Ok(seen) => seen,
+        let (seen, bodies) = match scan(alloc, text) {
+            Ok(found) => found,
             Err(error) => return Err(widen(error)),
         };
         if seen.starts.len() > 1_000_000 {
@@ -64,6 +67,7 @@ impl<'d> Document<'d> {
         Ok(Document {
             text,
             starts: seen.starts,
+            bodies,
             stop,
         })
     }
@@ -84,6 +88,38 @@ impl<'d> Document<'d> {
         let p = p as usize;
         let starts = self.starts.as_slice();
         part(self.text, entry(starts, p), next_or(starts, p, self.stop))
+    }
+
+    /// The prepared body of a page, counted from 0, as `Body::prepare` makes it of the page. If lines are dropped at
+    /// the page's start alone and what is kept ends with a line end, it was found as the document was read.
+    pub fn body(&self, alloc: Global, p: u32) -> Result<Body<'d>, AllocError>
+        requires { p < length (pages self.now) }
+        ensures body { IfOk result (λ b. prepared (slice_index_or (pages self.now) p []) ≡ Ok b) }
+    {
+        if let Some(body) = self.found_body(p) {
+            return Ok(body);
+        }
+        match Body::prepare(alloc, self.page(p)) {
+            Ok(body) => Ok(body),
+            Err(DscError::NoMemory) => Err(AllocError),
+            Err(_) => unreachable!(),
+        }
+    }
+
+    /// The prepared body of a page, if it is the rest of the page.
+    fn found_body(&self, p: u32) -> Option<Body<'d>>
+        requires { p < length (pages self.now) }
+        ensures { IfSome result (λ b. prepared (slice_index_or (pages self.now) p []) ≡ Ok b) }
+    {
+        let p = p as usize;
+        let bodies = self.bodies.as_slice();
+        let starts = self.starts.as_slice();
+        let start = entry(bodies, p);
+        let end = next_or(starts, p, self.stop);
+        if start == 0 {
+            return None;
+        }
+        Body::of_run(part(self.text, start, end))
     }
 
     /// What is kept of the preamble, with `%%Pages: ` and the number of sheets on a line of its own behind the first
@@ -107,17 +143,16 @@ impl<'d> Document<'d> {
         ensures text { IfOk result (λ v. v.items ≡ trailer_text self.now) }
     {
         let (_, rest) = self.text.split_at(self.stop);
-        let room = Vec::with_capacity(*self.starts.allocator(), rest.len())?;
-        filter_header(room, rest)
+        filter_header(Vec::new(*self.starts.allocator()), rest)
     }
 }
 
 /// This entry. A call, so that a proof has its value by name; so it is with the next two.
-fn entry(starts: &[usize], p: usize) -> usize
+fn entry(starts: &[u32], p: usize) -> usize
     requires { p < length starts.now }
     ensures { result ≡ slice_index_or starts.now p 0 }
 {
-    starts[p]
+    starts[p] as usize
 }
 
 /// A part of the text.
@@ -130,12 +165,12 @@ fn part(text: &[u8], start: usize, end: usize) -> &[u8]
 }
 
 /// The entry behind this one, or the end.
-fn next_or(starts: &[usize], p: usize, stop: usize) -> usize
+fn next_or(starts: &[u32], p: usize, stop: usize) -> usize
     requires { p < length starts.now }
     ensures { result ≡ slice_index_or starts.now (p + 1) stop }
 {
     match starts.get(p + 1) {
-        Some(next) => *next,
+        Some(next) => *next as usize,
         None => stop,
     }
 }

@@ -52,7 +52,7 @@ fn drops_line(drops: Drops, content: &[u8]) -> bool
 }
 
 /// Whether the filter drops this unit; `was`: it dropped the one before.
-fn drops_unit(drops: Drops, was: bool, unit: &Unit<'_>, depth: usize) -> bool
+pub fn drops_unit(drops: Drops, was: bool, unit: &Unit<'_>, depth: usize) -> bool
     ensures { result ≡ is_dropped drops was (at_depth depth (unit_of unit.now)) }
 {
     if unit.is_block {

@@ -3,6 +3,7 @@
 #![tactic(auto)]
 
 mod bodies;
+mod body_starts;
 mod document;
 mod errors;
 mod fields;

@@ -1,35 +1,45 @@
 //! One pass over a text, which notes where its pages begin and where its trailer does.
-ghost use Rattle.std.specs.Prelude.{◌≡◌, [], length, OnOk, None};
-ghost use Rattle.dsc.specs.Views.{Gives};
+ghost use Rattle.std.specs.Prelude.{◌≡◌, ◌+◌, ◌<◌, ◌≤◌, [], length, OnOk, IfOk, None};
+ghost use Rattle.dsc.specs.Views.{Gives, unit_of, at_depth};
 ghost use Rattle.dsc.specs.Faults.{block_fault_told};
+ghost use Rattle.dsc.specs.Filters.{is_dropped};
+ghost use Rattle.dsc.specs.BodyStarts.{AreBodyStarts, noted};
+ghost use Rattle.dsc.specs.declared.filters.Drops.TheVariants.{PageSetup};
+ghost use Rattle.dsc.specs.Units.{units_of};
 ghost use Rattle.dsc.specs.Marks.{marks_on, scan_on, noted_starts, noted_end, stop_at};
 
+use crate::body_starts::BodyStarts;
 use crate::errors::CutError;
 use crate::keys::Meaning;
-use crate::walk::Walk;
+use crate::walk::{Step, Walk};
 use std::alloc::{AllocError, Global};
 
-/// Where the pages begin, and where the trailer does once it was seen. One start more than a document may have pages
-/// is kept, so a fault that stands behind too many pages is still found.
+/// How many starts of pages are kept: one more than a document may have pages, so a fault that stands behind too many
+/// pages is still found.
+const MOST_STARTS: usize = 1_000_001;
+
+/// Where the pages begin, and where the trailer does once it was seen. Later pages than the first `MOST_STARTS` are
+/// left out.
 #[derive(Drop)]
 pub struct Seen {
-    pub starts: Vec<usize>,
+    pub starts: Vec<u32>,
     stop: Option<usize>,
 }
 
 impl Seen {
     /// Notes a unit that begins at this byte.
     fn note(&mut self, meaning: Meaning, at: usize) -> Result<(), AllocError>
+        requires { at ≤ 1_073_741_824 }
         ensures starts { OnOk result (self.new.starts.items
-            ≡ noted_starts 1_000_001 self.old.starts.items self.old.stop meaning.is_page meaning.is_trailer at) }
+            ≡ noted_starts MOST_STARTS self.old.starts.items self.old.stop meaning.is_page meaning.is_trailer at) }
         ensures stop { OnOk result (self.new.stop
             ≡ noted_end self.old.starts.items self.old.stop meaning.is_trailer at) }
     {
         if self.stop.is_none() {
             if !self.starts.is_empty() && meaning.is_trailer {
                 self.stop = Some(at);
-            } else if meaning.is_page && self.starts.len() < 1_000_001 {
-                self.starts.push(at)?;
+            } else if meaning.is_page && self.starts.len() < MOST_STARTS {
+                self.starts.push(at as u32)?;
             }
         }
         Ok(())
@@ -46,25 +56,51 @@ impl Seen {
     }
 }
 
-/// One pass over the text.
-pub fn scan(alloc: Global, text: &[u8]) -> Result<Seen, CutError>
-    ensures { Gives (λ s. marks_on 1_000_001 s.starts.items s.stop (length text.now) []) block_fault_told result
-        (scan_on 1_000_001 [] None 0 0 text.now) }
+/// One pass over the text. Where bodies begin is noted as long as there aren't too many pages.
+pub fn scan(alloc: Global, text: &[u8]) -> Result<(Seen, Vec<u32>), CutError>
+    requires { length text.now ≤ 1_073_741_824 }
+    ensures marks { Gives (λ s. marks_on MOST_STARTS s.0.starts.items s.0.stop (length text.now) []) block_fault_told
+        result (scan_on MOST_STARTS [] None 0 0 text.now) }
+    ensures bodies { IfOk result (λ s. length s.0.starts.items < MOST_STARTS
+        → AreBodyStarts (units_of text.now) s.1.items) }
 {
     let mut seen = Seen {
         starts: Vec::new(alloc),
         stop: None,
     };
+    let mut bodies = BodyStarts::new(alloc);
     let mut walk = Walk::new(text);
     while !walk.is_done() {
         let step = match walk.step() {
             Ok(step) => step,
             Err(block) => return Err(CutError::Faulty(block)),
         };
-        match seen.note(step.meaning, step.at) {
+        match note(&mut seen, &mut bodies, &step) {
             Ok(()) => {}
             Err(_) => return Err(CutError::NoMemory),
         }
     }
-    Ok(seen)
+    match bodies.into_starts() {
+        Ok(bodies) => Ok((seen, bodies)),
+        Err(_) => Err(CutError::NoMemory),
+    }
+}
+
+/// Notes a unit. Where bodies begin is wanted only as long as there aren't too many pages.
+fn note(seen: &mut Seen, bodies: &mut BodyStarts, step: &Step<'_>) -> Result<(), AllocError>
+    requires { step.now.at + length step.now.unit.bytes.now ≤ 1_073_741_824 }
+    ensures starts { OnOk result (seen.new.starts.items ≡ noted_starts MOST_STARTS seen.old.starts.items seen.old.stop
+        step.now.meaning.is_page step.now.meaning.is_trailer step.now.at) }
+    ensures stop { OnOk result (seen.new.stop
+        ≡ noted_end seen.old.starts.items seen.old.stop step.now.meaning.is_trailer step.now.at) }
+    ensures bodies { OnOk result (length seen.new.starts.items < MOST_STARTS → bodies.new
+        ≡ noted bodies.old step.now.at (step.now.at + length step.now.unit.bytes.now)
+        step.now.meaning.is_page step.now.meaning.is_trailer
+        (is_dropped PageSetup bodies.old.was (at_depth step.now.depth (unit_of step.now.unit)))) }
+{
+    seen.note(step.meaning, step.at)?;
+    if seen.starts.len() < MOST_STARTS {
+        bodies.note(step)?;
+    }
+    Ok(())
 }

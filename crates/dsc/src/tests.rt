@@ -121,6 +121,40 @@ fn a_body_is_what_prepare_copies(rt: HostRuntime) -> Result<(), Fail> {
     Ok(())
 }
 
+/// The prepared bodies of a document's pages, with a bar before each.
+fn joined_bodies(alloc: Global, text: &[u8]) -> Result<Vec<u8>, Fail> {
+    let document = Document::read(alloc, text)?;
+    let mut joined = Vec::new(alloc);
+    for p in 0..document.pages() {
+        let body = document.body(alloc, p)?;
+        joined.push(b'|')?;
+        joined.extend_from_slice(body.as_slice())?;
+    }
+    Ok(joined)
+}
+
+#[test]
+fn a_document_has_a_body_for_each_page(rt: HostRuntime) -> Result<(), Fail> {
+    for (text, wanted) in [
+        (
+            b"%!PS\n%%PageOrder: Ascend\n%%Page: 1 1\n%%+ x\n%%BeginPageSetup\nsave\n%%Page: 2 2\nx\n%%PageTrailer\ny\n%%Page: 3 3\n%%Page: 4 4\nz".as_slice(),
+            b"|save\n|x\ny\n||z\n".as_slice(),
+        ),
+        (
+            b"%!PS\r%%Page: 1 1\r\n%%BeginData: 9 Binary Bytes\r%%PageA\r\r\r%%PageB\r%%+\r%%EOF\r%%Page: 2 2\r%%+\r",
+            b"|%%BeginData: 9 Binary Bytes\r%%PageA\r\r\r",
+        ),
+        (
+            b"%!PS\n%%Page: 1 1\n%%BeginDocument: a\n%%PageA\n%%EndDocument\n%%Page: 2 2\n%%PageA\nb\n%%Trailer\n%%PageC\n%%Page: 3 3\n",
+            b"|%%BeginDocument: a\n%%PageA\n%%EndDocument\n|b\n",
+        ),
+    ] {
+        let bodies = joined_bodies(rt.alloc(), text)?;
+        assert_eq!(rt; bodies.as_slice(), wanted);
+    }
+    Ok(())
+}
+
 #[test]
 fn a_faulty_page_has_no_body(rt: HostRuntime) -> Result<(), Fail> {
     let alloc = rt.alloc();

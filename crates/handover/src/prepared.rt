@@ -1,13 +1,14 @@
 //! A prepared page.
-ghost use Rattle.std.specs.Prelude.{◌≡◌, IfOk, IfErr, Ok};
+ghost use Rattle.std.specs.Prelude.{◌≡◌, ◌<◌, [], length, slice_index_or, IfOk, IfErr, Ok};
+ghost use Rattle.profile.specs.Parts.{pages};
 ghost use Rattle.profile.specs.Filters.{prepared};
 ghost use Rattle.dsc.specs.Views.{Gives};
 ghost use Rattle.dsc.specs.Faults.{page_fault_told, IsPageError};
 ghost use Rattle.dsc.specs.Laws.{HasBody};
 ghost use Rattle.dsc.specs.declared.errors.DscError.TheVariants.{NoMemory};
 
-use dsc::{Body, DscError};
-use std::alloc::Global;
+use dsc::{Body, Document, DscError};
+use std::alloc::{AllocError, Global};
 use std::marker::Model;
 
 /// A page of a document with its prepared body: what is kept of its bytes when it is placed on a sheet (the page comments
@@ -44,6 +45,25 @@ impl<'d> Prepared<'d> {
     {
         let body = Body::prepare(alloc, raw)?;
         Ok(Prepared { page, raw, body })
+    }
+
+    /// A page of a document, counted from 0, with its prepared body. Refused for memory alone.
+    pub fn of_page(
+        alloc: Global,
+        document: &Document<'d>,
+        page: u32,
+    ) -> Result<Prepared<'d>, AllocError>
+        requires { page < length (pages document.now) }
+        ensures page { IfOk result (λ p. p.page ≡ page) }
+        ensures raw { IfOk result (λ p. p.raw ≡ slice_index_or (pages document.now) page []) }
+        ensures body { IfOk result (λ p. prepared p.raw ≡ Ok p.body) }
+    {
+        let body = document.body(alloc, page)?;
+        Ok(Prepared {
+            page,
+            raw: document.page(page),
+            body,
+        })
     }
 
     /// The number of the page in its document, counted from 0.

@@ -5,6 +5,7 @@ use crate::pass::Pass;
 use crate::prepared::Prepared;
 use crate::ready::{Full, Ready};
 use crate::shelf::Shelf;
+use dsc::Document;
 use std::alloc::AllocError;
 use std::ops::Range;
 use std::sync::{Mutex, Wait};
@@ -47,6 +48,18 @@ fn each_page_is_found_at_its_index(rt: HostRuntime) -> Result<(), Fail> {
     assert_eq!(rt; (low.page(), high.page()), (8, 4));
     assert_eq!(rt; low.body(), b"one\n".as_slice());
     assert_eq!(rt; high.body(), b"two\n".as_slice());
+    Ok(())
+}
+
+#[test]
+fn a_page_of_a_document_is_prepared(rt: HostRuntime) -> Result<(), Fail> {
+    let text = b"%!PS\n%%Page: 1 1\nx\n%%Page: 2 2\n%%BeginPageSetup\ny".as_slice();
+    let document = Document::read(rt.alloc(), text)?;
+    assert!(rt; document.pages() == 2);
+    let page = Prepared::of_page(rt.alloc(), &document, 1)?;
+    assert_eq!(rt; page.page(), 1);
+    assert_eq!(rt; page.raw(), b"%%Page: 2 2\n%%BeginPageSetup\ny".as_slice());
+    assert_eq!(rt; page.body(), b"y\n".as_slice());
     Ok(())
 }
 

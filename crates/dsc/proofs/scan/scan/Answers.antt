@@ -1,6 +1,10 @@
-use Rattle.std.proofs.Common.{rules, arith, ◌<◌, length}
-use Rattle.dsc.specs.Views.{unit_of}
-use Rattle.dsc.proofs.Scans.{scan_more}
+use Rattle.std.proofs.Common.{rules, arith, ap, ◌≡◌, ◌<◌, length}
+use Rattle.dsc.specs.Views.{unit_of, at_depth}
+use Rattle.dsc.specs.Filters.{is_dropped}
+use Rattle.dsc.specs.declared.filters.Drops.TheVariants.{PageSetup}
+use Rattle.dsc.proofs.Scans.{scan_more, fewer}
+use Rattle.dsc.proofs.BodyMarks.{sought_more}
+use Rattle.dsc.proofs.PageBodies.{all_found}
 use Rattle.dsc.proofs.Walking.{still_placed}
 use Rattle.dsc.proofs.scan.scan.Goals as goal
 
@@ -14,4 +18,13 @@ loop-walk-preserved c =
       so_far =
           scan_more 1_000_001 (omega arith) c.loop-walk.seen.starts.items _ c.loop-walk.seen.stop _ p c.step.new.self (unit_of c.in-Ok.step.unit) c.in-Ok.step.at _ _ _ some step.piece step.place step.at
           step.page step.trailer c.in-Ok-note.ensures.starts c.in-Ok-note.ensures.stop c.loop-walk.invariant.so_far;
+      bodies = λ few.
+          sought_more c.loop-walk.bodies _ p c.step.new.self (unit_of c.in-Ok.step.unit) c.in-Ok.step.at _ _ _ _ some step.piece step.place step.at
+          step.page step.trailer (ap (λ d. is_dropped PageSetup c.loop-walk.bodies.was (at_depth d (unit_of c.in-Ok.step.unit))) step.depth)
+          (c.in-Ok-note.ensures.bodies few) (c.loop-walk.invariant.bodies (fewer 1_000_001 1_000_001 _ _ _ _ _ _ c.in-Ok-note.ensures.starts few));
     }
+
+pub returns-in-Ok-into_starts-clause-bodies : goal.returns-in-Ok-into_starts-clause-bodies
+returns-in-Ok-into_starts-clause-bodies c = λ few.
+    let none : length c.loop-walk.walk.rest ≡ 0 = search rules in
+    all_found c.args.text.now c.loop-walk.walk.rest _ c.loop-walk.bodies _ _ none (c.loop-walk.invariant.bodies few) c.in-Ok-into_starts.ensures

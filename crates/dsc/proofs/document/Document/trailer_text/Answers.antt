@@ -25,7 +25,7 @@ returns c =
     let found = trailer_found d.text.now c.split_at.result.1.now d.stop i.is_cut i.stop_is c.split_at.ensures.back in
     record {
       text = if_ok c.filter_header.result
-          (λ v e. e ∙ ap (λ t. t ++ bytes_of (kept drops_in_header (units_of c.split_at.result.1.now))) c.in_ok-room.ensures.items
+          (λ v e. e ∙ ap (λ t. t ++ bytes_of (kept drops_in_header (units_of c.split_at.result.1.now))) c.new.ensures.items
           ∙ ap (λ us. bytes_of (kept drops_in_header us)) found.1 ∙ ap (λ us. bytes_of (kept drops_in_header (trailer us))) c.self.view_is)
           c.filter_header.ensures;
     }

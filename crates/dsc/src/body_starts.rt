@@ -1,0 +1,116 @@
+//! Where the bodies of pages begin, as far as the pass that cuts the text can tell.
+ghost use Rattle.std.specs.Prelude.{◌≡◌, ◌+◌, ◌≤◌, length, OnOk, IfOk};
+ghost use Rattle.dsc.specs.Views.{unit_of, at_depth};
+ghost use Rattle.dsc.specs.Filters.{is_dropped};
+ghost use Rattle.dsc.specs.BodyStarts.{none_sought, noted, with_page, moved, starts_in};
+ghost use Rattle.dsc.specs.declared.filters.Drops.TheVariants.{PageSetup};
+
+use crate::filters::{Drops, drops_unit};
+use crate::walk::Step;
+use std::alloc::{AllocError, Global};
+use std::marker::Model;
+
+/// For each page the byte at which its body begins, if what is kept of the page is all that stands from there on, so if
+/// lines are dropped at its start alone; else 0, where no body begins. A text has fewer bytes than a `u32` counts.
+#[derive(Drop)]
+pub struct BodyStarts {
+    found: Vec<u32>,
+    // That of the page that was begun last.
+    current: u32,
+    was_dropped: bool,
+    in_pages: bool,
+    ended: bool,
+}
+
+impl Model for BodyStarts {
+    ghost use Rattle.dsc.specs.BodyStarts.{Sought};
+
+    ghost Value = { Sought };
+
+    ghost view = { λ b. record {
+      found = b.found.items;
+      current = b.current;
+      was = b.was_dropped;
+      in_pages = b.in_pages;
+      ended = b.ended;
+    } };
+}
+
+impl BodyStarts {
+    /// Before the first unit.
+    pub fn new(alloc: Global) -> BodyStarts
+        ensures { result ≡ none_sought }
+    {
+        BodyStarts {
+            found: Vec::new(alloc),
+            current: 0,
+            was_dropped: false,
+            in_pages: false,
+            ended: false,
+        }
+    }
+
+    /// Notes a unit.
+    pub fn note(&mut self, step: &Step<'_>) -> Result<(), AllocError>
+        requires { step.now.at + length step.now.unit.bytes.now ≤ 1_073_741_824 }
+        ensures { OnOk result (self.new ≡ noted self.old step.now.at (step.now.at + length step.now.unit.bytes.now)
+            step.now.meaning.is_page step.now.meaning.is_trailer
+            (is_dropped PageSetup self.old.was (at_depth step.now.depth (unit_of step.now.unit)))) }
+    {
+        let at = step.at as u32;
+        let behind = (step.at + step.unit.bytes.len()) as u32;
+        let dropped = drops_unit(Drops::PageSetup, self.was_dropped, &step.unit, step.depth);
+        self.was_dropped = dropped;
+        if self.ended || (self.in_pages && step.meaning.is_trailer) {
+            self.ended = true;
+            return Ok(());
+        }
+        if step.meaning.is_page {
+            return self.begin_page(behind);
+        }
+        self.current = moved(dropped, self.current, at, behind);
+        Ok(())
+    }
+
+    /// Begins a page whose line ends before this byte.
+    fn begin_page(&mut self, behind: u32) -> Result<(), AllocError>
+        ensures { OnOk result (self.new ≡ with_page self.old behind) }
+    {
+        if self.in_pages {
+            self.found.push(self.current)?;
+        }
+        self.in_pages = true;
+        self.current = behind;
+        Ok(())
+    }
+
+    /// All of them.
+    pub fn into_starts(self) -> Result<Vec<u32>, AllocError>
+        ensures { IfOk result (λ v. v.items ≡ starts_in self) }
+    {
+        let BodyStarts {
+            mut found,
+            current,
+            was_dropped: _,
+            in_pages,
+            ended: _,
+        } = self;
+        if in_pages {
+            found.push(current)?;
+        }
+        Ok(found)
+    }
+}
+
+/// Where the body begins behind a unit: it goes on, or begins behind it if nothing was kept before; else there is none.
+fn moved(dropped: bool, current: u32, at: u32, behind: u32) -> u32
+    ensures { result ≡ moved dropped current at behind }
+{
+    if !dropped {
+        current
+    } else if current == at {
+        behind
+    } else {
+        0
+    }
+}
