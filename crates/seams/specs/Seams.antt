@@ -2,7 +2,7 @@
 use Rattle.std.specs.Prelude.{◌≡◌, ℕ, ◌<◌, ◌≤◌, Bool, true, false, not, ◌&&◌, if◌then◌else◌, List, [], ◌∷◌, ◌++◌}
 use Rattle.std.specs.Prelude.{length, map, flat_map, nat_eq, Option, Some, None, Ok}
 use Rattle.std.specs.List.{starts_with}
-use Rattle.profile.specs.Bytes.{line}
+use Rattle.profile.specs.Bytes.{line, line_feed}
 use Rattle.profile.specs.Units.{TextUnit, is_end, begins_block, first_unit, cut}
 use Rattle.profile.specs.Parts.{NestedUnit, depth_after, nested, begins_page, pages, trailer}
 
@@ -22,7 +22,7 @@ no_ends (b ∷ bs) = not (is_end b) && no_ends bs
 
 -- begins with a line feed
 abbrev pub lf : List ℕ → Bool
-lf text = starts_with nat_eq text (10 ∷ [])
+lf text = starts_with nat_eq text (line_feed ∷ [])
 
 -- ends with a line end
 abbrev pub ends : List ℕ → Bool
