@@ -41,8 +41,8 @@ abbrev pub AreLines : List (List ℕ) → Type 0
 AreLines [] = Unit {0}
 AreLines (c ∷ cs) = IsLine c × AreLines cs
 
--- a unit that ends within x is the same if other bytes stand behind x: these begin with no line feed, unless the first ones
--- did; and if nothing stood behind x, then x ends with a line end
+-- a unit that ends within x is the same if other bytes stand behind x: these begin with no line feed, unless the first
+-- ones did; and if nothing stood behind x, then x ends with a line end
 abbrev pub UnitStays : Type 0
 UnitStays =
     (x behind other : List ℕ) (u : TextUnit)
@@ -50,8 +50,8 @@ UnitStays =
     → (lf other ≡ true → lf behind ≡ true) → (behind ≡ [] → ends x ≡ true)
     → first_unit (x ++ other) ≡ Ok u
 
--- the units of two texts, put together, are the units of the texts put together, if the first text ends with a line end and
--- the second begins with no line feed
+-- the units of two texts, put together, are the units of the texts put together, if the first text ends with a line end
+-- and the second begins with no line feed
 abbrev pub UnitsJoin : Type 0
 UnitsJoin =
     (a b : List ℕ) (us vs : List TextUnit)
