@@ -1,5 +1,5 @@
-//! Imposes the documents of its folder `data`, which real programs wrote, as a user would. For each it prints how many pages
-//! and sheets it has, how many bytes are written, and their digest. Its `stdout` was made by a separate program.
+//! Imposes the documents of its folder `data`, which real programs wrote, as a user would. For each it prints how many
+//! pages and sheets it has, how many bytes are written, and their digest. Its `stdout` was made by a separate program.
 #![tactic(auto)]
 
 use imposer::MemorySink;

@@ -49,7 +49,8 @@ const DOCUMENTS: [&str; 66] = [
     "%!PS\n%%Page: 1 1\n%%BeginDocument: a\n%%BeginBinary: 14\n%%EndDocument\n%%Page: 2 2\n%%EndDocument\ny\n",
     "%!PS\n%%BeginData: 3\nabc%%Pages: 2\n%%Page: 1 1\n",
     "%!PS\n%%BeginData: 3\nabc%%Page: 1 1\n",
-    "%!PS\n%%Page: 1 1\n%%BeginDocument: a\n%%BeginDocument: b\n%%Page: 9 9\n%%EndDocument\n%%Trailer\n%%EndDocument\nx\n",
+    "%!PS\n%%Page: 1 1\n%%BeginDocument: a\n%%BeginDocument: b\n%%Page: 9 9\n%%EndDocument\n\
+     %%Trailer\n%%EndDocument\nx\n",
     "%!PS\n%%Page: 1 1\n%%EndDocument\n%%EndDocument\n%%Page: 2 2\ny\n",
     "%!PS\n%%EndDocument\n%%BeginDocument: a\n%%EndDocument\n%%Page: 1 1\n",
     "%!PS\n%%Page: 1 1\n%%BeginDocumentX\n%%Page: 2 2\n",
@@ -69,7 +70,8 @@ const DOCUMENTS: [&str; 66] = [
     "%!PS\n%%Page: 1 1\n%%+ x\n%%PageBoundingBox: 0 0 1 1\n%%BeginPageSetup\nsave\n%%EndPageSetup\nx",
     "%!PS\n%%Page: 1 1\n%%+\n%%+ x\ny\n%%+ z\n%%Page: 2 2\n%%+ w\n",
     "%!PS\n%%Page: 1 1\n%%PageFonts: a\n%%BeginData: 3\nabc%%+ b\nx\n",
-    "%!PS-Adobe-3.0\n%%Pages: (atend)\n%%EndComments\n%%Page: one 1\na\n%%Page: two 2\nb\n%%Trailer\n%%Pages: 2\n%%EOF\n",
+    "%!PS-Adobe-3.0\n%%Pages: (atend)\n%%EndComments\n%%Page: one 1\na\n%%Page: two 2\nb\n\
+     %%Trailer\n%%Pages: 2\n%%EOF\n",
     "%!PS\n%%Pages: 1\n%%Page: 1 1\n%%BeginDocument: a\n%%Page: 9 9\n%%EndDocument\nx\n",
     "%!\n%%Page:\n%%Page:\n%%Page:",
 ];

@@ -1,5 +1,6 @@
 //! The paper that a document is made for, as its header comments tell it.
 ghost use Rattle.std.specs.Prelude.{◌≡◌, ◌++◌, ◌∷◌, [], option_and_then, option_map, codes};
+ghost use Rattle.profile.specs.Bytes.{colon};
 ghost use Rattle.profile.specs.Units.{content_of, is_comment};
 ghost use Rattle.dsc.specs.Fields.{fields_in};
 ghost use Rattle.document_paper.specs.Media as meaning;
@@ -48,7 +49,7 @@ fn box_in(header: &[u8]) -> Option<Paper>
 
 /// What stands behind the colon of the first comment with this key.
 fn value_of<'t>(header: &'t [u8], key: &[u8], with_colon: &[u8]) -> Option<&'t [u8]>
-    requires { with_colon.now ≡ key.now ++ 58 ∷ [] }
+    requires { with_colon.now ≡ key.now ++ colon ∷ [] }
     ensures { option_map (λ value. fields_in value.now) result
         ≡ meaning.comment_fields key.now (meaning.contents header.now) }
 {
@@ -75,7 +76,7 @@ fn first_content(text: &[u8]) -> &[u8]
 
 /// Whether it is a comment with this key and a colon behind it.
 fn is_comment_of(content: &[u8], key: &[u8], with_colon: &[u8]) -> bool
-    requires { with_colon.now ≡ key.now ++ 58 ∷ [] }
+    requires { with_colon.now ≡ key.now ++ colon ∷ [] }
     ensures { result ≡ is_comment key.now content.now }
 {
     key_of(content) == key && content.starts_with(with_colon)

@@ -6,7 +6,7 @@ use Rattle.profile.specs.Sheets.{Layout}
 use Rattle.gather_table.specs.declared.lane.Home.{Home}
 use Rattle.gather_table.specs.Homes.{IsHome, blanks_to, closed_to}
 use Rattle.gather_table.specs.Lanes.{wide_at, group_word}
-use Rattle.gather_table.specs.Rule.{Holds}
+use Rattle.gather_table.specs.Rule.{WordsHold}
 use Rattle.gather_table.specs.Table.{TableState, IsSound, slots, is_blank, blank_group, is_full, start, in_group, group_count, group_size, with_closed, HasGroup}
 use Rattle.gather_table.proofs.Bits.{full_bits}
 use Rattle.gather_table.proofs.FirstWords.{holds_same, before_none, before_next, before_all, one_more, none_more}
@@ -38,26 +38,26 @@ counted layout s g n home at is_n has =
 
 -- one group more
 pub group_more : (layout : Layout) (words : List ℕ) (s g : ℕ) → HasGroup layout s g
-    → Holds layout (if is_full layout s g ((closed_to layout s g).marked s) then with_closed (closed_to layout s g) s g else closed_to layout s g) words → Holds layout (closed_to layout s (suc g)) words
+    → WordsHold layout (if is_full layout s g ((closed_to layout s g).marked s) then with_closed (closed_to layout s g) s g else closed_to layout s g) words → WordsHold layout (closed_to layout s (suc g)) words
 group_more layout words s g has held = two (is_full layout s g (is_blank (slots layout s))) refl held
   where
-    two : (b : Bool) → is_full layout s g (is_blank (slots layout s)) ≡ b → Holds layout (if b then with_closed (closed_to layout s g) s g else closed_to layout s g) words → Holds layout (closed_to layout s (suc g)) words
+    two : (b : Bool) → is_full layout s g (is_blank (slots layout s)) ≡ b → WordsHold layout (if b then with_closed (closed_to layout s g) s g else closed_to layout s g) words → WordsHold layout (closed_to layout s (suc g)) words
     two true e h = holds_same layout (with_closed (closed_to layout s g) s g) (closed_to layout s (suc g)) words h (λ p lt. refl) (λ r j lt inn. refl)
         (λ r i _. one_more (blank_group layout) s g r i (blank_where_full layout s g has ∙ e))
     two false e h = holds_same layout (closed_to layout s g) (closed_to layout s (suc g)) words h (λ p lt. refl) (λ r j lt inn. refl)
         (λ r i _. none_more (blank_group layout) s g r i (blank_where_full layout s g has ∙ e))
 
 -- no group yet, one sheet more, and all sheets
-pub none_closed : (layout : Layout) (words : List ℕ) → Holds layout (blanks_to layout (length layout.sheets) 0) words → Holds layout (closed_to layout 0 0) words
+pub none_closed : (layout : Layout) (words : List ℕ) → WordsHold layout (blanks_to layout (length layout.sheets) 0) words → WordsHold layout (closed_to layout 0 0) words
 none_closed layout words h = holds_same layout (blanks_to layout (length layout.sheets) 0) (closed_to layout 0 0) words h (λ p lt. refl)
     (λ r j lt inn. ap (λ (b : Bool). b && is_blank (slots layout r) j) (before_all (length layout.sheets) r j lt))
     (λ r g has. sym (ap (λ (b : Bool). b && blank_group layout r g) (before_none r g)))
 
-pub sheet_closed : (layout : Layout) (words : List ℕ) (s n : ℕ) → ((g : ℕ) → HasGroup layout s g → g < n) → Holds layout (closed_to layout s n) words → Holds layout (closed_to layout (suc s) 0) words
+pub sheet_closed : (layout : Layout) (words : List ℕ) (s n : ℕ) → ((g : ℕ) → HasGroup layout s g → g < n) → WordsHold layout (closed_to layout s n) words → WordsHold layout (closed_to layout (suc s) 0) words
 sheet_closed layout words s n all h = holds_same layout (closed_to layout s n) (closed_to layout (suc s) 0) words h (λ p lt. refl) (λ r j lt inn. refl)
     (λ r g has. ap (λ (b : Bool). b && blank_group layout r g) (before_next s n r g (λ is. all g (subst (λ (z : ℕ). HasGroup layout z g) is has))))
 
-pub all_closed : (layout : Layout) (words : List ℕ) (n : ℕ) → length layout.sheets ≤ n → Holds layout (closed_to layout n 0) words → Holds layout (start layout) words
+pub all_closed : (layout : Layout) (words : List ℕ) (n : ℕ) → length layout.sheets ≤ n → WordsHold layout (closed_to layout n 0) words → WordsHold layout (start layout) words
 all_closed layout words n le h = holds_same layout (closed_to layout n 0) (start layout) words h (λ p lt. refl) (λ r j lt inn. refl)
     (λ r g has. let lt = has.sheet in ap (λ (b : Bool). b && blank_group layout r g) (before_all n r g (omega arith)))
 
@@ -70,7 +70,7 @@ groups_in layout words s g home at has room =
     (here, omega arith)
 
 -- the word of a group shows whether one of its slots is missing
-full_shown : (layout : Layout) (t : TableState) (words : List ℕ) (s g full word : ℕ) → HasGroup layout s g → full ≡ 2 ^ group_size layout s g - 1 → word ≡ group_word layout s g → Holds layout t words
+full_shown : (layout : Layout) (t : TableState) (words : List ℕ) (s g full word : ℕ) → HasGroup layout s g → full ≡ 2 ^ group_size layout s g - 1 → word ≡ group_word layout s g → WordsHold layout t words
     → (bit_and (slice_index words word) full == full) ≡ is_full layout s g (t.marked s)
 full_shown layout t words s g full word has is_full_word is_word h =
     (λ i. (ap (λ (z : ℕ). bit_and (slice_index words z) full) is_word ∙ low_bits (slice_index words (group_word layout s g)) (group_size layout s g) full is_full_word ∙ group_shown layout t words s g h has) i == is_full_word i)
@@ -79,16 +79,16 @@ full_shown layout t words s g full word has is_full_word is_word h =
 -- so its closing bit is set where none is missing
 pub full_closed : (layout : Layout) (words : List ℕ) (s g full n bit x : ℕ) (home : Home) → IsSound layout → IsHome layout s home → HasGroup layout s g → wide_at layout (length layout.sheets) ≤ length words → full ≡ 2 ^ group_size layout s g - 1
     → bit_and (slice_index words (home.word + 1 + g)) full ≡ full → n ≡ slice_index words home.word → n < 2 ^ 64 → bit ≡ 2 ^ g → x ≡ bit_or n bit
-    → (t : TableState) → Holds layout t words → Holds layout (if is_full layout s g (t.marked s) then with_closed t s g else t) (set words home.word x)
+    → (t : TableState) → WordsHold layout t words → WordsHold layout (if is_full layout s g (t.marked s) then with_closed t s g else t) (set words home.word x)
 full_closed layout words s g full n bit x home ok at has room is_full_word test found small is_bit is_x t h =
     let here = (groups_in layout words s g home at has room).0 in
     let yes_full : true ≡ is_full layout s g (t.marked s) = sym (eq-eqb (bit_and (slice_index words (home.word + 1 + g)) full) full test) ∙ full_shown layout t words s g full (home.word + 1 + g) has is_full_word (omega arith) h in
     let written = closing_written layout t words s g n has (few_groups layout ok.narrow s has.sheet) (few_groups layout ok.narrow) h (found ∙ ap (slice_index words) here) small in
-    subst (λ (z : Bool × ℕ × ℕ). Holds layout (if z.0 then with_closed t s g else t) (set words z.1 z.2)) (λ i. (yes_full i, sym here i, sym (is_x ∙ ap (bit_or n) is_bit) i)) written
+    subst (λ (z : Bool × ℕ × ℕ). WordsHold layout (if z.0 then with_closed t s g else t) (set words z.1 z.2)) (λ i. (yes_full i, sym here i, sym (is_x ∙ ap (bit_or n) is_bit) i)) written
 
 pub open_kept : (layout : Layout) (words : List ℕ) (s g full : ℕ) (home : Home) → IsHome layout s home → HasGroup layout s g → wide_at layout (length layout.sheets) ≤ length words → full ≡ 2 ^ group_size layout s g - 1
-    → bit_and (slice_index words (home.word + 1 + g)) full ≢ full → (t : TableState) → Holds layout t words → Holds layout (if is_full layout s g (t.marked s) then with_closed t s g else t) words
+    → bit_and (slice_index words (home.word + 1 + g)) full ≢ full → (t : TableState) → WordsHold layout t words → WordsHold layout (if is_full layout s g (t.marked s) then with_closed t s g else t) words
 open_kept layout words s g full home at has room is_full_word test t h =
     let here = (groups_in layout words s g home at has room).0 in
     let lacks : false ≡ is_full layout s g (t.marked s) = sym (ne_eqb (bit_and (slice_index words (home.word + 1 + g)) full) full test) ∙ full_shown layout t words s g full (home.word + 1 + g) has is_full_word (omega arith) h in
-    subst (λ (b : Bool). Holds layout (if b then with_closed t s g else t) words) lacks h
+    subst (λ (b : Bool). WordsHold layout (if b then with_closed t s g else t) words) lacks h

@@ -1,23 +1,21 @@
 -- One call, as a step of the rule.
-use Rattle.std.proofs.Common.{◌≡◌, ℕ, ◌<◌, ◌^◌, List, [], ◌∷◌, ◌++◌, set, sym, ap, ◌∙◌, subst}
-use Rattle.std.specs.Prelude.{Some}
+use Rattle.std.proofs.Common.{◌≡◌, ℕ, ◌<◌, List, [], ◌∷◌, ◌++◌, set, sym, ap, ◌∙◌, subst}
 use mathlib.Core.Option.{some}
 use lib.ListN.{get_elem?}
 use Rattle.atomic_table.specs.Table.{State}
 use Rattle.profile.specs.Sheets.{Layout}
 use Rattle.gather_table.specs.History.{Entry, after, Fits, after_history, IsLegal}
-use Rattle.gather_table.specs.Rule.{Holds, IsKept, Sight}
+use Rattle.gather_table.specs.Rule.{WordsHold, IsKept, Sight}
 use Rattle.gather_table.specs.Steps.{Adds}
 use Rattle.gather_table.proofs.Histories.{after_history_push, IsLegal_push}
 use Rattle.histories.specs.Seats.{added}
 
 -- the call e after the history log, by the seat id
 pub adds : (layout : Layout) (s : State Unit Sight) (log : List Entry) (id : ℕ) (v : Sight) (e : Entry) (words : List ℕ) (k : IsKept layout s log)
-    → get_elem? s.views id ≡ some v → 0 < v.share → Fits layout (after_history layout log) e → Holds layout (after (after_history layout log) e) words
-    → ((p i : ℕ) → (after (after_history layout log) e).index p ≡ Some i → i < 2 ^ 32)
+    → get_elem? s.views id ≡ some v → 0 < v.share → Fits layout (after_history layout log) e → WordsHold layout (after (after_history layout log) e) words
     → IsKept layout (record { words = words; homes = s.homes; views = set s.views id (added v log e) }) (log ++ e ∷ []) × Adds v e (added v log e)
-adds layout s log id v e words k at pos fits holds small =
+adds layout s log id v e words k at pos fits holds =
     let legal = IsLegal_push layout log e k.legal fits in
     let now = after_history_push layout log e in
     let step = Rattle.histories.proofs.Shares.adds IsLegal layout log s.views id v e k.seats at pos legal in
-    (record { legal = legal; words = subst (λ t. Holds layout t words) (sym now) holds; small = λ p i is. small p i (sym (ap (λ t. t.index p) now) ∙ is); seats = step.0 }, step.1)
+    (record { legal = legal; words = subst (λ t. WordsHold layout t words) (sym now) holds; seats = step.0 }, step.1)

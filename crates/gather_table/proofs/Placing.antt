@@ -10,7 +10,7 @@ use Rattle.gather_table.specs.declared.lane.Home.{Home}
 use Rattle.gather_table.specs.declared.lane.Lane.{Lane}
 use Rattle.gather_table.specs.Homes.{IsHome}
 use Rattle.gather_table.specs.Lanes.{width, lane, free, fitted, behind, wide_at}
-use Rattle.gather_table.specs.Rule.{Holds, Kept}
+use Rattle.gather_table.specs.Rule.{WordsHold, Kept}
 use Rattle.gather_table.specs.Table.{IsSound, slot_count, is_wide, group_count, start}
 use Rattle.gather_table.proofs.Lanes.{width_le, free_inside, facts}
 use Rattle.gather_table.proofs.Sheets.{few_groups}
@@ -114,13 +114,12 @@ wide_fits layout ok n slots own wide lt is_wide_at is_count is_own =
     omega arith
 
 -- the rule holds of the words at the start
-pub opens : (layout : Layout) (words : List ℕ) → Holds layout (start layout) words → Kept layout (opening words [] (opening_sight layout))
+pub opens : (layout : Layout) (words : List ℕ) → WordsHold layout (start layout) words → Kept layout (opening words [] (opening_sight layout))
 opens layout words h = (
   [],
   record {
     legal = tt;
     words = h;
-    small = λ p i e. absurd (cc);
     seats = Rattle.histories.proofs.Shares.opens layout;
   },
 )

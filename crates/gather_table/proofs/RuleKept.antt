@@ -16,7 +16,7 @@ use Rattle.histories.proofs.Totals.{times-append}
 
 -- the words stay, and so does the history
 reseated : (layout : Layout) (s : State Unit Sight) (log : List Entry) (views : List Sight) → IsKept layout s log → AreSeats layout log views → IsKept layout (record { words = s.words; homes = s.homes; views = views }) log
-reseated layout s log views k seats = record { legal = k.legal; words = k.words; small = k.small; seats = seats }
+reseated layout s log views k seats = record { legal = k.legal; words = k.words; seats = seats }
 
 pub splits : (layout : Layout) (id : ℕ) (v : Sight) (places theirs : List ℕ) (g : ℕ) → ((x : ℕ) → times x places + times x theirs ≡ times x v.own) → 0 < g → g < v.share
     → Splits (Kept layout) id v (keeps_back places g v) (given theirs g v)

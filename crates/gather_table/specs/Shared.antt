@@ -1,4 +1,5 @@
--- What clauses see of the shared table and of its seats. What is said of seats of any history stands in the crate histories.
+-- What clauses see of the shared table and of its seats. What is said of seats of any history stands in the crate
+-- histories.
 use Rattle.std.specs.Prelude.{ℕ, List}
 use Rattle.atomic_table.specs.Seated.{TableId}
 use Rattle.profile.specs.Sheets.{Layout}
@@ -10,7 +11,8 @@ pub record TableView : Type 0 where
   pub table : TableId
   pub layout : Layout
 
--- a seat: its table, the layout (its key), the history that its caller has seen, the places in it of the caller's own calls, and its share
+-- a seat: its table, the layout (its key), the history that its caller has seen, the places in it of the caller's own
+-- calls, and its share
 abbrev pub SeatView : Type 0
 SeatView = Rattle.histories.specs.Calls.SeatView Layout Entry
 
@@ -30,8 +32,8 @@ IsSeat = Rattle.histories.specs.Calls.IsSeat IsLegal
 abbrev pub own_calls : SeatView → List Entry
 own_calls seat = own_entries seat
 
--- the call was made: the new front begins with the old one, goes on with what others did meanwhile, and ends with this call,
--- whose place is one more own place. If the seat has all shares there are no others
+-- the call was made: the new front begins with the old one, goes on with what others did meanwhile, and ends with this
+-- call, whose place is one more own place. If the seat has all shares there are no others
 abbrev pub Made : SeatView → Entry → SeatView → Type 0
 Made = Rattle.histories.specs.Calls.Made IsLegal
 

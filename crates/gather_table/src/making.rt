@@ -1,5 +1,7 @@
 //! How the shared table is made.
 ghost use Rattle.std.specs.Prelude.{◌≡◌, ◌+◌, ◌/◌, ◌<◌, ◌≤◌, nat_lt, if◌then◌else◌, length, IfOk};
+ghost use Rattle.profile.specs.Admissible.{most_slots};
+ghost use Rattle.profile.specs.Run.{most_pages, most_sheets};
 ghost use Rattle.profile.specs.Sheets.{layout};
 ghost use Rattle.gather_table.specs.Homes.{AreHomes};
 ghost use Rattle.gather_table.specs.Lanes.{fitted, free, wide_at};
@@ -43,7 +45,7 @@ impl<'s> GatherTable<'s> {
     }
 }
 
-// Where the bits of each sheet stand, and how many words that takes.
+/// Where the bits of each sheet stand, and how many words that takes.
 fn homes_of(alloc: Global, plan: &Plan) -> Result<(Vec<Home>, u32), AllocError>
     ensures homes { IfOk result (λ made. AreHomes (layout plan.now) made.0.items) }
     ensures words { IfOk result (λ made. made.1 ≡ wide_at (layout plan.now) (length (layout plan.now).sheets)) }
@@ -63,7 +65,7 @@ fn homes_of(alloc: Global, plan: &Plan) -> Result<(Vec<Home>, u32), AllocError>
     Ok((homes, wide))
 }
 
-// How many words hold the lanes.
+/// How many words hold the lanes.
 fn lane_words(plan: &Plan) -> u32
     ensures { result ≡ (free (layout plan.now) (length (layout plan.now).sheets)).word + 1 }
 {
@@ -76,9 +78,9 @@ fn lane_words(plan: &Plan) -> u32
     next.word + 1
 }
 
-// The lane of this many bits that comes next.
+/// The lane of this many bits that comes next.
 fn fit(next: Lane, count: u8) -> Lane
-    requires { (next.first ≤ 64) × (count ≤ 64) × (next.word < 1_000_000) }
+    requires { (next.first ≤ 64) × (count ≤ 64) × (next.word < most_sheets) }
     ensures { result ≡ fitted next count }
 {
     if next.first + count > 64 {
@@ -90,7 +92,7 @@ fn fit(next: Lane, count: u8) -> Lane
     next
 }
 
-// How many bits a sheet has among the lanes: a wide one has none.
+/// How many bits a sheet has among the lanes: a wide one has none.
 fn lane_width(slots: u16) -> u8
     ensures { result ≡ (if nat_lt 64 slots then 0 else slots) }
 {
@@ -100,9 +102,9 @@ fn lane_width(slots: u16) -> u8
     slots as u8
 }
 
-// How many words a wide sheet has for itself, a closing word and one a group. Another has none.
+/// How many words a wide sheet has for itself, a closing word and one a group. Another has none.
 fn own_words(slots: u16) -> u32
-    requires { slots ≤ 4_096 }
+    requires { slots ≤ most_slots }
     ensures { result ≡ (if nat_lt 64 slots then 1 + (slots + 63) / 64 else 0) }
 {
     if slots > 64 {
@@ -111,9 +113,9 @@ fn own_words(slots: u16) -> u32
     0
 }
 
-// Where a sheet's bits stand, by its lane and by the next word behind those of the wide sheets before it.
+/// Where a sheet's bits stand, by its lane and by the next word behind those of the wide sheets before it.
 fn home_at(slots: u16, pages: u32, lane: Lane, wide: u32) -> Home
-    requires { (pages ≤ 1_000_000) × (lane.word ≤ 1_000_000) }
+    requires { (pages ≤ most_pages) × (lane.word ≤ most_sheets) }
     ensures { result ≡ (if nat_lt 64 slots then record { slots = slots; word = wide; first = 0 }
         else record { slots = slots; word = pages + lane.word; first = lane.first }) }
 {

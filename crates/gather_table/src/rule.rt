@@ -16,7 +16,8 @@ impl Model for View {
     ghost view = { λ v. spent };
 }
 
-/// Between any two steps there is one legal history, whose state the words hold and which every seat has seen a beginning of.
+/// Between any two steps there is one legal history, whose state the words hold and which every seat has seen a
+/// beginning of.
 pub struct OneHistory;
 
 impl<'s> TableRule<(), View, Plan<'s>> for OneHistory {

@@ -5,8 +5,8 @@ ghost use Rattle.gather_table.specs.Shared.{IsSeat};
 use crate::rule::View;
 use std::marker::Model;
 
-/// A caller's token for one table. It stands for a legal history that the caller has seen, its front, and for the caller's
-/// own calls in it. Neither is stored: a seat is eight bytes, its share.
+/// A caller's token for one table. It stands for a legal history that the caller has seen, its front, and for the
+/// caller's own calls in it. Neither is stored: a seat is eight bytes, its share.
 #[derive(Drop)]
 pub struct Seat {
     pub(crate) token: atomic_table::Seat<(), View>,

@@ -92,8 +92,8 @@ impl Play<(), View> for Learns {
     ghost then = { learns };
 }
 
-/// Ghost parameter, chosen in the proof of each call; no code: the own places of two seats that meet, and the share of the
-/// second.
+/// Ghost parameter, chosen in the proof of each call; no code: the own places of two seats that meet, and the share of
+/// the second.
 pub trait Parts {
     ghost use Rattle.std.specs.Prelude.{ℕ, List};
 

@@ -17,8 +17,8 @@ use std::test::Fail;
 use std::thread;
 use std::thread::Threads;
 
-// The calls of a table, each None if its numbers are out of bounds, the slot is blank, its page has no index, the sheet isn't
-// wide, or a slot of the group to be closed is missing.
+// The calls of a table, each None if its numbers are out of bounds, the slot is blank, its page has no index, the sheet
+// isn't wide, or a slot of the group to be closed is missing.
 trait Calls {
     fn publish(&mut self, page: u32, index: u32) -> Option<Published>;
 
@@ -178,7 +178,10 @@ trait OfTable {
 impl OfTable for Brand {
     ghost use Rattle.std.specs.Prelude.{[]};
 
-    ghost table = { record { table = record { words = 0; slots = 0; views_name = 0; atom = 0; block = 0; offset = 0; slot_names = [] }; layout = record { pages = 0; sheets = [] } } };
+    ghost table = { record {
+      table = record { words = 0; slots = 0; views_name = 0; atom = 0; block = 0; offset = 0; slot_names = [] };
+      layout = record { pages = 0; sheets = [] };
+    } };
 }
 
 // A seat of that table.

@@ -1,5 +1,7 @@
-//! What words stand for: the slots of a group, bit k for slot k of it, the groups of a wide sheet, and the index of a page.
+//! What words stand for: the slots of a group, bit k for slot k of it, the groups of a wide sheet, and the index of a
+//! page.
 ghost use Rattle.std.specs.Prelude.{◌≡◌, ◌+◌, ◌-◌, ◌*◌, ◌/◌, ◌<◌, ◌≤◌, ◌^◌, nat_lt, if◌then◌else◌, length};
+ghost use Rattle.profile.specs.Admissible.{most_slots};
 ghost use Rattle.profile.specs.Sheets.{layout};
 ghost use Rattle.gather_table.specs.Table.{is_blank, in_group, bits, slots, group_count, group_size, group_reply};
 ghost use Rattle.gather_table.specs.Table.{closing_by, publish_reply};
@@ -8,7 +10,7 @@ ghost use Rattle.gather_table.specs.Words.{index_in, reply_in};
 use crate::answers::{Closing, Published, Reply};
 use sheet_plan::Plan;
 
-// The blank slots of a group, counted from its first. A sheet of up to 64 slots is one group.
+/// The blank slots of a group, counted from its first. A sheet of up to 64 slots is one group.
 pub(crate) fn blank_bits(plan: &Plan, sheet: u32, group: u8) -> u64
     requires sheet { sheet < length plan.now.sheets }
     requires group { group < group_count (layout plan.now) sheet }
@@ -18,15 +20,15 @@ pub(crate) fn blank_bits(plan: &Plan, sheet: u32, group: u8) -> u64
     full_bits(group_size(plan.slots(sheet), group)) - plan.missing_at_start(sheet, group)
 }
 
-// How many groups a sheet of this many slots has.
+/// How many groups a sheet of this many slots has.
 pub(crate) fn group_count(slots: u16) -> u8
-    requires { slots ≤ 4_096 }
+    requires { slots ≤ most_slots }
     ensures { result ≡ (slots + 63) / 64 }
 {
     ((slots + 63) / 64) as u8
 }
 
-// How many slots a group of such a sheet has.
+/// How many slots a group of such a sheet has.
 pub(crate) fn group_size(slots: u16, group: u8) -> u16
     requires { 64 * group ≤ slots }
     ensures { result ≡ (if nat_lt (64 * group + 64) slots then 64 else slots - 64 * group) }
@@ -39,7 +41,7 @@ pub(crate) fn group_size(slots: u16, group: u8) -> u16
     }
 }
 
-// The bits of that many slots or groups, all set.
+/// The bits of that many slots or groups, all set.
 pub(crate) fn full_bits(count: u16) -> u64
     requires { (0 < count) × (count ≤ 64) }
     ensures { result ≡ 2 ^ count - 1 }
@@ -47,7 +49,7 @@ pub(crate) fn full_bits(count: u16) -> u64
     u64::MAX >> (64 - count)
 }
 
-// The index of a page, by its word: the index and one more, or 0 if there is none.
+/// The index of a page, by its word: the index and one more, or 0 if there is none.
 pub(crate) fn index_by(word: u64) -> Option<u32>
     requires { word ≤ 2 ^ 32 }
     ensures { result ≡ index_in word }
@@ -58,7 +60,7 @@ pub(crate) fn index_by(word: u64) -> Option<u32>
     Some((word - 1) as u32)
 }
 
-// The answer of a publish, by the word that it found.
+/// The answer of a publish, by the word that it found.
 pub(crate) fn published_by(found: u64) -> Published
     requires { found ≤ 2 ^ 32 }
     ensures { result ≡ publish_reply (index_in found) }
@@ -69,7 +71,7 @@ pub(crate) fn published_by(found: u64) -> Published
     }
 }
 
-// What a bit is to those that it found, if all are `full`: it was there, it is the last one, or another.
+/// What a bit is to those that it found, if all are `full`: it was there, it is the last one, or another.
 pub(crate) fn reply_by(found: u64, bit: u64, full: u64) -> Reply
     ensures { result ≡ reply_in found bit full }
 {
@@ -82,7 +84,7 @@ pub(crate) fn reply_by(found: u64, bit: u64, full: u64) -> Reply
     }
 }
 
-// The answer of a mark in a group of a wide sheet, by what the slot is to the group.
+/// The answer of a mark in a group of a wide sheet, by what the slot is to the group.
 pub(crate) fn group_reply(group: u8, reply: Reply) -> Reply
     ensures { result ≡ group_reply group reply }
 {
@@ -92,7 +94,7 @@ pub(crate) fn group_reply(group: u8, reply: Reply) -> Reply
     }
 }
 
-// The answer of the closing of a group, by what the group is to those of its sheet.
+/// The answer of the closing of a group, by what the group is to those of its sheet.
 pub(crate) fn closing_by(reply: Reply) -> Closing
     ensures { result ≡ closing_by reply }
 {

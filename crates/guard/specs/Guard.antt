@@ -1,4 +1,5 @@
--- The guard: lines of PostScript that are put into a document before it is imposed. docs/GUARD.md says what each is for.
+-- The guard: lines of PostScript that are put into a document before it is imposed. docs/GUARD.md says what each is
+-- for.
 use Rattle.std.specs.Prelude.{ℕ, List, [], ◌∷◌, ◌++◌, codes, Option, Some, None}
 use Rattle.profile.specs.Numbers.{points_text}
 use Rattle.profile.specs.Papers.{Paper}

@@ -4,7 +4,7 @@ use Rattle.std.specs.Prelude.{IsTrue}
 use Rattle.profile.specs.Units.{TextUnit}
 use Rattle.profile.specs.Parts.{NestedUnit, nested, begins_page, pages, trailer}
 use Rattle.profile.specs.Papers.{Paper, is_paper}
-use Rattle.profile.specs.Run.{document_of}
+use Rattle.profile.specs.Run.{document_of, most_input_bytes}
 use Rattle.dsc.specs.Units.{units_of}
 use Rattle.seams.specs.Seams.{joined, passes, AreLines, line_unit}
 use Rattle.guard.specs.Header.{header_len, put_in}
@@ -16,8 +16,8 @@ CanBePutIn [] = ⊥
 CanBePutIn (first ∷ more) =
     (0 < length first) × AreLines (first ∷ more) × (passes begins_page 0 (map line_unit (first ∷ more)) ≡ Some 0)
 
--- The text has the units `us`, and with the lines put in it has the units `changed`: to the others the lines' own are added,
--- behind those of the header comments. Pages and trailer stay.
+-- The text has the units `us`, and with the lines put in it has the units `changed`: to the others the lines' own are
+-- added, behind those of the header comments. Pages and trailer stay.
 pub record ChangesPreambleAlone (lines : List (List ℕ)) (text : List ℕ) (us changed : List NestedUnit) : Type 0 where
   pub front : List TextUnit
   pub back : List TextUnit
@@ -31,7 +31,7 @@ pub record ChangesPreambleAlone (lines : List (List ℕ)) (text : List ℕ) (us 
 abbrev pub LinesStay : Type 0
 LinesStay =
     (lines : List (List ℕ)) (text : List ℕ) (us : List NestedUnit)
-    → CanBePutIn lines → document_of text ≡ Ok us → length (put_in lines text) ≤ 1_073_741_824
+    → CanBePutIn lines → document_of text ≡ Ok us → length (put_in lines text) ≤ most_input_bytes
     → (document_of (put_in lines text) ≡ Ok (units_of (put_in lines text)))
     × ChangesPreambleAlone lines text us (units_of (put_in lines text))
 
@@ -39,7 +39,7 @@ LinesStay =
 abbrev pub GuardStays : Type 0
 GuardStays =
     (sheet : Option Paper) (text : List ℕ) (us : List NestedUnit)
-    → document_of text ≡ Ok us → length (guarded sheet text) ≤ 1_073_741_824
+    → document_of text ≡ Ok us → length (guarded sheet text) ≤ most_input_bytes
     → (document_of (guarded sheet text) ≡ Ok (units_of (guarded sheet text)))
     × ChangesPreambleAlone (guard_lines sheet) text us (units_of (guarded sheet text))
 

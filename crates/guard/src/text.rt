@@ -62,8 +62,8 @@ pub fn guarded(alloc: Global, text: &[u8], sheet: Option<&Paper>) -> Result<Vec<
     Ok(out)
 }
 
-/// Puts the guard into a text in its place, as `guarded` does into a copy of it. Refused for memory alone; the text is as it was
-/// then.
+/// Puts the guard into a text in its place, as `guarded` does into a copy of it. Refused for memory alone; the text is
+/// as it was then.
 pub fn put_guard(text: &mut Vec<u8>, sheet: Option<&Paper>) -> Result<(), AllocError>
     ensures put_in { OnOk result (text.new.items ≡ guarded (option_map (λ p. p.now) sheet.entry) text.old.items) }
     ensures unchanged { OnErr result (text.new.items ≡ text.old.items) }

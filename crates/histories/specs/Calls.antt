@@ -1,12 +1,13 @@
--- Seats as clauses see them, and what their calls leave. K is what a history is of, E an entry, and Legal says which histories are legal.
+-- Seats as clauses see them, and what their calls leave. K is what a history is of, E an entry, and Legal says which
+-- histories are legal.
 use Rattle.std.specs.Prelude.{◌≡◌, ℕ, ◌+◌, ◌-◌, ◌<◌, ◌≤◌, List, [], ◌∷◌, ◌++◌, length}
 use mathlib.Core.List.{IsPrefix}
 use Rattle.atomic_table.specs.Seated.{TableId}
 use Rattle.histories.specs.Seats.{Sight, whole_share, longer, times}
 use Rattle.histories.specs.Own.{entries_at, IsHeld}
 
--- a seat: of what it is one, what its history is of, the history that its caller has seen, the places in it of the caller's own
--- entries, and its share
+-- a seat: of what it is one, what its history is of, the history that its caller has seen, the places in it of the
+-- caller's own entries, and its share
 pub record SeatView (K E : Type 0) : Type 0 where
   pub table : TableId
   pub key : K
@@ -48,19 +49,23 @@ module _ {K E : Type 0} where
   }
 
 module _ {K E : Type 0} (Legal : K → List E → Type 0) where
-  -- what every seat keeps to: its front is legal, its own places lie in it, each once, and with all shares they are all places of it
+  -- what every seat keeps to: its front is legal, its own places lie in it, each once, and with all shares they are all
+  -- places of it
   abbrev pub IsSeat : SeatView K E → Type 0
   IsSeat seat = IsHeld (Legal seat.key) seat.front seat.own seat.share
 
-  -- the entry e was made: the new front begins with the old one, goes on with what others did meanwhile, and ends with e, whose
-  -- place is one more own place. If the seat has all shares there are no others
+  -- the entry e was made
   pub record Made (old : SeatView K E) (e : E) (new : SeatView K E) : Type 0 where
+    -- what others did meanwhile
     pub between : List E
+    -- the new front begins with the old one, goes on with that, and ends with e, whose place is one more own place
     pub grown : new ≡ record old {
       front = (old.front ++ between) ++ e ∷ [];
       own = old.own ++ length (old.front ++ between) ∷ [];
     }
+    -- if the seat has all shares there are no others
     pub alone : old.share ≡ whole_share → between ≡ []
+    -- old and new seat keep what every seat keeps
     pub before : IsSeat old
     pub after : IsSeat new
 

@@ -1,13 +1,14 @@
--- What holds of seats by what their calls leave: where a caller's entries stand in the one history, and that they stay its own.
+-- What holds of seats by what their calls leave: where a caller's entries stand in the one history, and that they stay
+-- its own.
 use Rattle.std.specs.Prelude.{◌≡◌, ◌⊎◌, ℕ, ◌+◌, ◌<◌, ◌≤◌, List, [], ◌∷◌, ◌++◌, length, Some, slice_get}
 use mathlib.Core.List.{IsPrefix}
 use Rattle.histories.specs.Seats.{whole_share, longer, times, total}
 use Rattle.histories.specs.Own.{StandAt}
 use Rattle.histories.specs.Calls.{SeatView, IsSeat, Agree, Made, Makes, Split, Met, Joined, own_entries}
 
--- what a caller does with a seat: nothing; one call; it meets another seat; it gives a part of its share to a new seat of somebody
--- else; it takes in a seat of somebody else; one thing after the other; or it splits the seat in two, does something with each part,
--- the one beside the other, and joins them again
+-- what a caller does with a seat: nothing; one call; it meets another seat; it gives a part of its share to a new seat
+-- of somebody else; it takes in a seat of somebody else; one thing after the other; or it splits the seat in two, does
+-- something with each part, the one beside the other, and joins them again
 pub data Course (E : Type 0) : Type 0 where
   Rests : Course E
   Calls : E → Course E
@@ -17,8 +18,8 @@ pub data Course (E : Type 0) : Type 0 where
   Then : Course E → Course E → Course E
   InTwo : Course E → Course E → Course E
 
--- the calls of a course stand in the history at these places, from place n on and before place m: each later call at a later place, and
--- the calls of two parts each in their order
+-- the calls of a course stand in the history at these places, from place n on and before place m: each later call at a
+-- later place, and the calls of two parts each in their order
 abbrev pub CourseStands : {E : Type 0} → List E → (n m : ℕ) → List ℕ → Course E → Type 0
 CourseStands log n m places Rests = (n ≤ m) × (places ≡ [])
 CourseStands log n m places (Calls e) = (x : ℕ) × (n ≤ x) × (x < m) × (slice_get log x ≡ Some e) × (places ≡ x ∷ [])
@@ -31,8 +32,8 @@ CourseStands log n m places (InTwo c d) = (xs : List ℕ) × (ys : List ℕ) × 
     × CourseStands log n m ys d × (places ≡ xs ++ ys)
 
 module _ {K E : Type 0} (Legal : K → List E → Type 0) where
-  -- these entries of a seat, made one after the other with whatever others did beside them, stand in one legal history, which begins
-  -- with all that the caller had seen: each at one place of its own, in the order in which they were made
+  -- these entries of a seat, made one after the other with whatever others did beside them, stand in one legal history,
+  -- which begins with all that the caller had seen: each at one place of its own, in the order in which they were made
   pub record StandInOneHistory (old : SeatView K E) (es : List E) (new : SeatView K E) : Type 0 where
     pub legal : Legal old.key new.front
     pub begins : IsPrefix old.front new.front
@@ -59,8 +60,8 @@ module _ {K E : Type 0} (Legal : K → List E → Type 0) where
       (one : SeatView K E) × (two : SeatView K E) × (one' : SeatView K E) × (two' : SeatView K E)
       × Split Legal old one two × Goes one c one' × Goes two d two' × Joined Legal one' two' new
 
-  -- the calls of a course stand in one legal history, which begins with all that the caller had seen: each at one place of its own,
-  -- which it hadn't before, and in the order of the course
+  -- the calls of a course stand in one legal history, which begins with all that the caller had seen: each at one place
+  -- of its own, which it hadn't before, and in the order of the course
   pub record CourseStandsInOneHistory (old : SeatView K E) (course : Course E) (new : SeatView K E) : Type 0 where
     pub legal : Legal old.key new.front
     pub begins : IsPrefix old.front new.front
@@ -74,7 +75,8 @@ module _ {K E : Type 0} (Legal : K → List E → Type 0) where
   CoursesStandInOneHistory = (old new : SeatView K E) (course : Course E) → IsSeat Legal old → Goes old course new
       → CourseStandsInOneHistory old course new
 
-  -- an entry is one more own entry, a joined seat has those of both, and none is lost or given away in a meeting or a split
+  -- an entry is one more own entry, a joined seat has those of both, and none is lost or given away in a meeting or a
+  -- split
   abbrev pub OwnEntriesAreKept : Type 0
   OwnEntriesAreKept = ((old new : SeatView K E) (es : List E) → Makes Legal old es new
       → own_entries new ≡ own_entries old ++ es)
@@ -90,7 +92,8 @@ module _ {K E : Type 0} (Legal : K → List E → Type 0) where
   WholeSeatMadeAll = (seat : SeatView K E) (weight : E → ℕ) → IsSeat Legal seat → seat.share ≡ whole_share
       → total weight (own_entries seat) ≡ total weight seat.front
 
-  -- whatever is counted of the own entries of a seat, or of two seats that agree, is at most what it is of the history that they have seen
+  -- whatever is counted of the own entries of a seat, or of two seats that agree, is at most what it is of the history
+  -- that they have seen
   abbrev pub OwnEntriesAreOfTheFront : Type 0
   OwnEntriesAreOfTheFront = ((seat : SeatView K E) (weight : E → ℕ) → IsSeat Legal seat
       → total weight (own_entries seat) ≤ total weight seat.front)

@@ -1,4 +1,5 @@
--- Seats: of one history of entries each has seen a beginning, and has made some of its entries. K is what the history is of, and E an entry.
+-- Seats: of one history of entries each has seen a beginning, and has made some of its entries. K is what the history
+-- is of, and E an entry.
 use Rattle.std.specs.Prelude.{◌≡◌, ℕ, ◌+◌, ◌-◌, ◌<◌, ◌≤◌, ◌==◌, List, [], ◌∷◌, ◌++◌, length, nat_lt, if◌then◌else◌}
 use mathlib.Core.Option.{some}
 use mathlib.Core.List.{IsPrefix}
@@ -19,8 +20,8 @@ total f (x ∷ xs) = f x + total f xs
 abbrev pub times : ℕ → List ℕ → ℕ
 times x ys = total (λ y. if y == x then 1 else 0) ys
 
--- what a seat knows: what its history is of, a beginning of it that was seen (the front), the places in it of the entries that the
--- seat made, and a share. The histories in `met` were seen too, by seats that were joined in
+-- what a seat knows: what its history is of, a beginning of it that was seen (the front), the places in it of the
+-- entries that the seat made, and a share. The histories in `met` were seen too, by seats that were joined in
 pub record Sight (K E : Type 0) : Type 0 where
   pub key : K
   pub front : List E
@@ -76,7 +77,8 @@ module _ {K E : Type 0} where
   abbrev pub share_of : Sight K E → ℕ
   share_of v = v.share
 
-  -- the front begins the history, and so does all that was met; the own places are places of the front; with no share there are none
+  -- the front begins the history, and so does all that was met; the own places are places of the front; with no share
+  -- there are none
   pub record IsSightOf (key : K) (log : List E) (v : Sight K E) : Type 0 where
     pub same_key : 0 < v.share → v.key ≡ key
     pub rest : List E
@@ -85,23 +87,24 @@ module _ {K E : Type 0} where
     pub idle : v.share ≡ 0 → v.own ≡ []
     pub met : AllBegin log v.met
 
-  -- each seat has seen a beginning of the one history. No place is an own place of two seats, and with all shares each place is some seat's own
+  -- each seat has seen a beginning of the one history. No place is an own place of two seats, and with all shares each
+  -- place is some seat's own
   pub record AreSeats (key : K) (log : List E) (views : List (Sight K E)) : Type 0 where
     pub seats : (id : ℕ) (v : Sight K E) → get_elem? views id ≡ some v → IsSightOf key log v
     pub apart : (x : ℕ) → total (owned x) views ≤ 1
     pub shares : total share_of views ≤ whole_share
     pub every : total share_of views ≡ whole_share → (x : ℕ) → x < length log → 0 < total (owned x) views
 
-  -- the entry e was made: the new front is legal, begins with the old one, and ends with e, which is one more own place.
-  -- A whole seat has seen all that came before
+  -- the entry e was made: the new front is legal, begins with the old one, and ends with e, which is one more own
+  -- place. A whole seat has seen all that came before
   pub record Adds (Legal : K → List E → Type 0) (v : Sight K E) (e : E) (w : Sight K E) : Type 0 where
     pub between : List E
     pub grown : w ≡ added v (v.front ++ between) e
     pub legal : Legal v.key w.front
     pub alone : v.share ≡ whole_share → between ≡ []
 
--- what a look at the rule tells a seat: all that was met begins one history; each own place is one once; and with all shares each
--- place of the front is an own one
+-- what a look at the rule tells a seat: all that was met begins one history; each own place is one once; and with all
+-- shares each place of the front is an own one
 pub record Learned {K E : Type 0} (v : Sight K E) : Type 0 where
   pub log : List E
   pub met : AllBegin log v.met

@@ -1,6 +1,9 @@
--- The command line: impose nup N, impose booklet, impose select RANGES or impose spec SPECS, with [OPTIONS] [INFILE [OUTFILE]].
+-- The command line: impose nup N, impose booklet, impose select RANGES or impose spec SPECS, with [OPTIONS] [INFILE
+-- [OUTFILE]].
 use Rattle.std.specs.Prelude.{ℕ, pos, true, false, List, [], ◌∷◌, map, Some, codes}
 use Rattle.std.specs.List.{fold}
+use Rattle.profile.specs.Signatures.{most_sides}
+use Rattle.layouts.specs.Refusals.{most_on_sheet}
 use Rattle.clap.specs.Words.{App, Rule, Shape, Text, new_app, new_rule, with_rule, with_subcommand}
 use Rattle.clap.specs.Simple.{on_top}
 use Rattle.clap.specs.declared.builder.action.ArgAction.TheVariants.{Set, SetTrue}
@@ -51,10 +54,10 @@ abbrev pub subcommand_app : (name : Text) → (own : List Rule) → App
 subcommand_app name own = fold with_rule (fold with_rule (new_app name) own) common_rules
 
 abbrev pub nup_app : App
-nup_app = subcommand_app (codes "nup") (ranged 1 1_024 (required_rule (codes "count")) ∷ [])
+nup_app = subcommand_app (codes "nup") (ranged 1 most_on_sheet (required_rule (codes "count")) ∷ [])
 
 abbrev pub booklet_app : App
-booklet_app = subcommand_app (codes "booklet") (ranged 4 1_000_000 (option_rule (codes "signature"))
+booklet_app = subcommand_app (codes "booklet") (ranged 4 most_sides (option_rule (codes "signature"))
     ∷ flag_rule (codes "long-edge") ∷ [])
 
 abbrev pub select_app : App

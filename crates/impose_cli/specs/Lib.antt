@@ -1,5 +1,5 @@
--- Read in this order: the command and its values, sizes among them; what the words ask for; what is refused; what a request
--- comes to with a document; what its run leaves and says, with which status.
+-- Read in this order: the command and its values, sizes among them; what the words ask for; what is refused; what a
+-- request comes to with a document; what its run leaves and says, with which status.
 pub mod Command
 pub mod Sizes
 pub mod Words

@@ -6,7 +6,8 @@ use Rattle.profile.specs.Papers.{Paper, paper_named}
 use Rattle.document_paper.specs.Media.{a4, paper_of}
 use Rattle.pstops_cli.specs.Values as values
 
--- a number up to 99,999.999999999 and its unit, pt, cm, mm or in, or points without one; none of these asks for the paper
+-- a number up to 99,999.999999999 and its unit, pt, cm, mm or in, or points without one; none of these asks for the
+-- paper
 abbrev pub length_named : List ℕ → Option ℤ
 length_named text = values.length_named a4 text
 

@@ -1,5 +1,5 @@
--- The exit statuses: 1 if what was asked for is refused, 2 if the words or the options are, 3 if memory, reading or writing
--- failed, and 0 after a call for help or for the version.
+-- The exit statuses: 1 if what was asked for is refused, 2 if the words or the options are, 3 if memory, reading or
+-- writing failed, and 0 after a call for help or for the version.
 use Rattle.std.specs.Prelude.{ℕ}
 use Rattle.clap.specs.Words.{kind_of}
 use Rattle.clap.specs.declared.error.kind.ErrorKind.{ErrorKind}

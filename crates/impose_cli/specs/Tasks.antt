@@ -87,8 +87,8 @@ LaysOut (layout.Selection ranges which) page sheet pages spec sides = IsSelectio
     × (sides ≡ None)
 LaysOut (layout.Spec specs) page sheet pages spec sides = Takes most_slots (string_bytes specs) spec × (sides ≡ None)
 
--- the request was carried out for this document: exactly the output was appended that the profile defines for the layout's
--- specification and the document, with the guard in it if it is asked for
+-- the request was carried out for this document: exactly the output was appended that the profile defines for the
+-- layout's specification and the document, with the guard in it if it is asked for
 pub record Finishes (r : Request) (input : List ℕ) (old new : Option (List ℕ)) (done : Finished) : Type 0 where
   pub page_count : ℕ
   pub document : HasPages input page_count

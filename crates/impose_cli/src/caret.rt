@@ -6,8 +6,8 @@ const SHOWN_BEFORE: usize = 50;
 
 const SHOWN_BEHIND: usize = 20;
 
-/// Two lines behind a line end: the text round the place, and a caret below it. Two dots stand for what is cut off, and a
-/// question mark for a control character. Nothing if the text ends before the place.
+/// Two lines behind a line end: the text round the place, and a caret below it. Two dots stand for what is cut off, and
+/// a question mark for a control character. Nothing if the text ends before the place.
 pub(crate) fn caret_below(alloc: Global, text: &str, place: usize) -> Result<String, AllocError> {
     if place > text.len() {
         return Ok(String::new(alloc));

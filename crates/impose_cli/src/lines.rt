@@ -241,59 +241,54 @@ fn layout_text(
     error: &LayoutError,
     request: Option<&Request>,
 ) -> Result<String, AllocError> {
-    let ranges = ranges_of(request);
+    let message = match error {
+        LayoutError::Syntax(at) => format!(in alloc;
+            "page ranges: syntax error at byte {at}; write them as 7 or 3-9 or 5-, with commas \
+            between them"
+        )?,
+        error => String::from_str(alloc, layout_message(error))?,
+    };
+    match ranges_place(error) {
+        Some(place) => shown(alloc, message, ranges_of(request), place),
+        None => Ok(message),
+    }
+}
+
+fn layout_message(error: &LayoutError) -> &'static str {
     match error {
-        LayoutError::PagesOutOfRange => String::from_str(
-            alloc,
-            "a sheet takes from 1 to 1,024 pages",
-        ),
+        LayoutError::PagesOutOfRange => "a sheet takes from 1 to 1,024 pages",
         LayoutError::SideTooLong => {
-            String::from_str(
-                alloc,
-                "a side of a paper is 100,000 points or more: name a smaller paper",
-            )
+            "a side of a paper is 100,000 points or more: name a smaller paper"
         }
-        LayoutError::FoldOnLongEdge => String::from_str(
-            alloc,
+        LayoutError::FoldOnLongEdge => {
             "upright pages side by side would be larger on this sheet, and it would fold along its longer edge: name \
-            another sheet, as --sheet a4, or use nup 2",
-        ),
-        LayoutError::ScaleOutOfRange => String::from_str(
-            alloc,
-            "the pages would be too small or too large on the sheet: name other papers by --paper and --sheet",
-        ),
+            another sheet, as --sheet a4, or use nup 2"
+        }
+        LayoutError::ScaleOutOfRange => {
+            "the pages would be too small or too large on the sheet: name other papers by --paper and --sheet"
+        }
         LayoutError::DocumentTooLong => {
-            String::from_str(
-                alloc,
-                "the document has more than 99,999 pages, from which none can be selected: split it first",
-            )
+            "the document has more than 99,999 pages, from which none can be selected: split it first"
         }
-        LayoutError::Syntax(at) => {
-            let message = format!(in alloc;
-                "page ranges: syntax error at byte {at}; write them as 7 or 3-9 or 5-, with commas \
-                between them"
-            )?;
-            shown(alloc, message, ranges, *at)
+        LayoutError::Syntax(_) => "page ranges: syntax error",
+        LayoutError::PageNotInDocument(_) => "page ranges: the document doesn't have these pages",
+        LayoutError::TooManyPages(_) => {
+            "page ranges: more than 10,000 pages; select them in several runs"
         }
-        LayoutError::PageNotInDocument(at) => {
-            let message = String::from_str(
-                alloc,
-                "page ranges: the document doesn't have these pages",
-            )?;
-            shown(alloc, message, ranges, *at)
+        LayoutError::NoPages => {
+            "page ranges: no page is left by --odd or --even; pages are counted from 1"
         }
-        LayoutError::TooManyPages(at) => {
-            let message = String::from_str(
-                alloc,
-                "page ranges: more than 10,000 pages; select them in several runs",
-            )?;
-            shown(alloc, message, ranges, *at)
-        }
-        LayoutError::NoPages => String::from_str(
-            alloc,
-            "page ranges: no page is left by --odd or --even; pages are counted from 1",
-        ),
-        LayoutError::NoMemory => String::from_str(alloc, "out of memory"),
+        LayoutError::NoMemory => "out of memory",
+    }
+}
+
+/// Where page ranges are at fault, if that is at one place.
+fn ranges_place(error: &LayoutError) -> Option<usize> {
+    match error {
+        LayoutError::Syntax(at)
+        | LayoutError::PageNotInDocument(at)
+        | LayoutError::TooManyPages(at) => Some(*at),
+        _ => None,
     }
 }
 

@@ -2,6 +2,7 @@
 ghost use Rattle.std.specs.Prelude.{◌≡◌, ◌<◌, ◌≤◌, IfErr, IfOk, None, OnOk, Some, string_bytes, unwrap_or};
 ghost use Rattle.std.specs.Io.KnownBytes.{Appends};
 ghost use Rattle.profile.specs.Output.{output};
+ghost use Rattle.profile.specs.Run.{most_pages};
 ghost use Rattle.layouts.specs.Grids.{leaves, n_up};
 ghost use Rattle.layouts.specs.Refusals.{why_not, why_no_booklet};
 ghost use Rattle.layouts.specs.Selections.{IsSelection};
@@ -189,7 +190,7 @@ fn sheet_of<'p>(named: &'p Option<Paper>, page: &'p Paper) -> &'p Paper
 /// How many pages the document has.
 fn pages_of(alloc: Global, input: &[u8]) -> Result<u32, Fault>
     ensures counted { IfOk result (HasPages input.now) }
-    ensures within { IfOk result (λ pages. pages ≤ 1_000_000) }
+    ensures within { IfOk result (λ pages. pages ≤ most_pages) }
     ensures refused { IfErr result (RefusesDocument input.now) }
 {
     match Document::read(alloc, input) {
@@ -230,7 +231,7 @@ fn placing(
     sheet: &Paper,
     pages: u32,
 ) -> Result<Placed, Fault>
-    requires { pages ≤ 1_000_000 }
+    requires { pages ≤ most_pages }
     ensures placed { IfOk result (λ placed.
         IsPlaced layout.now page.now sheet.now pages (string_bytes placed.0) placed.1) }
     ensures refused { IfErr result (RefusesLayout layout.now page.now sheet.now pages) }
@@ -318,7 +319,7 @@ fn written(alloc: Global, spec: &Spec, sides: Option<u32>) -> Result<Placed, Fau
 
 /// The smallest multiple of four that is no less.
 fn in_fours(pages: u32) -> u32
-    requires { pages ≤ 1_000_000 }
+    requires { pages ≤ most_pages }
     ensures { result ≡ fours pages }
 {
     (pages + 3) / 4 * 4

@@ -8,7 +8,7 @@ use Rattle.profile.specs.Admissible.{IsAdmissible}
 use Rattle.profile.specs.Sheets.{Slot}
 use Rattle.profile.specs.Signatures.{AreSidesIfGiven, sheets_in}
 use Rattle.profile.specs.Output.{Frame, sheet_text, output}
-use Rattle.profile.specs.Run.{document_of, plan_in}
+use Rattle.profile.specs.Run.{document_of, plan_in, most_input_bytes, most_pages}
 use Rattle.dsc.specs.Units.{units_of}
 
 -- the depth behind units, that is how many embedded documents they leave open; behind none it is 0
@@ -34,9 +34,10 @@ AreShut [] = Unit {0}
 AreShut (text ∷ []) = Unit {0}
 AreShut (text ∷ next ∷ more) = (depth_behind (units_of text) ≡ 0) × AreShut (next ∷ more)
 
--- The units `again` are those of what was written of a document with these sheets. Preamble and trailer are the texts that
--- were written. The pages are the texts of the sheets if each of these but the last leaves no embedded document open; and
--- only then are there as many. If the document's last page leaves none open, nor does the last page of what was written.
+-- The units `again` are those of what was written of a document with these sheets. Preamble and trailer are the texts
+-- that were written. The pages are the texts of the sheets if each of these but the last leaves no embedded document
+-- open; and only then are there as many. If the document's last page leaves none open, nor does the last page of what
+-- was written.
 pub record IsAgain (frame : Frame) (all : List (List Slot)) (us again : List NestedUnit) : Type 0 where
   pub before : bytes_of (preamble again) ≡ preamble_text (length all) us
   pub sheets_are : AreShut (sheet_texts frame (pages us) all) → pages again ≡ sheet_texts frame (pages us) all
@@ -49,7 +50,8 @@ pub record IsAgain (frame : Frame) (all : List (List Slot)) (us again : List Nes
 abbrev pub WrittenIsDocument : Type 0
 WrittenIsDocument =
     (frame : Frame) (all : List (List Slot)) (text : List ℕ) (us : List NestedUnit)
-    → document_of text ≡ Ok us → 0 < length all → length all ≤ 1_000_000 → length (written frame all us) ≤ 1_073_741_824
+    → document_of text ≡ Ok us → 0 < length all → length all ≤ most_pages
+    → length (written frame all us) ≤ most_input_bytes
     → (document_of (written frame all us) ≡ Ok (units_of (written frame all us)))
     × IsAgain frame all us (units_of (written frame all us))
 
@@ -70,15 +72,15 @@ abbrev pub MakesSheets : Type 0
 MakesSheets = (most_slots : ℕ) (sides : Option ℕ) (spec : Spec) (n : ℕ) → AreSidesIfGiven sides
     → IsAdmissible most_slots spec → 0 < n → 0 < length (sheets_in sides spec n)
 
--- the output of an accepted document, an admissible specification and an accepted plan is a document again, unless it is
--- too long; and if the document's last page leaves no embedded document open, its pages are the sheets
+-- the output of an accepted document, an admissible specification and an accepted plan is a document again, unless it
+-- is too long; and if the document's last page leaves no embedded document open, its pages are the sheets
 abbrev pub ImposedAgain : Type 0
 ImposedAgain =
     (most_slots : ℕ) (frame : Frame) (sides : Option ℕ) (spec : Spec) (text : List ℕ)
     (us : List NestedUnit) (all : List (List Slot))
     → document_of text ≡ Ok us → AreSidesIfGiven sides → IsAdmissible most_slots spec
     → plan_in sides spec (length (pages us)) ≡ Ok all
-    → length (output frame sides spec us) ≤ 1_073_741_824
+    → length (output frame sides spec us) ≤ most_input_bytes
     → (document_of (output frame sides spec us) ≡ Ok (units_of (output frame sides spec us)))
     × IsAgain frame all us (units_of (output frame sides spec us))
     × (depth_behind (page_run us) ≡ 0

@@ -2,8 +2,8 @@
 ghost use Rattle.imposed_again.specs.Again.{ImposedAgain, MakesSheets, SheetsShut, TrailerShuts, WrittenIsDocument};
 
 /// What is written of an accepted document, with any sheets, is accepted again, unless it is too long: its preamble and
-/// trailer are those that were written, and its pages are the sheets exactly if each sheet but the last leaves no embedded
-/// document open.
+/// trailer are those that were written, and its pages are the sheets exactly if each sheet but the last leaves no
+/// embedded document open.
 pub fn written_is_document()
     ensures { WrittenIsDocument }
 {}

@@ -1,7 +1,7 @@
 -- Pages in the cells of a grid, all of one size, each in the middle of its cell.
--- Sides of cells and offsets are whole numbers of 10^-5 of a point, which are 1,270,000 grains: with these a shift is printed
--- exactly. Both are rounded down, and so is the scale, in 10^-9; so a page is never larger than its cell, nor the grid than
--- the sheet.
+-- Sides of cells and offsets are whole numbers of 10^-5 of a point, which are 1,270,000 grains: with these a shift is
+-- printed exactly. Both are rounded down, and so is the scale, in 10^-9; so a page is never larger than its cell, nor
+-- the grid than the sheet.
 use Rattle.std.specs.Prelude.{ℕ, ◌+◌, ◌-◌, ◌*◌, ◌/◌, ◌%◌, min, suc, zero, pos, nat_abs, Bool, true, false, ◌&&◌, ◌==◌}
 use Rattle.std.specs.Prelude.{nat_lt, if◌then◌else◌, [], ◌∷◌, map}
 use Rattle.std.specs.List.{range_with_len}
@@ -162,8 +162,8 @@ back_in page sheet g n k = record {
   y = in_points (whole (nat_abs sheet.height) - to_top page sheet g (k / g.columns) (k % g.columns));
 }
 
--- the sides of a booklet's leaves, which fold parallel to the shorter edge; for printers that flip a sheet about its longer
--- edge each second side is turned by half
+-- the sides of a booklet's leaves, which fold parallel to the shorter edge; for printers that flip a sheet about its
+-- longer edge each second side is turned by half
 abbrev pub leaves : (page sheet : Paper) → (long_edge : Bool) → Spec
 leaves page sheet false = in_grid page sheet (beside true) 2
 leaves page sheet true = record {

@@ -24,8 +24,8 @@ GridIsApart =
     → l < g.rows * g.columns → k ≢ l
     → AreApart page (item_in page sheet g k) (item_in page sheet g l)
 
--- as one holds the sheet, page k stands in row k / c and column k % c: left of each page in a later column, and above each in a
--- later row
+-- as one holds the sheet, page k stands in row k / c and column k % c: left of each page in a later column, and above
+-- each in a later row
 abbrev pub GridIsInOrder : Type 0
 GridIsInOrder =
     (page sheet : Paper) (g : Grid) (k l : ℕ) → IsPaper page → IsPaper sheet
@@ -105,7 +105,8 @@ pub record IsLike (turn : Turn) (scale : ℕ) (i : Item) : Type 0 where
   pub scale_is : i.scale ≡ pos scale
   pub from_start : i.from_end ≡ false
 
--- pages of one turn and one scale, in rows of so many columns: on the sheet, apart, in reading order, and printed exactly
+-- pages of one turn and one scale, in rows of so many columns: on the sheet, apart, in reading order, and printed
+-- exactly
 pub record IsLaidOut (page sheet : Paper) (turn : Turn) (scale columns : ℕ) (items : List Item) : Type 0 where
   pub like : AllByRecursion (IsLike turn scale) items
   pub inside : AllByRecursion (IsInside page sheet) items
@@ -142,8 +143,8 @@ AreSides page sheet true scale spec =
     × ArePages 2 2 back × AllZip (IsHalfTurnOf page sheet) front back
     × IsLaidOut page sheet Left scale 2 front × IsLaidOut page sheet Right scale 2 back
 
--- two pages side by side on each side of a leaf, as large as any two side by side; the fold is parallel to the shorter edge, as
--- they are turned to the left on a sheet that is no wider than high
+-- two pages side by side on each side of a leaf, as large as any two side by side; the fold is parallel to the shorter
+-- edge, as they are turned to the left on a sheet that is no wider than high
 pub record IsBooklet (page sheet : Paper) (long_edge : Bool) (spec : Spec) : Type 0 where
   pub fold : nat_abs sheet.width ≤ nat_abs sheet.height
   pub scale : ℕ

@@ -1,5 +1,6 @@
--- Where the pages of a layout stand on their sheet, and how they stand to one another. A page and a sheet each have a paper.
--- A sheet is measured here in 10^-9 of a grain: a scale, in 10^-9, times a whole number of grains is a whole number of these.
+-- Where the pages of a layout stand on their sheet, and how they stand to one another. A page and a sheet each have a
+-- paper. A sheet is measured here in 10^-9 of a grain: a scale, in 10^-9, times a whole number of grains is a whole
+-- number of these.
 use Rattle.std.specs.Prelude.{◌≡◌, ℤ, pos, ◌*ℤ◌, neg_ℤ, ◌≤ℤ◌, ◌⊎◌}
 use Rattle.profile.specs.Papers.{Paper}
 use Rattle.profile.specs.Specification.{Item, Turn, Upright, Left, Half, Right}

@@ -14,7 +14,8 @@ most_on_sheet = 1_024
 abbrev pub is_count : ℕ → Bool
 is_count n = nat_le 1 n && nat_le n most_on_sheet
 
--- a side that is out of reach has 100,000 points or more: offsets are of at most 99,999 points and five nines behind the dot
+-- a side that is out of reach has 100,000 points or more: offsets are of at most 99,999 points and five nines behind
+-- the dot
 abbrev pub out_of_reach : ℕ
 out_of_reach = 12_700_000_000_000_000
 

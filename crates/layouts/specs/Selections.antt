@@ -90,8 +90,8 @@ SheetsAreRow =
       item = alone (page - 1);
     } ∷ []) row
 
--- the text stands for ranges whose pages the document has, and these are the pages kept of them: one at least, and as many as
--- a specification takes at most
+-- the text stands for ranges whose pages the document has, and these are the pages kept of them: one at least, and as
+-- many as a specification takes at most
 pub record Selects (text : List ℕ) (which : Which) (pages : ℕ) (row : List ℕ) : Type 0 where
   pub ranges : List Range
   pub stand : AreRanges text ranges

@@ -1,5 +1,5 @@
--- Read in this order: the ranges of numbers, lengths and papers; units; what stands at the front of a text, as a function;
--- what a refusal says; what is printed is read again.
+-- Read in this order: the ranges of numbers, lengths and papers; units; what stands at the front of a text, as a
+-- function; what a refusal says; what is printed is read again.
 pub mod Ranges
 pub mod Units
 pub mod Reading

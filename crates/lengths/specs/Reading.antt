@@ -1,5 +1,5 @@
--- Reading a number off the front of a text. Layers that read a grammar with numbers in it cite this; that it agrees with
--- what a number text is, is proved.
+-- Reading a number off the front of a text. Layers that read a grammar with numbers in it cite this; that it agrees
+-- with what a number text is, is proved.
 use Rattle.std.specs.Prelude.{◌≡◌, ℕ, ◌+◌, ◌*◌, ◌^◌, ℤ, Bool, true, false, ◌||◌, ◌==◌, if◌then◌else◌, List, [], ◌∷◌}
 use Rattle.std.specs.Prelude.{◌++◌, Option, Some, None}
 use Rattle.std.specs.Char.{is_ascii_digit}

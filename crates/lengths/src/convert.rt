@@ -9,8 +9,8 @@ use super::number::Number;
 use super::paper::Paper;
 use super::unit::Unit;
 
-/// The length of this many units, in grains. Parts of a width or a height are rounded to the nearest grain, half away from
-/// zero; a 10^-9 of any other unit is a whole number of grains.
+/// The length of this many units, in grains. Parts of a width or a height are rounded to the nearest grain, half away
+/// from zero; a 10^-9 of any other unit is a whole number of grains.
 pub fn to_grains(number: Number, unit: Unit, paper: &Paper) -> Grains
     ensures { result ≡ grains paper.now number (length_unit unit) }
 {

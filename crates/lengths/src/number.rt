@@ -9,8 +9,8 @@ use std::ops::Neg;
 /// The greatest number, in 10^-9.
 const GREATEST: u64 = 99_999_999_999_999;
 
-/// A whole number of 10^-9, from -99,999,999,999,999 to 99,999,999,999,999: nine decimals behind an integer part of at most 99,999.
-/// Contracts see it as that whole number.
+/// A whole number of 10^-9, from -99,999,999,999,999 to 99,999,999,999,999: nine decimals behind an integer part of at
+/// most 99,999. Contracts see it as that whole number.
 #[derive(Clone, Copy, Debug, PartialEq, Eq, Hash, PartialOrd, Ord)]
 pub struct Number {
     billionths: i64,

@@ -2,7 +2,7 @@
 ghost use Rattle.std.specs.Prelude.{◌≡◌, ◌+◌, ◌*◌, ◌/◌, ◌%◌, ◌^◌, ◌<◌, ◌≤◌, ◌++◌, ℕ, ℤ, FitsSigned, nat_abs, drop};
 ghost use Rattle.std.specs.Prelude.{decimal, length, [], ◌∷◌, if◌then◌else◌, OnOk, OnErr, vec_len, vec_capacity};
 ghost use Rattle.profile.specs.Bytes.{minus_sign};
-ghost use Rattle.profile.specs.Numbers.{without_last_zeros as kept, decimals_of, fraction_text, is_negative, sign_text};
+ghost use Rattle.profile.specs.Numbers.{without_last_zeros, decimals_of, fraction_text, is_negative, sign_text};
 ghost use Rattle.profile.specs.Numbers.{whole_text, printed, scale_text, number_text, points_text};
 
 use super::convert::rounded;
@@ -11,7 +11,8 @@ use super::number::Number;
 use itoa::Buffer;
 use std::alloc::AllocError;
 
-/// Appends a length in points, rounded to five decimals, half away from zero. If memory is refused, nothing is appended.
+/// Appends a length in points, rounded to five decimals, half away from zero. If memory is refused, nothing is
+/// appended.
 pub fn print_points(grains: Grains, out: &mut Vec<u8>) -> Result<(), AllocError>
     ensures appended { OnOk result (out.new.items ≡ out.old.items ++ points_text grains) }
     ensures unchanged { OnErr result (out.new.items ≡ out.old.items) }
@@ -31,8 +32,8 @@ pub fn print_scale(number: Number, out: &mut Vec<u8>) -> Result<(), AllocError>
     append_decimal(number.billionths(), 9, out)
 }
 
-/// Appends a number as a page specification writes it: in full, but with no `0` before a dot. If memory is refused, nothing
-/// is appended.
+/// Appends a number as a page specification writes it: in full, but with no `0` before a dot. If memory is refused,
+/// nothing is appended.
 pub fn print_number(number: Number, out: &mut Vec<u8>) -> Result<(), AllocError>
     ensures appended { OnOk result (out.new.items ≡ out.old.items ++ number_text number) }
     ensures unchanged { OnErr result (out.new.items ≡ out.old.items) }
@@ -43,7 +44,7 @@ pub fn print_number(number: Number, out: &mut Vec<u8>) -> Result<(), AllocError>
     let whole = size / 1_000_000_000;
     let mut whole_digits = Buffer::new();
     let mut part_digits = Buffer::new();
-    let decimals = decimals(
+    let decimals = decimals_behind_one(
         part_digits
             .format(1_000_000_000 + size % 1_000_000_000)
             .as_bytes(),
@@ -86,7 +87,7 @@ fn decimals_of_part(digits: &mut Buffer, places: u32, part: u64) -> &[u8]
     if part == 0 {
         return &[];
     }
-    decimals(digits.format(10u64.pow(places) + part).as_bytes())
+    decimals_behind_one(digits.format(10u64.pow(places) + part).as_bytes())
 }
 
 /// The digits of a whole part, which is left out if it is 0 and decimals stand behind it.
@@ -103,19 +104,19 @@ fn unless_dot_follows<'a>(whole: u64, digits: &'a [u8], decimals: &[u8]) -> &'a 
 }
 
 /// The decimals of a part that was added to a one, so that no zero at its start is lost. Zeros at its end are.
-fn decimals(one_and_part: &[u8]) -> &[u8]
-    ensures value { result.now ≡ kept (drop 1 one_and_part.now) }
+fn decimals_behind_one(one_and_part: &[u8]) -> &[u8]
+    ensures value { result.now ≡ without_last_zeros (drop 1 one_and_part.now) }
     ensures no_longer { length result.now ≤ length one_and_part.now }
 {
     match one_and_part {
-        [_, part @ ..] => without_last_zeros(part),
+        [_, part @ ..] => strip_zeros(part),
         [] => one_and_part,
     }
 }
 
 /// The digits without the zeros at their end.
-fn without_last_zeros(digits: &[u8]) -> &[u8]
-    ensures value { result.now ≡ kept digits.now }
+fn strip_zeros(digits: &[u8]) -> &[u8]
+    ensures value { result.now ≡ without_last_zeros digits.now }
     ensures no_longer { length result.now ≤ length digits.now }
 {
     let mut rest = digits;

@@ -29,8 +29,8 @@ pub enum NumberError {
 
 /// The longest number that the text begins with, and its length in bytes.
 ///
-/// A number is digits with an optional sign before them and an optional dot among, before or behind them, as in the page
-/// specifications of pstops. Decimals past the ninth are read and have no effect; there is no exponent.
+/// A number is digits with an optional sign before them and an optional dot among, before or behind them, as in the
+/// page specifications of pstops. Decimals past the ninth are read and have no effect; there is no exponent.
 pub fn read_number(bytes: &[u8]) -> Result<(Number, usize), NumberError>
     ensures longest { IsNumberRead bytes.now (outcome_of result) }
 

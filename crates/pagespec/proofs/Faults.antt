@@ -1,4 +1,4 @@
--- The first fault on what the code keeps, against the first fault of the tree.
+-- The first fault on what the code parsed, against the first fault of the tree.
 use Rattle.std.proofs.Common.{◌≡◌, ℕ, List, [], ◌∷◌, Bool, true, false, Option, Some, None, refl, ap, ◌∙◌, suc, ◌+◌, length, cond}
 use Rattle.std.specs.Prelude.{position, ◌||◌, nat_lt, not}
 use Rattle.std.specs.Prelude.{◌==◌, nat_le, map}
@@ -10,10 +10,10 @@ use Rattle.std.specs.Prelude.{option_map}
 use Rattle.std.specs.Option.{option_or}
 use Rattle.profile.specs.Specification.{WrittenItem, WrittenSpec}
 use Rattle.profile.specs.Admissible.{items, has_large, is_flat, Fault, fault_of, else_first, only_if, at_lowest, TooLarge, ModuloZero, PageOutOfBlock, ScaleZero, Repeated, TooManySlots, TooManyGroups, most_slots, most_groups}
-use Rattle.pagespec.specs.Kept.{is_repeated, ItemShows}
-use Rattle.pagespec.specs.Groups.{AreKept}
-use Rattle.pagespec.specs.Faults.{fault_named, first_fault_of, has_too_large, where_fails}
-use Rattle.pagespec.specs.declared.kept.KeptItem.{KeptItem}
+use Rattle.pagespec.specs.Parsed.{is_repeated, ItemShows}
+use Rattle.pagespec.specs.Groups.{AreParsed}
+use Rattle.pagespec.specs.Faults.{fault_named, first_fault_of, has_too_large, fault_if}
+use Rattle.pagespec.specs.declared.parsed.ParsedItem.{ParsedItem}
 use Rattle.pagespec.specs.declared.error.SpecError.{SpecError}
 use Rattle.pagespec.specs.declared.error.SpecError.TheVariants as error
 
@@ -37,8 +37,8 @@ any_zip R p q same [] (y ∷ ys) h = absurd h
 any_zip R p q same (x ∷ xs) [] h = absurd h
 any_zip R p q same (x ∷ xs) (y ∷ ys) h = ap (λ b. b || list_any p xs) (same x y h.0) ∙ ap (λ b. q y || b) (any_zip R p q same xs ys h.1)
 
--- an item whose numbers are all small enough, as it is kept
-pub record Small (l : KeptItem) (i : WrittenItem) : Type 0 where
+-- an item whose numbers are all small enough, as it was parsed
+pub record Small (l : ParsedItem) (i : WrittenItem) : Type 0 where
   pub shows : ItemShows i l
   pub page : l.page ≡ i.page
   pub large : l.modifiers.too_large ≡ false
@@ -56,15 +56,15 @@ pub neither : (a b : Bool) → (a || b) ≡ false → (a ≡ false) × (b ≡ fa
 neither true b e = absurd (cc (e))
 neither false b e = (refl, e)
 
-large_same : (l : KeptItem) (i : WrittenItem) → ItemShows i l → (nat_lt 99_999 l.page || l.modifiers.too_large) ≡ (nat_lt 99_999 i.page || list_any has_large i.modifiers)
+large_same : (l : ParsedItem) (i : WrittenItem) → ItemShows i l → (nat_lt 99_999 l.page || l.modifiers.too_large) ≡ (nat_lt 99_999 i.page || list_any has_large i.modifiers)
 large_same l i s = ap (λ b. b || l.modifiers.too_large) (capped_test l.page i.page s.page) ∙ ap (λ b. nat_lt 99_999 i.page || b) s.modifiers.large
 
-small_item : (l : KeptItem) (i : WrittenItem) → ItemShows i l → (nat_lt 99_999 i.page || list_any has_large i.modifiers) ≡ false → Small l i
+small_item : (l : ParsedItem) (i : WrittenItem) → ItemShows i l → (nat_lt 99_999 i.page || list_any has_large i.modifiers) ≡ false → Small l i
 small_item l i s e =
     let h = neither (nat_lt 99_999 i.page) (list_any has_large i.modifiers) e in
     record { shows = s; page = capped_small l.page i.page s.page h.0; large = s.modifiers.large ∙ h.1 }
 
-pub small_items : (ls : List KeptItem) (is : List WrittenItem) → AllZip (λ l i. ItemShows i l) ls is → list_any (λ i. nat_lt 99_999 i.page || list_any has_large i.modifiers) is ≡ false → AllZip Small ls is
+pub small_items : (ls : List ParsedItem) (is : List WrittenItem) → AllZip (λ l i. ItemShows i l) ls is → list_any (λ i. nat_lt 99_999 i.page || list_any has_large i.modifiers) is ≡ false → AllZip Small ls is
 small_items [] [] h e = tt
 small_items [] (i ∷ is) h e = absurd h
 small_items (l ∷ ls) [] h e = absurd h
@@ -91,16 +91,16 @@ found_same : (m m' : ℕ) (p p' z z' a a' l l' : Option ℕ) (g g' : ℕ) → m 
 found_same m m' p p' z z' a a' l l' g g' em ep ez ea el eg =
     ap (λ x. found x p z a l g) em ∙ (ap (λ x. found m' x z a l g) ep ∙ (ap (λ x. found m' p' x a l g) ez ∙ (ap (λ x. found m' p' z' x l g) ea ∙ (ap (λ x. found m' p' z' a' x g) el ∙ ap (λ x. found m' p' z' a' l' x) eg))))
 
--- the same checks on what is kept
-abbrev kept_fault : ℕ → List KeptItem → List ℕ → Option Fault
-kept_fault modulo ls lengths =
+-- the same checks on what was parsed
+abbrev parsed_fault : ℕ → List ParsedItem → List ℕ → Option Fault
+parsed_fault modulo ls lengths =
     else_first (only_if (has_too_large modulo ls) TooLarge)
     (found modulo (position (λ i. nat_le modulo i.page) ls) (position (λ i. i.modifiers.scale_zero) ls) (position (λ i. i.modifiers.repeated) ls) (position (λ n. nat_lt most_slots n) lengths) (length lengths))
 
--- what the code finds on what it keeps is the first fault of the tree
-kept_is_fault : (tree : WrittenSpec) (modulo : ℕ) (ls : List KeptItem) → AllZip (λ l i. ItemShows i l) ls (items tree) → modulo ≡ min 100_000 tree.modulo
-    → kept_fault modulo ls (map length tree.groups) ≡ fault_of most_slots tree
-kept_is_fault tree modulo ls zip m =
+-- what the code finds on what it parsed is the first fault of the tree
+parsed_is_fault : (tree : WrittenSpec) (modulo : ℕ) (ls : List ParsedItem) → AllZip (λ l i. ItemShows i l) ls (items tree) → modulo ≡ min 100_000 tree.modulo
+    → parsed_fault modulo ls (map length tree.groups) ≡ fault_of most_slots tree
+parsed_is_fault tree modulo ls zip m =
     let first : has_too_large modulo ls ≡ (nat_lt 99_999 tree.modulo || list_any (λ i. nat_lt 99_999 i.page || list_any has_large i.modifiers) (items tree)) =
     ap (λ b. b || list_any (λ i. nat_lt 99_999 i.page || i.modifiers.too_large) ls) (capped_test modulo tree.modulo m)
     ∙ ap (λ b. nat_lt 99_999 tree.modulo || b) (any_zip (λ l i. ItemShows i l) (λ l. nat_lt 99_999 l.page || l.modifiers.too_large) (λ i. nat_lt 99_999 i.page || list_any has_large i.modifiers) large_same ls (items tree) zip) in
@@ -118,7 +118,7 @@ kept_is_fault tree modulo ls zip m =
         let again = position_zip Small (λ l. l.modifiers.repeated) (λ i. is_repeated i.modifiers) (λ l i s. (s.shows.modifiers.known s.large).repeated) ls (items tree) z in
         let long = position_zip (λ n g. n ≡ length g) (λ n. nat_lt most_slots n) (λ g. nat_lt most_slots (length g)) (λ n g e. ap (nat_lt most_slots) e) (map length tree.groups) tree.groups (position-map length (λ n. nat_lt most_slots n) tree.groups) in
         ap (λ r. else_first (only_if (nat_lt 99_999 tree.modulo || list_any (λ i. nat_lt 99_999 i.page || list_any has_large i.modifiers) (items tree)) TooLarge) r)
-        (found_same _ _ _ _ _ _ _ _ _ _ _ _ mm (ap (λ k. position (λ (i : KeptItem). nat_le k i.page) ls) mm ∙ pages) zeros again long (length-map tree.groups length))
+        (found_same _ _ _ _ _ _ _ _ _ _ _ _ mm (ap (λ k. position (λ (i : ParsedItem). nat_le k i.page) ls) mm ∙ pages) zeros again long (length-map tree.groups length))
 
 -- a refusal that names this fault, or neither
 abbrev IsTold : Option SpecError → Option Fault → Type 0
@@ -130,7 +130,7 @@ told_or (Some e) b (Some f) y h g = h
 told_or None b (Some f) y h g = absurd (cc (h))
 told_or (Some e) b None y h g = absurd (cc (h))
 
-told_where : (b : Bool) (e : SpecError) (f : Fault) → fault_named e ≡ Some f → IsTold (where_fails b e) (only_if b f)
+told_where : (b : Bool) (e : SpecError) (f : Fault) → fault_named e ≡ Some f → IsTold (fault_if b e) (only_if b f)
 told_where true e f h = ap (λ x. Some x) h
 told_where false e f h = refl
 
@@ -138,7 +138,7 @@ told_place : (o : Option ℕ) (named : ℕ → SpecError) (fault : ℕ → Fault
 told_place None named fault h = refl
 told_place (Some i) named fault h = ap (λ x. Some x) (h i)
 
-told_first : (modulo : ℕ) (ls : List KeptItem) (lengths : List ℕ) → IsTold (first_fault_of modulo ls lengths) (kept_fault modulo ls lengths)
+told_first : (modulo : ℕ) (ls : List ParsedItem) (lengths : List ℕ) → IsTold (first_fault_of modulo ls lengths) (parsed_fault modulo ls lengths)
 told_first modulo ls lengths =
     told_or _ _ _ _ (told_where (has_too_large modulo ls) error.TooLarge TooLarge refl)
     (told_or _ _ _ _ (told_where (modulo == 0) error.ModuloZero ModuloZero refl)
@@ -149,16 +149,16 @@ told_first modulo ls lengths =
     (told_where (nat_lt most_groups (length lengths)) error.TooManyGroups TooManyGroups refl))))))
 
 -- what the code tells is the first fault of what the text stands for
-pub told_fault : (spec : WrittenSpec) (modulo : ℕ) (ls : List KeptItem) (lengths : List ℕ) → AreKept ls (items spec) → lengths ≡ map length spec.groups → modulo ≡ min 100_000 spec.modulo
+pub told_fault : (spec : WrittenSpec) (modulo : ℕ) (ls : List ParsedItem) (lengths : List ℕ) → AreParsed ls (items spec) → lengths ≡ map length spec.groups → modulo ≡ min 100_000 spec.modulo
     → option_map fault_named (first_fault_of modulo ls lengths) ≡ option_map (λ x. Some x) (fault_of most_slots spec)
 told_fault spec modulo ls lengths zip e m =
-    told_first modulo ls lengths ∙ ap (option_map (λ x. Some x)) (ap (λ n. kept_fault modulo ls n) e ∙ kept_is_fault spec modulo ls zip m)
+    told_first modulo ls lengths ∙ ap (option_map (λ x. Some x)) (ap (λ n. parsed_fault modulo ls n) e ∙ parsed_is_fault spec modulo ls zip m)
 
 large_told : (b : Bool) (later : Option Fault) → b ≡ true → else_first (only_if b TooLarge) later ≡ None → ⊥
 large_told true later h e = cc
 large_told false later h e = cc
 
--- no fault was told: the items are as they are kept, with no number too large
+-- no fault was told: the items are as they were parsed, with no number too large
 pub no_fault : (spec : WrittenSpec) → fault_of most_slots spec ≡ None → (nat_lt 99_999 spec.modulo || list_any (λ i. nat_lt 99_999 i.page || list_any has_large i.modifiers) (items spec)) ≡ false
 no_fault spec e = by_first _ refl
   where

@@ -5,107 +5,107 @@ use Rattle.std.proofs.lemmas.List.{length-append, map-append, nil_from_length}
 use Rattle.profile.specs.Specification.{WrittenItem}
 use Rattle.pagespec.specs.Reading.{byte_at, item_at, group_at, groups_at, bare_at, whole, item_with, is_minus, past_minus, modifiers_at}
 use Rattle.lengths.specs.Reading.{is_empty}
-use Rattle.pagespec.specs.Kept.{ItemShows, ModifiersRead}
-use Rattle.pagespec.specs.Groups.{AreKept, ItemKept, GroupRead, GroupsRead, BareRead, IsStop}
-use Rattle.pagespec.specs.declared.kept.KeptItem.{KeptItem}
-use Rattle.pagespec.specs.declared.kept.Modifiers.{Modifiers}
-use Rattle.pagespec.specs.declared.groups.Kept.{Kept}
+use Rattle.pagespec.specs.Parsed.{ItemShows, ModifiersRead}
+use Rattle.pagespec.specs.Groups.{AreParsed, ItemAppended, GroupRead, GroupsRead, BareRead, IsStop}
+use Rattle.pagespec.specs.declared.parsed.ParsedItem.{ParsedItem}
+use Rattle.pagespec.specs.declared.parsed.Modifiers.{Modifiers}
+use Rattle.pagespec.specs.declared.groups.ParsedGroups.{ParsedGroups}
 use Rattle.pagespec.specs.declared.groups.Stop.{Stop}
 use Rattle.pagespec.specs.declared.groups.Stop.TheVariants.{Stuck, NoMemory}
 use Rattle.lengths.proofs.Numbers.{same_byte}
 use Rattle.pagespec.proofs.JoinedLoop.{ReadsParts, parts_first, parts_more, parts_last, parts_stuck, parts_out, zip_append, zip_one}
 
-abbrev IsKept : KeptItem → WrittenItem → Type 0
-IsKept k i = ItemShows i k
+abbrev IsParsed : ParsedItem → WrittenItem → Type 0
+IsParsed k i = ItemShows i k
 
--- so far these items of the group were kept
-pub record KeepsOn (fuel : ℕ) (bytes rest : List ℕ) (old new : List KeptItem) (count : ℕ) : Type 0 where
+-- so far these items of the group were parsed
+pub record KeepsOn (fuel : ℕ) (bytes rest : List ℕ) (old new : List ParsedItem) (count : ℕ) : Type 0 where
   pub front : List WrittenItem
-  pub kept : List KeptItem
+  pub parsed : List ParsedItem
   pub reads : ReadsParts 43 item_at fuel bytes rest front
-  pub added : new ≡ old ++ kept
-  pub shows : AreKept kept front
+  pub added : new ≡ old ++ parsed
+  pub shows : AreParsed parsed front
   pub counted : count ≡ length front
 
-pub keeps_first : (n : ℕ) (bytes : List ℕ) (old : List KeptItem) → n ≡ suc (length bytes) → KeepsOn n bytes bytes old old 0
+pub keeps_first : (n : ℕ) (bytes : List ℕ) (old : List ParsedItem) → n ≡ suc (length bytes) → KeepsOn n bytes bytes old old 0
 keeps_first n bytes old e =
-    record { front = []; kept = []; reads = parts_first 43 item_at n bytes e; added = sym (append-nil old); shows = tt; counted = refl }
+    record { front = []; parsed = []; reads = parts_first 43 item_at n bytes e; added = sym (append-nil old); shows = tt; counted = refl }
 
 length-one : {X : Type 0} (xs : List X) (x : X) (n : ℕ) → n ≡ length xs → n + 1 ≡ length (xs ++ x ∷ [])
 length-one xs x n e = omega (arith, e, length-append xs (x ∷ []))
 
-pub keeps_more : (k n count : ℕ) (bytes rest behind next : List ℕ) (old new newer : List KeptItem) → n ≡ suc k → KeepsOn n bytes rest old new count → ItemKept rest new newer behind
+pub keeps_more : (k n count : ℕ) (bytes rest behind next : List ℕ) (old new newer : List ParsedItem) → n ≡ suc k → KeepsOn n bytes rest old new count → ItemAppended rest new newer behind
     → byte_at 43 behind ≡ Some next → KeepsOn k bytes next old newer (count + 1)
 keeps_more k n count bytes rest behind next old new newer is on item b = record {
   front = on.front ++ item.item ∷ [];
-  kept = on.kept ++ item.kept ∷ [];
+  parsed = on.parsed ++ item.parsed ∷ [];
   reads = parts_more 43 item_at k n bytes rest behind next on.front item.item is item.found b on.reads;
-  added = item.added ∙ (ap (λ xs. xs ++ item.kept ∷ []) on.added ∙ append_assoc old on.kept (item.kept ∷ []));
-  shows = zip_append IsKept on.kept (item.kept ∷ []) on.front (item.item ∷ []) on.shows (zip_one IsKept item.kept item.item item.shows);
+  added = item.added ∙ (ap (λ xs. xs ++ item.parsed ∷ []) on.added ∙ append_assoc old on.parsed (item.parsed ∷ []));
+  shows = zip_append IsParsed on.parsed (item.parsed ∷ []) on.front (item.item ∷ []) on.shows (zip_one IsParsed item.parsed item.item item.shows);
   counted = length-one on.front item.item count on.counted;
 }
 
-pub keeps_last : (k n count : ℕ) (bytes rest behind : List ℕ) (old new newer : List KeptItem) → n ≡ suc k → KeepsOn n bytes rest old new count → ItemKept rest new newer behind
+pub keeps_last : (k n count : ℕ) (bytes rest behind : List ℕ) (old new newer : List ParsedItem) → n ≡ suc k → KeepsOn n bytes rest old new count → ItemAppended rest new newer behind
     → byte_at 43 behind ≡ None → GroupRead bytes old newer (count + 1) behind
 keeps_last k n count bytes rest behind old new newer is on item b = record {
   group = on.front ++ item.item ∷ [];
-  kept = on.kept ++ item.kept ∷ [];
+  parsed = on.parsed ++ item.parsed ∷ [];
   found = parts_last 43 item_at k n bytes rest behind on.front item.item is item.found b on.reads;
-  added = item.added ∙ (ap (λ xs. xs ++ item.kept ∷ []) on.added ∙ append_assoc old on.kept (item.kept ∷ []));
-  shows = zip_append IsKept on.kept (item.kept ∷ []) on.front (item.item ∷ []) on.shows (zip_one IsKept item.kept item.item item.shows);
+  added = item.added ∙ (ap (λ xs. xs ++ item.parsed ∷ []) on.added ∙ append_assoc old on.parsed (item.parsed ∷ []));
+  shows = zip_append IsParsed on.parsed (item.parsed ∷ []) on.front (item.item ∷ []) on.shows (zip_one IsParsed item.parsed item.item item.shows);
   counted = length-one on.front item.item count on.counted;
 }
 
-pub keeps_stuck : (n count : ℕ) (bytes rest : List ℕ) (old new : List KeptItem) → KeepsOn n bytes rest old new count → item_at rest ≡ None → group_at bytes ≡ None
+pub keeps_stuck : (n count : ℕ) (bytes rest : List ℕ) (old new : List ParsedItem) → KeepsOn n bytes rest old new count → item_at rest ≡ None → group_at bytes ≡ None
 keeps_stuck n count bytes rest old new on e = parts_stuck 43 item_at n bytes rest on.front e on.reads
 
-pub keeps_out : (n count : ℕ) (bytes rest : List ℕ) (old new : List KeptItem) → n ≡ 0 → KeepsOn n bytes rest old new count → group_at bytes ≡ None
+pub keeps_out : (n count : ℕ) (bytes rest : List ℕ) (old new : List ParsedItem) → n ≡ 0 → KeepsOn n bytes rest old new count → group_at bytes ≡ None
 keeps_out n count bytes rest old new is on = parts_out 43 item_at n bytes rest on.front is on.reads
 
--- so far these groups were kept
-pub record GroupsOn (fuel : ℕ) (bytes rest : List ℕ) (items : List KeptItem) (lengths : List ℕ) : Type 0 where
+-- so far these groups were parsed
+pub record GroupsOn (fuel : ℕ) (bytes rest : List ℕ) (items : List ParsedItem) (lengths : List ℕ) : Type 0 where
   pub front : List (List WrittenItem)
   pub reads : ReadsParts 44 group_at fuel bytes rest front
-  pub shows : AreKept items (flat_map (λ g. g) front)
+  pub shows : AreParsed items (flat_map (λ g. g) front)
   pub counted : lengths ≡ map length front
 
 items-one : (gs : List (List WrittenItem)) (g : List WrittenItem) → flat_map (λ x. x) (gs ++ g ∷ []) ≡ flat_map (λ x. x) gs ++ g
 items-one [] g = append-nil g
 items-one (h ∷ gs) g = ap (λ xs. h ++ xs) (items-one gs g) ∙ sym (append_assoc h (flat_map (λ x. x) gs) g)
 
-items_kept : (items newer kept : List KeptItem) (front : List (List WrittenItem)) (group : List WrittenItem) → AreKept items (flat_map (λ g. g) front) → newer ≡ items ++ kept → AreKept kept group
-    → AreKept newer (flat_map (λ g. g) (front ++ group ∷ []))
-items_kept items newer kept front group shows added more =
-    subst (λ is. AreKept newer is) (sym (items-one front group))
-    (subst (λ ks. AreKept ks (flat_map (λ g. g) front ++ group)) (sym added) (zip_append IsKept items kept (flat_map (λ g. g) front) group shows more))
+items_parsed : (items newer parsed : List ParsedItem) (front : List (List WrittenItem)) (group : List WrittenItem) → AreParsed items (flat_map (λ g. g) front) → newer ≡ items ++ parsed → AreParsed parsed group
+    → AreParsed newer (flat_map (λ g. g) (front ++ group ∷ []))
+items_parsed items newer parsed front group shows added more =
+    subst (λ is. AreParsed newer is) (sym (items-one front group))
+    (subst (λ ks. AreParsed ks (flat_map (λ g. g) front ++ group)) (sym added) (zip_append IsParsed items parsed (flat_map (λ g. g) front) group shows more))
 
-lengths_kept : (lengths : List ℕ) (count : ℕ) (front : List (List WrittenItem)) (group : List WrittenItem) → lengths ≡ map length front → count ≡ length group → lengths ++ count ∷ [] ≡ map length (front ++ group ∷ [])
-lengths_kept lengths count front group e n = ap (λ ns. ns ++ count ∷ []) e ∙ (ap (λ x. map length front ++ x ∷ []) n ∙ sym (map-append length front (group ∷ [])))
+lengths_parsed : (lengths : List ℕ) (count : ℕ) (front : List (List WrittenItem)) (group : List WrittenItem) → lengths ≡ map length front → count ≡ length group → lengths ++ count ∷ [] ≡ map length (front ++ group ∷ [])
+lengths_parsed lengths count front group e n = ap (λ ns. ns ++ count ∷ []) e ∙ (ap (λ x. map length front ++ x ∷ []) n ∙ sym (map-append length front (group ∷ [])))
 
-pub groups_more : (k n count : ℕ) (bytes rest behind next : List ℕ) (items newer : List KeptItem) (lengths more : List ℕ) → n ≡ suc k → GroupsOn n bytes rest items lengths
+pub groups_more : (k n count : ℕ) (bytes rest behind next : List ℕ) (items newer : List ParsedItem) (lengths more : List ℕ) → n ≡ suc k → GroupsOn n bytes rest items lengths
     → GroupRead rest items newer count behind → more ≡ lengths ++ count ∷ [] → byte_at 44 behind ≡ Some next → GroupsOn k bytes next newer more
 groups_more k n count bytes rest behind next items newer lengths more is on group e b = record {
   front = on.front ++ group.group ∷ [];
   reads = parts_more 44 group_at k n bytes rest behind next on.front group.group is group.found b on.reads;
-  shows = items_kept items newer group.kept on.front group.group on.shows group.added group.shows;
-  counted = e ∙ lengths_kept lengths count on.front group.group on.counted group.counted;
+  shows = items_parsed items newer group.parsed on.front group.group on.shows group.added group.shows;
+  counted = e ∙ lengths_parsed lengths count on.front group.group on.counted group.counted;
 }
 
-pub groups_last : (k n count : ℕ) (bytes rest behind : List ℕ) (items : List KeptItem) (lengths : List ℕ) (kept : Kept) → n ≡ suc k → GroupsOn n bytes rest items lengths
-    → GroupRead rest items kept.items.items count behind → kept.lengths.items ≡ lengths ++ count ∷ [] → byte_at 44 behind ≡ None → GroupsRead bytes kept behind
-groups_last k n count bytes rest behind items lengths kept is on group e b = (
+pub groups_last : (k n count : ℕ) (bytes rest behind : List ℕ) (items : List ParsedItem) (lengths : List ℕ) (parsed : ParsedGroups) → n ≡ suc k → GroupsOn n bytes rest items lengths
+    → GroupRead rest items parsed.items.items count behind → parsed.lengths.items ≡ lengths ++ count ∷ [] → byte_at 44 behind ≡ None → GroupsRead bytes parsed behind
+groups_last k n count bytes rest behind items lengths parsed is on group e b = (
   on.front ++ group.group ∷ [],
   parts_last 44 group_at k n bytes rest behind on.front group.group is group.found b on.reads,
   record {
-    items = items_kept items kept.items.items group.kept on.front group.group on.shows group.added group.shows;
-    lengths = e ∙ lengths_kept lengths count on.front group.group on.counted group.counted;
+    items = items_parsed items parsed.items.items group.parsed on.front group.group on.shows group.added group.shows;
+    lengths = e ∙ lengths_parsed lengths count on.front group.group on.counted group.counted;
   },
 )
 
-pub groups_stuck : (n : ℕ) (bytes rest : List ℕ) (items : List KeptItem) (lengths : List ℕ) → GroupsOn n bytes rest items lengths → group_at rest ≡ None → groups_at bytes ≡ None
+pub groups_stuck : (n : ℕ) (bytes rest : List ℕ) (items : List ParsedItem) (lengths : List ℕ) → GroupsOn n bytes rest items lengths → group_at rest ≡ None → groups_at bytes ≡ None
 groups_stuck n bytes rest items lengths on e = parts_stuck 44 group_at n bytes rest on.front e on.reads
 
-pub groups_out : (n : ℕ) (bytes rest : List ℕ) (items : List KeptItem) (lengths : List ℕ) → n ≡ 0 → GroupsOn n bytes rest items lengths → groups_at bytes ≡ None
+pub groups_out : (n : ℕ) (bytes rest : List ℕ) (items : List ParsedItem) (lengths : List ℕ) → n ≡ 0 → GroupsOn n bytes rest items lengths → groups_at bytes ≡ None
 groups_out n bytes rest items lengths is on = parts_out 44 group_at n bytes rest on.front is on.reads
 
 -- the item that leaves its page number out
@@ -113,24 +113,24 @@ is_some_text : {A : Type 0} (t : List ℕ) (o : Option A) → t ≢ [] → (if i
 is_some_text [] o n = absurd (n refl)
 is_some_text (b ∷ t) o n = refl
 
-bare_is : (t body rest : List ℕ) (kept : Modifiers) → body ≡ past_minus t → t ≢ [] → (read : ModifiersRead body kept rest) → bare_at t ≡ whole (item_with (is_minus t) 0 (read.0, rest))
+bare_is : (t body rest : List ℕ) (parsed : Modifiers) → body ≡ past_minus t → t ≢ [] → (read : ModifiersRead body parsed rest) → bare_at t ≡ whole (item_with (is_minus t) 0 (read.0, rest))
 unfolding bare_at
-bare_is t body rest kept b some (ms, found, shows) =
+bare_is t body rest parsed b some (ms, found, shows) =
     is_some_text t _ some ∙ (ap (λ x. whole (item_with (is_minus t) 0 (modifiers_at (length x) x))) (sym b) ∙ ap (λ x. whole (item_with (is_minus t) 0 x)) found)
 
 pub bare_empty : (t : List ℕ) → t ≡ [] → bare_at t ≡ None
 unfolding bare_at
 bare_empty t e = ap bare_at e
 
-pub bare_stuck : (t body rest : List ℕ) (kept : Modifiers) → body ≡ past_minus t → t ≢ [] → ModifiersRead body kept rest → rest ≢ [] → bare_at t ≡ None
-bare_stuck t body [] kept b some read more = absurd (more refl)
-bare_stuck t body (x ∷ rest) kept b some read more = bare_is t body (x ∷ rest) kept b some read
+pub bare_stuck : (t body rest : List ℕ) (parsed : Modifiers) → body ≡ past_minus t → t ≢ [] → ModifiersRead body parsed rest → rest ≢ [] → bare_at t ≡ None
+bare_stuck t body [] parsed b some read more = absurd (more refl)
+bare_stuck t body (x ∷ rest) parsed b some read more = bare_is t body (x ∷ rest) parsed b some read
 
-pub bare_there : (t body rest : List ℕ) (from_end : Bool) (kept : Modifiers) → from_end ≡ is_minus t → body ≡ past_minus t → t ≢ [] → ModifiersRead body kept rest → rest ≡ []
-    → BareRead t (record { from_end = from_end; page = 0; modifiers = kept })
-bare_there t body rest from_end kept m b some (ms, found, shows) e = (
+pub bare_there : (t body rest : List ℕ) (from_end : Bool) (parsed : Modifiers) → from_end ≡ is_minus t → body ≡ past_minus t → t ≢ [] → ModifiersRead body parsed rest → rest ≡ []
+    → BareRead t (record { from_end = from_end; page = 0; modifiers = parsed })
+bare_there t body rest from_end parsed m b some (ms, found, shows) e = (
   record { from_end = is_minus t; page = 0; modifiers = ms },
-  bare_is t body rest kept b some (ms, found, shows) ∙ ap (λ r. whole (item_with (is_minus t) 0 (ms, r))) e,
+  bare_is t body rest parsed b some (ms, found, shows) ∙ ap (λ r. whole (item_with (is_minus t) 0 (ms, r))) e,
   record { end = m; page = refl; modifiers = shows },
 )
 

@@ -7,11 +7,12 @@ pub mod Texts
 pub mod Scans
 pub mod OneMoreModifier
 pub mod ModifierLoop
-pub mod KeptItems
+pub mod ParsedItems
 pub mod JoinedLoop
 pub mod GroupLoops
 pub mod AllGroups
 pub mod Faults
+pub mod FirstFault
 pub mod Modulos
 pub mod Settling
 pub mod NumberLengths

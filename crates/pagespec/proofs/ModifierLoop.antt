@@ -4,8 +4,8 @@ use Rattle.std.proofs.lemmas.List.{append-nil}
 use Rattle.profile.specs.Specification.{Modifier}
 use Rattle.pagespec.specs.Reading.{modifier_at, modifiers_at, with_modifier}
 use Rattle.pagespec.specs.Views.{Stands, ModifierRead}
-use Rattle.pagespec.specs.Kept.{Shows, ModifiersRead}
-use Rattle.pagespec.specs.declared.kept.Modifiers.{Modifiers}
+use Rattle.pagespec.specs.Parsed.{Shows, ModifiersRead}
+use Rattle.pagespec.specs.declared.parsed.Modifiers.{Modifiers}
 use Rattle.pagespec.specs.declared.scan.Modifier.{Modifier as Part}
 
 -- modifiers read before, and those behind them

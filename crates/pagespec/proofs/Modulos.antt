@@ -3,29 +3,29 @@ use Rattle.std.proofs.Common.{◌≡◌, ℕ, List, Option, Some, None, refl, sy
 use Rattle.profile.specs.Numbers.{number_of}
 use Rattle.lengths.specs.Reading.{digits}
 use Rattle.pagespec.specs.Reading.{◌>>=◌, all_groups_at, past_modulo, tree_from, tree_of, spec_at}
-use Rattle.pagespec.specs.Groups.{IsStop, KeptShows}
+use Rattle.pagespec.specs.Groups.{IsStop, ParsesTo}
 use Rattle.pagespec.specs.Written.{ModuloRead, WrittenRead}
-use Rattle.pagespec.specs.declared.groups.Kept.{Kept}
+use Rattle.pagespec.specs.declared.groups.ParsedGroups.{ParsedGroups}
 use Rattle.pagespec.specs.declared.groups.Stop.{Stop}
 use Rattle.pagespec.specs.declared.groups.Stop.TheVariants.{Stuck, NoMemory}
 
-from_kept : (t : List ℕ) (o : Option (List ℕ)) (modulo : ℕ) (rest : List ℕ) (kept : Kept) → past_modulo t ≡ o → ModuloRead t o modulo rest → KeptShows (all_groups_at rest) kept → WrittenRead t modulo kept
+from_parsed : (t : List ℕ) (o : Option (List ℕ)) (modulo : ℕ) (rest : List ℕ) (parsed : ParsedGroups) → past_modulo t ≡ o → ModuloRead t o modulo rest → ParsesTo (all_groups_at rest) parsed → WrittenRead t modulo parsed
 unfolding spec_at
-from_kept t None modulo rest kept p read (gs, found, are) = record {
+from_parsed t None modulo rest parsed p read (gs, found, are) = record {
   spec = record { modulo = 1; groups = gs };
   found = ap (tree_from t) p ∙ (ap (λ x. all_groups_at x >>= tree_of 1) (sym read.1) ∙ ap (λ o. o >>= tree_of 1) found);
   modulo_is = read.0;
   groups = are;
 }
-from_kept t (Some behind) modulo rest kept p read (gs, found, are) = record {
+from_parsed t (Some behind) modulo rest parsed p read (gs, found, are) = record {
   spec = record { modulo = number_of (digits t); groups = gs };
   found = ap (tree_from t) p ∙ (ap (λ x. all_groups_at x >>= tree_of (number_of (digits t))) (sym read.1) ∙ ap (λ o. o >>= tree_of (number_of (digits t))) found);
   modulo_is = read.0;
   groups = are;
 }
 
-pub written_kept : (t : List ℕ) (modulo : ℕ) (rest : List ℕ) (kept : Kept) → ModuloRead t (past_modulo t) modulo rest → KeptShows (all_groups_at rest) kept → WrittenRead t modulo kept
-written_kept t modulo rest kept read shows = from_kept t (past_modulo t) modulo rest kept refl read shows
+pub written_parsed : (t : List ℕ) (modulo : ℕ) (rest : List ℕ) (parsed : ParsedGroups) → ModuloRead t (past_modulo t) modulo rest → ParsesTo (all_groups_at rest) parsed → WrittenRead t modulo parsed
+written_parsed t modulo rest parsed read shows = from_parsed t (past_modulo t) modulo rest parsed refl read shows
 
 from_stuck : (t : List ℕ) (o : Option (List ℕ)) (modulo : ℕ) (rest : List ℕ) → past_modulo t ≡ o → ModuloRead t o modulo rest → all_groups_at rest ≡ None → spec_at t ≡ None
 unfolding spec_at

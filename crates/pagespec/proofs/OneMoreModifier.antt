@@ -10,9 +10,9 @@ use Rattle.profile.specs.Specification.{Measure, Modifier, Quarters, Scaled, Mov
 use Rattle.profile.specs.Admissible.{has_large, is_scale, is_offset, is_flat}
 use Rattle.pagespec.specs.Items.{measure_of}
 use Rattle.pagespec.specs.Views.{Stands}
-use Rattle.pagespec.specs.Kept.{Shows, first_scale, first_offset, is_repeated}
-use Rattle.pagespec.specs.declared.item.Measure.{Measure as KeptMeasure}
-use Rattle.pagespec.specs.declared.kept.Modifiers.{Modifiers}
+use Rattle.pagespec.specs.Parsed.{Shows, first_scale, first_offset, is_repeated}
+use Rattle.pagespec.specs.declared.item.Measure.{Measure as ParsedMeasure}
+use Rattle.pagespec.specs.declared.parsed.Modifiers.{Modifiers}
 use Rattle.pagespec.specs.declared.scan.Modifier.{Modifier as Part}
 use Rattle.pagespec.specs.declared.scan.Modifier.TheVariants.{Turn, Scale, Offset, TooLarge}
 
@@ -173,10 +173,10 @@ shows_scale ms s v first low again h small first_is low_is again_is = record {
   };
 }
 
-abbrev both : KeptMeasure × KeptMeasure → Measure × Measure
+abbrev both : ParsedMeasure × ParsedMeasure → Measure × Measure
 both m = (measure_of m.0, measure_of m.1)
 
-pub shows_move : (ms : List Modifier) (s : Modifiers) (x y : KeptMeasure) (first : Option (KeptMeasure × KeptMeasure)) (again : Bool) → Shows ms s → has_large (Moved (measure_of x) (measure_of y)) ≡ false
+pub shows_move : (ms : List Modifier) (s : Modifiers) (x y : ParsedMeasure) (first : Option (ParsedMeasure × ParsedMeasure)) (again : Bool) → Shows ms s → has_large (Moved (measure_of x) (measure_of y)) ≡ false
     → first ≡ option_or s.offset (Some (x, y)) → again ≡ (s.repeated || is_some s.offset)
     → Shows (ms ++ Moved (measure_of x) (measure_of y) ∷ []) (record s { offset = first; repeated = again })
 shows_move ms s x y first again h small first_is again_is = record {
@@ -216,7 +216,7 @@ turn_stands p n m e h = subst (λ q. Stands q m) e h
 pub scale_stands : (p : Part) (v : ℤ) (m : Modifier) → p ≡ Scale v → Stands p m → (m ≡ Scaled v) × (has_large (Scaled v) ≡ false)
 scale_stands p v m e h = let k = subst (λ q. Stands q m) e h in (k.0, subst (λ x. has_large x ≡ false) k.0 k.1)
 
-pub move_stands : (p : Part) (x y : KeptMeasure) (m : Modifier) → p ≡ Offset x y → Stands p m
+pub move_stands : (p : Part) (x y : ParsedMeasure) (m : Modifier) → p ≡ Offset x y → Stands p m
     → (m ≡ Moved (measure_of x) (measure_of y)) × (has_large (Moved (measure_of x) (measure_of y)) ≡ false)
 move_stands p x y m e h = let k = subst (λ q. Stands q m) e h in (k.0, subst (λ z. has_large z ≡ false) k.0 k.1)
 

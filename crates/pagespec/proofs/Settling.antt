@@ -1,4 +1,4 @@
--- What the kept items come to, against what the written ones do.
+-- What the parsed items come to, against what the written ones do.
 use Rattle.std.proofs.Common.{arith, ◌≡◌, ◌%◌, ℕ, List, [], ◌∷◌, ◌++◌, Bool, Option, Some, None, refl, sym, ap, subst, ◌∙◌, length, take, drop}
 use Rattle.std.specs.Prelude.{map, flat_map, unwrap_or, option_map, pos, ℤ}
 use Rattle.std.specs.List.{AllZip}
@@ -6,10 +6,10 @@ use Rattle.std.proofs.lemmas.List.{length-append, length-map, length-drop, map-a
 use Rattle.std.proofs.lemmas.Slice.Zip.{AllZip-long}
 use Rattle.profile.specs.Specification.{Measure, Modifier, Quarters, Scaled, Moved, Turn, WrittenItem, Item, settled_item, quarters, turn_of, scale, offset_x, offset_y, zero_points}
 use Rattle.pagespec.specs.Items.{measure_of}
-use Rattle.pagespec.specs.Kept.{Known, first_scale, first_offset}
-use Rattle.pagespec.specs.Settled.{settled_kept, offset_kept, split_by, AreLengths}
-use Rattle.pagespec.specs.declared.item.Measure.{Measure as KeptMeasure}
-use Rattle.pagespec.specs.declared.kept.KeptItem.{KeptItem}
+use Rattle.pagespec.specs.Parsed.{Known, first_scale, first_offset}
+use Rattle.pagespec.specs.Settled.{item_of_parsed, offset_of_parsed, split_by, AreLengths}
+use Rattle.pagespec.specs.declared.item.Measure.{Measure as ParsedMeasure}
+use Rattle.pagespec.specs.declared.parsed.ParsedItem.{ParsedItem}
 use Rattle.pagespec.proofs.Faults.{Small}
 
 first_scale_is : (ms : List Modifier) → unwrap_or (first_scale ms) (pos 1_000_000_000) ≡ scale ms
@@ -28,7 +28,7 @@ first_offset_is (Quarters n ∷ ms) = first_offset_is ms
 first_offset_is (Scaled v ∷ ms) = first_offset_is ms
 first_offset_is (Moved x y ∷ ms) = refl
 
-offset_kept_is : (o : Option (KeptMeasure × KeptMeasure)) → offset_kept o ≡ or_nothing (option_map (λ m. (measure_of m.0, measure_of m.1)) o)
+offset_kept_is : (o : Option (ParsedMeasure × ParsedMeasure)) → offset_of_parsed o ≡ or_nothing (option_map (λ m. (measure_of m.0, measure_of m.1)) o)
 offset_kept_is None = refl
 offset_kept_is (Some m) = refl
 
@@ -44,21 +44,21 @@ item page from_end turn scale x y = record { page = page; from_end = from_end; t
 pub same_item : (p p' : ℕ) (b b' : Bool) (t t' : Turn) (s s' : ℤ) (x x' y y' : Measure) → p ≡ p' → b ≡ b' → t ≡ t' → s ≡ s' → x ≡ x' → y ≡ y' → item p b t s x y ≡ item p' b' t' s' x' y'
 same_item p p' b b' t t' s s' x x' y y' ep eb et es ex ey = rw ep (rw eb (rw et (rw es (rw ex (rw ey refl)))))
 
--- what is kept of an item with small numbers comes to the item's own
-pub small_settles : (k : KeptItem) (i : WrittenItem) → Small k i → settled_kept k ≡ settled_item i
+-- what is parsed of an item with small numbers comes to the item's own
+pub small_settles : (k : ParsedItem) (i : WrittenItem) → Small k i → item_of_parsed k ≡ settled_item i
 small_settles k i s =
     let known : Known i.modifiers k.modifiers = s.shows.modifiers.known s.large in
-    let both : offset_kept k.modifiers.offset ≡ (offset_x i.modifiers, offset_y i.modifiers) =
+    let both : offset_of_parsed k.modifiers.offset ≡ (offset_x i.modifiers, offset_y i.modifiers) =
     offset_kept_is k.modifiers.offset ∙ (ap or_nothing known.offset ∙ first_offset_is i.modifiers) in
     let scale_is : unwrap_or k.modifiers.scale (pos 1_000_000_000) ≡ scale i.modifiers =
     ap (λ o. unwrap_or o (pos 1_000_000_000)) known.scale ∙ first_scale_is i.modifiers in
     same_item _ _ _ _ _ _ _ _ _ _ _ _ s.page s.shows.end (turn_is k.modifiers.quarters (quarters i.modifiers) s.shows.modifiers.turn) scale_is (ap (λ p. p.0) both) (ap (λ p. p.1) both)
 
-pub settles : (ks : List KeptItem) (is : List WrittenItem) → AllZip Small ks is → map settled_kept ks ≡ map settled_item is
+pub settles : (ks : List ParsedItem) (is : List WrittenItem) → AllZip Small ks is → map item_of_parsed ks ≡ map settled_item is
 settles [] [] h = refl
 settles [] (i ∷ is) h = absurd h
 settles (k ∷ ks) [] h = absurd h
-settles (k ∷ ks) (i ∷ is) h = ap (λ x. x ∷ map settled_kept ks) (small_settles k i h.0) ∙ ap (λ xs. settled_item i ∷ xs) (settles ks is h.1)
+settles (k ∷ ks) (i ∷ is) h = ap (λ x. x ∷ map item_of_parsed ks) (small_settles k i h.0) ∙ ap (λ xs. settled_item i ∷ xs) (settles ks is h.1)
 
 take_front : {X : Type 0} (xs ys : List X) → take (length xs) (xs ++ ys) ≡ xs
 take_front [] ys = refl
@@ -88,11 +88,11 @@ map_lengths : {X Y : Type 0} (f : X → Y) (gs : List (List X)) → map length g
 map_lengths f [] = refl
 map_lengths f (g ∷ gs) = ap (λ n. n ∷ map length gs) (sym (length-map g f)) ∙ ap (λ ns. length (map f g) ∷ ns) (map_lengths f gs)
 
--- groups of kept items, had back by their lengths, come to the groups' own
-pub groups_settle : (ks : List KeptItem) (gs : List (List WrittenItem)) (lengths : List ℕ) → AllZip Small ks (flat_map (λ g. g) gs) → lengths ≡ map length gs
-    → split_by lengths (map settled_kept ks) ≡ map (λ g. map settled_item g) gs
+-- groups of parsed items, had back by their lengths, come to the groups' own
+pub groups_settle : (ks : List ParsedItem) (gs : List (List WrittenItem)) (lengths : List ℕ) → AllZip Small ks (flat_map (λ g. g) gs) → lengths ≡ map length gs
+    → split_by lengths (map item_of_parsed ks) ≡ map (λ g. map settled_item g) gs
 groups_settle ks gs lengths zip e =
-    ap (λ ns. split_by ns (map settled_kept ks)) (e ∙ map_lengths settled_item gs)
+    ap (λ ns. split_by ns (map item_of_parsed ks)) (e ∙ map_lengths settled_item gs)
     ∙ (ap (split_by (map length (map (λ g. map settled_item g) gs))) (settles ks (flat_map (λ g. g) gs) zip ∙ map_row settled_item gs)
     ∙ split_groups (map (λ g. map settled_item g) gs))
 
@@ -100,12 +100,12 @@ lengths_same : {X Y : Type 0} (ns : List ℕ) (xs : List X) (ys : List Y) → le
 lengths_same [] xs ys e h = tt
 lengths_same (n ∷ ns) xs ys e h = (omega (arith, e, h.0), lengths_same ns (drop n xs) (drop n ys) (omega (arith, e, length-drop n xs, length-drop n ys)) h.1)
 
--- the lengths of the groups fit the kept items
-pub kept_fit : {X Y : Type 0} (R : X → Y → Type 0) (xs : List X) (gs : List (List Y)) (lengths : List ℕ) → AllZip R xs (flat_map (λ g. g) gs) → lengths ≡ map length gs → AreLengths lengths xs
-kept_fit R xs gs lengths zip e =
+-- the lengths of the groups fit the parsed items
+pub parsed_fit : {X Y : Type 0} (R : X → Y → Type 0) (xs : List X) (gs : List (List Y)) (lengths : List ℕ) → AllZip R xs (flat_map (λ g. g) gs) → lengths ≡ map length gs → AreLengths lengths xs
+parsed_fit R xs gs lengths zip e =
     subst (λ ns. AreLengths ns xs) (sym e) (lengths_same (map length gs) xs (flat_map (λ g. g) gs) (sym (AllZip-long R xs (flat_map (λ g. g) gs) zip)) (lengths_fit gs))
 
 -- the loop over groups: these came of it, and what is left is split further
-pub record SettlesOn (all left : List ℕ) (kept rest : List KeptItem) (groups : List (List Item)) : Type 0 where
-  pub done : groups ++ split_by left (map settled_kept rest) ≡ split_by all (map settled_kept kept)
+pub record SettlesOn (all left : List ℕ) (parsed rest : List ParsedItem) (groups : List (List Item)) : Type 0 where
+  pub done : groups ++ split_by left (map item_of_parsed rest) ≡ split_by all (map item_of_parsed parsed)
   pub fits : AreLengths left rest

@@ -16,8 +16,8 @@ LeavesPageOut text =
     ⊎ ((digits rest : List ℕ) × (modulo : ℕ) × (text ≡ digits ++ colon ∷ rest)
     × IsDigits digits modulo × IsBareItem rest item))
 
--- the canonical text of what a text comes to is longer than it by one byte at most, and only if the text leaves its page number
--- out: a law
+-- the canonical text of what a text comes to is longer than it by one byte at most, and only if the text leaves its
+-- page number out: a law
 abbrev pub CanonicalIsShort : Type 0
 CanonicalIsShort =
     (text : List ℕ) (spec : Spec) → Takes most_slots text spec

@@ -1,4 +1,4 @@
--- The first fault, on what is kept of the items.
+-- The first fault, on the items as they were parsed.
 use Rattle.std.specs.Prelude.{ℕ, Bool, ◌==◌, ◌||◌, nat_lt, nat_le, if◌then◌else◌, List, length, position, Option, Some}
 use Rattle.std.specs.Prelude.{None, option_map}
 use Rattle.std.specs.List.{list_any}
@@ -9,7 +9,7 @@ use Rattle.pagespec.specs.declared.error.SpecError.{SpecError}
 use Rattle.pagespec.specs.declared.error.SpecError.TheVariants.{TooLong, Syntax, TooLarge, ModuloZero, PageOutOfBlock}
 use Rattle.pagespec.specs.declared.error.SpecError.TheVariants.{ScaleZero, Repeated, TooManySlots, TooManyGroups}
 use Rattle.pagespec.specs.declared.error.SpecError.TheVariants.{NoMemory}
-use Rattle.pagespec.specs.declared.kept.KeptItem.{KeptItem}
+use Rattle.pagespec.specs.declared.parsed.ParsedItem.{ParsedItem}
 
 -- the fault that a refusal names, but for out of memory
 abbrev pub fault_named : SpecError → Option profile.Fault
@@ -24,19 +24,19 @@ fault_named (TooManySlots group) = Some (profile.TooManySlots group)
 fault_named TooManyGroups = Some profile.TooManyGroups
 fault_named NoMemory = None
 
-abbrev pub has_too_large : ℕ → List KeptItem → Bool
+abbrev pub has_too_large : ℕ → List ParsedItem → Bool
 has_too_large modulo items =
     nat_lt greatest_whole modulo || list_any (λ i. nat_lt greatest_whole i.page || i.modifiers.too_large) items
 
-abbrev pub where_fails : Bool → SpecError → Option SpecError
-where_fails fails fault = if fails then Some fault else None
+abbrev pub fault_if : Bool → SpecError → Option SpecError
+fault_if fails fault = if fails then Some fault else None
 
-abbrev pub first_fault_of : (modulo : ℕ) → List KeptItem → (lengths : List ℕ) → Option SpecError
+abbrev pub first_fault_of : (modulo : ℕ) → List ParsedItem → (lengths : List ℕ) → Option SpecError
 first_fault_of modulo items lengths =
-    option_or (where_fails (has_too_large modulo items) TooLarge)
-    (option_or (where_fails (modulo == 0) ModuloZero)
+    option_or (fault_if (has_too_large modulo items) TooLarge)
+    (option_or (fault_if (modulo == 0) ModuloZero)
     (option_or (option_map PageOutOfBlock (position (λ i. nat_le modulo i.page) items))
     (option_or (option_map ScaleZero (position (λ i. i.modifiers.scale_zero) items))
     (option_or (option_map Repeated (position (λ i. i.modifiers.repeated) items))
     (option_or (option_map TooManySlots (position (λ n. nat_lt profile.most_slots n) lengths))
-    (where_fails (nat_lt profile.most_groups (length lengths)) TooManyGroups))))))
+    (fault_if (nat_lt profile.most_groups (length lengths)) TooManyGroups))))))

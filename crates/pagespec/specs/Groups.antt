@@ -3,9 +3,9 @@ use Rattle.std.specs.Prelude.{◌≡◌, ℕ, List, [], ◌∷◌, ◌++◌, len
 use Rattle.std.specs.List.{AllZip}
 use Rattle.profile.specs.Specification.{WrittenItem}
 use Rattle.pagespec.specs.Reading.{item_at, group_at, groups_at, bare_at}
-use Rattle.pagespec.specs.Kept.{ItemShows}
-use Rattle.pagespec.specs.declared.kept.KeptItem.{KeptItem}
-use Rattle.pagespec.specs.declared.groups.Kept.{Kept}
+use Rattle.pagespec.specs.Parsed.{ItemShows}
+use Rattle.pagespec.specs.declared.parsed.ParsedItem.{ParsedItem}
+use Rattle.pagespec.specs.declared.groups.ParsedGroups.{ParsedGroups}
 use Rattle.pagespec.specs.declared.groups.Stop.{Stop}
 use Rattle.pagespec.specs.declared.groups.Stop.TheVariants.{Stuck, NoMemory}
 
@@ -14,39 +14,39 @@ abbrev pub IsStop : {X : Type 0} → Option X → Stop → Type 0
 IsStop o (Stuck left) = o ≡ None
 IsStop o NoMemory = Unit {0}
 
--- these were kept of these items
-abbrev pub AreKept : List KeptItem → List WrittenItem → Type 0
-AreKept kept items = AllZip (λ k i. ItemShows i k) kept items
+-- these items were parsed so
+abbrev pub AreParsed : List ParsedItem → List WrittenItem → Type 0
+AreParsed parsed items = AllZip (λ k i. ItemShows i k) parsed items
 
--- the item at the front was kept behind the others
-pub record ItemKept (bytes : List ℕ) (old new : List KeptItem) (rest : List ℕ) : Type 0 where
+-- the item at the front was parsed, and appended to the others
+pub record ItemAppended (bytes : List ℕ) (old new : List ParsedItem) (rest : List ℕ) : Type 0 where
   pub item : WrittenItem
-  pub kept : KeptItem
+  pub parsed : ParsedItem
   pub found : item_at bytes ≡ Some (item, rest)
-  pub added : new ≡ old ++ kept ∷ []
-  pub shows : ItemShows item kept
+  pub added : new ≡ old ++ parsed ∷ []
+  pub shows : ItemShows item parsed
 
--- the items of the group at the front were kept behind the others
-pub record GroupRead (bytes : List ℕ) (old new : List KeptItem) (count : ℕ) (rest : List ℕ) : Type 0 where
+-- the items of the group at the front were parsed, and appended to the others
+pub record GroupRead (bytes : List ℕ) (old new : List ParsedItem) (count : ℕ) (rest : List ℕ) : Type 0 where
   pub group : List WrittenItem
-  pub kept : List KeptItem
+  pub parsed : List ParsedItem
   pub found : group_at bytes ≡ Some (group, rest)
-  pub added : new ≡ old ++ kept
-  pub shows : AreKept kept group
+  pub added : new ≡ old ++ parsed
+  pub shows : AreParsed parsed group
   pub counted : count ≡ length group
 
--- all items were kept, and how many each group has
-pub record KeptGroups (groups : List (List WrittenItem)) (kept : Kept) : Type 0 where
-  pub items : AreKept kept.items.items (flat_map (λ g. g) groups)
-  pub lengths : kept.lengths.items ≡ map length groups
+-- all items as they were parsed, and how many each group has
+pub record IsParseOf (groups : List (List WrittenItem)) (parsed : ParsedGroups) : Type 0 where
+  pub items : AreParsed parsed.items.items (flat_map (λ g. g) groups)
+  pub lengths : parsed.lengths.items ≡ map length groups
 
-abbrev pub GroupsRead : List ℕ → Kept → List ℕ → Type 0
-GroupsRead bytes kept rest = (groups : List (List WrittenItem))
-    × (groups_at bytes ≡ Some (groups, rest)) × KeptGroups groups kept
+abbrev pub GroupsRead : List ℕ → ParsedGroups → List ℕ → Type 0
+GroupsRead bytes parsed rest = (groups : List (List WrittenItem))
+    × (groups_at bytes ≡ Some (groups, rest)) × IsParseOf groups parsed
 
-abbrev pub BareRead : List ℕ → KeptItem → Type 0
-BareRead bytes kept = (item : WrittenItem) × (bare_at bytes ≡ Some item) × ItemShows item kept
+abbrev pub BareRead : List ℕ → ParsedItem → Type 0
+BareRead bytes parsed = (item : WrittenItem) × (bare_at bytes ≡ Some item) × ItemShows item parsed
 
--- these groups are there, and were kept
-abbrev pub KeptShows : Option (List (List WrittenItem)) → Kept → Type 0
-KeptShows o kept = (groups : List (List WrittenItem)) × (o ≡ Some groups) × KeptGroups groups kept
+-- these groups are there, and were parsed so
+abbrev pub ParsesTo : Option (List (List WrittenItem)) → ParsedGroups → Type 0
+ParsesTo o parsed = (groups : List (List WrittenItem)) × (o ≡ Some groups) × IsParseOf groups parsed

@@ -1,6 +1,7 @@
 -- Reading a specification off a text, from the left.
 use Rattle.std.specs.Prelude.{ℕ, zero, suc, ℤ, Bool, false, ◌&&◌, ◌||◌, ◌==◌, if◌then◌else◌, List, [], ◌∷◌, length}
 use Rattle.std.specs.Prelude.{Option, Some, None}
+use Rattle.profile.specs.Bytes.{at_sign, closing_parenthesis, colon, comma, minus_sign, opening_parenthesis, plus_sign}
 use Rattle.profile.specs.Numbers.{number_of}
 use Rattle.profile.specs.Papers.{LengthUnit, Pt, Cm, Mm, In, Width, Height}
 use Rattle.profile.specs.Specification.{Measure, Modifier, Quarters, Scaled, Moved, WrittenItem, WrittenSpec}
@@ -44,8 +45,8 @@ measure_at text = number_at text >>= λ v. Some (measure_from v.0 (unit_at v.1))
 
 -- an offset behind its bracket
 unfoldable pub offset_at : List ℕ → Option (Modifier × List ℕ)
-offset_at text = measure_at text >>= λ x. byte_at 44 x.1 >>= λ t. measure_at t >>= λ y.
-    byte_at 41 y.1 >>= λ rest. Some (Moved x.0 y.0, rest)
+offset_at text = measure_at text >>= λ x. byte_at comma x.1 >>= λ t. measure_at t >>= λ y.
+    byte_at closing_parenthesis y.1 >>= λ rest. Some (Moved x.0 y.0, rest)
 
 unfoldable pub scale_at : List ℕ → Option (Modifier × List ℕ)
 scale_at text = number_at text >>= λ v. Some (Scaled v.0, v.1)
@@ -53,8 +54,8 @@ scale_at text = number_at text >>= λ v. Some (Scaled v.0, v.1)
 unfoldable pub modifier_at : List ℕ → Option (Modifier × List ℕ)
 modifier_at [] = None
 modifier_at (b ∷ text) =
-    if b == 64 then scale_at text
-    else (if b == 40 then offset_at text
+    if b == at_sign then scale_at text
+    else (if b == opening_parenthesis then offset_at text
     else (if quarters_of b == 0 then None else Some (Quarters (quarters_of b), text)))
 
 abbrev pub with_modifier : Modifier → List Modifier × List ℕ → List Modifier × List ℕ
@@ -73,11 +74,11 @@ modifiers_at (suc k) text = modifiers_or (λ t. modifiers_at k t) text (modifier
 
 abbrev pub is_minus : List ℕ → Bool
 is_minus [] = false
-is_minus (b ∷ text) = b == 45
+is_minus (b ∷ text) = b == minus_sign
 
 abbrev pub past_minus : List ℕ → List ℕ
 past_minus [] = []
-past_minus (b ∷ text) = if b == 45 then text else b ∷ text
+past_minus (b ∷ text) = if b == minus_sign then text else b ∷ text
 
 abbrev pub item_with : Bool → ℕ → List Modifier × List ℕ → WrittenItem × List ℕ
 item_with from_end page ms = (record { from_end = from_end; page = page; modifiers = ms.0 }, ms.1)
@@ -108,10 +109,10 @@ joined_at c part zero text = None
 joined_at c part (suc k) text = part text >>= λ x. more_at (λ t. joined_at c part k t) x (byte_at c x.1)
 
 abbrev pub group_at : List ℕ → Option (List WrittenItem × List ℕ)
-group_at text = joined_at 43 item_at (suc (length text)) text
+group_at text = joined_at plus_sign item_at (suc (length text)) text
 
 abbrev pub groups_at : List ℕ → Option (List (List WrittenItem) × List ℕ)
-groups_at text = joined_at 44 group_at (suc (length text)) text
+groups_at text = joined_at comma group_at (suc (length text)) text
 
 abbrev pub whole : {X : Type 0} → X × List ℕ → Option X
 whole x = if is_empty x.1 then Some x.0 else None
@@ -137,7 +138,7 @@ tree_of modulo groups = Some (record { modulo = modulo; groups = groups })
 
 -- what stands behind a modulo and its colon
 abbrev pub past_modulo : List ℕ → Option (List ℕ)
-past_modulo text = if is_empty (digits text) then None else byte_at 58 (past_digits text)
+past_modulo text = if is_empty (digits text) then None else byte_at colon (past_digits text)
 
 abbrev pub tree_from : List ℕ → Option (List ℕ) → Option WrittenSpec
 tree_from text None = all_groups_at text >>= tree_of 1

@@ -1,22 +1,22 @@
--- What the kept items come to.
+-- What the parsed items come to.
 use Rattle.std.specs.Prelude.{◌≤◌, ℕ, pos, List, [], ◌∷◌, length, take, drop, Option, Some, None, unwrap_or}
 use Rattle.profile.specs.Specification.{Measure, Item, turn_of, zero_points}
 use Rattle.pagespec.specs.Items.{measure_of}
-use Rattle.pagespec.specs.declared.item.Measure.{Measure as KeptMeasure}
-use Rattle.pagespec.specs.declared.kept.KeptItem.{KeptItem}
+use Rattle.pagespec.specs.declared.item.Measure.{Measure as ParsedMeasure}
+use Rattle.pagespec.specs.declared.parsed.ParsedItem.{ParsedItem}
 
-abbrev pub offset_kept : Option (KeptMeasure × KeptMeasure) → Measure × Measure
-offset_kept None = (zero_points, zero_points)
-offset_kept (Some m) = (measure_of m.0, measure_of m.1)
+abbrev pub offset_of_parsed : Option (ParsedMeasure × ParsedMeasure) → Measure × Measure
+offset_of_parsed None = (zero_points, zero_points)
+offset_of_parsed (Some m) = (measure_of m.0, measure_of m.1)
 
-abbrev pub settled_kept : KeptItem → Item
-settled_kept k = record {
+abbrev pub item_of_parsed : ParsedItem → Item
+item_of_parsed k = record {
   page = k.page;
   from_end = k.from_end;
   turn = turn_of k.modifiers.quarters;
   scale = unwrap_or k.modifiers.scale (pos 1_000_000_000);
-  x = (offset_kept k.modifiers.offset).0;
-  y = (offset_kept k.modifiers.offset).1;
+  x = (offset_of_parsed k.modifiers.offset).0;
+  y = (offset_of_parsed k.modifiers.offset).1;
 }
 
 -- parts of these lengths, one behind the other

@@ -4,17 +4,17 @@ use Rattle.profile.specs.Numbers.{number_of}
 use Rattle.profile.specs.Specification.{WrittenSpec}
 use Rattle.lengths.specs.Reading.{least_large, digits}
 use Rattle.pagespec.specs.Reading.{spec_at}
-use Rattle.pagespec.specs.Groups.{KeptGroups}
-use Rattle.pagespec.specs.declared.groups.Kept.{Kept}
+use Rattle.pagespec.specs.Groups.{IsParseOf}
+use Rattle.pagespec.specs.declared.groups.ParsedGroups.{ParsedGroups}
 
 -- the modulo of a text with this behind its colon, and what is left to read
 abbrev pub ModuloRead : List ℕ → Option (List ℕ) → ℕ → List ℕ → Type 0
 ModuloRead bytes None modulo rest = (modulo ≡ 1) × (rest ≡ bytes)
 ModuloRead bytes (Some behind) modulo rest = (modulo ≡ min least_large (number_of (digits bytes))) × (rest ≡ behind)
 
--- this was kept of what the text stands for
-pub record WrittenRead (bytes : List ℕ) (modulo : ℕ) (kept : Kept) : Type 0 where
+-- this was parsed of what the text stands for
+pub record WrittenRead (bytes : List ℕ) (modulo : ℕ) (parsed : ParsedGroups) : Type 0 where
   pub spec : WrittenSpec
   pub found : spec_at bytes ≡ Some spec
   pub modulo_is : modulo ≡ min least_large spec.modulo
-  pub groups : KeptGroups spec.groups kept
+  pub groups : IsParseOf spec.groups parsed

@@ -8,7 +8,7 @@ ghost use Rattle.profile.specs.Admissible.{most_slots};
 ghost use Rattle.pagespec.specs.Faults.{first_fault_of, has_too_large};
 
 use crate::error::SpecError;
-use crate::kept::KeptItem;
+use crate::parsed::ParsedItem;
 
 /// The most items that a group may have.
 const MOST_SLOTS: usize = 4_096;
@@ -18,47 +18,45 @@ const MOST_GROUPS: usize = 10_000;
 const MOST: u32 = 99_999;
 
 /// The first check that fails, at the lowest item or group. The groups are given by their lengths.
-pub fn first_fault(modulo: u32, items: &[KeptItem], lengths: &[usize]) -> Option<SpecError>
+pub fn first_fault(modulo: u32, items: &[ParsedItem], lengths: &[usize]) -> Option<SpecError>
     requires items { length items.now < 2 ^ 32 }
     requires groups { length lengths.now < 2 ^ 32 }
     ensures { result ≡ first_fault_of modulo items.now lengths.now }
 {
-    let groups = where_fails(MOST_GROUPS < lengths.len(), SpecError::TooManyGroups);
-    let slots = counted(too_many_slots(lengths))
-        .map(SpecError::TooManySlots)
-        .or(groups);
-    let again = counted(repeated(items)).map(SpecError::Repeated).or(slots);
-    let scales = counted(scale_zero(items))
-        .map(SpecError::ScaleZero)
-        .or(again);
-    let pages = counted(page_out_of_block(modulo, items))
-        .map(SpecError::PageOutOfBlock)
-        .or(scales);
-    let zero = where_fails(modulo == 0, SpecError::ModuloZero).or(pages);
-    where_fails(too_large(modulo, items), SpecError::TooLarge).or(zero)
+    let pages = page_out_of_block(modulo, items);
+    let scales = scale_zero(items);
+    let again = repeated(items);
+    let slots = too_many_slots(lengths);
+    fault_if(too_large(modulo, items), SpecError::TooLarge)
+        .or(fault_if(modulo == 0, SpecError::ModuloZero))
+        .or(as_index(pages).map(SpecError::PageOutOfBlock))
+        .or(as_index(scales).map(SpecError::ScaleZero))
+        .or(as_index(again).map(SpecError::Repeated))
+        .or(as_index(slots).map(SpecError::TooManySlots))
+        .or(fault_if(MOST_GROUPS < lengths.len(), SpecError::TooManyGroups))
 }
 
 /// This fault, if the check fails.
-fn where_fails(fails: bool, fault: SpecError) -> Option<SpecError>
+fn fault_if(fails: bool, fault: SpecError) -> Option<SpecError>
     ensures { result ≡ (if fails then Some fault else None) }
 {
     if fails { Some(fault) } else { None }
 }
 
-fn too_large(modulo: u32, items: &[KeptItem]) -> bool
+fn too_large(modulo: u32, items: &[ParsedItem]) -> bool
     ensures { result ≡ has_too_large modulo items.now }
 {
     MOST < modulo || any_too_large(items)
 }
 
-fn any_too_large(items: &[KeptItem]) -> bool
+fn any_too_large(items: &[ParsedItem]) -> bool
     ensures { result ≡ list_any (λ i. nat_lt greatest_whole i.page || i.modifiers.too_large) items.now }
 {
     items.iter().any(|i| MOST < i.page || i.modifiers.too_large)
 }
 
 /// The lowest item whose page number isn't below the modulo.
-fn page_out_of_block(modulo: u32, items: &[KeptItem]) -> Option<usize>
+fn page_out_of_block(modulo: u32, items: &[ParsedItem]) -> Option<usize>
     ensures place { result ≡ position (λ i. nat_le modulo i.page) items.now }
     ensures below { ForSome result (λ i. i < length items.now) }
 {
@@ -66,7 +64,7 @@ fn page_out_of_block(modulo: u32, items: &[KeptItem]) -> Option<usize>
 }
 
 /// The lowest item with a scale that isn't above zero.
-fn scale_zero(items: &[KeptItem]) -> Option<usize>
+fn scale_zero(items: &[ParsedItem]) -> Option<usize>
     ensures place { result ≡ position (λ i. i.modifiers.scale_zero) items.now }
     ensures below { ForSome result (λ i. i < length items.now) }
 {
@@ -74,7 +72,7 @@ fn scale_zero(items: &[KeptItem]) -> Option<usize>
 }
 
 /// The lowest item with a second scale or a second offset.
-fn repeated(items: &[KeptItem]) -> Option<usize>
+fn repeated(items: &[ParsedItem]) -> Option<usize>
     ensures place { result ≡ position (λ i. i.modifiers.repeated) items.now }
     ensures below { ForSome result (λ i. i < length items.now) }
 {
@@ -89,8 +87,8 @@ fn too_many_slots(lengths: &[usize]) -> Option<usize>
     lengths.iter().position(|n| MOST_SLOTS < *n)
 }
 
-/// The place of an item or a group, as it is told.
-fn counted(place: Option<usize>) -> Option<u32>
+/// The place of an item or a group, as a refusal names it.
+fn as_index(place: Option<usize>) -> Option<u32>
     requires { ForSome place (λ i. i < 2 ^ 32) }
     ensures { result ≡ place }
 {

@@ -1,8 +1,8 @@
 //! Why a text is refused as a specification.
 use thiserror::Error;
 
-/// The first check that a text fails, in this order. Each check is over the whole text; items and groups are counted from 0
-/// over the whole text, and the lowest one at fault is named.
+/// The first check that a text fails, in this order. Each check is over the whole text; items and groups are counted
+/// from 0 over the whole text, and the lowest one at fault is named.
 #[derive(Clone, Copy, Debug, PartialEq, Eq, Error)]
 pub enum SpecError {
     /// The text has over 65,536 bytes.

@@ -25,8 +25,8 @@ pub enum Turn {
     Right,
 }
 
-/// What an item of a specification comes to (pstops manual, page specifications). The page is scaled first, then turned, then
-/// moved by the offset, to the right and up.
+/// What an item of a specification comes to (pstops manual, page specifications). The page is scaled first, then
+/// turned, then moved by the offset, to the right and up.
 #[derive(Clone, Copy, Debug, PartialEq, Eq)]
 pub struct Item {
     /// The page's number in its block, counted from 0.

@@ -6,8 +6,8 @@ pub fn canonical_is_taken()
     ensures { CanonicalIsTaken }
 {}
 
-/// The canonical text of what a text comes to is longer than that text by one byte at most, and only if the text leaves its page
-/// number out.
+/// The canonical text of what a text comes to is longer than that text by one byte at most, and only if the text leaves
+/// its page number out.
 pub fn canonical_is_short()
     ensures { CanonicalIsShort }
 {}

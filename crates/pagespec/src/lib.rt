@@ -1,13 +1,13 @@
-//! Page specifications, as pstops takes them: which pages stand on a sheet, in which order, turned, scaled and moved how.
-//! A text is read once, refused by name if it isn't admissible, and written again in its canonical form.
+//! Page specifications, as pstops takes them: which pages stand on a sheet, in which order, turned, scaled and moved
+//! how. A text is read once, refused by name if it isn't admissible, and written again in its canonical form.
 #![tactic(auto)]
 
 mod check;
 mod error;
 mod groups;
 mod item;
-mod kept;
 pub mod laws;
+mod parsed;
 mod read;
 mod scan;
 mod settle;

@@ -8,7 +8,7 @@ ghost use Rattle.pagespec.specs.Refusals.{IsRefusal, IsPlaced};
 
 use crate::check::first_fault;
 use crate::error::SpecError;
-use crate::groups::{Kept, Stop, read_all_groups};
+use crate::groups::{ParsedGroups, Stop, read_all_groups};
 use crate::scan::read_byte;
 use crate::settle::settled_groups;
 use crate::spec::Spec;
@@ -18,11 +18,12 @@ use std::alloc::Global;
 /// The most bytes that a text may have.
 const MOST_BYTES: usize = 65_536;
 
-/// The specification that a text stands for (pstops manual, page specifications). A modulo that isn't written is 1; if the
-/// whole text has one item, its page number may be left out and is 0. Numbers are read by their value, however long they are.
+/// The specification that a text stands for (pstops manual, page specifications). A modulo that isn't written is 1; if
+/// the whole text has one item, its page number may be left out and is 0. Numbers are read by their value, however long
+/// they are.
 ///
-/// The checks are made one after the other, each over the whole text, and the first one that fails is named, with the lowest
-/// item or group at fault. The text is gone over once.
+/// The checks are made one after the other, each over the whole text, and the first one that fails is named, with the
+/// lowest item or group at fault. The text is gone over once.
 pub fn read_spec(alloc: Global, text: &str) -> Result<Spec, SpecError>
     ensures taken { IfOk result (λ spec. Takes most_slots text.now spec) }
     ensures refused { IfErr result (IsRefusal text.now) }
@@ -32,28 +33,30 @@ pub fn read_spec(alloc: Global, text: &str) -> Result<Spec, SpecError>
         return Err(SpecError::TooLong);
     }
     let bytes = text.as_bytes();
-    let (modulo, kept) = match read_written(alloc, bytes) {
+    let (modulo, parsed) = match read_written(alloc, bytes) {
         Ok(found) => found,
-        Err(Stop::Stuck(left)) => return Err(SpecError::Syntax(bytes.len().saturating_sub(left))),
+        Err(Stop::Stuck(stuck)) => {
+            return Err(SpecError::Syntax(bytes.len().saturating_sub(stuck.left)));
+        }
         Err(Stop::NoMemory) => return Err(SpecError::NoMemory),
     };
-    match first_fault(modulo, &kept.items, &kept.lengths) {
+    match first_fault(modulo, &parsed.items, &parsed.lengths) {
         Some(fault) => return Err(fault),
         None => (),
     }
-    match settled_groups(alloc, &kept.items, &kept.lengths) {
+    match settled_groups(alloc, &parsed.items, &parsed.lengths) {
         Ok(groups) => Ok(Spec::new(modulo, groups)),
         Err(_) => Err(SpecError::NoMemory),
     }
 }
 
 /// The modulo of a text, or 100,000 if it is more, and its groups.
-fn read_written(alloc: Global, bytes: &[u8]) -> Result<(u32, Kept), Stop>
+fn read_written(alloc: Global, bytes: &[u8]) -> Result<(u32, ParsedGroups), Stop>
     ensures { MatchResult result (λ x. WrittenRead bytes.now x.0 x.1) (IsStop (spec_at bytes.now)) }
 {
     let (modulo, rest) = split_modulo(bytes);
     match read_all_groups(alloc, rest) {
-        Ok(kept) => Ok((modulo, kept)),
+        Ok(parsed) => Ok((modulo, parsed)),
         Err(stop) => Err(stop),
     }
 }

@@ -1,5 +1,4 @@
-//! Reading units, measures and modifiers off the front of a text. A reader that can't go on tells how many bytes are left at
-//! the place where it is stuck: no text of the grammar has the next byte there.
+//! Reading units, measures and modifiers off the front of a text.
 ghost use Rattle.std.specs.Prelude.{◌≡◌, ◌<◌, ℕ, Some, None, MatchResult, MatchOption};
 ghost use Rattle.profile.specs.Specification.{Measure as WrittenMeasure, Modifier as WrittenModifier, Moved};
 ghost use Rattle.lengths.specs.Units.{length_unit};
@@ -8,6 +7,21 @@ ghost use Rattle.pagespec.specs.Views.{MeasureRead, ModifierRead, IsMeasureOf, S
 
 use crate::item::Measure;
 use lengths::{Number, NumberError, Unit, read_number};
+
+/// The place where a reader can't go on: no text of the grammar has the next byte there.
+#[derive(Clone, Copy)]
+pub struct Stuck {
+    /// How many bytes are left there.
+    pub left: usize,
+}
+
+/// What is left behind something that was read.
+#[derive(Clone, Copy)]
+pub struct Rest<'t> {
+    pub text: &'t [u8],
+    /// Where a longer reading was stuck: at a byte of `text`, or at its end.
+    pub stuck: Stuck,
+}
 
 /// A modifier as it stands. A number over 99,999 isn't kept, only that it stood there.
 #[derive(Clone, Copy)]
@@ -20,12 +34,12 @@ pub enum Modifier {
 }
 
 /// The modifier at the front, and what stands behind it.
-pub fn read_modifier(bytes: &[u8]) -> Result<(Modifier, &[u8]), usize>
+pub fn read_modifier(bytes: &[u8]) -> Result<(Modifier, &[u8]), Stuck>
     ensures { MatchResult result (λ x. ModifierRead bytes.now x.0 x.1.now)
-        (λ left. modifier_at bytes.now ≡ None) }
+        (λ stuck. modifier_at bytes.now ≡ None) }
 {
     match bytes.split_first() {
-        None => Err(0),
+        None => Err(Stuck { left: 0 }),
         Some((first, rest)) => {
             if *first == b'@' {
                 read_scale(rest)
@@ -34,7 +48,7 @@ pub fn read_modifier(bytes: &[u8]) -> Result<(Modifier, &[u8]), usize>
             } else {
                 let quarters = quarters_of(*first);
                 if quarters == 0 {
-                    Err(bytes.len())
+                    Err(Stuck { left: bytes.len() })
                 } else {
                     Ok((Modifier::Turn(quarters), rest))
                 }
@@ -57,39 +71,39 @@ fn quarters_of(letter: u8) -> u8
 }
 
 /// A scale behind its sign.
-fn read_scale(bytes: &[u8]) -> Result<(Modifier, &[u8]), usize>
+fn read_scale(bytes: &[u8]) -> Result<(Modifier, &[u8]), Stuck>
     ensures { MatchResult result
         (λ x. (m : WrittenModifier) × (scale_at bytes.now ≡ Some (m, x.1.now)) × Stands x.0 m)
-        (λ left. scale_at bytes.now ≡ None) }
+        (λ stuck. scale_at bytes.now ≡ None) }
 {
     match read_number(bytes) {
         Ok((number, len)) => Ok((Modifier::Scale(number), bytes.split_at(len).1)),
         Err(NumberError::TooLarge(len)) => Ok((Modifier::TooLarge, bytes.split_at(len).1)),
-        Err(NumberError::NotANumber) => Err(left_in_number(bytes)),
+        Err(NumberError::NotANumber) => Err(stuck_in_number(bytes)),
     }
 }
 
 /// An offset behind its opening parenthesis.
-fn read_offset(bytes: &[u8]) -> Result<(Modifier, &[u8]), usize>
+fn read_offset(bytes: &[u8]) -> Result<(Modifier, &[u8]), Stuck>
     ensures { MatchResult result
         (λ x. (m : WrittenModifier) × (offset_at bytes.now ≡ Some (m, x.1.now)) × Stands x.0 m)
-        (λ left. offset_at bytes.now ≡ None) }
+        (λ stuck. offset_at bytes.now ≡ None) }
 {
-    let (x, behind_x, stuck_x) = match read_measure(bytes) {
+    let (x, behind_x) = match read_measure(bytes) {
         Ok(found) => found,
-        Err(left) => return Err(left),
+        Err(stuck) => return Err(stuck),
     };
-    let second = match read_byte(b',', behind_x) {
+    let second = match read_byte(b',', behind_x.text) {
         Some(second) => second,
-        None => return Err(stuck_x),
+        None => return Err(behind_x.stuck),
     };
-    let (y, behind_y, stuck_y) = match read_measure(second) {
+    let (y, behind_y) = match read_measure(second) {
         Ok(found) => found,
-        Err(left) => return Err(left),
+        Err(stuck) => return Err(stuck),
     };
-    match read_byte(b')', behind_y) {
+    match read_byte(b')', behind_y.text) {
         Some(rest) => Ok((offset_of(x, y), rest)),
-        None => Err(stuck_y),
+        None => Err(behind_y.stuck),
     }
 }
 
@@ -104,37 +118,53 @@ fn offset_of(x: Option<Measure>, y: Option<Measure>) -> Modifier
 }
 
 /// A number and a unit; None if the number is too large.
-fn read_measure(bytes: &[u8]) -> Result<(Option<Measure>, &[u8], usize), usize>
-    ensures { MatchResult result (λ x. MeasureRead bytes.now x.0 x.1.now)
-        (λ left. measure_at bytes.now ≡ None) }
+fn read_measure(bytes: &[u8]) -> Result<(Option<Measure>, Rest<'_>), Stuck>
+    ensures { MatchResult result (λ x. MeasureRead bytes.now x.0 x.1.text.now)
+        (λ stuck. measure_at bytes.now ≡ None) }
 {
     match read_number(bytes) {
         Ok((number, len)) => {
-            let (unit, rest, stuck) = read_unit(bytes.split_at(len).1);
-            Ok((Some(Measure { number, unit }), rest, stuck))
+            let (unit, rest) = read_unit(bytes.split_at(len).1);
+            Ok((Some(Measure { number, unit }), rest))
         }
         Err(NumberError::TooLarge(len)) => {
-            let (_, rest, stuck) = read_unit(bytes.split_at(len).1);
-            Ok((None, rest, stuck))
+            let (_, rest) = read_unit(bytes.split_at(len).1);
+            Ok((None, rest))
         }
-        Err(NumberError::NotANumber) => Err(left_in_number(bytes)),
+        Err(NumberError::NotANumber) => Err(stuck_in_number(bytes)),
     }
 }
 
 /// The unit at the front, which is points if none stands. The first letter of a unit of two may stand there alone.
-fn read_unit(bytes: &[u8]) -> (Unit, &[u8], usize)
+fn read_unit(bytes: &[u8]) -> (Unit, Rest<'_>)
     ensures unit { (unit_at bytes.now).0 ≡ length_unit result.0 }
-    ensures rest { (unit_at bytes.now).1 ≡ result.1.now }
+    ensures rest { (unit_at bytes.now).1 ≡ result.1.text.now }
 {
     match bytes {
-        [b'w', rest @ ..] => (Unit::W, rest, rest.len()),
-        [b'h', rest @ ..] => (Unit::H, rest, rest.len()),
-        [b'p', b't', rest @ ..] => (Unit::Pt, rest, rest.len()),
-        [b'c', b'm', rest @ ..] => (Unit::Cm, rest, rest.len()),
-        [b'm', b'm', rest @ ..] => (Unit::Mm, rest, rest.len()),
-        [b'i', b'n', rest @ ..] => (Unit::In, rest, rest.len()),
-        [b'p' | b'c' | b'm' | b'i', rest @ ..] => (Unit::Pt, bytes, rest.len()),
-        _ => (Unit::Pt, bytes, bytes.len()),
+        [b'w', rest @ ..] => (Unit::W, rest_at(rest)),
+        [b'h', rest @ ..] => (Unit::H, rest_at(rest)),
+        [b'p', b't', rest @ ..] => (Unit::Pt, rest_at(rest)),
+        [b'c', b'm', rest @ ..] => (Unit::Cm, rest_at(rest)),
+        [b'm', b'm', rest @ ..] => (Unit::Mm, rest_at(rest)),
+        [b'i', b'n', rest @ ..] => (Unit::In, rest_at(rest)),
+        [b'p' | b'c' | b'm' | b'i', rest @ ..] => (
+            Unit::Pt,
+            Rest {
+                text: bytes,
+                stuck: Stuck { left: rest.len() },
+            },
+        ),
+        _ => (Unit::Pt, rest_at(bytes)),
+    }
+}
+
+/// This rest, of which nothing more could be read.
+pub fn rest_at(text: &[u8]) -> Rest<'_>
+    ensures { result.text.now ≡ text.now }
+{
+    Rest {
+        text,
+        stuck: Stuck { left: text.len() },
     }
 }
 
@@ -148,10 +178,11 @@ pub fn read_byte(byte: u8, bytes: &[u8]) -> Option<&[u8]>
     }
 }
 
-/// How many bytes are left behind a sign and a dot, if no number stands at the start.
-fn left_in_number(bytes: &[u8]) -> usize {
-    match bytes {
+/// The place behind a sign and a dot, if no number stands at the start.
+fn stuck_in_number(bytes: &[u8]) -> Stuck {
+    let left = match bytes {
         [b'+' | b'-', b'.', rest @ ..] | [b'+' | b'-' | b'.', rest @ ..] => rest.len(),
         _ => bytes.len(),
-    }
+    };
+    Stuck { left }
 }

@@ -2,24 +2,24 @@
 ghost use Rattle.std.specs.Prelude.{◌≡◌, map, IfOk, unwrap_or};
 ghost use Rattle.profile.specs.Specification as profile;
 ghost use Rattle.pagespec.specs.Items.{item_of, turn_of, groups_of, measure_of};
-ghost use Rattle.pagespec.specs.Settled.{settled_kept, split_by, AreLengths, offset_kept};
+ghost use Rattle.pagespec.specs.Settled.{item_of_parsed, split_by, AreLengths, offset_of_parsed};
 
 use crate::item::{Item, Measure, Turn};
-use crate::kept::KeptItem;
+use crate::parsed::ParsedItem;
 use lengths::Number;
 use std::alloc::{AllocError, Global};
 
 /// The groups of these lengths that the items make.
 pub fn settled_groups(
     alloc: Global,
-    kept: &[KeptItem],
+    parsed: &[ParsedItem],
     lengths: &[usize],
 ) -> Result<Vec<Vec<Item>>, AllocError>
-    requires { AreLengths lengths.now kept.now }
-    ensures { IfOk result (λ groups. groups_of groups.items ≡ split_by lengths.now (map settled_kept kept.now)) }
+    requires { AreLengths lengths.now parsed.now }
+    ensures { IfOk result (λ groups. groups_of groups.items ≡ split_by lengths.now (map item_of_parsed parsed.now)) }
 {
     let mut groups = Vec::new(alloc);
-    let mut rest = kept;
+    let mut rest = parsed;
     for length in lengths {
         let (front, behind) = rest.split_at(*length);
         groups.push(settled_group(alloc, front)?)?;
@@ -29,26 +29,26 @@ pub fn settled_groups(
 }
 
 /// One group of these items.
-fn settled_group(alloc: Global, kept: &[KeptItem]) -> Result<Vec<Item>, AllocError>
-    ensures { IfOk result (λ group. map item_of group.items ≡ map settled_kept kept.now) }
+fn settled_group(alloc: Global, parsed: &[ParsedItem]) -> Result<Vec<Item>, AllocError>
+    ensures { IfOk result (λ group. map item_of group.items ≡ map item_of_parsed parsed.now) }
 {
     let mut group = Vec::new(alloc);
-    for item in kept {
+    for item in parsed {
         group.push(settled_item(*item))?;
     }
     Ok(group)
 }
 
 /// What an item comes to: the scale is 1 and the offset 0 pt and 0 pt if none is written.
-fn settled_item(kept: KeptItem) -> Item
-    ensures { item_of result ≡ settled_kept kept }
+fn settled_item(parsed: ParsedItem) -> Item
+    ensures { item_of result ≡ item_of_parsed parsed }
 {
     Item {
-        page: kept.page,
-        from_end: kept.from_end,
-        turn: turn_by(kept.modifiers.quarters),
-        scale: kept.modifiers.scale.unwrap_or(Number::ONE),
-        offset: offset_or_none(kept.modifiers.offset),
+        page: parsed.page,
+        from_end: parsed.from_end,
+        turn: turn_by(parsed.modifiers.quarters),
+        scale: parsed.modifiers.scale.unwrap_or(Number::ONE),
+        offset: offset_or_none(parsed.modifiers.offset),
     }
 }
 
@@ -66,7 +66,7 @@ fn turn_by(quarters: u8) -> Turn
 
 /// This offset, or 0 pt and 0 pt.
 fn offset_or_none(offset: Option<(Measure, Measure)>) -> (Measure, Measure)
-    ensures { offset_kept offset ≡ (measure_of result.0, measure_of result.1) }
+    ensures { offset_of_parsed offset ≡ (measure_of result.0, measure_of result.1) }
 {
     offset.unwrap_or((Measure::ZERO, Measure::ZERO))
 }

@@ -7,8 +7,8 @@ ghost use Rattle.pagespec.specs.Made.{IsWritable};
 use crate::item::Item;
 use std::marker::Model;
 
-/// A specification that every check passed: the modulo, and for each sheet of a block the items on it. A contract sees it as
-/// what its text comes to. Its type keeps that some text is taken that comes to it.
+/// A specification that every check passed: the modulo, and for each sheet of a block the items on it. A contract sees
+/// it as what its text comes to. Its type keeps that some text is taken that comes to it.
 #[derive(Drop)]
 pub struct Spec {
     modulo: u32,

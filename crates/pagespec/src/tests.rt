@@ -1,5 +1,5 @@
-//! Worked examples. The items come from the pstops manual's examples and the grammar; the places of syntax faults were worked
-//! out by hand and are compared with a slow search besides.
+//! Worked examples. The items come from the pstops manual's examples and the grammar; the places of syntax faults were
+//! worked out by hand and are compared with a slow search besides.
 use crate::{Item, Measure, Spec, SpecError, Turn, read_spec, write_spec};
 use lengths::{Number, Unit};
 use std::alloc::{AllocError, Global};
@@ -168,8 +168,14 @@ fn longest_prefix(alloc: Global, text: &str) -> Result<usize, AllocError> {
     Ok(longest)
 }
 
+/// Whether the text is refused at this place, as the slow search finds it too.
+fn is_stuck_at(alloc: Global, text: &str, place: usize) -> bool {
+    read_spec(alloc, text).err() == Some(SpecError::Syntax(place))
+        && longest_prefix(alloc, text).ok() == Some(place)
+}
+
 #[test]
-fn syntax_faults_have_their_place(rt: HostRuntime) {
+fn syntax_faults_of_items_and_groups(rt: HostRuntime) {
     let faults = [
         ("", 0),
         ("2:", 2),
@@ -180,7 +186,6 @@ fn syntax_faults_have_their_place(rt: HostRuntime) {
         (":0", 0),
         ("+", 0),
         (",", 0),
-        ("0(1", 3),
         ("0L0", 2),
         ("L,0", 1),
         ("L+0", 1),
@@ -199,6 +204,20 @@ fn syntax_faults_have_their_place(rt: HostRuntime) {
         ("0,L", 2),
         ("0+-L", 3),
         ("0++0", 2),
+        ("0H", 1),
+        ("0V", 1),
+        ("0é", 1),
+        ("é", 0),
+        ("0\n", 1),
+    ];
+    for (text, place) in faults {
+        assert!(rt; is_stuck_at(rt.alloc(), text, place), "at {text}");
+    }
+}
+
+#[test]
+fn syntax_faults_of_scales(rt: HostRuntime) {
+    let faults = [
         ("0@", 2),
         ("0@+", 3),
         ("0@-.", 4),
@@ -208,6 +227,16 @@ fn syntax_faults_have_their_place(rt: HostRuntime) {
         ("0@1e5", 3),
         ("0@1cm", 3),
         ("L@", 2),
+    ];
+    for (text, place) in faults {
+        assert!(rt; is_stuck_at(rt.alloc(), text, place), "at {text}");
+    }
+}
+
+#[test]
+fn syntax_faults_of_offsets(rt: HostRuntime) {
+    let faults = [
+        ("0(1", 3),
         ("0()", 2),
         ("0(,", 2),
         ("0(1)", 3),
@@ -226,21 +255,10 @@ fn syntax_faults_have_their_place(rt: HostRuntime) {
         ("0(1,2i)", 6),
         ("0(1,2in", 7),
         ("0(1,-.)", 6),
-        ("0H", 1),
-        ("0V", 1),
-        ("0é", 1),
-        ("é", 0),
         ("0(1é", 3),
-        ("0\n", 1),
     ];
-    for (text, want) in faults {
-        assert_eq!(rt;
-            read_spec(rt.alloc(), text).err(),
-            Some(SpecError::Syntax(want)),
-            "at {text}"
-        );
-        let longest = longest_prefix(rt.alloc(), text).expect(&rt, "memory");
-        assert_eq!(rt; longest, want, "longest prefix at {text}");
+    for (text, place) in faults {
+        assert!(rt; is_stuck_at(rt.alloc(), text, place), "at {text}");
     }
 }
 

@@ -13,8 +13,9 @@ use itoa::Buffer;
 use lengths::{Number, Unit, print_number};
 use std::alloc::{AllocError, Global};
 
-/// The canonical text of a specification, which is one that `read_spec` takes and reads as the same specification: the modulo
-/// if it isn't 1, page numbers without leading zeros, one letter for a turn, and no scale, offset or unit that changes nothing.
+/// The canonical text of a specification, which is one that `read_spec` takes and reads as the same specification: the
+/// modulo if it isn't 1, page numbers without leading zeros, one letter for a turn, and no scale, offset or unit that
+/// changes nothing.
 pub fn write_spec(alloc: Global, spec: &Spec) -> Result<String, AllocError>
     ensures canonical { IfOk result (λ text. string_bytes text ≡ profile.canonical spec.now) }
     ensures taken { IfOk result (λ text. Takes most_slots (string_bytes text) spec.now) }

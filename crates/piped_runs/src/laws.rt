@@ -1,8 +1,8 @@
 //! Laws of runs one behind the other. The functions do nothing.
 ghost use Rattle.piped_runs.specs.Runs.{RunIsDocument, RunsGoOn};
 
-/// What a run wrote to an empty sink is a document, unless it is too long; and if the last page of the run's input leaves
-/// no embedded document open, it has as many pages as the report has sheets.
+/// What a run wrote to an empty sink is a document, unless it is too long; and if the last page of the run's input
+/// leaves no embedded document open, it has as many pages as the report has sheets.
 pub fn run_is_document()
     ensures { RunIsDocument }
 {}

@@ -41,6 +41,7 @@ pub record IsWithin (most : ℕ) (p q : Point) : Type 0 where
   pub x : nat_abs (p.x -ℤ q.x) ≤ most
   pub y : nat_abs (p.y -ℤ q.y) ≤ most
 
--- the printed matrix sends each point to within 635,000 grains, which are half of 10^-5 of a point, of where the matrix does
+-- the printed matrix sends each point to within 635,000 grains, which are half of 10^-5 of a point, of where the matrix
+-- does
 abbrev pub PrintedIsNear : Type 0
 PrintedIsNear = (m : Matrix) (p : Point) → IsWithin 635_000 (applied (printed_matrix m) p) (applied m p)

@@ -6,8 +6,8 @@ ghost use Rattle.profile.specs.Placement.{put, applied, matrix_of};
 
 use lengths::{Grains, Number};
 
-/// The matrix `[a b c d tx ty]` of PostScript (Language Reference, coordinate systems and transformations): it sends the point
-/// (x, y) to (a x + c y + tx, b x + d y + ty). The shift is kept in grains.
+/// The matrix `[a b c d tx ty]` of PostScript (Language Reference, coordinate systems and transformations): it sends
+/// the point (x, y) to (a x + c y + tx, b x + d y + ty). The shift is kept in grains.
 #[derive(Clone, Copy, Debug, PartialEq, Eq)]
 pub struct Matrix {
     pub a: Number,

@@ -8,8 +8,8 @@ use super::matrix::Matrix;
 use lengths::{Number, Paper, to_grains};
 use pagespec::{Item, Turn};
 
-/// The matrix that places an item's page on this paper. The page is scaled from its lower left corner, then turned about it,
-/// then moved (pstops manual, page specifications).
+/// The matrix that places an item's page on this paper. The page is scaled from its lower left corner, then turned
+/// about it, then moved (pstops manual, page specifications).
 pub fn matrix_of(item: &Item, paper: &Paper) -> Matrix
     ensures numbers { numbers_of result ≡ matrix_for paper.now (item_of item.now) }
     ensures put { (p : Point) → applied (numbers_of result) p ≡ put paper.now (item_of item.now) p }

@@ -110,7 +110,8 @@ fn a_page_with_a_border_on_paper_in_centimetres(rt: HostRuntime) -> Result<(), F
         userdict /showpage {} put\n\
         [1 0 0 1 0 0] concat\n\
         newpath 0 0 moveto 595.27559 0 lineto 595.27559 841.88976 lineto 0 841.88976 lineto closepath clip newpath\n\
-        gsave 1 setlinewidth newpath 0 0 moveto 595.27559 0 lineto 595.27559 841.88976 lineto 0 841.88976 lineto closepath stroke grestore\n\
+        gsave 1 setlinewidth newpath 0 0 moveto 595.27559 0 lineto 595.27559 841.88976 lineto \
+        0 841.88976 lineto closepath stroke grestore\n\
         ImposeSave restore\n";
     assert_eq!(rt; out.as_slice(), wanted.as_bytes());
     Ok(())

@@ -14,8 +14,8 @@ use lengths::{Grains, Number, Paper, print_points, print_scale};
 use pagespec::Item;
 use std::alloc::AllocError;
 
-/// Appends the six numbers of a matrix in brackets: the first four in full, the shift in points, rounded to five decimals.
-/// If memory is refused, nothing is appended.
+/// Appends the six numbers of a matrix in brackets: the first four in full, the shift in points, rounded to five
+/// decimals. If memory is refused, nothing is appended.
 pub fn matrix_text(matrix: &Matrix, out: &mut Vec<u8>) -> Result<(), AllocError>
     ensures appended { OnOk result (out.new.items ≡ out.old.items ++ text_of (numbers_of matrix.now)) }
     ensures unchanged { OnErr result (out.new.items ≡ out.old.items) }
@@ -27,9 +27,9 @@ pub fn matrix_text(matrix: &Matrix, out: &mut Vec<u8>) -> Result<(), AllocError>
     undo_if_refused(appended, len, out)
 }
 
-/// Appends what stands before a page placed by this item: its `save`, a `showpage` that does nothing, the matrix, a clip to the
-/// paper, which is placed with the page, and a line that draws a border of this width round it, if one is asked for.
-/// If memory is refused, nothing is appended.
+/// Appends what stands before a page placed by this item: its `save`, a `showpage` that does nothing, the matrix, a
+/// clip to the paper, which is placed with the page, and a line that draws a border of this width round it, if one is
+/// asked for. If memory is refused, nothing is appended.
 pub fn opening_text(
     item: &Item,
     paper: &Paper,

@@ -13,6 +13,7 @@ use Rattle.clap.specs.declared.builder.command.Command.{Command}
 use Rattle.clap.specs.declared.builder.command.Command.TheViews.{out-Command}
 use Rattle.clap.specs.declared.builder.value_parser.ValueParser.TheVariants.{Signed}
 use Rattle.clap.specs.declared.parser.matches.ArgMatches.{ArgMatches}
+use Rattle.profile.specs.Signatures.{most_sides}
 use Rattle.imposer.specs.declared.options.Options.{Options}
 use Rattle.imposer.specs.declared.options.Workers.{Workers}
 use Rattle.imposer.specs.Workers.{AreWorkers}
@@ -58,7 +59,7 @@ rules =
     ∷ valued_rule (codes "border") letter_d
     ∷ counted_rule (codes "preparers") letter_j
     ∷ counted_rule (codes "imposers") letter_k
-    ∷ ranged_rule 4 1_000_000 (codes "sides") letter_s
+    ∷ ranged_rule 4 most_sides (codes "sides") letter_s
     ∷ []
 
 -- no word is the program's name, and -h, --help, -V and --version aren't added
@@ -126,8 +127,8 @@ ParseRefuses words UnknownPaper = ⊥
 ParseRefuses words (BadLength letter) = ⊥
 ParseRefuses words NoMemory = ⊤
 
--- these are the words' matches, SPECS is among them, the numbers of workers lie from 1 to 16, and that of sides from 4 to
--- 1,000,000
+-- these are the words' matches, SPECS is among them, the numbers of workers lie from 1 to 16, and that of sides from 4
+-- to 1,000,000
 pub record Finds (words : List Text) (m : ArgMatches) : Type 0 where
   pub rows : rows_of (found_of m) ≡ matches_of pstops words
   pub specs : is_some (first_value (found_of m) (codes "specs")) ≡ true

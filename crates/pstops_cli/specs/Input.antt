@@ -1,12 +1,13 @@
 -- What a source of bytes does, and what is read of it.
 use Rattle.std.specs.Prelude.{◌≡◌, ◌+◌, ◌≤◌, length, ℕ, List, Option, Result, MatchResult, take, IfSome}
 use Rattle.std.specs.Io.KnownBytes.{Consumes, IsAtEnd, Keeps}
+use Rattle.profile.specs.Run.{most_input_bytes}
 use Rattle.pstops_cli.specs.declared.input.ReadFault.{ReadFault}
 use Rattle.pstops_cli.specs.declared.input.ReadFault.TheVariants.{Device, NoMemory}
 
 -- as many bytes as are read at most: one more than a document may have, so that a longer one is seen to be too long
 abbrev pub most_bytes : ℕ
-most_bytes = 1_073_741_825
+most_bytes = most_input_bytes + 1
 
 -- at Ok the first bytes that remained were moved to the buffer's front, 0 of them only if none remained; at Err none
 abbrev pub Fills : {E : Type 0} → (old new : Option (List ℕ)) → Result ℕ E → (buffer : List ℕ) → Type 0

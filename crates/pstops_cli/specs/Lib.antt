@@ -1,5 +1,5 @@
--- Read in this order: reading an input; what the values of options mean; what a command line asks for; lines and statuses;
--- what a run of a request leaves and says.
+-- Read in this order: reading an input; what the values of options mean; what a command line asks for; lines and
+-- statuses; what a run of a request leaves and says.
 pub mod Input
 pub mod Values
 pub mod Command

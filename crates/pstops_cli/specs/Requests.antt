@@ -14,8 +14,8 @@ use Rattle.pstops_cli.specs.Lines.{report_text, run_status, run_text, said}
 abbrev pub asked_by : Request → (input : List ℕ) → runs.Request
 asked_by r input = request r.options (string_bytes r.spec) input
 
--- a run of what was asked for ended so, between these bytes and failures of its sink: what a run promises of an Ok and of
--- each error
+-- a run of what was asked for ended so, between these bytes and failures of its sink: what a run promises of an Ok and
+-- of each error
 pub record Ends (a : runs.Request) (told told' : Option (List ℕ)) (failures failures' : ℕ)
     (ended : Result Report RunError) : Type 0 where
   -- at Ok exactly the output was appended, and the report has its numbers
@@ -44,7 +44,7 @@ outcome_line quiet (Ok report) = if quiet then [] else said (report_text report)
 outcome_line quiet (Err e) = said (run_text e)
 
 -- its status and line; or 3 and no line, if there is one to say and it found no memory
-abbrev pub IsTold : (quiet : Bool) → Result Report RunError → (status : ℕ) → (told : List ℕ) → Type 0
-IsTold quiet ended status told =
-    ((status ≡ outcome_status ended) × (told ≡ outcome_line quiet ended))
-    ⊎ ((is_silent quiet ended ≡ false) × (status ≡ 3) × (told ≡ []))
+abbrev pub IsTold : (quiet : Bool) → Result Report RunError → (status : ℕ) → (line : List ℕ) → Type 0
+IsTold quiet ended status line =
+    ((status ≡ outcome_status ended) × (line ≡ outcome_line quiet ended))
+    ⊎ ((is_silent quiet ended ≡ false) × (status ≡ 3) × (line ≡ []))

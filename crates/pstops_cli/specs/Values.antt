@@ -6,6 +6,7 @@ use Rattle.std.specs.Str.{bytes_eq}
 use Rattle.std.specs.Str.Parse.{digits_value, without_leading_plus}
 use Rattle.clap.specs.ValueTests.{is_numeral}
 use Rattle.profile.specs.Numbers.{IsNumber, is_large}
+use Rattle.profile.specs.Signatures.{most_sides}
 use Rattle.profile.specs.Papers.{LengthUnit, Pt, Cm, Mm, In, Paper, grains, is_side, paper_named}
 use Rattle.lengths.specs.Reading.{number_at}
 use Rattle.imposer.specs.declared.options.Options.{Options}
@@ -30,8 +31,8 @@ length_of paper None = None
 length_of paper (Some (number, rest)) = if is_large number then None
     else option_map (grains paper number) (unit_named rest)
 
--- a length in grains: the longest number at the start, up to 99,999.999999999, and its unit. None of these units asks for
--- the paper
+-- a length in grains: the longest number at the start, up to 99,999.999999999, and its unit. None of these units asks
+-- for the paper
 abbrev pub length_named : Paper → List ℕ → Option ℤ
 length_named paper text = length_of paper (number_at text)
 
@@ -94,7 +95,7 @@ sides_named text = option_and_then number_of text
 -- if a number of sides is asked for, it lies from 4 to 1,000,000
 abbrev pub AreInRange : (sides : Option ℕ) → Type 0
 AreInRange None = ⊤
-AreInRange (Some n) = (4 ≤ n) × (n ≤ 1_000_000)
+AreInRange (Some n) = (4 ≤ n) × (n ≤ most_sides)
 
 abbrev pub workers_named : (preparers imposers : Option (List ℕ)) → Workers
 workers_named preparers imposers = record { preparers = count_named preparers; imposers = count_named imposers }
@@ -127,8 +128,8 @@ letter_k = 107
 abbrev pub letter_s : ℕ
 letter_s = 115
 
--- what the values of -p, -w, -h and -d name beside these sides of a signature and workers, or the fault of the first, in this
--- order, that names no paper or no length that its option takes
+-- what the values of -p, -w, -h and -d name beside these sides of a signature and workers, or the fault of the first,
+-- in this order, that names no paper or no length that its option takes
 unfoldable pub options_named : (paper width height border : Option (List ℕ)) → (signature : Option ℕ) → Workers
     → Result Options CommandFault
 options_named paper width height border signature workers =

@@ -2,6 +2,7 @@
 ghost use Rattle.std.specs.Prelude.{◌≡◌, IfOk, IfErr, codes, is_some, map, option_map, true, string_bytes};
 ghost use Rattle.clap.specs.Words.{first_of, first_value, found_of, is_simple, matches_of, one_of, rows_of, rule_of};
 ghost use Rattle.imposer.specs.Workers.{AreWorkers};
+ghost use Rattle.profile.specs.Signatures.{most_sides};
 ghost use Rattle.pstops_cli.specs.Command.{Finds, IsChain, ParseRefuses, Reads, RefusesFound, Refuses, Takes};
 ghost use Rattle.pstops_cli.specs.Command.{counted_rule, flag_rule, has_true, options_found, positional_rule, pstops};
 ghost use Rattle.pstops_cli.specs.Command.{ranged_rule, rules, sides_found, valued_rule, workers_found};
@@ -52,19 +53,19 @@ impl From<AllocError> for CommandFault {
 }
 
 /// The request that the words after the program's name make:
-/// `[-q] [-s sides] [-p paper] [-w W] [-h H] [-d width] [-j preparers] [-k imposers] SPECS [INFILE [OUTFILE]]`, as in pstops(1)
-/// but for `-j` and `-k`, and for `-s`, which is that of psbook(1).
+/// `[-q] [-s sides] [-p paper] [-w W] [-h H] [-d width] [-j preparers] [-k imposers] SPECS [INFILE [OUTFILE]]`, as in
+/// pstops(1) but for `-j` and `-k`, and for `-s`, which is that of psbook(1).
 ///
-/// `-q` leaves the report line out, and SPECS is a page specification, which isn't looked at here. `-s` asks for signatures of so
-/// many sides, a whole number from 4 to 1,000,000; that it is a multiple of four isn't looked at here either. `-p` names the paper,
-/// which is a4 if none is named; `-w` replaces its width and `-h` its height. `-d` asks for a border of this width round
-/// each page, and a width of 0 for none. A length is a number and its unit, `pt`, `cm`, `mm` or `in`, without which it is
-/// in points. `-j` and `-k` are how many threads prepare pages and how many impose sheets: whole numbers from 1 to 16, 2
-/// if they aren't named.
+/// `-q` leaves the report line out, and SPECS is a page specification, which isn't looked at here. `-s` asks for
+/// signatures of so many sides, a whole number from 4 to 1,000,000; that it is a multiple of four isn't looked at here
+/// either. `-p` names the paper, which is a4 if none is named; `-w` replaces its width and `-h` its height. `-d` asks
+/// for a border of this width round each page, and a width of 0 for none. A length is a number and its unit, `pt`,
+/// `cm`, `mm` or `in`, without which it is in points. `-j` and `-k` are how many threads prepare pages and how many
+/// impose sheets: whole numbers from 1 to 16, 2 if they aren't named.
 ///
-/// Words that the command doesn't take are `BadWords`, and so are other values of `-s`, `-j` and `-k`. Among words that it
-/// takes, a paper without a name comes first as `UnknownPaper`, then as `BadLength` the values of `-w` and `-h`, which are
-/// lengths above zero, and of `-d`, which isn't below zero, whatever order they stand in.
+/// Words that the command doesn't take are `BadWords`, and so are other values of `-s`, `-j` and `-k`. Among words that
+/// it takes, a paper without a name comes first as `UnknownPaper`, then as `BadLength` the values of `-w` and `-h`,
+/// which are lengths above zero, and of `-d`, which isn't below zero, whatever order they stand in.
 #[tactic(auto, using(crate::proofs::Pstops::pstops_is_simple))]
 pub fn read_command(alloc: Global, words: &[String]) -> Result<Request, CommandFault>
     ensures taken { IfOk result (λ _. Takes (map string_bytes words.now)) }
@@ -81,7 +82,7 @@ pub fn read_command(alloc: Global, words: &[String]) -> Result<Request, CommandF
     request_of(alloc, &matches)
 }
 
-// What the command finds among the words.
+/// What the command finds among the words.
 fn parse<'a>(alloc: Global, words: &'a [String]) -> Result<ArgMatches<'a>, CommandFault>
     ensures taken { IfOk result (λ _. Takes (map string_bytes words.entry.now)) }
     ensures found { IfOk result (Finds (map string_bytes words.entry.now)) }
@@ -100,7 +101,7 @@ fn parse<'a>(alloc: Global, words: &'a [String]) -> Result<ArgMatches<'a>, Comma
     }
 }
 
-// The request that the matches make.
+/// The request that the matches make.
 fn request_of(alloc: Global, matches: &ArgMatches<'_>) -> Result<Request, CommandFault>
     requires { is_some (first_value (found_of matches.now) (codes "specs")) ≡ true }
     ensures read { IfOk result (Reads (rows_of (found_of matches.now))) }
@@ -120,7 +121,7 @@ fn request_of(alloc: Global, matches: &ArgMatches<'_>) -> Result<Request, Comman
     })
 }
 
-// The options that the matches name.
+/// The options that the matches name.
 fn options_of(matches: &ArgMatches<'_>) -> Result<Options, CommandFault>
     ensures { result ≡ options_found (rows_of (found_of matches.now)) }
 {
@@ -134,7 +135,7 @@ fn options_of(matches: &ArgMatches<'_>) -> Result<Options, CommandFault>
     )
 }
 
-// As many workers as the matches name.
+/// As many workers as the matches name.
 fn workers_of(matches: &ArgMatches<'_>) -> Workers
     ensures { result ≡ workers_found (rows_of (found_of matches.now)) }
 {
@@ -144,28 +145,28 @@ fn workers_of(matches: &ArgMatches<'_>) -> Workers
     }
 }
 
-// As many sides of a signature as the matches name.
+/// As many sides of a signature as the matches name.
 fn sides_of(matches: &ArgMatches<'_>) -> Option<u32>
     ensures { result ≡ sides_found (rows_of (found_of matches.now)) }
 {
     number_at(matches, "sides")
 }
 
-// The number of workers that an argument names, 2 if it isn't there.
+/// The number of workers that an argument names, 2 if it isn't there.
 fn count_of(matches: &ArgMatches<'_>, id: &str) -> u32
     ensures { result ≡ meaning.count_named (one_of id.now (rows_of (found_of matches.now))) }
 {
     number_at(matches, id).unwrap_or(2)
 }
 
-// The whole number that an argument names.
+/// The whole number that an argument names.
 fn number_at(matches: &ArgMatches<'_>, id: &str) -> Option<u32>
     ensures { result ≡ meaning.sides_named (one_of id.now (rows_of (found_of matches.now))) }
 {
     matches.get_one::<u32>(id)
 }
 
-// The command. Its own help and version options are switched off, so that their letters are free.
+/// The command. Its own help and version options are switched off, so that their letters are free.
 fn command<'a>(alloc: Global) -> Result<Command<'a>, AllocError>
     ensures { IfOk result IsChain }
 {
@@ -176,7 +177,7 @@ fn command<'a>(alloc: Global) -> Result<Command<'a>, AllocError>
     bare.args(args(alloc)?)
 }
 
-// The arguments of the command.
+/// The arguments of the command.
 fn args<'a>(alloc: Global) -> Result<Vec<Arg<'a>>, AllocError>
     ensures { IfOk result (λ v. map rule_of v.items ≡ rules) }
 {
@@ -208,28 +209,28 @@ fn flag<'a>(alloc: Global, id: &'a str, short: char) -> Arg<'a>
     Arg::new(alloc, id).short(short).action(ArgAction::SetTrue)
 }
 
-// An option with a value.
+/// An option with a value.
 fn valued<'a>(alloc: Global, id: &'a str, short: char) -> Arg<'a>
     ensures { rule_of result ≡ valued_rule id.entry.now short }
 {
     Arg::new(alloc, id).short(short).action(ArgAction::Set)
 }
 
-// An option with a whole number from 1 to 16.
+/// An option with a whole number from 1 to 16.
 fn counted<'a>(alloc: Global, id: &'a str, short: char) -> Arg<'a>
     ensures { rule_of result ≡ counted_rule id.entry.now short }
 {
     valued(alloc, id, short).value_parser(value_parser!(u32).range(1..=16))
 }
 
-// An option with a whole number from 4 to 1,000,000.
+/// An option with a whole number from 4 to 1,000,000.
 fn sided<'a>(alloc: Global, id: &'a str, short: char) -> Arg<'a>
-    ensures { rule_of result ≡ ranged_rule 4 1_000_000 id.entry.now short }
+    ensures { rule_of result ≡ ranged_rule 4 most_sides id.entry.now short }
 {
     valued(alloc, id, short).value_parser(value_parser!(u32).range(4..=1_000_000))
 }
 
-// The value of an argument as text.
+/// The value of an argument as text.
 fn text_of<'a>(matches: &ArgMatches<'a>, id: &str) -> Option<&'a str>
     ensures text { option_map (λ s. s.now) result ≡ first_of id.now (rows_of (found_of matches.now)) }
     ensures given { is_some result ≡ is_some (first_value (found_of matches.now) id.now) }
@@ -237,7 +238,7 @@ fn text_of<'a>(matches: &ArgMatches<'a>, id: &str) -> Option<&'a str>
     matches.get_str(id)
 }
 
-// Whether a flag stands among the words: its text is then `true`.
+/// Whether a flag stands among the words: its text is then `true`.
 fn is_set(text: Option<&str>) -> bool
     ensures { result ≡ has_true (option_map (λ s. s.now) text.entry) }
 {
@@ -247,7 +248,7 @@ fn is_set(text: Option<&str>) -> bool
     }
 }
 
-// The text as one of the request's own.
+/// The text as one of the request's own.
 fn owned(alloc: Global, text: Option<&str>) -> Result<Option<String>, AllocError>
     ensures { IfOk result (λ own. option_map string_bytes own ≡ option_map (λ s. s.now) text.entry) }
 {

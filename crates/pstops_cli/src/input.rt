@@ -11,10 +11,10 @@ use std::io::Read;
 /// The most bytes that are read: one more than an input may have, so that a longer input is seen to be too long.
 pub const MOST_BYTES: usize = 1_073_741_825;
 
-// How much room the source is offered at least.
+/// How much room the source is offered at least.
 const LEAST_ROOM: usize = 65_536;
 
-// How much is zeroed at once ahead of what was read: little enough to be still in the cache when it is read into.
+/// How much is zeroed at once ahead of what was read: little enough to be still in the cache when it is read into.
 const PIECE: usize = 262_144;
 
 /// A source failed and gave nothing.
@@ -127,7 +127,7 @@ pub fn read_input<S: Source>(alloc: Global, source: &mut S) -> Result<Vec<u8>, R
     Ok(bytes)
 }
 
-// One fill behind the first `filled` bytes.
+/// One fill behind the first `filled` bytes.
 fn fill_more<S: Source>(
     source: &mut S,
     bytes: &mut Vec<u8>,
@@ -151,7 +151,7 @@ fn fill_more<S: Source>(
     Ok(fill_behind(source, bytes.as_mut_slice(), filled)?)
 }
 
-// Sees to room behind the first `filled` bytes, of a piece more or of as much as may still be read.
+/// Sees to room behind the first `filled` bytes, of a piece more or of as much as may still be read.
 fn make_room(bytes: &mut Vec<u8>, filled: usize) -> Result<(), AllocError>
     requires filled { filled ≤ vec_len bytes.old }
     requires more { filled < MOST_BYTES }
@@ -167,7 +167,7 @@ fn make_room(bytes: &mut Vec<u8>, filled: usize) -> Result<(), AllocError>
     Ok(())
 }
 
-// Fills what stands behind the first `filled` bytes.
+/// Fills what stands behind the first `filled` bytes.
 fn fill_behind<S: Source>(
     source: &mut S,
     buffer: &mut [u8],

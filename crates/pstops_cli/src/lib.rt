@@ -1,4 +1,5 @@
-//! The command of pstops: what its words ask for, how an input is read, and which line and exit status each outcome has.
+//! The command of pstops: what its words ask for, how an input is read, and which line and exit status each outcome
+//! has.
 #![tactic(auto)]
 
 mod command;

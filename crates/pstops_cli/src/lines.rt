@@ -32,14 +32,14 @@ pub enum Fault {
 /// The status is 1 for a refused specification, document or plan, 2 for a bad command line or bad options, and 3 if
 /// memory, reading or writing failed.
 pub fn fault_line(alloc: Global, fault: &Fault) -> Result<(u8, Vec<u8>), AllocError>
-    ensures status { IfOk result (λ told. told.0 ≡ status_of_fault fault.now) }
-    ensures line { IfOk result (λ told. told.1.items ≡ said (text_of_fault fault.now)) }
+    ensures status { IfOk result (λ answer. answer.0 ≡ status_of_fault fault.now) }
+    ensures line { IfOk result (λ answer. answer.1.items ≡ said (text_of_fault fault.now)) }
 {
     let text = fault_text(alloc, fault)?;
     Ok((fault_status(fault), line_of(alloc, text.as_str())?))
 }
 
-// The line of a run that finished.
+/// The line of a run that finished.
 pub(crate) fn report_line(alloc: Global, report: &Report) -> Result<Vec<u8>, AllocError>
     ensures { IfOk result (λ line. line.items ≡ said (text_of_report report.now)) }
 {

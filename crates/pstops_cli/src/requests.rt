@@ -28,7 +28,7 @@ pub fn run_request<R: Threads + Wait + Sync, S: Sink>(
 ) -> (u8, Vec<u8>)
     requires countable { S.failures sink.old < u64.MAX }
     // The run ended in some way, with all that a run promises of it, and that way has this status and this line.
-    ensures told { (ended : Result ReportValue RunErrorValue)
+    ensures ended { (ended : Result ReportValue RunErrorValue)
         × Ends (asked_by request.now input.now) (S.told sink.old) (S.told sink.new)
         (S.failures sink.old) (S.failures sink.new) ended
         × IsTold request.now.quiet ended result.0 result.1.items }
@@ -47,19 +47,19 @@ pub fn run_request<R: Threads + Wait + Sync, S: Sink>(
         sink,
     );
     match status_and_line(alloc, request.quiet, ended) {
-        Ok(told) => told,
+        Ok(answer) => answer,
         Err(_) => (3, Vec::new(alloc)),
     }
 }
 
-// The exit status and the line of a run that ended so.
+/// The exit status and the line of a run that ended so.
 fn status_and_line(
     alloc: Global,
     quiet: bool,
     ended: Result<Report, RunError>,
 ) -> Result<(u8, Vec<u8>), AllocError>
-    ensures status { IfOk result (λ told. told.0 ≡ outcome_status ended) }
-    ensures line { IfOk result (λ told. told.1.items ≡ outcome_line quiet ended) }
+    ensures status { IfOk result (λ answer. answer.0 ≡ outcome_status ended) }
+    ensures line { IfOk result (λ answer. answer.1.items ≡ outcome_line quiet ended) }
     // No memory is asked for if nothing is said.
     ensures spoken { OnErr result (is_silent quiet ended ≡ false) }
 {

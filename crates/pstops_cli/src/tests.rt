@@ -16,21 +16,75 @@ use std::test::Fail;
 const ONE_PAGE: &str =
     "%!PS-Adobe-3.0\n%%Pages: 1\n%%EndComments\n%%Page: 1 1\n(0) pop\nshowpage\n%%Trailer\n%%EOF\n";
 
-const ONE_SHEET: &str =
-    "%!PS-Adobe-3.0\n%%Pages: 1\n%%EndComments\n%%Page: 1 1\nuserdict /ImposeSave save put\nuserdict /showpage {} put\n[1 0 0 1 0 0] concat\nnewpath 0 0 moveto 595 0 lineto 595 842 lineto 0 842 lineto closepath clip newpath\n(0) pop\nshowpage\nImposeSave restore\nshowpage\n%%Trailer\n%%EOF\n";
+const ONE_SHEET: &str = "%!PS-Adobe-3.0\n\
+     %%Pages: 1\n\
+     %%EndComments\n\
+     %%Page: 1 1\n\
+     userdict /ImposeSave save put\n\
+     userdict /showpage {} put\n\
+     [1 0 0 1 0 0] concat\n\
+     newpath 0 0 moveto 595 0 lineto 595 842 lineto 0 842 lineto closepath clip newpath\n\
+     (0) pop\n\
+     showpage\n\
+     ImposeSave restore\n\
+     showpage\n\
+     %%Trailer\n\
+     %%EOF\n";
 
-const TWO_PAGES: &str =
-    "%!PS-Adobe-3.0\n%%Pages: 2\n%%EndComments\n%%Page: 1 1\n(0) pop\nshowpage\n%%Page: 2 2\n(1) pop\nshowpage\n%%Trailer\n%%EOF\n";
+const TWO_PAGES: &str = "%!PS-Adobe-3.0\n\
+     %%Pages: 2\n\
+     %%EndComments\n\
+     %%Page: 1 1\n\
+     (0) pop\n\
+     showpage\n\
+     %%Page: 2 2\n\
+     (1) pop\n\
+     showpage\n\
+     %%Trailer\n\
+     %%EOF\n";
 
-const TWO_PAGES_ON_A_SHEET: &str =
-    "%!PS-Adobe-3.0\n%%Pages: 1\n%%EndComments\n%%Page: 1 1\nuserdict /ImposeSave save put\nuserdict /showpage {} put\n[0 0.7 -0.7 0 595.27559 0] concat\nnewpath 0 0 moveto 595 0 lineto 595 842 lineto 0 842 lineto closepath clip newpath\n(0) pop\nshowpage\nImposeSave restore\nuserdict /ImposeSave save put\nuserdict /showpage {} put\n[0 0.7 -0.7 0 595.27559 420.94488] concat\nnewpath 0 0 moveto 595 0 lineto 595 842 lineto 0 842 lineto closepath clip newpath\n(1) pop\nshowpage\nImposeSave restore\nshowpage\n%%Trailer\n%%EOF\n";
+const TWO_PAGES_ON_A_SHEET: &str = "%!PS-Adobe-3.0\n\
+     %%Pages: 1\n\
+     %%EndComments\n\
+     %%Page: 1 1\n\
+     userdict /ImposeSave save put\n\
+     userdict /showpage {} put\n\
+     [0 0.7 -0.7 0 595.27559 0] concat\n\
+     newpath 0 0 moveto 595 0 lineto 595 842 lineto 0 842 lineto closepath clip newpath\n\
+     (0) pop\n\
+     showpage\n\
+     ImposeSave restore\n\
+     userdict /ImposeSave save put\n\
+     userdict /showpage {} put\n\
+     [0 0.7 -0.7 0 595.27559 420.94488] concat\n\
+     newpath 0 0 moveto 595 0 lineto 595 842 lineto 0 842 lineto closepath clip newpath\n\
+     (1) pop\n\
+     showpage\n\
+     ImposeSave restore\n\
+     showpage\n\
+     %%Trailer\n\
+     %%EOF\n";
 
 const TWO_UP: &str = "2:0L@.7(21cm,0)+1L@.7(21cm,14.85cm)";
 
 const TWO_UP_BY_MANY_WORKERS: &str = "-j16 -k 16 2:0L@.7(21cm,0)+1L@.7(21cm,14.85cm)";
 
-const ONE_SHEET_WITH_A_BORDER: &str =
-    "%!PS-Adobe-3.0\n%%Pages: 1\n%%EndComments\n%%Page: 1 1\nuserdict /ImposeSave save put\nuserdict /showpage {} put\n[1 0 0 1 0 0] concat\nnewpath 0 0 moveto 595.27559 0 lineto 595.27559 841.88976 lineto 0 841.88976 lineto closepath clip newpath\ngsave 1 setlinewidth newpath 0 0 moveto 595.27559 0 lineto 595.27559 841.88976 lineto 0 841.88976 lineto closepath stroke grestore\n(0) pop\nshowpage\nImposeSave restore\nshowpage\n%%Trailer\n%%EOF\n";
+const ONE_SHEET_WITH_A_BORDER: &str = "%!PS-Adobe-3.0\n\
+     %%Pages: 1\n\
+     %%EndComments\n\
+     %%Page: 1 1\n\
+     userdict /ImposeSave save put\n\
+     userdict /showpage {} put\n\
+     [1 0 0 1 0 0] concat\n\
+     newpath 0 0 moveto 595.27559 0 lineto 595.27559 841.88976 lineto 0 841.88976 lineto closepath clip newpath\n\
+     gsave 1 setlinewidth newpath 0 0 moveto 595.27559 0 lineto 595.27559 841.88976 lineto 0 841.88976 lineto \
+     closepath stroke grestore\n\
+     (0) pop\n\
+     showpage\n\
+     ImposeSave restore\n\
+     showpage\n\
+     %%Trailer\n\
+     %%EOF\n";
 
 #[test]
 fn an_input_is_read_whole(rt: HostRuntime) -> Result<(), Fail> {
@@ -108,14 +162,14 @@ fn assert_line(
     status: u8,
     line: &str,
 ) -> Result<(), AllocError> {
-    let told = fault_line(rt.alloc(), &fault)?;
-    assert_eq!(rt; str::from_utf8(told.1.as_slice()), Ok(line));
-    assert_eq!(rt; told.0, status, "at {line}");
+    let answer = fault_line(rt.alloc(), &fault)?;
+    assert_eq!(rt; str::from_utf8(answer.1.as_slice()), Ok(line));
+    assert_eq!(rt; answer.0, status, "at {line}");
     Ok(())
 }
 
 #[test]
-fn each_fault_has_its_line(rt: HostRuntime) -> Result<(), Fail> {
+fn each_fault_before_a_run_has_its_line(rt: HostRuntime) -> Result<(), Fail> {
     let rows = [
         (
             Fault::Command(CommandFault::BadWords),
@@ -147,6 +201,16 @@ fn each_fault_has_its_line(rt: HostRuntime) -> Result<(), Fail> {
             3,
             "pstops: out of memory\n",
         ),
+    ];
+    for (fault, status, line) in rows {
+        assert_line(&rt, fault, status, line)?;
+    }
+    Ok(())
+}
+
+#[test]
+fn each_fault_of_a_run_has_its_line(rt: HostRuntime) -> Result<(), Fail> {
+    let rows = [
         (Fault::Create, 3, "pstops: cannot write output\n"),
         (Fault::Run(RunError::Options), 2, "pstops: bad options\n"),
         (
@@ -167,54 +231,52 @@ fn each_fault_has_its_line(rt: HostRuntime) -> Result<(), Fail> {
 }
 
 #[test]
-fn each_refusal_has_its_line(rt: HostRuntime) -> Result<(), Fail> {
+fn each_refused_specification_has_its_line(rt: HostRuntime) -> Result<(), Fail> {
     let specifications = [
-        (SpecError::TooLong, 1, "pstops: specification: too long\n"),
+        (SpecError::TooLong, "pstops: specification: too long\n"),
         (
             SpecError::Syntax(7),
-            1,
             "pstops: specification: syntax error at byte 7\n",
         ),
         (
             SpecError::TooLarge,
-            1,
             "pstops: specification: number too large\n",
         ),
         (
             SpecError::ModuloZero,
-            1,
             "pstops: specification: modulo is zero\n",
         ),
         (
             SpecError::PageOutOfBlock(12),
-            1,
             "pstops: specification: item 12: page number not below modulo\n",
         ),
         (
             SpecError::ScaleZero(0),
-            1,
             "pstops: specification: item 0: scale not above zero\n",
         ),
         (
             SpecError::Repeated(3),
-            1,
             "pstops: specification: item 3: modifier repeated\n",
         ),
         (
             SpecError::TooManySlots(4),
-            1,
             "pstops: specification: group 4: too many items\n",
         ),
         (
             SpecError::TooManyGroups,
-            1,
             "pstops: specification: too many groups\n",
         ),
-        (SpecError::NoMemory, 3, "pstops: out of memory\n"),
     ];
-    for (error, status, line) in specifications {
-        assert_line(&rt, Fault::Run(RunError::Spec(error)), status, line)?;
+    for (error, line) in specifications {
+        assert_line(&rt, Fault::Run(RunError::Spec(error)), 1, line)?;
     }
+    let no_memory = Fault::Run(RunError::Spec(SpecError::NoMemory));
+    assert_line(&rt, no_memory, 3, "pstops: out of memory\n")?;
+    Ok(())
+}
+
+#[test]
+fn each_refused_document_has_its_line(rt: HostRuntime) -> Result<(), Fail> {
     let documents = [
         (DscError::TooLong, 1, "pstops: input too long\n"),
         (
@@ -239,6 +301,11 @@ fn each_refusal_has_its_line(rt: HostRuntime) -> Result<(), Fail> {
     for (error, status, line) in documents {
         assert_line(&rt, Fault::Run(RunError::Document(error)), status, line)?;
     }
+    Ok(())
+}
+
+#[test]
+fn each_refused_plan_has_its_line(rt: HostRuntime) -> Result<(), Fail> {
     let plans = [
         (PlanError::TooManyPages, 1, "pstops: plan: too many pages\n"),
         (
@@ -259,61 +326,64 @@ fn each_refusal_has_its_line(rt: HostRuntime) -> Result<(), Fail> {
     Ok(())
 }
 
-// What a command line gives on an input: the exit status, the line on standard error and the output.
+// A command line, an input, the exit status, the line on standard error and the output.
+type Run = (&'static str, &'static str, u8, &'static str, &'static str);
+
+const RUNS: [Run; 8] = [
+    ("-q 0", ONE_PAGE, 0, "", ONE_SHEET),
+    (
+        "0",
+        ONE_PAGE,
+        0,
+        "pstops: pages 1, sheets 1, bytes 273\n",
+        ONE_SHEET,
+    ),
+    (
+        TWO_UP,
+        TWO_PAGES,
+        0,
+        "pstops: pages 2, sheets 1, bytes 503\n",
+        TWO_PAGES_ON_A_SHEET,
+    ),
+    (
+        TWO_UP_BY_MANY_WORKERS,
+        TWO_PAGES,
+        0,
+        "pstops: pages 2, sheets 1, bytes 503\n",
+        TWO_PAGES_ON_A_SHEET,
+    ),
+    (
+        "-w21cm -h29.7cm -d1 0 -q",
+        ONE_PAGE,
+        0,
+        "",
+        ONE_SHEET_WITH_A_BORDER,
+    ),
+    (
+        "2:2 -q",
+        ONE_PAGE,
+        1,
+        "pstops: specification: item 0: page number not below modulo\n",
+        "",
+    ),
+    (
+        "2:2",
+        ONE_PAGE,
+        1,
+        "pstops: specification: item 0: page number not below modulo\n",
+        "",
+    ),
+    ("0", "", 1, "pstops: input is not PostScript\n", ""),
+];
+
 #[test]
 fn command_lines_and_their_runs(rt: HostRuntime) -> Result<(), Fail> {
-    let rows = [
-        ("-q 0", ONE_PAGE, 0, "", ONE_SHEET),
-        (
-            "0",
-            ONE_PAGE,
-            0,
-            "pstops: pages 1, sheets 1, bytes 273\n",
-            ONE_SHEET,
-        ),
-        (
-            TWO_UP,
-            TWO_PAGES,
-            0,
-            "pstops: pages 2, sheets 1, bytes 503\n",
-            TWO_PAGES_ON_A_SHEET,
-        ),
-        (
-            TWO_UP_BY_MANY_WORKERS,
-            TWO_PAGES,
-            0,
-            "pstops: pages 2, sheets 1, bytes 503\n",
-            TWO_PAGES_ON_A_SHEET,
-        ),
-        (
-            "-w21cm -h29.7cm -d1 0 -q",
-            ONE_PAGE,
-            0,
-            "",
-            ONE_SHEET_WITH_A_BORDER,
-        ),
-        (
-            "2:2 -q",
-            ONE_PAGE,
-            1,
-            "pstops: specification: item 0: page number not below modulo\n",
-            "",
-        ),
-        (
-            "2:2",
-            ONE_PAGE,
-            1,
-            "pstops: specification: item 0: page number not below modulo\n",
-            "",
-        ),
-        ("0", "", 1, "pstops: input is not PostScript\n", ""),
-    ];
-    for (words, input, status, line, output) in rows {
+    for (words, input, status, line, output) in RUNS {
         let request = read(rt.alloc(), words)?;
         let mut sink = MemorySink::new(rt.alloc(), 1000, 1000, 1000)?;
-        let told = run_request(&rt, rt.alloc(), &request, input.as_bytes(), &mut sink);
-        assert_eq!(rt; str::from_utf8(told.1.as_slice()), Ok(line));
-        assert_eq!(rt; told.0, status, "at {words}");
+        let answer = run_request(&rt, rt.alloc(), &request, input.as_bytes(), &mut sink);
+        assert_eq!(rt; str::from_utf8(answer.1.as_slice()), Ok(line));
+        assert_eq!(rt; answer.0, status, "at {words}");
         assert_eq!(rt; str::from_utf8(sink.bytes()), Ok(output));
     }
     Ok(())

@@ -7,8 +7,8 @@ use crate::command::CommandFault;
 use imposer::{Options, Workers};
 use lengths::{Grains, Paper, Unit, paper_by_name, read_number, to_grains};
 
-// The options that the values of `-p`, `-w`, `-h` and `-d` name, beside these sides of a signature and workers. The first in
-// this order that names none is the fault.
+/// The options that the values of `-p`, `-w`, `-h` and `-d` name, beside these sides of a signature and workers. The
+/// first in this order that names none is the fault.
 pub(crate) fn options_named(
     paper: Option<&str>,
     width: Option<&str>,
@@ -56,7 +56,7 @@ fn with_height(paper: Paper, height: Option<&str>) -> Option<Paper>
     }
 }
 
-// The width of a border, if there is to be one.
+/// The width of a border, if there is to be one.
 fn border_named(paper: &Paper, width: Option<&str>) -> Option<Option<Grains>>
     ensures { result ≡ meaning.border_named paper.now (option_map (λ s. s.now) width.entry) }
 {
@@ -78,7 +78,7 @@ fn border_of(width: Grains) -> Option<Option<Grains>>
     }
 }
 
-// The length that the text names.
+/// The length that the text names.
 fn length_named(paper: &Paper, text: &str) -> Option<Grains>
     ensures { result ≡ meaning.length_named paper.now text.now }
 {

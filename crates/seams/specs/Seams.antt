@@ -2,7 +2,7 @@
 use Rattle.std.specs.Prelude.{◌≡◌, ℕ, ◌<◌, ◌≤◌, Bool, true, false, not, ◌&&◌, if◌then◌else◌, List, [], ◌∷◌, ◌++◌}
 use Rattle.std.specs.Prelude.{length, map, flat_map, nat_eq, Option, Some, None, Ok}
 use Rattle.std.specs.List.{starts_with}
-use Rattle.profile.specs.Bytes.{line}
+use Rattle.profile.specs.Bytes.{line, line_feed}
 use Rattle.profile.specs.Units.{TextUnit, is_end, begins_block, first_unit, cut}
 use Rattle.profile.specs.Parts.{NestedUnit, depth_after, nested, begins_page, pages, trailer}
 
@@ -22,7 +22,7 @@ no_ends (b ∷ bs) = not (is_end b) && no_ends bs
 
 -- begins with a line feed
 abbrev pub lf : List ℕ → Bool
-lf text = starts_with nat_eq text (10 ∷ [])
+lf text = starts_with nat_eq text (line_feed ∷ [])
 
 -- ends with a line end
 abbrev pub ends : List ℕ → Bool
@@ -41,8 +41,8 @@ abbrev pub AreLines : List (List ℕ) → Type 0
 AreLines [] = Unit {0}
 AreLines (c ∷ cs) = IsLine c × AreLines cs
 
--- a unit that ends within x is the same if other bytes stand behind x: these begin with no line feed, unless the first ones
--- did; and if nothing stood behind x, then x ends with a line end
+-- a unit that ends within x is the same if other bytes stand behind x: these begin with no line feed, unless the first
+-- ones did; and if nothing stood behind x, then x ends with a line end
 abbrev pub UnitStays : Type 0
 UnitStays =
     (x behind other : List ℕ) (u : TextUnit)
@@ -50,8 +50,8 @@ UnitStays =
     → (lf other ≡ true → lf behind ≡ true) → (behind ≡ [] → ends x ≡ true)
     → first_unit (x ++ other) ≡ Ok u
 
--- the units of two texts, put together, are the units of the texts put together, if the first text ends with a line end and
--- the second begins with no line feed
+-- the units of two texts, put together, are the units of the texts put together, if the first text ends with a line end
+-- and the second begins with no line feed
 abbrev pub UnitsJoin : Type 0
 UnitsJoin =
     (a b : List ℕ) (us vs : List TextUnit)

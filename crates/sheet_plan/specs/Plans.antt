@@ -36,7 +36,8 @@ is_page (Some (Some p)) = true
 abbrev pub needs_page : Plan → (sheet k : ℕ) → Bool
 needs_page plan s k = is_page (slice_get (pages_on plan s) k)
 
--- the limits of every plan: a sheet has 1 to `most_slots` slots, and each slot that isn't blank has one of the plan's pages
+-- the limits of every plan: a sheet has 1 to `most_slots` slots, and each slot that isn't blank has one of the plan's
+-- pages
 pub record IsSound (plan : Plan) : Type 0 where
   pub few_pages : plan.pages ≤ most_pages
   pub few_sheets : length plan.sheets ≤ most_sheets

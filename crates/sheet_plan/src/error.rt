@@ -1,7 +1,8 @@
 //! Why a plan is refused.
 use thiserror::Error;
 
-/// Why a specification can't be planned on a number of pages. The limits are tested in this order, before any memory is asked for.
+/// Why a specification can't be planned on a number of pages. The limits are tested in this order, before any memory is
+/// asked for.
 #[derive(Clone, Copy, Debug, PartialEq, Eq, Error)]
 pub enum PlanError {
     /// There are over 1,000,000 pages.

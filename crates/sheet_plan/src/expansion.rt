@@ -1,4 +1,5 @@
-//! A specification expanded over a row of pages, from either end. Nothing of the sheets is stored: each slot is computed.
+//! A specification expanded over a row of pages, from either end. Nothing of the sheets is stored: each slot is
+//! computed.
 ghost use Rattle.std.specs.Prelude.{◌≡◌, ◌≢◌, ℕ, ◌+◌, ◌-◌, ◌*◌, ◌^◌, ◌<◌, ◌≤◌, length, map, Some, Err, IfOk, IfErr};
 ghost use Rattle.std.specs.Prelude.{slice_get, slice_index_or, sum_by, [], ◌%◌};
 ghost use Rattle.profile.specs.Admissible.{most_groups, most_slots};

@@ -6,7 +6,8 @@ pub fn places_are_exact()
     ensures { PlacesAreExact }
 {}
 
-/// The sheets that are complete before any page has come ascend; they are all of those whose slots are blank, and nothing else.
+/// The sheets that are complete before any page has come ascend; they are all of those whose slots are blank, and
+/// nothing else.
 pub fn blank_sheets_have_no_page()
     ensures { BornCompleteAreWithoutPages }
 {}

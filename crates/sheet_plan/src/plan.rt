@@ -24,13 +24,14 @@ use pagespec::{Item, Spec};
 use std::alloc::{AllocError, Global};
 use std::marker::Model;
 
-/// Which page stands in which slot of which sheet, and by which item; and the other way round, where each page stands. Pages, sheets
-/// and slots are counted from 0. With n pages, modulo m and G groups there are `M = m * ceil(n / m)` places and `G * M / m` sheets.
-/// Sheet `b * G + g` is group g in block b. An item with number p names place `b * m + p`, and with a minus place
-/// `M - (b + 1) * m + p`. A place at or above n is blank.
+/// Which page stands in which slot of which sheet, and by which item; and the other way round, where each page stands.
+/// Pages, sheets and slots are counted from 0. With n pages, modulo m and G groups there are `M = m * ceil(n / m)`
+/// places and `G * M / m` sheets. Sheet `b * G + g` is group g in block b. An item with number p names place
+/// `b * m + p`, and with a minus place `M - (b + 1) * m + p`. A place at or above n is blank.
 ///
-/// In signatures of s sides the pages are first put into psbook's order. The row then has `s * ceil(n / s)` entries, of which those
-/// at or above page n are blank. It takes the place of the n pages: M is counted over it, and a place is an entry of it.
+/// In signatures of s sides the pages are first put into psbook's order. The row then has `s * ceil(n / s)` entries, of
+/// which those at or above page n are blank. It takes the place of the n pages: M is counted over it, and a place is an
+/// entry of it.
 #[derive(Drop)]
 pub struct Plan<'s> {
     expansion: Expansion<'s>,
@@ -55,7 +56,8 @@ impl<'s> Model for Plan<'s> {
 }
 
 impl<'s> Plan<'s> {
-    /// Plans the sheets of a specification. The limits are tested in the order of `PlanError`, before any memory is asked for.
+    /// Plans the sheets of a specification. The limits are tested in the order of `PlanError`, before any memory is
+    /// asked for.
     pub fn new(alloc: Global, spec: &'s Spec, pages: u32) -> Result<Plan<'s>, PlanError>
         ensures planned { IfOk result (λ plan. plan ≡ planned spec.now pages) }
         ensures accepted { OnOk result (plan_of spec.now pages ≡ Ok (sheets spec.now pages)) }
@@ -64,8 +66,8 @@ impl<'s> Plan<'s> {
         Plan::over(alloc, spec, Row { pages, sides: None })
     }
 
-    /// The same for pages in signatures of so many sides each, a positive multiple of four. Of the limits, that of pages is tested
-    /// on the length of the row, in which the last signature is filled up.
+    /// The same for pages in signatures of so many sides each, a positive multiple of four. Of the limits, that of
+    /// pages is tested on the length of the row, in which the last signature is filled up.
     pub fn with_signatures(
         alloc: Global,
         spec: &'s Spec,

@@ -4,7 +4,8 @@ ghost use Rattle.profile.specs.Signatures.{AreSides, AreSidesIfGiven, entry_in, 
 
 const MOST_SIDES: u32 = 1_000_000;
 
-/// Tests that a signature may have so many sides: a positive multiple of four, as each leaf has four, and at most 1,000,000.
+/// Tests that a signature may have so many sides: a positive multiple of four, as each leaf has four, and at most
+/// 1,000,000.
 pub fn are_sides(sides: u32) -> bool
     ensures { IsTrue result ↔ AreSides sides }
 {

@@ -64,7 +64,7 @@ fn command_lines(rt: HostRuntime) -> Result<(), Fail> {
 }
 
 #[test]
-fn documents_and_files(rt: HostRuntime) -> Result<(), Fail> {
+fn documents_and_inputs(rt: HostRuntime) -> Result<(), Fail> {
     let request = read(rt.alloc(), "nup 2 in.ps out.ps")?;
     let rows = [
         (
@@ -93,6 +93,17 @@ fn documents_and_files(rt: HostRuntime) -> Result<(), Fail> {
             1,
             "in.ps: the data behind the %%BeginData: at byte 17 is cut short; is the document complete?",
         ),
+    ];
+    for (fault, status, message) in rows {
+        assert_told(&rt, &request, fault, status, message)?;
+    }
+    Ok(())
+}
+
+#[test]
+fn runs_and_outputs(rt: HostRuntime) -> Result<(), Fail> {
+    let request = read(rt.alloc(), "nup 2 in.ps out.ps")?;
+    let rows = [
         (
             Fault::Run(RunError::Plan(PlanError::TooManySheets)),
             1,

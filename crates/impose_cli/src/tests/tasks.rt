@@ -92,7 +92,7 @@ fn the_line_of_pstops(rt: HostRuntime) -> Result<(), Fail> {
 }
 
 #[test]
-fn requests_that_are_refused(rt: HostRuntime) {
+fn documents_that_are_refused(rt: HostRuntime) {
     let alloc = rt.alloc();
     assert!(rt; matches!(fault_of(alloc, "nup 2", ""), Err(Fault::NoInput)));
     assert!(rt; matches!(fault_of(alloc, "nup 2", "%PDF-1.4\n"), Err(Fault::Pdf)));
@@ -126,7 +126,12 @@ fn requests_that_are_refused(rt: HostRuntime) {
             Err(Fault::Layout(LayoutError::NoPages))
         )
     );
-    // What doesn't ask for the document comes before it.
+}
+
+// What doesn't ask for the document comes before it.
+#[test]
+fn layouts_that_are_refused(rt: HostRuntime) {
+    let alloc = rt.alloc();
     assert!(rt;
         matches!(
             fault_of(alloc, "spec 0Q", ""),

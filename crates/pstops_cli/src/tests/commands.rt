@@ -96,6 +96,13 @@ fn sides_that_are_asked_for(rt: HostRuntime) -> Result<(), Fail> {
     Ok(())
 }
 
+fn is_bad_line(alloc: Global, line: &str) -> bool {
+    match read(alloc, line) {
+        Ok(_) => false,
+        Err(fault) => fault == CommandFault::BadWords,
+    }
+}
+
 #[test]
 fn words_that_are_refused(rt: HostRuntime) {
     let lines = [
@@ -120,6 +127,15 @@ fn words_that_are_refused(rt: HostRuntime) {
         "-V 0",
         "--help",
         "--quiet 0",
+    ];
+    for line in lines {
+        assert!(rt; is_bad_line(rt.alloc(), line), "at {line}");
+    }
+}
+
+#[test]
+fn numbers_that_are_refused(rt: HostRuntime) {
+    let lines = [
         // There are whole numbers from 1 to 16 of workers.
         "-j 17 0",
         "-j 0 0",
@@ -148,10 +164,7 @@ fn words_that_are_refused(rt: HostRuntime) {
         "-p b9 -w x -k 17 0",
     ];
     for line in lines {
-        match read(rt.alloc(), line) {
-            Ok(_) => assert!(rt; false, "taken: {line}"),
-            Err(fault) => assert_eq!(rt; fault, CommandFault::BadWords, "at {line}"),
-        }
+        assert!(rt; is_bad_line(rt.alloc(), line), "at {line}");
     }
 }
 

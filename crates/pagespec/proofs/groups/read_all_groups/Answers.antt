@@ -11,4 +11,4 @@ returns-in-Ok-read_groups_to_end c = all_there c.args.bytes.now _ c.in-Ok-read_g
 pub returns-in-Err-Stuck : goal.returns-in-Err-Stuck
 returns-in-Err-Stuck c =
     all_stuck c.args.bytes.now c.in-Err.ensures
-    (stuck_none (whole_groups_at c.args.bytes.now) c.in-Err-Stuck.field-0 c.in-Err-Stuck.left c.in-Err-Stuck.field-0-is c.in-Err-Stuck.ensures)
+    (stuck_none (whole_groups_at c.args.bytes.now) c.in-Err-Stuck.field-0 c.in-Err-Stuck.stuck c.in-Err-Stuck.field-0-is c.in-Err-Stuck.ensures)

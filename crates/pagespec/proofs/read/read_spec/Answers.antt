@@ -1,20 +1,20 @@
 use Rattle.std.proofs.Common.{arith, ap, length, ◌∙◌}
 use Rattle.pagespec.specs.Reading.{spec_at}
 use Rattle.pagespec.proofs.AllGroups.{stuck_none}
-use Rattle.pagespec.proofs.Outcomes.{all_read, syntax_refused, few_kept, few_lengths, fault_refused, fault_placed, lengths_right, admissible, taken, split_same}
+use Rattle.pagespec.proofs.Outcomes.{all_read, syntax_refused, few_parsed, few_lengths, fault_refused, fault_placed, lengths_right, admissible, taken, split_same}
 use Rattle.pagespec.proofs.read.read_spec.Goals as goal
 
 pub returns-in-Err-Stuck-clause-refused : goal.returns-in-Err-Stuck-clause-refused
 returns-in-Err-Stuck-clause-refused c =
     syntax_refused c.args.text.now _ c.if-text-gt-MOST_BYTES.false c.as_bytes-bytes.ensures.value
-    (stuck_none (spec_at c.as_bytes-bytes.result.now) c.in-Err-Stuck.field-0 c.in-Err-Stuck.left c.in-Err-Stuck.field-0-is c.in-Err-Stuck.ensures)
+    (stuck_none (spec_at c.as_bytes-bytes.result.now) c.in-Err-Stuck.field-0 c.in-Err-Stuck.stuck c.in-Err-Stuck.field-0-is c.in-Err-Stuck.ensures)
 
 pub returns-in-Err-Stuck-clause-placed : goal.returns-in-Err-Stuck-clause-placed
 returns-in-Err-Stuck-clause-placed c = omega (arith, c.saturating_sub.ensures, ap length c.as_bytes-bytes.ensures.value)
 
 pub first_fault-requires-clause-items : goal.first_fault-requires-clause-items
 first_fault-requires-clause-items c =
-    few_kept _ _ _ _ (all_read _ _ _ _ _ _ c.as_bytes-bytes.ensures.value c.in-Ok.ensures c.deref.ensures.value c.deref-2.ensures.value) c.if-text-gt-MOST_BYTES.false
+    few_parsed _ _ _ _ (all_read _ _ _ _ _ _ c.as_bytes-bytes.ensures.value c.in-Ok.ensures c.deref.ensures.value c.deref-2.ensures.value) c.if-text-gt-MOST_BYTES.false
 
 pub first_fault-requires-clause-groups : goal.first_fault-requires-clause-groups
 first_fault-requires-clause-groups c =

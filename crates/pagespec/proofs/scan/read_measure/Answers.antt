@@ -8,7 +8,7 @@ returns-in-Ok c =
 pub returns-in-Err-TooLarge : goal.returns-in-Err-TooLarge
 returns-in-Err-TooLarge c =
     measure_lost _ _ _ c.in-Err-TooLarge.len c.in-Err-TooLarge.field-0 _ c.in-Err-TooLarge.field-0-is c.in-Err-TooLarge.ensures.none c.split_at-in-Err-TooLarge.ensures.back
-    c.read_unit-stuck.ensures.unit c.read_unit-stuck.ensures.rest
+    c.read_unit.ensures.unit c.read_unit.ensures.rest
 
 pub returns-in-Err-NotANumber : goal.returns-in-Err-NotANumber
 returns-in-Err-NotANumber c = no_measure _ (not_number _ c.in-Err-NotANumber.field-0 c.in-Err-NotANumber.field-0-is c.in-Err-NotANumber.ensures.none)

@@ -1,4 +1,4 @@
--- What is kept of an item, against the item as it is written.
+-- An item as it was parsed, against the item as it is written.
 use Rattle.std.specs.Prelude.{◌≡◌, ℕ, ◌%◌, ℤ, Bool, false, ◌||◌, nat_lt, min, List, [], ◌∷◌, length, count_by, Option}
 use Rattle.std.specs.Prelude.{Some, None, option_map}
 use Rattle.std.specs.List.{list_any}
@@ -7,8 +7,8 @@ use Rattle.profile.specs.Admissible.{has_large, is_scale, is_offset, is_flat}
 use Rattle.lengths.specs.Reading.{least_large}
 use Rattle.pagespec.specs.Reading.{modifiers_at, item_at}
 use Rattle.pagespec.specs.Items.{measure_of}
-use Rattle.pagespec.specs.declared.kept.Modifiers.{Modifiers}
-use Rattle.pagespec.specs.declared.kept.KeptItem.{KeptItem}
+use Rattle.pagespec.specs.declared.parsed.Modifiers.{Modifiers}
+use Rattle.pagespec.specs.declared.parsed.ParsedItem.{ParsedItem}
 
 -- the first scale and the first offset
 abbrev pub first_scale : List Modifier → Option ℤ
@@ -43,11 +43,11 @@ pub record Shows (ms : List Modifier) (s : Modifiers) : Type 0 where
 abbrev pub ModifiersRead : List ℕ → Modifiers → List ℕ → Type 0
 ModifiersRead bytes s rest = (ms : List Modifier) × (modifiers_at (length bytes) bytes ≡ (ms, rest)) × Shows ms s
 
-pub record ItemShows (i : WrittenItem) (k : KeptItem) : Type 0 where
+pub record ItemShows (i : WrittenItem) (k : ParsedItem) : Type 0 where
   pub end : k.from_end ≡ i.from_end
   pub page : k.page ≡ min least_large i.page
   pub modifiers : Shows i.modifiers k.modifiers
 
 -- this item is at the front
-abbrev pub ItemRead : List ℕ → KeptItem → List ℕ → Type 0
+abbrev pub ItemRead : List ℕ → ParsedItem → List ℕ → Type 0
 ItemRead bytes k rest = (i : WrittenItem) × (item_at bytes ≡ Some (i, rest)) × ItemShows i k

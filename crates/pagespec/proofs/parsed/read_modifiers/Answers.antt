@@ -1,7 +1,8 @@
-use Rattle.std.proofs.Common.{arith, ◌≡◌, ◌-◌, ◌+◌, length, ap, ◌∙◌}
+use Rattle.std.proofs.Common.{arith, ◌≡◌, ℕ, ◌-◌, ◌+◌, List, length, ap, ◌∙◌, sym, subst}
 use Rattle.pagespec.specs.Reading.{modifiers_at}
+use Rattle.pagespec.specs.Parsed.{ModifiersRead}
 use Rattle.pagespec.proofs.ModifierLoop.{reads_more, reads_all, step_none, no_fuel}
-use Rattle.pagespec.proofs.kept.read_modifiers.Goals as goal
+use Rattle.pagespec.proofs.parsed.read_modifiers.Goals as goal
 
 pub returns-in-Err : goal.returns-in-Err
 returns-in-Err c =
@@ -15,4 +16,5 @@ loop-preserved c =
 pub returns : goal.returns
 returns c =
     let done : length c.args.bytes.now - c.loop.counter ≡ 0 = omega arith in
-    reads_all (length c.args.bytes.now - c.loop.counter) c.args.bytes.now c.loop.rest.now c.loop.modifiers c.loop.invariant (ap (λ k. modifiers_at k c.loop.rest.now) done ∙ no_fuel c.loop.rest.now)
+    subst (λ (rest : List ℕ). ModifiersRead c.args.bytes.now c.loop.modifiers rest) (sym c.rest_at.ensures)
+    (reads_all (length c.args.bytes.now - c.loop.counter) c.args.bytes.now c.loop.rest.now c.loop.modifiers c.loop.invariant (ap (λ k. modifiers_at k c.loop.rest.now) done ∙ no_fuel c.loop.rest.now))

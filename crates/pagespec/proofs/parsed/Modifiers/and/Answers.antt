@@ -1,7 +1,7 @@
 use Rattle.std.proofs.Common.{ap, ◌∙◌}
 use Rattle.std.specs.Prelude.{◌||◌, not}
 use Rattle.pagespec.proofs.OneMoreModifier.{shows_turn, shows_scale, shows_move, shows_large, not_not, turn_stands, scale_stands, move_stands, large_stands, shows_same}
-use Rattle.pagespec.proofs.kept.Modifiers.and.Goals as goal
+use Rattle.pagespec.proofs.parsed.Modifiers.and.Goals as goal
 
 pub returns-in-Turn : goal.returns-in-Turn
 returns-in-Turn c = λ ms m shows stands.

@@ -1,12 +1,12 @@
-//! What is kept of an item while a text is read: enough to tell every fault of it, and the item itself if it has none.
+//! An item as it is parsed: enough to tell every fault of it, and the item itself if it has none.
 ghost use Rattle.std.specs.Prelude.{◌≡◌, ◌∷◌, ◌++◌, [], List, None, MatchResult, not, int_le, pos};
 ghost use Rattle.profile.specs.Specification.{Modifier as WrittenModifier};
 ghost use Rattle.pagespec.specs.Reading.{is_minus, past_minus, item_at};
 ghost use Rattle.pagespec.specs.Views.{Stands};
-ghost use Rattle.pagespec.specs.Kept.{Shows, ModifiersRead, ItemRead};
+ghost use Rattle.pagespec.specs.Parsed.{Shows, ModifiersRead, ItemRead};
 
 use crate::item::Measure;
-use crate::scan::{Modifier, read_modifier};
+use crate::scan::{Modifier, Rest, Stuck, read_modifier, rest_at};
 use lengths::{Number, read_digits};
 
 /// What an item's modifiers come to, as far as they were read.
@@ -73,32 +73,29 @@ fn is_above_zero(v: Number) -> bool
 
 /// An item as it stands in a text.
 #[derive(Clone, Copy)]
-pub struct KeptItem {
+pub struct ParsedItem {
     pub from_end: bool,
     /// The page number, or 100,000 if it is more.
     pub page: u32,
     pub modifiers: Modifiers,
 }
 
-/// The item at the front, what stands behind it, and how many bytes are left where no modifier went on.
-pub fn read_item(bytes: &[u8]) -> Result<(KeptItem, &[u8], usize), usize>
-    ensures { MatchResult result (λ x. ItemRead bytes.now x.0 x.1.now) (λ left. item_at bytes.now ≡ None) }
+/// The item at the front, and what is left behind it.
+pub fn read_item(bytes: &[u8]) -> Result<(ParsedItem, Rest<'_>), Stuck>
+    ensures { MatchResult result (λ x. ItemRead bytes.now x.0 x.1.text.now) (λ stuck. item_at bytes.now ≡ None) }
 {
     let (from_end, body) = split_minus(bytes);
     match read_digits(body) {
-        Some((page, rest)) => {
-            let (modifiers, behind, left) = read_modifiers(rest);
-            Ok((
-                KeptItem {
-                    from_end,
-                    page,
-                    modifiers,
-                },
-                behind,
-                left,
-            ))
+        Some((page, behind)) => {
+            let (modifiers, rest) = read_modifiers(behind);
+            let item = ParsedItem {
+                from_end,
+                page,
+                modifiers,
+            };
+            Ok((item, rest))
         }
-        None => Err(body.len()),
+        None => Err(Stuck { left: body.len() }),
     }
 }
 
@@ -113,9 +110,9 @@ pub fn split_minus(bytes: &[u8]) -> (bool, &[u8])
     }
 }
 
-/// What the modifiers at the front come to, what stands behind them, and how many bytes are left where none went on.
-pub fn read_modifiers(bytes: &[u8]) -> (Modifiers, &[u8], usize)
-    ensures { ModifiersRead bytes.now result.0 result.1.now }
+/// What the modifiers at the front come to, and what is left behind them.
+pub fn read_modifiers(bytes: &[u8]) -> (Modifiers, Rest<'_>)
+    ensures { ModifiersRead bytes.now result.0 result.1.text.now }
 {
     let mut modifiers = Modifiers::NONE;
     let mut rest = bytes;
@@ -125,8 +122,8 @@ pub fn read_modifiers(bytes: &[u8]) -> (Modifiers, &[u8], usize)
                 modifiers = modifiers.and(modifier);
                 rest = behind;
             }
-            Err(left) => return (modifiers, rest, left),
+            Err(stuck) => return (modifiers, Rest { text: rest, stuck }),
         }
     }
-    (modifiers, rest, rest.len())
+    (modifiers, rest_at(rest))
 }
