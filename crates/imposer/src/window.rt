@@ -1,6 +1,6 @@
 //! Which sheets may be imposed now.
 use crate::options::Workers;
-use crossbeam_utils::Backoff;
+use crossbeam_utils::CachePadded;
 use sheet_text::Job;
 use std::alloc::{AllocFailed, Global};
 use std::cmp::Reverse;
@@ -13,19 +13,30 @@ use std::time::Duration;
 /// About how many bytes the texts of the window's sheets have together.
 const BYTES_AHEAD: usize = 524_288;
 
-/// About how many bytes stand round the pages of a sheet.
-const BYTES_AROUND: usize = 512;
+/// About how many bytes the work has that comes with each sheet, however small.
+const BYTES_BESIDE: usize = 32;
 
 /// How many sheets there are in a window at most.
 const MOST_SHEETS: usize = 4_096;
 
-/// The sheets that may be imposed: `len` of them, from the one on that is written next. Texts that wait for their turn
-/// take memory, so an imposer only holds the number of a sheet that lies further on, and imposes it when the window has
-/// come near.
+/// With as many sheets in a window, nobody is woken before a nap is over.
+const MANY_SHEETS: u32 = 256;
+
+/// Into how many parts a window is divided, each of which it moves at once.
+const PARTS: u32 = 4;
+
+/// How long the shortest and the longest nap is, in microseconds.
+const SHORTEST_NAP: u64 = 50;
+
+const LONGEST_NAP: u64 = 1_000;
+
+/// The sheets that may be imposed: `len` of them, from the one on that is written next. Texts that wait for their
+/// turn take memory, so an imposer only holds the number of a sheet that lies further on, and imposes it when the
+/// window has come near.
 #[derive(Drop)]
 pub(crate) struct Window {
-    /// The sheet that is written next.
-    next: AtomicU64,
+    /// The sheet that is written next, or one a little before it.
+    next: CachePadded<AtomicU64>,
     /// No turn is waited for: the sheet that is written next may never come.
     lifted: AtomicBool,
     len: u32,
@@ -35,9 +46,9 @@ impl Window {
     /// A window of about half a megabyte of text. Two sheets at least, and one for each imposer, lie in it.
     pub(crate) fn new(job: &Job<'_, '_>, workers: Workers) -> Self {
         let text = bytes_of_pages(job) / (job.sheets() as usize).max(1);
-        let fitting = (BYTES_AHEAD / text.saturating_add(BYTES_AROUND)).min(MOST_SHEETS) as u32;
+        let fitting = (BYTES_AHEAD / text.saturating_add(BYTES_BESIDE)).min(MOST_SHEETS) as u32;
         Window {
-            next: AtomicU64::new(0),
+            next: CachePadded::new(AtomicU64::new(0)),
             lifted: AtomicBool::new(false),
             len: fitting.max(workers.imposers).max(2),
         }
@@ -56,34 +67,70 @@ impl Window {
         self.next().saturating_add(self.len)
     }
 
-    /// The sheet that is written next.
-    fn next(&self) -> u32 {
+    /// The sheet that is written next, or one a little before it.
+    pub(crate) fn next(&self) -> u32 {
         u32::try_from(self.next.load(SeqCst)).unwrap_or(u32::MAX)
     }
 
-    /// All sheets before this one were written.
+    /// All sheets before this one were written. It is told once they are a part of the window, since imposers look
+    /// for each sheet.
+    pub(crate) fn come_to(&self, next: u32) {
+        if next >= self.next().saturating_add(self.len / PARTS) {
+            self.move_to(next);
+        }
+    }
+
+    /// All sheets before this one were written. Who waits for the window is woken.
     pub(crate) fn move_to(&self, next: u32) {
-        self.next.store(u64::from(next), SeqCst);
+        if next != self.next() {
+            self.next.store(u64::from(next), SeqCst);
+            self.wake();
+        }
     }
 
     /// From now on no turn is waited for: a sheet doesn't come, or nothing more is written.
     pub(crate) fn lift(&self) {
         self.lifted.store(true, SeqCst);
+        self.wake();
     }
 
-    /// Waits a little, and sleeps if waiting was long in vain.
-    pub(crate) fn rest<R: Wait>(&self, rt: &R, backoff: &Backoff) {
-        if backoff.is_completed() {
-            self.next
-                .park_timeout(rt, self.next(), Duration::from_micros(50));
-        } else {
-            backoff.snooze();
+    /// Wakes all who rest, if sheets are so large that they would be waited for. Many small ones are left to wait for
+    /// the end of a nap, since threads that go on at the same time get in each other's way.
+    pub(crate) fn wake(&self) {
+        if self.len < MANY_SHEETS {
+            self.next.wake_all();
         }
+    }
+
+    /// Sleeps until the window moves or somebody wakes it, but not for long.
+    pub(crate) fn rest<R: Wait>(&self, rt: &R, nap: &mut Nap) {
+        self.next.park_timeout(rt, self.next(), nap.next());
+    }
+}
+
+/// How long a thread with nothing to do sleeps: at first shortly, then twice as long each time.
+#[derive(Drop)]
+pub(crate) struct Nap {
+    microseconds: u64,
+}
+
+impl Nap {
+    pub(crate) fn new() -> Self {
+        Nap {
+            microseconds: SHORTEST_NAP,
+        }
+    }
+
+    /// The length of the next one.
+    fn next(&mut self) -> Duration {
+        let length = Duration::from_micros(self.microseconds);
+        self.microseconds = self.microseconds.saturating_mul(2).min(LONGEST_NAP);
+        length
     }
 }
 
 /// How many bytes all pages have together.
-fn bytes_of_pages(job: &Job<'_, '_>) -> usize {
+pub(crate) fn bytes_of_pages(job: &Job<'_, '_>) -> usize {
     let mut bytes = 0usize;
     for page in 0..job.plan().pages() {
         bytes = bytes.saturating_add(job.document().page(page).len());
