@@ -9,8 +9,7 @@ pub enum Step {
     Impose(u32),
 }
 
-/// Is told of each step, before it and after it. What a gate does is its own: it may wait, as tests of the threads
-/// do.
+/// Is told of each step, before it and after it. What a gate does is its own: it may wait, as tests of the threads do.
 pub trait Gate {
     fn before(&self, step: Step);
 

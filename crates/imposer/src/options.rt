@@ -23,8 +23,8 @@ impl Workers {
     }
 }
 
-/// The paper that pages are made for, the width of a border round each placed page, if one is asked for, the number
-/// of sides of a signature, if the pages are to be put into signatures, and the numbers of workers. A signature has a
+/// The paper that pages are made for, the width of a border round each placed page, if one is asked for, the number of
+/// sides of a signature, if the pages are to be put into signatures, and the numbers of workers. A signature has a
 /// positive multiple of four sides, at most 1,000,000.
 #[derive(Clone, Copy, Debug, PartialEq, Eq)]
 pub struct Options {

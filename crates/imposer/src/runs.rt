@@ -32,9 +32,8 @@ use std::thread::Threads;
 /// written then. After `NoMemory` and `Write` the sink has taken the first `written` bytes of the output.
 /// The sink isn't flushed.
 ///
-/// Preparers and imposers run in threads of their own, and the caller's thread writes the sheets in order, each as
-/// soon as all before it are written. No byte depends on the numbers of workers or on how the threads run beside each
-/// other.
+/// Preparers and imposers run in threads of their own, and the caller's thread writes the sheets in order, each as soon
+/// as all before it are written. No byte depends on the numbers of workers or on how the threads run beside each other.
 pub fn run<R: Threads + Wait + Sync, G: Gate + Sync, S: Sink>(
     rt: &R,
     alloc: Global,
