@@ -7,7 +7,7 @@ ghost use Rattle.sheet_writer.specs.Writing.{StandsSince, GoesOn, AreEarly};
 
 use crate::channel::{RuledJob, SheetReceiver, SheetRule, Texts, Ticket};
 use crate::spent::Returns;
-use crate::window::{Nap, Window};
+use crate::window::{Idling, Window};
 use crossbeam_queue::ArrayQueue;
 use sheet_text::Job;
 use sheet_writer::{Early, Progress, Sink, write_early, write_text};
@@ -80,9 +80,9 @@ fn take_all<R: Wait, T: Texts, S: Sink>(
     ensures goes_on { GoesOn S.told S.failures input.now.job.now state.old.sink.now state.new.sink.now
         state.old.progress state.new.progress }
 {
-    let mut nap = Nap::new();
+    let mut idling = input.window.idling();
     for _ in rt.forever() {
-        if !take_turn(rt, input, &mut nap, state) {
+        if !take_turn(rt, input, &mut idling, state) {
             break;
         }
     }
@@ -93,7 +93,7 @@ fn take_all<R: Wait, T: Texts, S: Sink>(
 fn take_turn<R: Wait, T: Texts, S: Sink>(
     rt: &R,
     input: &CollectorInput<'_, '_, '_, T>,
-    nap: &mut Nap,
+    idling: &mut Idling,
     state: &mut CollectorState<'_, S>,
 ) -> bool
     requires countable { S.failures state.old.sink.now < u64.MAX }
@@ -112,13 +112,14 @@ fn take_turn<R: Wait, T: Texts, S: Sink>(
     let is_last = input.working.load(SeqCst) == 0;
     if take_one(rt, input, state) {
         input.window.come_to(state.progress.next);
+        idling.end();
         return state.progress.halted.is_none();
     }
     if is_last {
         return false;
     }
     input.window.move_to(state.progress.next);
-    input.window.rest(rt, nap);
+    input.window.rest(rt, idling);
     true
 }
 

@@ -63,17 +63,15 @@ impl Turns {
         }
     }
 
-    /// One page more. If the stint is over, the turn goes to the next worker, and this one waits for it. Whether one
-    /// was over.
-    pub(crate) fn go_on<R: Wait>(&self, rt: &R, stint: &mut Stint) -> bool {
+    /// One page more. If the stint is over, the turn goes to the next worker, and this one waits for it.
+    pub(crate) fn go_on<R: Wait>(&self, rt: &R, stint: &mut Stint) {
         if stint.left > 0 {
             stint.left -= 1;
-            return false;
+            return;
         }
         self.end(stint);
         stint.has_turn = self.len >= FEWEST_IN_TURN && self.wait(rt);
         stint.left = self.len;
-        true
     }
 
     /// Ends a stint before its time.

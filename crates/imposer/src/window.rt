@@ -1,6 +1,6 @@
 //! Which sheets may be imposed now.
 use crate::options::Workers;
-use crossbeam_utils::CachePadded;
+use crossbeam_utils::{Backoff, CachePadded};
 use sheet_text::Job;
 use std::alloc::{AllocFailed, Global};
 use std::cmp::Reverse;
@@ -19,16 +19,13 @@ const BYTES_BESIDE: usize = 32;
 /// How many sheets there are in a window at most.
 const MOST_SHEETS: usize = 4_096;
 
-/// With as many sheets in a window, nobody is woken before a nap is over.
+/// With as many sheets in a window it is moved by a quarter at a time, and who finds nothing to do sleeps.
 const MANY_SHEETS: u32 = 256;
-
-/// Into how many parts a window is divided, each of which it moves at once.
-const PARTS: u32 = 4;
 
 /// How long the shortest and the longest nap is, in microseconds.
 const SHORTEST_NAP: u64 = 50;
 
-const LONGEST_NAP: u64 = 1_000;
+const LONGEST_NAP: u64 = 400;
 
 /// The sheets that may be imposed: `len` of them, from the one on that is written next. Texts that wait for their
 /// turn take memory, so an imposer only holds the number of a sheet that lies further on, and imposes it when the
@@ -40,6 +37,8 @@ pub(crate) struct Window {
     /// No turn is waited for: the sheet that is written next may never come.
     lifted: AtomicBool,
     len: u32,
+    /// How many sheets are written before it is told.
+    step: u32,
 }
 
 impl Window {
@@ -47,10 +46,12 @@ impl Window {
     pub(crate) fn new(job: &Job<'_, '_>, workers: Workers) -> Self {
         let text = bytes_of_pages(job) / (job.sheets() as usize).max(1);
         let fitting = (BYTES_AHEAD / text.saturating_add(BYTES_BESIDE)).min(MOST_SHEETS) as u32;
+        let len = fitting.max(workers.imposers).max(2);
         Window {
             next: CachePadded::new(AtomicU64::new(0)),
             lifted: AtomicBool::new(false),
-            len: fitting.max(workers.imposers).max(2),
+            len,
+            step: if len < MANY_SHEETS { 1 } else { len / 4 },
         }
     }
 
@@ -68,64 +69,72 @@ impl Window {
     }
 
     /// The sheet that is written next, or one a little before it.
-    pub(crate) fn next(&self) -> u32 {
+    fn next(&self) -> u32 {
         u32::try_from(self.next.load(SeqCst)).unwrap_or(u32::MAX)
     }
 
-    /// All sheets before this one were written. It is told once they are a part of the window, since imposers look
-    /// for each sheet.
+    /// All sheets before this one were written. If a window has many sheets, a quarter of it is told at once, since
+    /// imposers look at this word for each sheet.
     pub(crate) fn come_to(&self, next: u32) {
-        if next >= self.next().saturating_add(self.len / PARTS) {
+        if next >= self.next().saturating_add(self.step) {
             self.move_to(next);
         }
     }
 
-    /// All sheets before this one were written. Who waits for the window is woken.
+    /// All sheets before this one were written.
     pub(crate) fn move_to(&self, next: u32) {
-        if next != self.next() {
-            self.next.store(u64::from(next), SeqCst);
-            self.wake();
-        }
+        self.next.store(u64::from(next), SeqCst);
     }
 
     /// From now on no turn is waited for: a sheet doesn't come, or nothing more is written.
     pub(crate) fn lift(&self) {
         self.lifted.store(true, SeqCst);
-        self.wake();
     }
 
-    /// Wakes all who rest, if sheets are so large that they would be waited for. Many small ones are left to wait for
-    /// the end of a nap, since threads that go on at the same time get in each other's way.
-    pub(crate) fn wake(&self) {
-        if self.len < MANY_SHEETS {
-            self.next.wake_all();
+    /// Waits a little for the window to move or something else to come.
+    pub(crate) fn rest<R: Wait>(&self, rt: &R, idling: &mut Idling) {
+        if self.step == 1 && !idling.backoff.is_completed() {
+            idling.backoff.snooze();
+        } else {
+            self.next.park_timeout(rt, self.next(), idling.next_nap());
         }
     }
 
-    /// Sleeps until the window moves or somebody wakes it, but not for long.
-    pub(crate) fn rest<R: Wait>(&self, rt: &R, nap: &mut Nap) {
-        self.next.park_timeout(rt, self.next(), nap.next());
+    /// For a thread that begins to look for work.
+    pub(crate) fn idling(&self) -> Idling {
+        Idling {
+            backoff: Backoff::new(),
+            nap: SHORTEST_NAP,
+            longest: if self.step == 1 {
+                SHORTEST_NAP
+            } else {
+                LONGEST_NAP
+            },
+        }
     }
 }
 
-/// How long a thread with nothing to do sleeps: at first shortly, then twice as long each time.
+/// How a thread waits that finds nothing to do. If sheets are large it backs off and then sleeps shortly, until it has found
+/// something. If they are small it sleeps, twice as long each time, until there are many to do at once.
 #[derive(Drop)]
-pub(crate) struct Nap {
-    microseconds: u64,
+pub(crate) struct Idling {
+    backoff: Backoff,
+    /// The length of the next nap and of the longest, in microseconds.
+    nap: u64,
+    longest: u64,
 }
 
-impl Nap {
-    pub(crate) fn new() -> Self {
-        Nap {
-            microseconds: SHORTEST_NAP,
-        }
+impl Idling {
+    /// Something was found.
+    pub(crate) fn end(&self) {
+        self.backoff.reset();
     }
 
-    /// The length of the next one.
-    fn next(&mut self) -> Duration {
-        let length = Duration::from_micros(self.microseconds);
-        self.microseconds = self.microseconds.saturating_mul(2).min(LONGEST_NAP);
-        length
+    /// How long to sleep now.
+    fn next_nap(&mut self) -> Duration {
+        let nap = Duration::from_micros(self.nap);
+        self.nap = self.nap.saturating_mul(2).min(self.longest);
+        nap
     }
 }
 
