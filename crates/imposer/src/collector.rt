@@ -6,8 +6,9 @@ ghost use Rattle.profile.specs.Filters.{preamble_text};
 ghost use Rattle.sheet_writer.specs.Writing.{StandsSince, GoesOn, AreEarly};
 
 use crate::channel::{RuledJob, SheetReceiver, SheetRule, Texts, Ticket};
-use crate::window::Window;
-use crossbeam_utils::Backoff;
+use crate::spent::Returns;
+use crate::window::{Idling, Window};
+use crossbeam_queue::ArrayQueue;
 use sheet_text::Job;
 use sheet_writer::{Early, Progress, Sink, write_early, write_text};
 use std::sync::Wait;
@@ -24,13 +25,15 @@ pub(crate) struct CollectorInput<'s, 'j, 'd, T: Texts> {
     /// How many imposers haven't ended.
     pub(crate) working: &'s AtomicU32,
     pub(crate) receiver: &'s SheetReceiver<T>,
+    /// Where texts go that were written.
+    pub(crate) spent: &'s ArrayQueue<Vec<u8>>,
     /// It moves as sheets are written.
     pub(crate) window: &'s Window,
     ghost same_job: { ruled.now.job.now ≡ job.now },
 }
 
-/// What the collector writes to, and the sheets that came before their turn. It owns no memory, so that what becomes of
-/// the sink is known to whom it belongs.
+/// What the collector writes to, and the sheets that came before their turn. It owns no memory, so that what becomes
+/// of the sink is known to whom it belongs.
 #[derive(Drop)]
 pub(crate) struct CollectorState<'a, S> {
     pub(crate) sink: &'a mut S,
@@ -77,20 +80,20 @@ fn take_all<R: Wait, T: Texts, S: Sink>(
     ensures goes_on { GoesOn S.told S.failures input.now.job.now state.old.sink.now state.new.sink.now
         state.old.progress state.new.progress }
 {
-    let backoff = Backoff::new();
+    let mut idling = input.window.idling();
     for _ in rt.forever() {
-        if !take_turn(rt, input, &backoff, state) {
+        if !take_turn(rt, input, &mut idling, state) {
             break;
         }
     }
 }
 
-/// Takes a sheet if one was finished, and waits a little if none was. False if nothing is to come, or nothing more is
-/// to be written.
+/// Takes a sheet if one was finished, and sleeps a little if none was. False if nothing is to come, or nothing more
+/// is to be written.
 fn take_turn<R: Wait, T: Texts, S: Sink>(
     rt: &R,
     input: &CollectorInput<'_, '_, '_, T>,
-    backoff: &Backoff,
+    idling: &mut Idling,
     state: &mut CollectorState<'_, S>,
 ) -> bool
     requires countable { S.failures state.old.sink.now < u64.MAX }
@@ -108,12 +111,16 @@ fn take_turn<R: Wait, T: Texts, S: Sink>(
     // Asked before the channel is: what the last imposer sent is there then.
     let is_last = input.working.load(SeqCst) == 0;
     if take_one(rt, input, state) {
-        input.window.move_to(state.progress.next);
-        backoff.reset();
+        input.window.come_to(state.progress.next);
+        idling.end();
         return state.progress.halted.is_none();
     }
-    input.window.rest(rt, backoff);
-    !is_last
+    if is_last {
+        return false;
+    }
+    input.window.move_to(state.progress.next);
+    input.window.rest(rt, idling);
+    true
 }
 
 /// Takes a finished sheet, and writes those whose turn it is now. False if no sheet was there.
@@ -141,6 +148,10 @@ fn take_one<R: Wait, T: Texts, S: Sink>(
         return false;
     };
     state.early.put(done);
-    state.progress = write_early(input.job, state.sink, state.progress, state.early);
+    let returns = Returns {
+        rt,
+        texts: input.spent,
+    };
+    state.progress = write_early(input.job, state.sink, state.progress, state.early, &returns);
     true
 }

@@ -26,7 +26,8 @@ use crate::outcome::{Report, RunError};
 use crate::setup::Setup;
 use crate::shared::{Shared, WorkerInput};
 use crate::tokens::{Holding, Tokens};
-use crate::window::Window;
+use crate::turns::Turns;
+use crate::window::{Window, bytes_of_pages};
 use gather_table::{GatherTable, Seat};
 use handover::{Overflow, Pass, Ready, Shelf};
 use sheet_text::Job;
@@ -49,8 +50,8 @@ pub struct Gathered<'d> {
     pub tokens: Option<(Seat, Pass)>,
 }
 
-/// Lets preparers deliver the document's pages and imposers impose the sheets, while the caller's thread writes them in
-/// order, each as soon as all before it are written. What no imposer sent is made at the end, in its place.
+/// Lets preparers deliver the document's pages and imposers impose the sheets, while the caller's thread writes them
+/// in order, each as soon as all before it are written. What no imposer sent is made at the end, in its place.
 ///
 /// The table is one of the job's plan, seat and pass have seen nothing yet, and the queue has room for every sheet.
 /// Each worker has a seat and a pass of its own, which are joined when it ends.
@@ -103,6 +104,7 @@ pub fn gather<'j, 'd, R: Threads + Wait + Sync, G: Gate + Sync, S: Sink>(
     seat.share();
     pass.share();
     let tokens = Tokens { seat, pass };
+    let page_len = bytes_of_pages(job) / (job.plan().pages() as usize).max(1);
     let shared = Shared {
         alloc,
         gate,
@@ -113,6 +115,8 @@ pub fn gather<'j, 'd, R: Threads + Wait + Sync, G: Gate + Sync, S: Sink>(
         running: AtomicU32::new(workers.preparers),
         working: AtomicU32::new(workers.imposers),
         window: Window::new(job, workers),
+        preparing: Turns::new(page_len),
+        imposing: Turns::new(page_len),
     };
     gather_as::<Brand, R, G, S>(rt, &shared, tokens, workers, sink)
 }
@@ -150,6 +154,7 @@ fn gather_as<'d, T: Texts + Send + Sync, R: Threads + Wait + Sync, G: Gate + Syn
         receiver,
         mut receiving,
         sending,
+        spent,
     } = setup;
     let ruled = RuledJob {
         job: &*job,
@@ -158,6 +163,7 @@ fn gather_as<'d, T: Texts + Send + Sync, R: Threads + Wait + Sync, G: Gate + Syn
     let worker_input = WorkerInput {
         shared: &*shared,
         sender: &sender,
+        spent: &spent,
         ruled: &ruled,
     };
     let collector_input = CollectorInput {
@@ -165,6 +171,7 @@ fn gather_as<'d, T: Texts + Send + Sync, R: Threads + Wait + Sync, G: Gate + Syn
         ruled: &ruled,
         working: &shared.working,
         receiver: &receiver,
+        spent: &spent,
         window: &shared.window,
     };
     let state = CollectorState {

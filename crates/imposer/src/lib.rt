@@ -12,9 +12,11 @@ mod preparing;
 mod runs;
 mod setup;
 mod shared;
+mod spent;
 #[cfg(test)]
 mod tests;
 mod tokens;
+mod turns;
 mod window;
 mod work;
 

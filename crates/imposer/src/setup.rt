@@ -7,12 +7,13 @@ ghost use Rattle.sheet_writer.specs.Writing.{AreEarly};
 
 use crate::channel::{SheetReceiver, SheetRule, SheetSender, Texts, Ticket};
 use crossbeam_channel::bounded_with;
+use crossbeam_queue::ArrayQueue;
 use sheet_text::Job;
 use sheet_writer::Early;
 use std::alloc::{AllocError, Global};
 
-/// The texts round the sheets, places for sheets that come before their turn, and the channel of finished sheets, with
-/// a ticket for the collector and one for the imposers.
+/// The texts round the sheets, places for sheets that come before their turn, and the channel of finished sheets,
+/// with a ticket for the collector and one for the imposers.
 #[derive(Drop)]
 pub(crate) struct Setup<T: Texts> {
     pub(crate) header: Vec<u8>,
@@ -22,6 +23,8 @@ pub(crate) struct Setup<T: Texts> {
     pub(crate) receiver: SheetReceiver<T>,
     pub(crate) receiving: Ticket,
     pub(crate) sending: Ticket,
+    /// For texts that were written.
+    pub(crate) spent: ArrayQueue<Vec<u8>>,
 }
 
 impl<T: Texts> Setup<T> {
@@ -41,6 +44,7 @@ impl<T: Texts> Setup<T> {
             alloc,
             room as usize,
         )?;
+        let spent = ArrayQueue::new(alloc, room as usize)?;
         let sending = sender.another::<SheetRule<T>>(&mut receiving);
         Ok(Setup {
             header,
@@ -50,6 +54,7 @@ impl<T: Texts> Setup<T> {
             receiver,
             receiving,
             sending,
+            spent,
         })
     }
 }

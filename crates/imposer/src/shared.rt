@@ -3,7 +3,9 @@ ghost use Rattle.std.specs.Prelude.{◌≡◌};
 ghost use Rattle.profile.specs.Sheets.{layout};
 
 use crate::channel::{RuledJob, SheetSender, Texts};
+use crate::turns::Turns;
 use crate::window::Window;
+use crossbeam_queue::ArrayQueue;
 use gather_table::GatherTable;
 use handover::{Ready, Shelf};
 use sheet_text::Job;
@@ -25,6 +27,9 @@ pub(crate) struct Shared<'s, 'j, 'd, G> {
     pub(crate) working: AtomicU32,
     /// The sheets that may be imposed now.
     pub(crate) window: Window,
+    /// Preparers take turns, and so do imposers.
+    pub(crate) preparing: Turns,
+    pub(crate) imposing: Turns,
     ghost same_plan: { table.now.layout ≡ layout job.now.plan },
 }
 
@@ -33,6 +38,8 @@ pub(crate) struct Shared<'s, 'j, 'd, G> {
 pub(crate) struct WorkerInput<'s, 'j, 'd, T: Texts, G> {
     pub(crate) shared: &'s Shared<'s, 'j, 'd, G>,
     pub(crate) sender: &'s SheetSender<T>,
+    /// Texts that were written, whose memory is used again.
+    pub(crate) spent: &'s ArrayQueue<Vec<u8>>,
     /// The same job, with the texts of the channel's rule.
     pub(crate) ruled: &'s RuledJob<'s, 'j, 'd, T>,
     ghost same_job: { ruled.now.job.now ≡ shared.now.job.now },

@@ -1,6 +1,6 @@
 //! Which sheets may be imposed now.
 use crate::options::Workers;
-use crossbeam_utils::Backoff;
+use crossbeam_utils::{Backoff, CachePadded};
 use sheet_text::Job;
 use std::alloc::{AllocFailed, Global};
 use std::cmp::Reverse;
@@ -13,33 +13,45 @@ use std::time::Duration;
 /// About how many bytes the texts of the window's sheets have together.
 const BYTES_AHEAD: usize = 524_288;
 
-/// About how many bytes stand round the pages of a sheet.
-const BYTES_AROUND: usize = 512;
+/// About how many bytes the work has that comes with each sheet, however small.
+const BYTES_BESIDE: usize = 32;
 
 /// How many sheets there are in a window at most.
 const MOST_SHEETS: usize = 4_096;
 
-/// The sheets that may be imposed: `len` of them, from the one on that is written next. Texts that wait for their turn
-/// take memory, so an imposer only holds the number of a sheet that lies further on, and imposes it when the window has
-/// come near.
+/// With as many sheets in a window it is moved by a quarter at a time, and who finds nothing to do sleeps.
+const MANY_SHEETS: u32 = 256;
+
+/// How long the shortest and the longest nap is, in microseconds.
+const SHORTEST_NAP: u64 = 50;
+
+const LONGEST_NAP: u64 = 400;
+
+/// The sheets that may be imposed: `len` of them, from the one on that is written next. Texts that wait for their
+/// turn take memory, so an imposer only holds the number of a sheet that lies further on, and imposes it when the
+/// window has come near.
 #[derive(Drop)]
 pub(crate) struct Window {
-    /// The sheet that is written next.
-    next: AtomicU64,
+    /// The sheet that is written next, or one a little before it.
+    next: CachePadded<AtomicU64>,
     /// No turn is waited for: the sheet that is written next may never come.
     lifted: AtomicBool,
     len: u32,
+    /// How many sheets are written before it is told.
+    step: u32,
 }
 
 impl Window {
     /// A window of about half a megabyte of text. Two sheets at least, and one for each imposer, lie in it.
     pub(crate) fn new(job: &Job<'_, '_>, workers: Workers) -> Self {
         let text = bytes_of_pages(job) / (job.sheets() as usize).max(1);
-        let fitting = (BYTES_AHEAD / text.saturating_add(BYTES_AROUND)).min(MOST_SHEETS) as u32;
+        let fitting = (BYTES_AHEAD / text.saturating_add(BYTES_BESIDE)).min(MOST_SHEETS) as u32;
+        let len = fitting.max(workers.imposers).max(2);
         Window {
-            next: AtomicU64::new(0),
+            next: CachePadded::new(AtomicU64::new(0)),
             lifted: AtomicBool::new(false),
-            len: fitting.max(workers.imposers).max(2),
+            len,
+            step: if len < MANY_SHEETS { 1 } else { len / 4 },
         }
     }
 
@@ -56,9 +68,17 @@ impl Window {
         self.next().saturating_add(self.len)
     }
 
-    /// The sheet that is written next.
+    /// The sheet that is written next, or one a little before it.
     fn next(&self) -> u32 {
         u32::try_from(self.next.load(SeqCst)).unwrap_or(u32::MAX)
+    }
+
+    /// All sheets before this one were written. If a window has many sheets, a quarter of it is told at once, since
+    /// imposers look at this word for each sheet.
+    pub(crate) fn come_to(&self, next: u32) {
+        if next >= self.next().saturating_add(self.step) {
+            self.move_to(next);
+        }
     }
 
     /// All sheets before this one were written.
@@ -71,19 +91,55 @@ impl Window {
         self.lifted.store(true, SeqCst);
     }
 
-    /// Waits a little, and sleeps if waiting was long in vain.
-    pub(crate) fn rest<R: Wait>(&self, rt: &R, backoff: &Backoff) {
-        if backoff.is_completed() {
-            self.next
-                .park_timeout(rt, self.next(), Duration::from_micros(50));
+    /// Waits a little for the window to move or something else to come.
+    pub(crate) fn rest<R: Wait>(&self, rt: &R, idling: &mut Idling) {
+        if self.step == 1 && !idling.backoff.is_completed() {
+            idling.backoff.snooze();
         } else {
-            backoff.snooze();
+            self.next.park_timeout(rt, self.next(), idling.next_nap());
+        }
+    }
+
+    /// For a thread that begins to look for work.
+    pub(crate) fn idling(&self) -> Idling {
+        Idling {
+            backoff: Backoff::new(),
+            nap: SHORTEST_NAP,
+            longest: if self.step == 1 {
+                SHORTEST_NAP
+            } else {
+                LONGEST_NAP
+            },
         }
     }
 }
 
+/// How a thread waits that finds nothing to do. If sheets are large it backs off and then sleeps shortly, until it has found
+/// something. If they are small it sleeps, twice as long each time, until there are many to do at once.
+#[derive(Drop)]
+pub(crate) struct Idling {
+    backoff: Backoff,
+    /// The length of the next nap and of the longest, in microseconds.
+    nap: u64,
+    longest: u64,
+}
+
+impl Idling {
+    /// Something was found.
+    pub(crate) fn end(&self) {
+        self.backoff.reset();
+    }
+
+    /// How long to sleep now.
+    fn next_nap(&mut self) -> Duration {
+        let nap = Duration::from_micros(self.nap);
+        self.nap = self.nap.saturating_mul(2).min(self.longest);
+        nap
+    }
+}
+
 /// How many bytes all pages have together.
-fn bytes_of_pages(job: &Job<'_, '_>) -> usize {
+pub(crate) fn bytes_of_pages(job: &Job<'_, '_>) -> usize {
     let mut bytes = 0usize;
     for page in 0..job.plan().pages() {
         bytes = bytes.saturating_add(job.document().page(page).len());

@@ -55,7 +55,7 @@ pub fn impose<'d>(
         table: &*table,
         shelf: &*shelf,
     };
-    imposition.impose(alloc, &mut Openings::new(alloc), seat, sheet)
+    imposition.impose(Vec::new(alloc), &mut Openings::new(alloc), seat, sheet)
 }
 
 /// What sheets are imposed of: a job, the table of its plan, and the shelf on which the pages stand.
@@ -68,10 +68,11 @@ pub struct Imposition<'s, 'j, 't, 'd> {
 }
 
 impl<'s, 'j, 't, 'd> Imposition<'s, 'j, 't, 'd> {
-    /// Does what `impose` does, with texts before placed pages that were kept from other sheets.
+    /// Does what `impose` does, with texts before placed pages that were kept from other sheets, and in the memory of
+    /// `spent`, a text that nobody needs any more or an empty one.
     pub fn impose(
         &self,
-        alloc: Global,
+        spent: Vec<u8>,
         openings: &mut Openings,
         seat: &mut Seat,
         sheet: u32,
@@ -86,7 +87,7 @@ impl<'s, 'j, 't, 'd> Imposition<'s, 'j, 't, 'd> {
             (λ e. LooksUpUntil (pages_of self.now.table.now.layout sheet) e seat.old seat.new) }
     {
         let job = self.job;
-        let Ok(mut text) = begin_sheet(alloc, job, sheet) else {
+        let Ok(mut text) = begin_sheet(spent, job, sheet) else {
             return Err(ImposeError::NoMemory);
         };
         match self.append_shelved_slots(&mut text, openings, seat, sheet) {

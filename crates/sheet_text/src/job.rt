@@ -9,8 +9,8 @@ use lengths::{Grains, Paper};
 use sheet_plan::Plan;
 use std::marker::Model;
 
-/// A plan of the pages of a document, the paper that they are made for, and a border round each placed page, if one is
-/// asked for.
+/// A plan of the pages of a document, the paper that they are made for, and a border round each placed page, if one
+/// is asked for.
 #[derive(Drop)]
 pub struct Job<'j, 'd> {
     pub(crate) plan: &'j Plan<'j>,

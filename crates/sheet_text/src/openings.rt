@@ -12,7 +12,8 @@ use std::alloc::{AllocError, Global};
 /// How many texts are kept at most.
 const MOST_KEPT: usize = 64;
 
-/// The texts before placed pages, each printed once and kept. A specification has few items, and its sheets repeat them.
+/// The texts before placed pages, each printed once and kept. A specification has few items, and its sheets repeat
+/// them.
 #[derive(Drop)]
 pub struct Openings {
     alloc: Global,

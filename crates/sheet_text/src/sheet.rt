@@ -15,24 +15,27 @@ use itoa::Buffer;
 use placement::closing_text;
 use std::alloc::{AllocError, Global};
 
-/// The text of a sheet, counted from 0: its page line, each slot's page in order, placed on the sheet, and one `showpage`.
-/// The bodies are prepared anew from the document.
+/// The text of a sheet, counted from 0: its page line, each slot's page in order, placed on the sheet, and one
+/// `showpage`. The bodies are prepared anew from the document.
 pub fn sheet_text(alloc: Global, job: &Job<'_, '_>, sheet: u32) -> Result<Vec<u8>, AllocError>
     requires { sheet < length job.now.plan.sheets }
     ensures { IfOk result (λ text. text.items ≡ text_of job.now sheet) }
 {
-    let mut text = begin_sheet(alloc, job, sheet)?;
+    let mut text = begin_sheet(Vec::new(alloc), job, sheet)?;
     append_slots(alloc, &mut text, job, sheet)?;
     end_sheet(&mut text)?;
     Ok(text)
 }
 
-/// The page line of a sheet, with room for about the whole text of the sheet.
-pub fn begin_sheet(alloc: Global, job: &Job<'_, '_>, sheet: u32) -> Result<Vec<u8>, AllocError>
+/// The page line of a sheet, with room for about the whole text of the sheet. The memory of `spent`, a text that
+/// nobody needs any more or an empty one, is used again.
+pub fn begin_sheet(spent: Vec<u8>, job: &Job<'_, '_>, sheet: u32) -> Result<Vec<u8>, AllocError>
     requires { sheet < length job.now.plan.sheets }
     ensures { IfOk result (λ text. text.items ≡ page_line sheet) }
 {
-    let mut text = Vec::with_capacity(alloc, likely_len(job, sheet))?;
+    let mut text = spent;
+    text.clear();
+    text.reserve(likely_len(job, sheet))?;
     append_page_line(&mut text, sheet)?;
     Ok(text)
 }

@@ -12,8 +12,14 @@ pub struct Imposed {
     pub text: Vec<u8>,
 }
 
-/// Places for sheets that wait for their turn. A sheet has the place that its number leaves when it is divided by their count,
-/// so the sheets of one window have places of their own.
+/// Takes the texts that were written, whose memory may be used again.
+pub trait Spent {
+    /// Takes a text that nobody needs any more.
+    fn give_back(&self, text: Vec<u8>);
+}
+
+/// Places for sheets that wait for their turn. A sheet has the place that its number leaves when it is divided by
+/// their count, so the sheets of one window have places of their own.
 #[derive(Drop)]
 pub struct Early {
     pub places: Vec<Option<Imposed>>,
@@ -31,7 +37,8 @@ impl Early {
         Ok(Early { places })
     }
 
-    /// Puts a sheet in its place. If another sheet is there, the new one is dropped: a sheet that never came is made anew.
+    /// Puts a sheet in its place. If another sheet is there, the new one is dropped: a sheet that never came is made
+    /// anew.
     pub fn put(&mut self, imposed: Imposed)
         ensures { (job : JobView) → imposed.text.items ≡ text_of job imposed.sheet → AreEarly job self.old.places.items
             → AreEarly job self.new.places.items }

@@ -7,6 +7,6 @@ mod sink;
 mod tests;
 mod writing;
 
-pub use early::{Early, Imposed};
+pub use early::{Early, Imposed, Spent};
 pub use sink::{MemorySink, Sink, SinkFault, WriteSink};
 pub use writing::{Halt, Progress, Rest, write_early, write_rest, write_text};

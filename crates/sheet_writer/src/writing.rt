@@ -4,7 +4,7 @@ ghost use Rattle.sheet_text.specs.Jobs.{text_of};
 ghost use Rattle.profile.specs.Filters.{trailer_text};
 ghost use Rattle.sheet_writer.specs.Writing.{Handed, GoesOn, AreEarly, EndsAfter};
 
-use crate::early::Early;
+use crate::early::{Early, Spent};
 use crate::sink::{Sink, write_all};
 use sheet_text::{Job, sheet_text};
 use std::alloc::{AllocError, Global};
@@ -81,12 +81,13 @@ fn write_sheet<S: Sink>(
     }
 }
 
-/// Writes the sheets that came before their turn and whose turn it is now.
-pub fn write_early<S: Sink>(
+/// Writes the sheets that came before their turn and whose turn it is now, and gives back their texts.
+pub fn write_early<S: Sink, B: Spent>(
     job: &Job<'_, '_>,
     sink: &mut S,
     progress: Progress,
     early: &mut Early,
+    spent: &B,
 ) -> Progress
     requires countable { S.failures sink.old < u64.MAX }
     requires going { progress.halted ≡ None }
@@ -101,6 +102,7 @@ pub fn write_early<S: Sink>(
             break;
         };
         progress = write_sheet(job, sink, progress, text.as_slice());
+        spent.give_back(text);
         if progress.halted.is_some() {
             break;
         }
@@ -115,8 +117,8 @@ pub struct Rest {
     pub swept: u32,
 }
 
-/// Writes what is left when all workers have ended: the other sheets in order, each made anew if it never came, and the
-/// trailer. After a halt nothing more is written.
+/// Writes what is left when all workers have ended: the other sheets in order, each made anew if it never came, and
+/// the trailer. After a halt nothing more is written.
 pub fn write_rest<S: Sink>(
     alloc: Global,
     job: &Job<'_, '_>,
