@@ -3,7 +3,7 @@ use Rattle.std.proofs.Common.{◌≡◌, ℕ, true, false, List, [], ◌∷◌, 
 use Rattle.std.specs.Prelude.{codes, None, Some}
 use Rattle.std.specs.Fmt.{digits}
 use Rattle.profile.specs.Papers.{points}
-use Rattle.guard.specs.Header.{stays, put_in}
+use Rattle.guard.specs.Header.{stays, is_last, put_in}
 use Rattle.guard.specs.Guard.{page_size_line, guard_lines}
 
 abbrev one : List (List ℕ)
@@ -46,6 +46,50 @@ count_of_pages = refl
 trailer : stays (codes "%%Trailer") ≡ false
 trailer = refl
 
+end_of_file : stays (codes "%%EOF") ≡ false
+end_of_file = refl
+
+-- a key that is longer than these is another one
+longer_key : stays (codes "%%EOFs") ≡ true
+longer_key = refl
+
+-- each key that begins so ends them, whatever it goes on with
+data_block : stays (codes "%%BeginData: 1") ≡ false
+data_block = refl
+
+begin_alone : stays (codes "%%Begin") ≡ false
+begin_alone = refl
+
+shorter_than_begin : stays (codes "%%Begi") ≡ true
+shorter_than_begin = refl
+
+-- the bytes that print, on both sides
+first_that_prints : stays (37 ∷ 33 ∷ []) ≡ true
+first_that_prints = refl
+
+before_first_that_prints : stays (37 ∷ 32 ∷ []) ≡ false
+before_first_that_prints = refl
+
+last_that_prints : stays (37 ∷ 126 ∷ []) ≡ true
+last_that_prints = refl
+
+behind_last_that_prints : stays (37 ∷ 127 ∷ []) ≡ false
+behind_last_that_prints = refl
+
+-- Which line is the last of them.
+
+end_comments : is_last (codes "%%EndComments") ≡ true
+end_comments = refl
+
+blank_behind_end_comments : is_last (codes "%%EndComments ") ≡ true
+blank_behind_end_comments = refl
+
+longer_end_comments : is_last (codes "%%EndCommentsX") ≡ false
+longer_end_comments = refl
+
+shorter_end_comments : is_last (codes "%%EndComment") ≡ false
+shorter_end_comments = refl
+
 -- Where lines are put in.
 
 behind_end_comments : put_in one (codes "%!\n%%A\n%%EndComments\n%%B\n%%Page: 1 1\n") ≡ codes "%!\n%%A\n%%EndComments\nx\n%%B\n%%Page: 1 1\n"
@@ -62,6 +106,14 @@ before_text = refl
 
 behind_first_line : put_in one (codes "%!\r\n1 2 add\n") ≡ codes "%!\r\nx\n1 2 add\n"
 behind_first_line = refl
+
+-- a file that ends before it has pages
+before_end_of_file : put_in one (codes "%!\n%%A\n%%EOF\n%%B\n") ≡ codes "%!\n%%A\nx\n%%EOF\n%%B\n"
+before_end_of_file = refl
+
+-- the first line is passed whatever it is
+behind_first_line_that_ends : put_in one (codes "%%EndComments\n%%A\n1\n") ≡ codes "%%EndComments\n%%A\nx\n1\n"
+behind_first_line_that_ends = refl
 
 -- a text without a line end gets one, and an empty text gets the lines alone
 no_end : put_in one (codes "%!") ≡ codes "%!\nx\n"

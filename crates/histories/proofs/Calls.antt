@@ -1,10 +1,10 @@
 -- The calls of a seat, one after the other.
-use Rattle.std.proofs.Common.{◌≡◌, ⊎_elim, ◌⊎◌, inl, inr, ℕ, zero, suc, ◌+◌, ◌<◌, ◌≤◌, List, [], ◌∷◌, ◌++◌, length, refl, sym, ap, ◌∙◌, subst, arith}
+use Rattle.std.proofs.Common.{◌≡◌, ⊎_elim, ◌⊎◌, inl, inr, ℕ, zero, suc, ◌+◌, ◌-◌, ◌<◌, ◌≤◌, List, [], ◌∷◌, ◌++◌, length, refl, sym, ap, ◌∙◌, subst, arith}
 use mathlib.Core.List.{IsPrefix}
 use Rattle.histories.specs.Seats.{longer, times, total}
 use Rattle.histories.specs.Own.{entries_at}
 use Rattle.histories.specs.Calls.{SeatView, IsSeat, Agree, Made, Makes, Split, Met, Joined, own_entries}
-use Rattle.histories.specs.Laws.{CallsStandInOneHistory, OwnEntriesAreKept, WholeSeatMadeAll, OwnEntriesAreOfTheFront}
+use Rattle.histories.specs.Laws.{CallsStandInOneHistory, OwnEntriesAreKept, WholeSeatMadeAll, OwnEntriesAreOfTheFront, SharesAreKept}
 use Rattle.histories.proofs.Fronts.{length_begins}
 use Rattle.histories.proofs.Own.{entries_joined, entries_longer, whole_weight, part_weight, joined_inside}
 use Rattle.histories.proofs.Runs.{Runs, run_begins, run_places, run_owns, run_stands, run_alone, run_entries}
@@ -80,4 +80,19 @@ module _ {K E : Type 0} (Legal : K → List E → Type 0) where
           let cut = total-append weight (own_entries a) (own_entries b) in
           let most = part_weight weight (longer a.front b.front) (a.own ++ b.own) (joined_inside a.front b.front a.own b.own g.one g.two ka.inside kb.inside)
           (λ x. let t : times x (a.own ++ b.own) ≡ times x a.own + times x b.own = times-append x a.own b.own in let one = g.apart x in omega arith) in
+          omega arith
+
+  pub shares_are_kept : SharesAreKept Legal
+  shares_are_kept = (
+    λ old new es m. ap (λ (z : SeatView K E). z.share) (same_makes old new es m),
+    λ a b new j. ap (λ (z : SeatView K E). z.share) j.joined,
+    λ a b a' b' m. (ap (λ (z : SeatView K E). z.share) m.one, ap (λ (z : SeatView K E). z.share) m.two),
+    λ old kept given s. parted old kept given s,
+  )
+    where
+      parted : (old kept given : SeatView K E) → Split Legal old kept given → kept.share + given.share ≡ old.share
+      parted old kept given s =
+          let one : kept.share ≡ old.share - s.share = ap (λ (z : SeatView K E). z.share) s.keeps in
+          let two : given.share ≡ s.share = ap (λ (z : SeatView K E). z.share) s.gives in
+          let less = s.some_share.1 in
           omega arith

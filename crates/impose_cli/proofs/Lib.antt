@@ -2,3 +2,4 @@ pub mod Commands
 pub mod Found
 pub mod Placing
 pub mod Ending
+pub mod Examples

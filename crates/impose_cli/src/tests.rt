@@ -2,6 +2,7 @@
 mod carets;
 mod commands;
 mod messages;
+mod other_messages;
 mod tasks;
 
 use crate::{CommandFault, Request, read_command};

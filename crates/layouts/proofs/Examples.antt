@@ -21,6 +21,22 @@ two_on_a4_scale = refl
 four_on_letter : best_grid (points 612 792) (points 612 792) 4 ≡ record { rows = 2; columns = 2; turned = false }
 four_on_letter = refl
 
+-- two squares stand as well above one another as beside one another, and as well turned as upright: then with the
+-- fewest columns, and upright
+two_squares : best_grid (points 100 100) (points 200 200) 2 ≡ record { rows = 2; columns = 1; turned = false }
+two_squares = refl
+
+-- on a sheet that isn't as high as wide they stand beside one another
+two_on_a_wide_sheet : best_grid (points 100 100) (points 200 199) 2 ≡ record { rows = 1; columns = 2; turned = false }
+two_on_a_wide_sheet = refl
+
+-- a number that columns don't divide: all in one row, or all in one column
+three_on_a_row : best_grid (points 100 100) (points 300 100) 3 ≡ record { rows = 1; columns = 3; turned = false }
+three_on_a_row = refl
+
+three_in_a_column : best_grid (points 100 100) (points 100 300) 3 ≡ record { rows = 3; columns = 1; turned = false }
+three_in_a_column = refl
+
 two_on_a4_text : canonical (n_up (points 595 842) (points 595 842) 2) ≡ codes "2:0L@.706650831(595,.27137)+1L@.706650831(595,421.27137)"
 unfolding digits
 two_on_a4_text = refl
@@ -56,6 +72,10 @@ backs_text = refl
 higher_sheet_text : canonical (n_up (points 595 842) (points 595 844) 1) ≡ codes "0(0,1)"
 unfolding digits
 higher_sheet_text = refl
+
+wider_sheet_text : canonical (n_up (points 595 842) (points 597 842) 1) ≡ codes "0(1,0)"
+unfolding digits
+wider_sheet_text = refl
 
 -- the limits, on both sides
 no_page : is_count 0 ≡ false

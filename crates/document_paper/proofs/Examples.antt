@@ -1,0 +1,134 @@
+-- Documents and their papers, worked out.
+use Rattle.std.proofs.Common.{◌≡◌, ℕ, true, false, List, [], ◌∷◌, refl}
+use Rattle.std.specs.Prelude.{codes, None, Some, pos, neg_ℤ, map}
+use Rattle.profile.specs.Papers.{points}
+use Rattle.document_paper.specs.declared.media.Comment.TheVariants.{DocumentMedia, BoundingBox}
+use Rattle.lengths.specs.Reading.{number_at}
+use Rattle.document_paper.specs.Media.{points_of, is_zero, comment_fields, media_paper, box_paper, document_paper}
+
+-- What a field names.
+
+whole : points_of (codes "595") ≡ Some (pos 75_565_000_000_000)
+unfolding number_at
+whole = refl
+
+with_decimals : points_of (codes "0.5") ≡ Some (pos 63_500_000_000)
+unfolding number_at
+with_decimals = refl
+
+with_unit : points_of (codes "595pt") ≡ None
+unfolding number_at
+with_unit = refl
+
+at_end : points_of (codes "(atend)") ≡ None
+unfolding number_at
+at_end = refl
+
+greatest : points_of (codes "99999") ≡ Some (pos 12_699_873_000_000_000)
+unfolding number_at
+greatest = refl
+
+too_large : points_of (codes "100000") ≡ None
+unfolding number_at
+too_large = refl
+
+-- Where a box begins.
+
+zero : is_zero (points_of (codes "-0.0")) ≡ true
+unfolding number_at
+zero = refl
+
+one_grain : is_zero (Some (pos 1)) ≡ false
+one_grain = refl
+
+below_zero : is_zero (points_of (codes "-1")) ≡ false
+unfolding number_at
+below_zero = refl
+
+no_length : is_zero None ≡ false
+no_length = refl
+
+-- The paper of the fields of a box, and of a medium.
+
+abbrev words : List ℕ → List (List ℕ)
+words letters = map (λ b. b ∷ []) letters
+
+box : box_paper (words (codes "0034")) ≡ Some (points 3 4)
+unfolding number_at
+box = refl
+
+more_behind_box : box_paper (words (codes "00345")) ≡ Some (points 3 4)
+unfolding number_at
+more_behind_box = refl
+
+box_of_three : box_paper (words (codes "003")) ≡ None
+box_of_three = refl
+
+box_beside_left : box_paper (words (codes "1034")) ≡ None
+unfolding number_at
+box_beside_left = refl
+
+box_above_bottom : box_paper (words (codes "0134")) ≡ None
+unfolding number_at
+box_above_bottom = refl
+
+box_without_width : box_paper (words (codes "0004")) ≡ None
+unfolding number_at
+box_without_width = refl
+
+medium : media_paper (words (codes "a34")) ≡ Some (points 3 4)
+unfolding number_at
+medium = refl
+
+more_behind_medium : media_paper (words (codes "a3456")) ≡ Some (points 3 4)
+unfolding number_at
+more_behind_medium = refl
+
+medium_of_two : media_paper (words (codes "a3")) ≡ None
+medium_of_two = refl
+
+medium_without_height : media_paper (words (codes "a30")) ≡ None
+unfolding number_at
+medium_without_height = refl
+
+-- Which comment tells it.
+
+first_of_two : comment_fields (codes "%%A") (codes "%%A: 1" ∷ codes "%%A: 2" ∷ []) ≡ Some (codes "1" ∷ [])
+first_of_two = refl
+
+not_by_longer_key : comment_fields (codes "%%A") (codes "%%AB: 1" ∷ codes "%%A: 2" ∷ []) ≡ Some (codes "2" ∷ [])
+not_by_longer_key = refl
+
+not_without_colon : comment_fields (codes "%%A") (codes "%%A 1" ∷ []) ≡ None
+not_without_colon = refl
+
+no_fields : comment_fields (codes "%%A") (codes "%%A:" ∷ []) ≡ Some []
+no_fields = refl
+
+-- The paper of a document.
+
+media_before_box : document_paper (codes "%!\n%%BoundingBox: 0 0 1 2\n%%DocumentMedia: a 3 4\n") ≡ Some (points 3 4, DocumentMedia)
+unfolding number_at
+media_before_box = refl
+
+box_if_medium_is_none : document_paper (codes "%!\n%%DocumentMedia: (atend)\n%%BoundingBox: 0 0 1 2\n") ≡ Some (points 1 2, BoundingBox)
+unfolding number_at
+box_if_medium_is_none = refl
+
+-- the first comment decides, even if it tells no paper
+second_box : document_paper (codes "%!\n%%BoundingBox: (atend)\n%%BoundingBox: 0 0 1 2\n") ≡ None
+second_box = refl
+
+-- a continuation and a box of a page aren't read
+box_of_a_page : document_paper (codes "%!\n%%+ 0 0 1 2\n%%PageBoundingBox: 0 0 1 2\n") ≡ None
+box_of_a_page = refl
+
+behind_the_header : document_paper (codes "%!\n%%EndComments\n%%BoundingBox: 0 0 1 2\n") ≡ None
+behind_the_header = refl
+
+first_line : document_paper (codes "%%BoundingBox: 0 0 1 2\r") ≡ Some (points 1 2, BoundingBox)
+unfolding number_at
+first_line = refl
+
+empty : document_paper [] ≡ None
+empty = refl
