@@ -11,7 +11,8 @@ use std::alloc::{AllocError, Global};
 use std::marker::Model;
 
 /// For each page the byte at which its body begins, if what is kept of the page is all that stands from there on, so if
-/// lines are dropped at its start alone; else 0, where no body begins. A text has fewer bytes than a `u32` counts.
+/// lines are dropped at its start alone; else 0, where no body begins. A text has at most 2^30 bytes, so a `u32` counts
+/// them.
 #[derive(Drop)]
 pub struct BodyStarts {
     found: Vec<u32>,

@@ -21,6 +21,7 @@ use std::marker::Model;
 pub struct Document<'d> {
     text: &'d [u8],
     starts: Vec<u32>,
+    /// For each page the byte at which its body begins, or 0.
     bodies: Vec<u32>,
     stop: usize,
 }

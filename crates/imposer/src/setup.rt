@@ -28,7 +28,8 @@ pub(crate) struct Setup<T: Texts> {
 }
 
 impl<T: Texts> Setup<T> {
-    /// Places and channel have room for all sheets of a window of this many, so that no imposer waits.
+    /// Places, channel and the queue of written texts have room for all sheets of a window of this many, so that no
+    /// imposer waits.
     pub(crate) fn new(alloc: Global, job: &Job<'_, '_>, window: u32) -> Result<Self, AllocError>
         ensures header { IfOk result (λ s. s.header.items ≡ preamble_text (length job.now.plan.sheets) job.now.units) }
         ensures trailer { IfOk result (λ s. s.trailer.items ≡ trailer_text job.now.units) }

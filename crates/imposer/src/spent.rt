@@ -3,8 +3,7 @@ use crossbeam_queue::ArrayQueue;
 use sheet_writer::Spent;
 use std::sync::Wait;
 
-/// Gives the texts that the collector has written back to the imposers. If there are more than the queue holds, one
-/// is let go.
+/// Gives back to the imposers the texts that the collector has written. One for which the queue has no room is let go.
 #[derive(Drop)]
 pub(crate) struct Returns<'s, R> {
     pub(crate) rt: &'s R,

@@ -19,7 +19,8 @@ const BYTES_BESIDE: usize = 32;
 /// How many sheets there are in a window at most.
 const MOST_SHEETS: usize = 4_096;
 
-/// With as many sheets in a window it is moved by a quarter at a time, and who finds nothing to do sleeps.
+/// With at least so many sheets in a window it is moved by a quarter at a time, and who finds nothing to do sleeps at
+/// once.
 const MANY_SHEETS: u32 = 256;
 
 /// How long the shortest and the longest nap is, in microseconds.
@@ -91,7 +92,7 @@ impl Window {
         self.lifted.store(true, SeqCst);
     }
 
-    /// Waits a little for the window to move or something else to come.
+    /// Yields or sleeps a little. Nobody wakes who sleeps.
     pub(crate) fn rest<R: Wait>(&self, rt: &R, idling: &mut Idling) {
         if self.step == 1 && !idling.backoff.is_completed() {
             idling.backoff.snooze();
@@ -114,8 +115,9 @@ impl Window {
     }
 }
 
-/// How a thread waits that finds nothing to do. If sheets are large it backs off and then sleeps shortly, until it has found
-/// something. If they are small it sleeps, twice as long each time, until there are many to do at once.
+/// How a thread waits that finds nothing to do. If sheets are large it backs off, then sleeps shortly, until it has
+/// found something. If they are small it sleeps at once, and twice as long each further time of the run, up to the
+/// longest.
 #[derive(Drop)]
 pub(crate) struct Idling {
     backoff: Backoff,

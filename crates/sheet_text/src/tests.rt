@@ -81,7 +81,7 @@ fn a_sheet_with_a_border(rt: HostRuntime) -> Result<(), Fail> {
 fn a_sheet_asks_for_little_more_room_than_its_text(rt: HostRuntime) -> Result<(), Fail> {
     let a4 = paper_by_name("a4").expect(&rt, "a4 is a paper");
     let text = text_of_one(&rt, rt.alloc(), a4, None)?;
-    // 64 bytes, the page's own in the document, and 512 round it.
+    // 64 bytes, those of the document, of which the page is a part, and 512 round it.
     let room = 64 + ONE_PAGE.len() + 512;
     if text.capacity() > room {
         panic!(rt;

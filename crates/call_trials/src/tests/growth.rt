@@ -1,5 +1,5 @@
-//! Calls and runs in which each growth is refused in turn: the answer is that it is out of memory, what stands stays as it
-//! was, and what was written is the first part of the output.
+//! Deliveries and impositions in which each growth is refused in turn: the answer is that it is out of memory, and what
+//! stands stays as it was.
 //!
 //! Run as they are, these trials find that nothing is refused, and compare each answer once. `examples/refused-calls` runs
 //! them beside a library that refuses.

@@ -70,8 +70,8 @@ fn assert_written<R: Abort>(rt: &R, output: &[u8], sink: &MemorySink, written: O
     assert!(rt; output.starts_with(sink.bytes()));
 }
 
-/// Whether a run in which a growth was refused, or none was, may end so: without the room for the number of a sheet that it
-/// holds, a run finishes.
+/// Whether a run in which a growth was refused, or none was, may end so. A run finishes if it was refused the room for
+/// the number of a sheet that it would hold.
 fn is_right(holds: bool, written: Option<u64>, is_refused: bool) -> bool {
     match written {
         Some(_) => is_refused,
