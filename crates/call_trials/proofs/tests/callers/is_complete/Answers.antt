@@ -1,6 +1,6 @@
 use Rattle.std.proofs.Common.{arith, ◌≡◌}
 use Rattle.call_trials.proofs.tests.callers.is_complete.Goals as goal
-use Rattle.imposer.proofs.Reading.{reads_look, seat_stays, seen_complete}
+use Rattle.run_steps.proofs.Reading.{reads_look, seat_stays, seen_complete}
 
 pub returns-clause-seat : goal.returns-clause-seat
 returns-clause-seat c = seat_stays _ _ _ c.requires.seat (reads_look _ _ c.args.sheet c.look.result c.look.ensures)
