@@ -1,6 +1,7 @@
 //! What the trials share: documents and the paper.
 mod callers;
 mod doubled;
+mod examples;
 mod growth;
 
 use lengths::{Paper, paper_by_name};

@@ -1,4 +1,5 @@
 //! Commands, inputs, lines and requests.
+mod examples;
 mod growth;
 
 use pstops_cli::{ReadFault, ReadSource, read_command, read_input};

@@ -5,6 +5,3 @@ mod fields;
 mod media;
 
 pub use media::{Comment, document_paper};
-
-#[cfg(test)]
-mod tests;

@@ -23,8 +23,3 @@ pub use fields::next_field;
 pub use filters::{end_line, prepare};
 pub use keys::key_of;
 pub use lines::{content_end, line_end_after};
-
-#[cfg(test)]
-mod hostile_tests;
-#[cfg(test)]
-mod tests;

@@ -8,6 +8,3 @@ mod text;
 
 pub use header::header_len;
 pub use text::{guarded, put_guard};
-
-#[cfg(test)]
-mod tests;

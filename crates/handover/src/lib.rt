@@ -15,6 +15,3 @@ pub use crate::prepared::Prepared;
 pub use crate::ready::{Full, Ready};
 pub use crate::receipts::{Overflow, PutError, Receipt};
 pub use crate::shelf::Shelf;
-
-#[cfg(test)]
-mod tests;

@@ -18,6 +18,3 @@ pub use printed::printed_task;
 pub use request::{Layout, Request};
 pub use sizes::{length_named, size_named};
 pub use task::{Finished, PaperOrigin, Task, check_layout, prepare, run_request};
-
-#[cfg(test)]
-mod tests;

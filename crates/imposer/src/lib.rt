@@ -13,8 +13,6 @@ mod runs;
 mod setup;
 mod shared;
 mod spent;
-#[cfg(test)]
-mod tests;
 mod tokens;
 mod turns;
 mod window;

@@ -15,6 +15,3 @@ mod sheet;
 pub use error::LayoutError;
 pub use select::{Which, selection};
 pub use sheet::{booklet, nup};
-
-#[cfg(test)]
-mod tests;

@@ -19,6 +19,3 @@ pub use paper::Paper;
 pub use print::{print_number, print_points, print_scale};
 pub use read::{NumberError, read_digits, read_number};
 pub use unit::Unit;
-
-#[cfg(test)]
-mod tests;

@@ -12,8 +12,6 @@ mod read;
 mod scan;
 mod settle;
 mod spec;
-#[cfg(test)]
-mod tests;
 mod write;
 
 pub use error::SpecError;

@@ -9,6 +9,3 @@ mod texts;
 pub use matrix::Matrix;
 pub use place::matrix_of;
 pub use texts::{closing_text, matrix_text, opening_text};
-
-#[cfg(test)]
-mod tests;

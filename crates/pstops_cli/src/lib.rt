@@ -13,6 +13,3 @@ pub use command::{CommandFault, Request, read_command};
 pub use input::{MOST_BYTES, ReadFault, ReadSource, Source, SourceFault, read_input};
 pub use lines::{Fault, fault_line};
 pub use requests::run_request;
-
-#[cfg(test)]
-mod tests;

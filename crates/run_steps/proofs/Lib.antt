@@ -6,3 +6,4 @@ pub mod Reading
 pub mod Shares
 pub mod Closings
 pub mod Counts
+pub mod Ended

@@ -1,12 +1,13 @@
 -- What the histories of a gathered run are.
-use Rattle.std.specs.Prelude.{◌≡◌, ℕ, ◌<◌, ◌≤◌, ◌==◌, ◌&&◌, Bool, true, false, if◌then◌else◌, List, [], ◌++◌, length}
-use Rattle.std.specs.Prelude.{Some, slice_get}
+use Rattle.std.specs.Prelude.{◌≡◌, ℕ, ◌+◌, ◌<◌, ◌≤◌, ◌==◌, ◌&&◌, Bool, true, false, if◌then◌else◌, List, [], ◌++◌, length}
+use Rattle.std.specs.Prelude.{Option, Some, slice_get}
+use mathlib.Core.List.{IsPrefix}
 use Rattle.profile.specs.Sheets.{Layout}
 use Rattle.histories.specs.Seats.{total, times, whole_share}
 use Rattle.gather_table.specs.Table.{slots, is_blank, is_full, HasGroup}
-use Rattle.gather_table.specs.History.{Entry, IsLegal, IsComplete}
+use Rattle.gather_table.specs.History.{Entry, PageAt, IsLegal, IsComplete}
 use Rattle.gather_table.specs.Laws.{completings, closings}
-use Rattle.gather_table.specs.Shared.{SeatView, IsSeat, own_calls}
+use Rattle.gather_table.specs.Shared.{SeatView, IsSeat, Made, own_calls}
 use Rattle.handover.specs.Queue.{Move, content, sheets_put, sheets_taken}
 use Rattle.run_steps.specs.Delivery.{CloseWhatTheyFill}
 use Rattle.run_steps.specs.Duty.{Duty, OfPage, OfSlot, worth, owed}
@@ -62,3 +63,14 @@ GathersAll =
 pub record IsHandedOn (log : List Move) : Type 0 where
   pub once : (s : ℕ) → times s (sheets_put log) ≤ 1
   pub balanced : sheets_taken log ++ content log ≡ sheets_put log
+
+-- behind a gathering each page of a sheet is found, at one index for good
+abbrev pub GatheredAreFound : Type 0
+GatheredAreFound = (seat : SeatView) (s k p : ℕ) → IsSeat seat → IsGathered seat.key seat.front
+    → s < length seat.key.sheets → Holds seat.key s k p
+    → (i : ℕ) × ((old new : SeatView) (found : Option ℕ) → old.key ≡ seat.key → IsPrefix seat.front old.front
+    → Made old (PageAt p found) new → found ≡ Some i)
+
+-- no sheet was taken twice, and none that is left was taken
+abbrev pub TakenAtMostOnce : Type 0
+TakenAtMostOnce = (log : List Move) (s : ℕ) → IsHandedOn log → times s (sheets_taken log) + times s (content log) ≤ 1

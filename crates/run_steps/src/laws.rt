@@ -1,7 +1,7 @@
 //! What holds of the calls of a run, by the definitions alone. The functions do nothing: each one's contract is a law.
 ghost use Rattle.run_steps.specs.Delivery.{DeliveriesClose, CompletedAreCounted};
 ghost use Rattle.run_steps.specs.Duty.{DeliveriesWeigh, SharesAreAll};
-ghost use Rattle.run_steps.specs.Gathered.{GathersAll};
+ghost use Rattle.run_steps.specs.Gathered.{GathersAll, GatheredAreFound, TakenAtMostOnce};
 
 /// A delivery does what its page wants done.
 pub fn deliveries_weigh()
@@ -18,6 +18,16 @@ pub fn shares_are_all()
 /// closed once, and every sheet completed.
 pub fn gathers_all()
     ensures { GathersAll }
+{}
+
+/// Whoever calls behind a gathering finds each page of a sheet, at one index for good.
+pub fn gathered_are_found()
+    ensures { GatheredAreFound }
+{}
+
+/// Of the queue of a gathering no sheet was taken twice, and none that is left on it was taken.
+pub fn taken_at_most_once()
+    ensures { TakenAtMostOnce }
 {}
 
 /// A delivery closes each group of a wide sheet that its marks fill.

@@ -5,8 +5,6 @@
 mod delivery;
 mod imposition;
 pub mod laws;
-#[cfg(test)]
-mod tests;
 
 pub use delivery::{DeliverError, Delivered, deliver};
 pub use imposition::{ImposeError, Imposition, impose, is_complete};

@@ -1,4 +1,5 @@
 //! What the trials share: documents, specifications and options.
+mod examples;
 mod gates;
 mod growth;
 mod sinks;

@@ -13,6 +13,3 @@ mod row;
 pub use error::PlanError;
 pub use plan::Plan;
 pub use row::are_sides;
-
-#[cfg(test)]
-mod tests;

@@ -4,8 +4,6 @@
 mod job;
 mod openings;
 mod sheet;
-#[cfg(test)]
-mod tests;
 
 pub use job::Job;
 pub use openings::Openings;

@@ -3,8 +3,6 @@
 
 mod early;
 mod sink;
-#[cfg(test)]
-mod tests;
 mod writing;
 
 pub use early::{Early, Imposed, Spent};

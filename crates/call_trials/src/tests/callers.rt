@@ -1,13 +1,14 @@
 //! A caller of a table, a shelf and a queue, with a seat and a pass of its own.
-ghost use Rattle.std.specs.Prelude.{◌≡◌, ◌<◌, true, length};
+ghost use Rattle.std.specs.Prelude.{◌≡◌};
 ghost use Rattle.profile.specs.Sheets.{layout};
-ghost use Rattle.gather_table.specs.History.{IsComplete};
 ghost use Rattle.gather_table.specs.Shared.{IsSeatOf};
 ghost use Rattle.handover.specs.Passes.{IsPassOf};
 
 use gather_table::{GatherTable, Seat};
 use handover::{Pass, Prepared, Ready, Shelf};
-use imposer::{DeliverError, Delivered, ImposeError, Imposed, Job, deliver, impose};
+use run_steps::{DeliverError, Delivered, ImposeError, deliver, impose, is_complete};
+use sheet_text::Job;
+use sheet_writer::Imposed;
 use std::alloc::Global;
 use std::sync::Wait;
 
@@ -126,14 +127,4 @@ impl<'s, 'j, 't, 'd> Caller<'s, 'j, 't, 'd> {
         }
         Some(impose(alloc, &mut seat, job, table, shelf, sheet))
     }
-}
-
-/// Whether a look shows the sheet complete.
-fn is_complete(seat: &mut Seat, table: &GatherTable<'_>, sheet: u32) -> bool
-    requires seat { IsSeatOf table.now seat.old }
-    requires sheet { sheet < length table.now.layout.sheets }
-    ensures seat { IsSeatOf table.now seat.new }
-    ensures complete { result ≡ true → IsComplete table.now.layout seat.new.front sheet }
-{
-    table.look(seat, sheet) == 0
 }

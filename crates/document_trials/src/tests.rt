@@ -1,0 +1,5 @@
+//! Worked examples, and each public call once.
+mod documents;
+mod guards;
+mod hostile_documents;
+mod papers;

@@ -1,0 +1,176 @@
+//! Command lines as they are typed, and what each asks for.
+use super::read;
+use impose_cli::{CommandFault, Layout, PaperOption, Request, size_named};
+use layouts::Which;
+use lengths::{Grains, Paper, paper_by_name};
+use std::process::Abort;
+use std::test::Fail;
+
+fn paper(rt: &impl Abort, name: &str) -> Paper {
+    paper_by_name(name).expect(rt, "a paper with a name")
+}
+
+fn file(name: &Option<String>) -> Option<&str> {
+    match name {
+        Some(name) => Some(name.as_str()),
+        None => None,
+    }
+}
+
+#[test]
+fn several_pages_on_a_sheet(rt: HostRuntime) -> Result<(), Fail> {
+    let request = read(
+        rt.alloc(),
+        "nup 4 -p a5 --sheet a3 --border 1pt in.ps out.ps",
+    )?;
+    assert!(rt; matches!(request.layout, Layout::NUp(4)));
+    assert_eq!(rt; request.page, Some(paper(&rt, "a5")));
+    assert_eq!(rt; request.sheet, Some(paper(&rt, "a3")));
+    assert_eq!(rt; request.border, Grains::new(127_000_000_000));
+    assert_eq!(rt; file(&request.infile), Some("in.ps"));
+    assert_eq!(rt; file(&request.outfile), Some("out.ps"));
+    assert!(rt; request.is_guarded && !request.is_printed && !request.is_quiet);
+    Ok(())
+}
+
+#[test]
+fn nothing_more_than_a_command(rt: HostRuntime) -> Result<(), Fail> {
+    let request = read(rt.alloc(), "nup 1024")?;
+    assert!(rt; matches!(request.layout, Layout::NUp(1_024)));
+    assert_eq!(rt; request.page, None);
+    assert_eq!(rt; request.sheet, None);
+    assert_eq!(rt; request.border, None);
+    assert_eq!(rt; file(&request.infile), None);
+    assert_eq!(rt; file(&request.outfile), None);
+    // A minus sign is standard input, and standard output.
+    let request = read(
+        rt.alloc(),
+        "nup 2 - - --unguarded --print-spec -q --border 0",
+    )?;
+    assert_eq!(rt; file(&request.infile), None);
+    assert_eq!(rt; file(&request.outfile), None);
+    assert_eq!(rt; request.border, None);
+    assert!(rt; !request.is_guarded && request.is_printed && request.is_quiet);
+    Ok(())
+}
+
+#[test]
+fn booklets(rt: HostRuntime) -> Result<(), Fail> {
+    let rows = [
+        ("booklet", None, false),
+        ("booklet --signature 16", Some(16u32), false),
+        ("booklet --long-edge --signature=4 in.ps", Some(4), true),
+        (
+            "booklet --signature 1000000 --quiet",
+            Some(1_000_000),
+            false,
+        ),
+    ];
+    for (line, sides, flips) in rows {
+        let request = read(rt.alloc(), line)?;
+        match request.layout {
+            Layout::Booklet {
+                signature,
+                long_edge,
+            } => {
+                assert_eq!(rt; signature, sides, "at {line}");
+                assert_eq!(rt; long_edge, flips, "at {line}");
+            }
+            _ => assert!(rt; false, "at {line}"),
+        }
+    }
+    Ok(())
+}
+
+#[test]
+fn selections(rt: HostRuntime) -> Result<(), Fail> {
+    let rows = [
+        ("select 9-3,5-", "9-3,5-", Which::All),
+        ("select 1- --odd", "1-", Which::Odd),
+        ("select --even 1- in.ps", "1-", Which::Even),
+    ];
+    for (line, text, kept) in rows {
+        let request = read(rt.alloc(), line)?;
+        match &request.layout {
+            Layout::Selection { ranges, which } => {
+                assert_eq!(rt; ranges.as_str(), text);
+                assert_eq!(rt; *which, kept, "at {line}");
+            }
+            _ => assert!(rt; false, "at {line}"),
+        }
+    }
+    let request = read(rt.alloc(), "spec 2:0,1 in.ps")?;
+    assert!(rt; matches!(&request.layout, Layout::Spec(spec) if spec.as_str() == "2:0,1"));
+    Ok(())
+}
+
+#[test]
+fn values_that_name_nothing(rt: HostRuntime) {
+    let alloc = rt.alloc();
+    let pages = "nup 2 -p b9 --sheet x --border x";
+    assert!(rt;
+        matches!(
+            read(alloc, pages),
+            Err(CommandFault::UnknownPaper(PaperOption::Paper, _))
+        )
+    );
+    let sheets = "booklet --border x --sheet 210mm --signature 6";
+    assert!(rt;
+        matches!(
+            read(alloc, sheets),
+            Err(CommandFault::UnknownPaper(PaperOption::Sheet, _))
+        )
+    );
+    let border = "booklet --signature 6 --border=-1pt";
+    assert!(rt; matches!(read(alloc, border), Err(CommandFault::BadBorder(_))));
+    assert!(rt;
+        matches!(
+            read(alloc, "booklet --signature 6"),
+            Err(CommandFault::BadSignature(6))
+        )
+    );
+    assert!(rt;
+        matches!(
+            read(alloc, "select 1 --odd --even"),
+            Err(CommandFault::OddAndEven)
+        )
+    );
+}
+
+#[test]
+fn words_that_are_not_taken(rt: HostRuntime) {
+    let lines = [
+        "",
+        "help",
+        "--version",
+        "nup --help",
+        "nup",
+        "nup 0",
+        "nup 1025",
+        "booklet --signature 3",
+        "select",
+        "spec",
+        "twice 2",
+        "nup 2 in.ps out.ps more",
+        "nup 2 --no-such-word",
+        "nup 2 -p a4 -p a5",
+    ];
+    for line in lines {
+        assert!(rt;
+            matches!(read(rt.alloc(), line), Err(CommandFault::Words(_))),
+            "at {line}"
+        );
+    }
+}
+
+#[test]
+fn sizes_are_named_or_measured(rt: HostRuntime) {
+    assert_eq!(rt; size_named("A4"), Some(paper(&rt, "a4")));
+    assert_eq!(rt; size_named("595x842"), Some(paper(&rt, "a4")));
+    assert_eq!(rt; size_named("8.5inx11in"), Some(paper(&rt, "letter")));
+    for text in [
+        "", "x", "595", "595x", "x842", "0x842", "-1x842", "595x842x", "595X842", "b8",
+    ] {
+        assert_eq!(rt; size_named(text), None, "at {text}");
+    }
+}

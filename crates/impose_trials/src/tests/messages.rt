@@ -1,0 +1,173 @@
+//! Each message, as the README has it.
+use super::read;
+use dsc::DscError;
+use impose_cli::{CommandFault, Fault, PaperOption, Request, fault_status, fault_text};
+use imposer::RunError;
+use layouts::LayoutError;
+use pagespec::SpecError;
+use sheet_plan::PlanError;
+use std::io;
+use std::io::ErrorKind;
+use std::process::Abort;
+use std::test::Fail;
+
+fn assert_told(
+    rt: &(impl Abort + AllocGlobal),
+    request: &Request,
+    fault: Fault,
+    status: u8,
+    message: &str,
+) -> Result<(), Fail> {
+    let text = fault_text(rt.alloc(), &fault, Some(request))?;
+    assert_eq!(rt; text.as_str(), message);
+    assert_eq!(rt; fault_status(&fault), status, "at {message}");
+    Ok(())
+}
+
+#[test]
+fn command_lines(rt: HostRuntime) -> Result<(), Fail> {
+    let request = read(rt.alloc(), "nup 2")?;
+    let text = |text: &str| String::from_str(rt.alloc(), text);
+    let rows = [
+        (
+            CommandFault::UnknownPaper(PaperOption::Paper, text("b9")?),
+            2,
+            "unknown paper 'b9' after --paper: name one of a3, a4, a5, letter, legal, tabloid, \
+            statement, 10x14, or a size as 210mmx297mm",
+        ),
+        (
+            CommandFault::BadBorder(text("-1")?),
+            2,
+            "bad width '-1' after --border: give a length as 1pt, .5mm or .02in",
+        ),
+        (
+            CommandFault::BadSignature(6),
+            2,
+            "a signature of 6 sides can't be folded: take a multiple of four, as 4 or 8",
+        ),
+        (
+            CommandFault::OddAndEven,
+            2,
+            "--odd and --even leave no page together: give one of them",
+        ),
+        (
+            CommandFault::NoText,
+            2,
+            "the command line is no UTF-8 text: rename the file",
+        ),
+        (CommandFault::NoMemory, 3, "out of memory"),
+    ];
+    for (fault, status, message) in rows {
+        assert_told(&rt, &request, Fault::Command(fault), status, message)?;
+    }
+    Ok(())
+}
+
+#[test]
+fn documents_and_inputs(rt: HostRuntime) -> Result<(), Fail> {
+    let request = read(rt.alloc(), "nup 2 in.ps out.ps")?;
+    let rows = [
+        (
+            Fault::Read(Some(io::Error::from(ErrorKind::NotFound))),
+            3,
+            "cannot read in.ps: entity not found",
+        ),
+        (Fault::Read(None), 3, "cannot read in.ps"),
+        (
+            Fault::NoInput,
+            1,
+            "in.ps is empty; name a file with a PostScript document, or pipe one in",
+        ),
+        (
+            Fault::Pdf,
+            1,
+            "in.ps is a PDF, not PostScript; use: pdftops in.pdf - | impose .. -",
+        ),
+        (
+            Fault::Run(RunError::Document(DscError::NoPages)),
+            1,
+            "in.ps has no %%Page: comments; for plain PostScript run it through ps2ps first",
+        ),
+        (
+            Fault::Run(RunError::Document(DscError::ShortData(17))),
+            1,
+            "in.ps: the data behind the %%BeginData: at byte 17 is cut short; is the document complete?",
+        ),
+    ];
+    for (fault, status, message) in rows {
+        assert_told(&rt, &request, fault, status, message)?;
+    }
+    Ok(())
+}
+
+#[test]
+fn runs_and_outputs(rt: HostRuntime) -> Result<(), Fail> {
+    let request = read(rt.alloc(), "nup 2 in.ps out.ps")?;
+    let rows = [
+        (
+            Fault::Run(RunError::Plan(PlanError::TooManySheets)),
+            1,
+            "the output would have more than 1,000,000 sheets: split the document first",
+        ),
+        (
+            Fault::Run(RunError::NoMemory { written: 7 }),
+            3,
+            "out of memory after 7 bytes",
+        ),
+        (
+            Fault::Write {
+                written: 0,
+                cause: None,
+            },
+            3,
+            "cannot write out.ps",
+        ),
+        (
+            Fault::Write {
+                written: 12,
+                cause: None,
+            },
+            3,
+            "cannot write out.ps after 12 bytes",
+        ),
+    ];
+    for (fault, status, message) in rows {
+        assert_told(&rt, &request, fault, status, message)?;
+    }
+    Ok(())
+}
+
+#[test]
+fn places_have_a_caret(rt: HostRuntime) -> Result<(), Fail> {
+    let request = read(rt.alloc(), "select 1,5-9,7")?;
+    assert_told(
+        &rt,
+        &request,
+        Fault::NoSuchPage { place: 2, pages: 4 },
+        1,
+        "page ranges: the document has pages 1 to 4 only\n  1,5-9,7\n    ^",
+    )?;
+    let request = read(rt.alloc(), "spec 2:0(1,2)+1@0")?;
+    assert_told(
+        &rt,
+        &request,
+        Fault::Run(RunError::Spec(SpecError::ScaleZero(1))),
+        1,
+        "specification: the scale is not above zero; for pages of their own size leave it out\
+        \n  2:0(1,2)+1@0\n           ^",
+    )?;
+    assert_told(
+        &rt,
+        &request,
+        Fault::Run(RunError::Spec(SpecError::Syntax(3))),
+        1,
+        "specification: syntax error at byte 3; what stands at the caret can't follow\n  2:0(1,2)+1@0\n     ^",
+    )?;
+    assert_told(
+        &rt,
+        &request,
+        Fault::Layout(LayoutError::NoPages),
+        1,
+        "page ranges: no page is left by --odd or --even; pages are counted from 1",
+    )
+}

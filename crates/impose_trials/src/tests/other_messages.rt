@@ -1,0 +1,177 @@
+//! Messages that the README has no example of, and what is said of a finished run.
+use super::read;
+use document_paper::Comment;
+use dsc::DscError;
+use impose_cli::{Fault, Finished, PaperOrigin, Request, fault_status, fault_text, report_text};
+use imposer::{Report, RunError};
+use layouts::LayoutError;
+use lengths::paper_by_name;
+use pagespec::SpecError;
+use sheet_plan::PlanError;
+use std::process::Abort;
+use std::test::Fail;
+
+fn assert_told(
+    rt: &(impl Abort + AllocGlobal),
+    request: &Request,
+    fault: Fault,
+    status: u8,
+    message: &str,
+) -> Result<(), Fail> {
+    let text = fault_text(rt.alloc(), &fault, Some(request))?;
+    assert_eq!(rt; text.as_str(), message);
+    assert_eq!(rt; fault_status(&fault), status, "at {message}");
+    Ok(())
+}
+
+#[test]
+fn layouts_plans_and_faulty_documents(rt: HostRuntime) -> Result<(), Fail> {
+    let request = read(rt.alloc(), "nup 2 in.ps")?;
+    let rows = [
+        (
+            Fault::Layout(LayoutError::PagesOutOfRange),
+            "a sheet takes from 1 to 1,024 pages",
+        ),
+        (
+            Fault::Layout(LayoutError::SideTooLong),
+            "a side of a paper is 100,000 points or more: name a smaller paper",
+        ),
+        (
+            Fault::Layout(LayoutError::ScaleOutOfRange),
+            "the pages would be too small or too large on the sheet: name other papers by --paper and --sheet",
+        ),
+        (
+            Fault::Layout(LayoutError::DocumentTooLong),
+            "the document has more than 99,999 pages, from which none can be selected: split it first",
+        ),
+        (
+            Fault::Run(RunError::Plan(PlanError::TooManyPages)),
+            "more than 1,000,000 pages with the blank ones of the last signature: take a smaller signature",
+        ),
+        (
+            Fault::Run(RunError::Plan(PlanError::TooManyPlaces)),
+            "more than 4,000,000 pages would be placed: split the document first",
+        ),
+        (
+            Fault::Run(RunError::Document(DscError::TooLong)),
+            "in.ps is longer than 1,073,741,824 bytes; split it first",
+        ),
+        (
+            Fault::Run(RunError::Document(DscError::BadCount(9))),
+            "in.ps: the %%BeginData: at byte 9 has no count, or a bad one; write the document anew",
+        ),
+        (
+            Fault::Run(RunError::Document(DscError::TooManyPages)),
+            "in.ps has more than 1,000,000 pages; split it first",
+        ),
+    ];
+    for (fault, message) in rows {
+        assert_told(&rt, &request, fault, 1, message)?;
+    }
+    Ok(())
+}
+
+#[test]
+fn specifications(rt: HostRuntime) -> Result<(), Fail> {
+    let request = read(rt.alloc(), "spec 2:0+1,123456")?;
+    let rows = [
+        (
+            SpecError::TooLong,
+            "specification: longer than 65,536 bytes; impose in several runs",
+        ),
+        (
+            SpecError::Syntax(12),
+            "specification: incomplete; more has to follow at the caret\n  2:0+1,123456\n              ^",
+        ),
+        (
+            SpecError::TooLarge,
+            "specification: a number is over 99,999; take a smaller one\n  2:0+1,123456\n        ^",
+        ),
+        (
+            SpecError::ModuloZero,
+            "specification: the modulo is zero; for single pages leave it and its colon out\n  2:0+1,123456\n  ^",
+        ),
+        (
+            SpecError::PageOutOfBlock(1),
+            "specification: the page number is not below the modulo; pages are counted from 0 in each block\
+            \n  2:0+1,123456\n      ^",
+        ),
+        (
+            SpecError::Repeated(0),
+            "specification: a second scale or offset; leave one out\n  2:0+1,123456\n    ^",
+        ),
+        (
+            SpecError::TooManySlots(1),
+            "specification: a sheet takes at most 4,096 pages\n  2:0+1,123456\n        ^",
+        ),
+        (
+            SpecError::TooManyGroups,
+            "specification: more than 10,000 sheets; impose in several runs\n  2:0+1,123456\n        ^",
+        ),
+    ];
+    for (error, message) in rows {
+        assert_told(&rt, &request, Fault::Run(RunError::Spec(error)), 1, message)?;
+    }
+    Ok(())
+}
+
+#[test]
+fn standard_input_and_output(rt: HostRuntime) -> Result<(), Fail> {
+    let request = read(rt.alloc(), "nup 2")?;
+    assert_told(
+        &rt,
+        &request,
+        Fault::Read(None),
+        3,
+        "cannot read standard input",
+    )?;
+    let written = 0;
+    let cause = None;
+    assert_told(
+        &rt,
+        &request,
+        Fault::Write { written, cause },
+        3,
+        "cannot write standard output",
+    )
+}
+
+#[test]
+fn reports(rt: HostRuntime) -> Result<(), Fail> {
+    let page = paper_by_name("a4").expect(&rt, "a4 is a paper");
+    let rows = [
+        (PaperOrigin::Named, "as named"),
+        (
+            PaperOrigin::ByComment(Comment::DocumentMedia),
+            "by its %%DocumentMedia",
+        ),
+        (
+            PaperOrigin::ByComment(Comment::BoundingBox),
+            "by its %%BoundingBox",
+        ),
+        (
+            PaperOrigin::Assumed,
+            "which is a4 as the document names none",
+        ),
+    ];
+    for (origin, told) in rows {
+        let report = Report {
+            pages: 5,
+            sheets: 3,
+            born: 1,
+            swept: 0,
+            bytes: 270,
+        };
+        let done = Finished {
+            report,
+            page,
+            origin,
+        };
+        let text = report_text(rt.alloc(), &done)?;
+        let wanted = format!(in rt.alloc();
+            "pages 5, sheets 3, bytes 270; pages of 595 x 842 pt, {told}"
+        )?;
+        assert_eq!(rt; text, wanted);
+    }
+    Ok(())
+}

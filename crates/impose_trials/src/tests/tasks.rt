@@ -1,0 +1,184 @@
+//! Requests with documents: which paper and specification they come to, what is printed of them, and what is refused.
+use super::read;
+use document_paper::Comment;
+use dsc::DscError;
+use impose_cli::{Fault, PaperOrigin, check_layout, prepare, printed_task, run_request};
+use imposer::{MemorySink, RunError};
+use layouts::LayoutError;
+use pagespec::SpecError;
+use std::alloc::Global;
+use std::process::Abort;
+use std::str;
+use std::test::Fail;
+
+const ONE_PAGE: &str = "%!PS-Adobe-3.0\n%%EndComments\n%%Page: 1 1\nshowpage\n%%EOF\n";
+
+const WITH_MEDIA: &str =
+    "%!PS\n%%DocumentMedia: a 612 792 0 () ()\n%%Page: 1 1\nshowpage\n%%Page: 2 2\nshowpage\n";
+
+fn owned(alloc: Global, text: &str) -> Result<Vec<u8>, Fault> {
+    let mut bytes = Vec::new(alloc);
+    bytes.extend_from_slice(text.as_bytes())?;
+    Ok(bytes)
+}
+
+fn fault_of(alloc: Global, line: &str, document: &str) -> Result<(), Fault> {
+    let request = read(alloc, line).map_err(Fault::Command)?;
+    check_layout(alloc, &request)?;
+    let _ = prepare(alloc, &request, owned(alloc, document)?)?;
+    Ok(())
+}
+
+#[test]
+fn the_paper_is_named_or_the_documents_own(rt: HostRuntime) -> Result<(), Fail> {
+    let rows = [
+        ("nup 1 -p a5", WITH_MEDIA, PaperOrigin::Named, "0"),
+        (
+            "nup 1",
+            WITH_MEDIA,
+            PaperOrigin::ByComment(Comment::DocumentMedia),
+            "0",
+        ),
+        ("nup 1", ONE_PAGE, PaperOrigin::Assumed, "0"),
+    ];
+    for (line, document, origin, spec) in rows {
+        let request = read(rt.alloc(), line)?;
+        let task = prepare(rt.alloc(), &request, owned(rt.alloc(), document)?)?;
+        assert_eq!(rt; task.origin, origin);
+        assert_eq!(rt; task.spec.as_str(), spec);
+    }
+    Ok(())
+}
+
+#[test]
+fn a_booklet_of_one_signature(rt: HostRuntime) -> Result<(), Fail> {
+    let request = read(rt.alloc(), "booklet")?;
+    let task = prepare(rt.alloc(), &request, owned(rt.alloc(), WITH_MEDIA)?)?;
+    assert_eq!(rt; task.options.sides, Some(4));
+    Ok(())
+}
+
+fn assert_printed(rt: &(impl Abort + AllocGlobal), line: &str, lines: &str) -> Result<(), Fail> {
+    let request = read(rt.alloc(), line)?;
+    let task = prepare(rt.alloc(), &request, owned(rt.alloc(), ONE_PAGE)?)?;
+    let printed = printed_task(rt.alloc(), &request, &task)?;
+    assert_eq!(rt; str::from_utf8(printed.as_slice()), Ok(lines));
+    Ok(())
+}
+
+#[test]
+fn the_line_of_pstops(rt: HostRuntime) -> Result<(), Fail> {
+    assert_printed(
+        &rt,
+        "spec 0 --unguarded",
+        "0\npstops -w 595pt -h 842pt '0'\n",
+    )?;
+    assert_printed(
+        &rt,
+        "nup 1 -q -p 210mmx297mm --border .5mm --unguarded in.ps it's.ps",
+        "0\npstops -q -w 210mm -h 297mm -d .5mm '0' 'in.ps' 'it'\\''s.ps'\n",
+    )?;
+    assert_printed(
+        &rt,
+        "spec -p a4 -- -0 -in.ps",
+        "1:-0\npstops -w 595pt -h 842pt '1:-0' './-in.ps'\n\
+        # impose also puts its guard into the document, which pstops doesn't\n",
+    )?;
+    assert_printed(
+        &rt,
+        "spec 0 --unguarded - out.ps",
+        "0\npstops -w 595pt -h 842pt '0' '/dev/stdin' 'out.ps'\n",
+    )
+}
+
+#[test]
+fn documents_that_are_refused(rt: HostRuntime) {
+    let alloc = rt.alloc();
+    assert!(rt; matches!(fault_of(alloc, "nup 2", ""), Err(Fault::NoInput)));
+    assert!(rt; matches!(fault_of(alloc, "nup 2", "%PDF-1.4\n"), Err(Fault::Pdf)));
+    assert!(rt;
+        matches!(
+            fault_of(alloc, "nup 2", "x"),
+            Err(Fault::Run(RunError::Document(DscError::NotPostScript)))
+        )
+    );
+    assert!(rt;
+        matches!(
+            fault_of(alloc, "nup 2", "%!PS\n"),
+            Err(Fault::Run(RunError::Document(DscError::NoPages)))
+        )
+    );
+    assert!(rt;
+        matches!(
+            fault_of(alloc, "select 1-2", ONE_PAGE),
+            Err(Fault::NoSuchPage { place: 0, pages: 1 })
+        )
+    );
+    assert!(rt;
+        matches!(
+            fault_of(alloc, "select 1,x", ONE_PAGE),
+            Err(Fault::Layout(LayoutError::Syntax(2)))
+        )
+    );
+    assert!(rt;
+        matches!(
+            fault_of(alloc, "select 1 --even", ONE_PAGE),
+            Err(Fault::Layout(LayoutError::NoPages))
+        )
+    );
+}
+
+// What doesn't ask for the document comes before it.
+#[test]
+fn layouts_that_are_refused(rt: HostRuntime) {
+    let alloc = rt.alloc();
+    assert!(rt;
+        matches!(
+            fault_of(alloc, "spec 0Q", ""),
+            Err(Fault::Run(RunError::Spec(SpecError::Syntax(1))))
+        )
+    );
+    let wide = "booklet -p a4 --sheet 842x595";
+    assert!(rt;
+        matches!(
+            fault_of(alloc, wide, ""),
+            Err(Fault::Layout(LayoutError::FoldOnLongEdge))
+        )
+    );
+    let wide = "booklet --sheet 842x595";
+    assert!(rt; matches!(fault_of(alloc, wide, ""), Err(Fault::NoInput)));
+    assert!(rt;
+        matches!(
+            fault_of(alloc, "nup 2 -p 100000x1", ""),
+            Err(Fault::Command(_))
+        )
+    );
+    let long = "nup 2 -p 99999inx1";
+    assert!(rt;
+        matches!(
+            fault_of(alloc, long, ""),
+            Err(Fault::Layout(LayoutError::SideTooLong))
+        )
+    );
+}
+
+#[test]
+fn a_page_is_imposed_as_it_is(rt: HostRuntime) -> Result<(), Fail> {
+    let request = read(rt.alloc(), "nup 1 --unguarded")?;
+    let mut sink = MemorySink::new(rt.alloc(), 10_000, 10_000, 10_000)?;
+    let done = run_request(
+        &rt,
+        rt.alloc(),
+        &request,
+        owned(rt.alloc(), ONE_PAGE)?,
+        &mut sink,
+    )?;
+    assert_eq!(rt; done.report.sheets, 1);
+    assert_eq!(rt; done.origin, PaperOrigin::Assumed);
+    let sheet = "%!PS-Adobe-3.0\n%%Pages: 1\n%%EndComments\n%%Page: 1 1\n\
+        userdict /ImposeSave save put\nuserdict /showpage {} put\n[1 0 0 1 0 0] concat\n\
+        newpath 0 0 moveto 595 0 lineto 595 842 lineto 0 842 lineto closepath clip newpath\n\
+        showpage\nImposeSave restore\nshowpage\n%%EOF\n";
+    assert_eq!(rt; str::from_utf8(sink.bytes()), Ok(sheet));
+    Ok(())
+}

@@ -1,0 +1,147 @@
+//! A writer as a sink, a sink that has answered its calls, and sheets that never came.
+ghost use Rattle.std.specs.Prelude.{◌<◌};
+
+use dsc::Document;
+use lengths::paper_by_name;
+use pagespec::read_spec;
+use sheet_plan::Plan;
+use sheet_text::Job;
+use sheet_writer::{Early, MemorySink, Progress, Rest, Sink, SinkFault, WriteSink, write_rest};
+use std::alloc::Global;
+use std::io::{self, ErrorKind, Write};
+use std::test::Fail;
+
+/// Four pages.
+const FOUR_PAGES: &str = "%!PS-Adobe-3.0\n\
+    %%Pages: 4\n\
+    %%EndComments\n\
+    %%Page: 1 1\n\
+    (0) pop\n\
+    showpage\n\
+    %%Page: 2 2\n\
+    (1) pop\n\
+    showpage\n\
+    %%Page: 3 3\n\
+    (2) pop\n\
+    showpage\n\
+    %%Page: 4 4\n\
+    (3) pop\n\
+    showpage\n\
+    %%Trailer\n\
+    %%EOF\n";
+
+/// Two pages on one sheet, turned to the left.
+const TWO_UP: &str = "2:0L@.7(21cm,0)+1L@.7(21cm,14.85cm)";
+
+/// The four pages, two on each of two sheets, with the trailer behind them.
+const TURNED_PAIRS: &str = "%%Page: 1 1\n\
+    userdict /ImposeSave save put\n\
+    userdict /showpage {} put\n\
+    [0 0.7 -0.7 0 595.27559 0] concat\n\
+    newpath 0 0 moveto 595 0 lineto 595 842 lineto 0 842 lineto closepath clip newpath\n\
+    (0) pop\n\
+    showpage\n\
+    ImposeSave restore\n\
+    userdict /ImposeSave save put\n\
+    userdict /showpage {} put\n\
+    [0 0.7 -0.7 0 595.27559 420.94488] concat\n\
+    newpath 0 0 moveto 595 0 lineto 595 842 lineto 0 842 lineto closepath clip newpath\n\
+    (1) pop\n\
+    showpage\n\
+    ImposeSave restore\n\
+    showpage\n\
+    %%Page: 2 2\n\
+    userdict /ImposeSave save put\n\
+    userdict /showpage {} put\n\
+    [0 0.7 -0.7 0 595.27559 0] concat\n\
+    newpath 0 0 moveto 595 0 lineto 595 842 lineto 0 842 lineto closepath clip newpath\n\
+    (2) pop\n\
+    showpage\n\
+    ImposeSave restore\n\
+    userdict /ImposeSave save put\n\
+    userdict /showpage {} put\n\
+    [0 0.7 -0.7 0 595.27559 420.94488] concat\n\
+    newpath 0 0 moveto 595 0 lineto 595 842 lineto 0 842 lineto closepath clip newpath\n\
+    (3) pop\n\
+    showpage\n\
+    ImposeSave restore\n\
+    showpage\n\
+    %%Trailer\n\
+    %%EOF\n";
+
+#[test]
+fn a_sink_that_has_answered_its_calls_fails(rt: HostRuntime) -> Result<(), Fail> {
+    let mut sink = MemorySink::new(rt.alloc(), 2, 1, 1)?;
+    assert_eq!(rt; sink.accept(b"xy"), Ok(1));
+    assert!(rt; sink.accept(b"y").is_err());
+    Ok(())
+}
+
+// A writer whose calls are counted, and all fail for this cause.
+#[derive(Drop)]
+struct Failing {
+    cause: ErrorKind,
+    calls: usize,
+}
+
+impl Write for Failing {
+    fn write(&mut self, _bytes: &[u8]) -> io::Result<usize> {
+        self.calls = self.calls.saturating_add(1);
+        Err(io::Error::from(self.cause))
+    }
+
+    fn flush(&mut self) -> io::Result<()> {
+        Ok(())
+    }
+}
+
+#[test]
+fn a_writer_that_fails_is_asked_once(rt: HostRuntime) {
+    for cause in [ErrorKind::StorageFull, ErrorKind::Interrupted] {
+        let mut writer = Failing { cause, calls: 0 };
+        let mut sink = WriteSink::new(&mut writer);
+        assert_eq!(rt; sink.accept(b"abc"), Err(SinkFault {}));
+        drop(sink);
+        assert_eq!(rt; writer.calls, 1);
+    }
+}
+
+#[test]
+fn a_writer_that_is_full_fails(rt: HostRuntime) -> Result<(), Fail> {
+    let mut place = [0u8; 3];
+    let mut sink = WriteSink::new(place.as_mut_slice());
+    assert_eq!(rt; sink.accept(b"abcd"), Ok(3));
+    assert_eq!(rt; sink.accept(b"d"), Err(SinkFault {}));
+    drop(sink);
+    assert_eq!(rt; place.as_slice(), b"abc".as_slice());
+    Ok(())
+}
+
+/// Writes the sheets of a job of which none came, and the trailer.
+fn write_anew(alloc: Global, job: &Job<'_, '_>, sink: &mut MemorySink) -> Result<Rest, Fail>
+    requires countable { sink.old.failures < 10 }
+{
+    let trailer = job.document().trailer_text()?;
+    let mut early = Early::new(alloc, 2)?;
+    let start = Progress {
+        next: 0,
+        written: 0,
+        halted: None,
+    };
+    let rest = write_rest(alloc, job, sink, start, &mut early, trailer.as_slice());
+    Ok(rest)
+}
+
+#[test]
+fn what_never_came_is_made_and_counted(rt: HostRuntime) -> Result<(), Fail> {
+    let spec = read_spec(rt.alloc(), TWO_UP)?;
+    let document = Document::read(rt.alloc(), FOUR_PAGES.as_bytes())?;
+    let plan = Plan::new(rt.alloc(), &spec, document.pages())?;
+    let a4 = paper_by_name("a4").expect(&rt, "a4 is a paper");
+    let job = Job::new(&plan, &document, a4, None);
+    let mut sink = MemorySink::new(rt.alloc(), 2_000, 2_000, 100)?;
+    let rest = write_anew(rt.alloc(), &job, &mut sink)?;
+    assert_eq!(rt; sink.bytes(), TURNED_PAIRS.as_bytes());
+    assert_eq!(rt; (rest.swept, rest.progress.written), (2, 910));
+    Ok(())
+}

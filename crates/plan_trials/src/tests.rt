@@ -1,0 +1,6 @@
+//! Worked examples, and each public call once.
+mod known_layouts;
+mod matrices;
+mod measures;
+mod plans;
+mod specifications;

@@ -1,0 +1,18 @@
+-- What a gathering leaves.
+use Rattle.std.proofs.Common.{◌≡◌, ◌+◌, ◌++◌, ap, arith}
+use Rattle.histories.specs.Seats.{times}
+use Rattle.histories.proofs.Totals.{total-append}
+use Rattle.handover.specs.Queue.{content, sheets_put, sheets_taken}
+use Rattle.gather_table.proofs.Calls.{look_ups_find}
+use Rattle.run_steps.specs.Gathered.{GatheredAreFound, TakenAtMostOnce}
+
+pub gathered_are_found : GatheredAreFound
+gathered_are_found seat s k p ok is lt holds = look_ups_find seat s k p ok (is.complete s lt) holds
+
+pub taken_at_most_once : TakenAtMostOnce
+taken_at_most_once log s is =
+    let both : times s (sheets_taken log ++ content log) ≡ times s (sheets_taken log) + times s (content log) =
+    total-append _ (sheets_taken log) (content log) in
+    let same : times s (sheets_taken log ++ content log) ≡ times s (sheets_put log) = ap (times s) is.balanced in
+    let once = is.once s in
+    omega arith

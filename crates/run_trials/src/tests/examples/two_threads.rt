@@ -1,0 +1,222 @@
+//! Gates at which threads wait for each other: a run on one thread would never come past them.
+ghost use Rattle.std.specs.Prelude.{None};
+
+use super::TWO_PAGES;
+use crate::tests::workers;
+use imposer::{Gate, MemorySink, Report, RunError, Sink, SinkFault, Step, run};
+use std::alloc::Global;
+use std::process::Abort;
+use std::sync::Wait;
+use std::sync::atomic::AtomicUsize;
+use std::sync::atomic::Ordering::SeqCst;
+use std::test::Fail;
+use std::thread;
+use std::thread::Threads;
+
+/// How often a wait yields before it runs out.
+const YIELDS: u32 = 20_000_000;
+
+/// Waits until the word is so high. Counts a wait that ran out.
+fn wait_until(word: &AtomicUsize, height: usize, run_out: &AtomicUsize) {
+    for _ in 0..YIELDS {
+        if word.load(SeqCst) >= height {
+            return;
+        }
+        thread::yield_now();
+    }
+    run_out.fetch_add(1, SeqCst);
+}
+
+/// Which two steps meet.
+#[derive(Clone, Copy)]
+enum Pair {
+    LastPageAndFirstSheet,
+    Pages,
+    Sheets,
+}
+
+impl Pair {
+    fn has(self, step: Step) -> bool {
+        match self {
+            Pair::LastPageAndFirstSheet => step == Step::Deliver(1) || step == Step::Impose(0),
+            Pair::Pages => matches!(step, Step::Deliver(_)),
+            Pair::Sheets => matches!(step, Step::Impose(_)),
+        }
+    }
+}
+
+/// Each step of the pair waits until both were entered.
+#[derive(Drop)]
+struct Meeting {
+    pair: Pair,
+    entered: AtomicUsize,
+    run_out: AtomicUsize,
+}
+
+impl Gate for Meeting {
+    fn before(&self, step: Step) {
+        if self.pair.has(step) {
+            self.entered.fetch_add(1, SeqCst);
+            wait_until(&self.entered, 2, &self.run_out);
+        }
+    }
+
+    fn after(&self, _step: Step) {}
+}
+
+/// Two pages on two sheets, if these steps meet: how many of them were entered, and how many waits ran out.
+fn run_meeting<R: Threads + Wait + Abort + Sync>(
+    rt: &R,
+    alloc: Global,
+    pair: Pair,
+    preparers: u32,
+    imposers: u32,
+) -> Result<(Report, usize, usize), RunError> {
+    let gate = Meeting {
+        pair,
+        entered: AtomicUsize::new(0),
+        run_out: AtomicUsize::new(0),
+    };
+    let mut sink = MemorySink::new(alloc, 1_000, 1_000, 100)?;
+    let options = workers(rt, preparers, imposers);
+    let input = TWO_PAGES.as_bytes();
+    let report = run(rt, alloc, input, "0", &options, &gate, &mut sink)?;
+    Ok((report, gate.entered.load(SeqCst), gate.run_out.load(SeqCst)))
+}
+
+#[test]
+fn a_page_is_delivered_while_a_sheet_is_imposed(rt: HostRuntime) -> Result<(), Fail> {
+    let pair = Pair::LastPageAndFirstSheet;
+    let (report, entered, run_out) = run_meeting(&rt, rt.alloc(), pair, 1, 1)?;
+    assert_eq!(rt; (entered, run_out, report.swept), (2, 0, 0));
+    Ok(())
+}
+
+#[test]
+fn two_preparers_deliver_beside_each_other(rt: HostRuntime) -> Result<(), Fail> {
+    let (report, entered, run_out) = run_meeting(&rt, rt.alloc(), Pair::Pages, 2, 1)?;
+    assert_eq!(rt; (entered, run_out, report.swept), (2, 0, 0));
+    Ok(())
+}
+
+#[test]
+fn two_imposers_impose_beside_each_other(rt: HostRuntime) -> Result<(), Fail> {
+    let (report, entered, run_out) = run_meeting(&rt, rt.alloc(), Pair::Sheets, 1, 2)?;
+    assert_eq!(rt; (entered, run_out, report.swept), (2, 0, 0));
+    Ok(())
+}
+
+/// Takes all bytes and counts them where others can read it.
+#[derive(Drop)]
+struct CountingSink<'w> {
+    accepted: &'w AtomicUsize,
+}
+
+impl<'w> Sink for CountingSink<'w> {
+    ghost told = { λ _. None };
+
+    ghost failures = { λ _. 0 };
+
+    fn accept(&mut self, bytes: &[u8]) -> Result<usize, SinkFault> {
+        self.accepted.fetch_add(bytes.len(), SeqCst);
+        Ok(bytes.len())
+    }
+}
+
+/// The second page waits until all before it is written.
+#[derive(Drop)]
+struct Written<'w> {
+    accepted: &'w AtomicUsize,
+    run_out: AtomicUsize,
+}
+
+/// The bytes of the preamble and the first of two sheets.
+const FIRST_SHEET_END: usize = 257;
+
+impl<'w> Gate for Written<'w> {
+    fn before(&self, step: Step) {
+        if step == Step::Deliver(1) {
+            wait_until(self.accepted, FIRST_SHEET_END, &self.run_out);
+        }
+    }
+
+    fn after(&self, _step: Step) {}
+}
+
+/// Two pages on two sheets, the second page behind the first sheet: how many waits ran out.
+fn run_written<R: Threads + Wait + Abort + Sync>(
+    rt: &R,
+    alloc: Global,
+) -> Result<(Report, usize), RunError> {
+    let accepted = AtomicUsize::new(0);
+    let gate = Written {
+        accepted: &accepted,
+        run_out: AtomicUsize::new(0),
+    };
+    let mut sink = CountingSink {
+        accepted: &accepted,
+    };
+    let options = workers(rt, 1, 1);
+    let input = TWO_PAGES.as_bytes();
+    let report = run(rt, alloc, input, "0", &options, &gate, &mut sink)?;
+    Ok((report, gate.run_out.load(SeqCst)))
+}
+
+#[test]
+fn a_sheet_is_written_before_the_next_page_is_delivered(rt: HostRuntime) -> Result<(), Fail> {
+    let (report, run_out) = run_written(&rt, rt.alloc())?;
+    assert_eq!(rt; (run_out, report.swept), (0, 0));
+    Ok(())
+}
+
+/// Counts how often it is told of each step before it, and how often after it.
+#[derive(Drop)]
+struct Told {
+    before: AtomicUsize,
+    after: AtomicUsize,
+}
+
+/// What a step adds: one to its own eight bits of the word. All steps that two pages on two sheets don't have share the
+/// rest.
+fn one_more(step: Step) -> usize {
+    match step {
+        Step::Deliver(0) => 1,
+        Step::Deliver(1) => 0x100,
+        Step::Impose(0) => 0x1_0000,
+        Step::Impose(1) => 0x100_0000,
+        _ => 0x1_0000_0000,
+    }
+}
+
+impl Gate for Told {
+    fn before(&self, step: Step) {
+        self.before.fetch_add(one_more(step), SeqCst);
+    }
+
+    fn after(&self, step: Step) {
+        self.after.fetch_add(one_more(step), SeqCst);
+    }
+}
+
+/// Two pages on two sheets: what the gate was told.
+fn run_told<R: Threads + Wait + Abort + Sync>(
+    rt: &R,
+    alloc: Global,
+) -> Result<(usize, usize), RunError> {
+    let gate = Told {
+        before: AtomicUsize::new(0),
+        after: AtomicUsize::new(0),
+    };
+    let mut sink = MemorySink::new(alloc, 1_000, 1_000, 100)?;
+    let options = workers(rt, 2, 2);
+    let input = TWO_PAGES.as_bytes();
+    run(rt, alloc, input, "0", &options, &gate, &mut sink)?;
+    Ok((gate.before.load(SeqCst), gate.after.load(SeqCst)))
+}
+
+#[test]
+fn a_gate_is_told_once_before_each_step_and_once_after_it(rt: HostRuntime) -> Result<(), Fail> {
+    let told = run_told(&rt, rt.alloc())?;
+    assert_eq!(rt; told, (0x101_0101, 0x101_0101));
+    Ok(())
+}
