@@ -10,7 +10,6 @@ ghost use Rattle.sheet_text.specs.Jobs.{page_line, slots_of, slots_text, text_of
 
 use crate::job::Job;
 use crate::openings::Openings;
-use dsc::{Body, DscError};
 use itoa::Buffer;
 use placement::closing_text;
 use std::alloc::{AllocError, Global};
@@ -112,11 +111,7 @@ fn append_slot(
     let Some(page) = job.plan.page_of(sheet, slot) else {
         return Ok(());
     };
-    let body = match Body::prepare(alloc, job.document.page(page)) {
-        Ok(body) => body,
-        Err(DscError::NoMemory) => return Err(AllocError),
-        Err(_) => unreachable!(),
-    };
+    let body = job.document.body(alloc, page)?;
     append_placed(text, openings, job, sheet, slot, body.as_slice())?;
     Ok(())
 }
