@@ -5,7 +5,6 @@ mod growth;
 use pstops_cli::{ReadFault, ReadSource, read_command, read_input};
 use std::alloc::{AllocError, Global};
 use std::io::{self, ErrorKind, Read};
-use std::process::Abort;
 use std::test::Fail;
 
 /// One page.

@@ -12,7 +12,7 @@ use Rattle.profile.specs.Filters.{ended, kept, drops_in_header, with_count, prea
 use Rattle.profile.specs.Specification.{Spec, WrittenSpec, WrittenItem, IsSpec, AreGroups, settled_item}
 use Rattle.profile.specs.Admissible.{IsAdmissible, Fault, fault_of, any_too_large, else_first, only_if, TooLarge, ModuloZero}
 use Rattle.profile.specs.Sheets.{Slot, blocks}
-use Rattle.profile.specs.Signatures.{AreSides, AreSidesIfGiven, row_len, entry_in, sheets_in}
+use Rattle.profile.specs.Signatures.{AreSidesIfGiven, row_len, entry_in, sheets_in}
 use Rattle.profile.specs.Output.{Frame, sheet_text, output}
 use Rattle.profile.specs.Run.{document_of, PlanFault, PlanTooManyPages, TooManySheets, TooManyPlaces, plan_in}
 use Rattle.profile.proofs.Counts.{sheet_count}

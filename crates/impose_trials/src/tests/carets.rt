@@ -3,7 +3,6 @@ use super::read;
 use impose_cli::{Fault, Layout, Request, fault_text};
 use imposer::RunError;
 use pagespec::SpecError;
-use std::alloc::Global;
 use std::process::Abort;
 use std::test::Fail;
 
