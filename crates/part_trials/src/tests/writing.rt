@@ -6,8 +6,10 @@ use lengths::paper_by_name;
 use pagespec::read_spec;
 use sheet_plan::Plan;
 use sheet_text::Job;
-use sheet_writer::{Early, MemorySink, Progress, Rest, Sink, SinkFault, WriteSink, write_rest};
-use std::alloc::Global;
+use sheet_writer::{
+    Early, Imposed, MemorySink, Progress, Rest, Sink, SinkFault, WriteSink, write_rest,
+};
+use std::alloc::{AllocError, Global};
 use std::io::{self, ErrorKind, Write};
 use std::test::Fail;
 
@@ -143,5 +145,24 @@ fn what_never_came_is_made_and_counted(rt: HostRuntime) -> Result<(), Fail> {
     let rest = write_anew(rt.alloc(), &job, &mut sink)?;
     assert_eq!(rt; sink.bytes(), TURNED_PAIRS.as_bytes());
     assert_eq!(rt; (rest.swept, rest.progress.written), (2, 910));
+    Ok(())
+}
+
+#[test]
+fn a_sheet_waits_in_its_place(rt: HostRuntime) -> Result<(), Fail> {
+    let mut early = Early::new(rt.alloc(), 2)?;
+    assert_eq!(rt; early.places.len(), 2);
+    let text = Vec::from_slice(rt.alloc(), b"a")?;
+    early.put(Imposed { sheet: 1, text });
+    // Another sheet has the same place: it is dropped, and asking for it leaves the first one there.
+    let text = Vec::from_slice(rt.alloc(), b"b")?;
+    early.put(Imposed { sheet: 3, text });
+    assert!(rt; early.take(3).is_none());
+    assert!(rt; early.take(0).is_none());
+    let Some(text) = early.take(1) else {
+        return Err(AllocError)?;
+    };
+    assert_eq!(rt; text.as_slice(), b"a".as_slice());
+    assert!(rt; early.take(1).is_none());
     Ok(())
 }
