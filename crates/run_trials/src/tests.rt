@@ -1,6 +1,7 @@
 //! What the trials share: documents, specifications and options.
 mod gates;
 mod growth;
+mod handed_back;
 mod sinks;
 mod windows;
 
