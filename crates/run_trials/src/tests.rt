@@ -2,6 +2,7 @@
 mod examples;
 mod gates;
 mod growth;
+mod handed_back;
 mod sinks;
 mod windows;
 
