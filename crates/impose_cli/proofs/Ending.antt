@@ -9,15 +9,10 @@ use Rattle.profile.specs.Parts.{NestedUnit}
 use Rattle.profile.specs.Run.{document_of}
 use Rattle.profile.specs.Output.{output}
 use Rattle.profile.proofs.OneFault.{one_answer}
-use Rattle.dsc.specs.declared.errors.DscError.{DscError}
 use Rattle.layouts.specs.Selections.{IsSelection}
 use Rattle.imposer.specs.Runs.{Accepted, Reports, frame_of}
 use Rattle.imposer.specs.declared.outcome.Report.{Report}
 use Rattle.impose_cli.specs.Tasks.{Finishes, IsPlaced, IsTask, LaysOut, asked_by}
-use Rattle.impose_cli.specs.Refusals.{IsRefusedFor, RefusesDocument}
-use Rattle.impose_cli.specs.Telling.{IsFaultOf}
-use Rattle.impose_cli.specs.declared.fault.Fault.{Fault}
-use Rattle.impose_cli.specs.declared.fault.Fault.TheVariants as fault
 use Rattle.impose_cli.specs.declared.request.Layout.{Layout}
 use Rattle.impose_cli.specs.declared.request.Layout.TheVariants as layout
 use Rattle.impose_cli.specs.declared.request.Request.{Request}
@@ -60,15 +55,3 @@ finishes r input task old new report is h =
       written = subst (λ b. Appends old new (output (record { paper = task.options.paper; border = b }) task.options.sides spec units)) is.border h.3.0;
       report = subst (λ b. Reports (record { paper = task.options.paper; border = b }) task.options.sides spec units report) is.border h.3.1;
     }
-
--- ---- the document
-
-pub refuses_document : (input : List ℕ) (error : DscError) (f : Fault) → IsRefusedFor input error → IsFaultOf error f → RefusesDocument input f
-refuses_document input error (fault.Run e) g h = (error, h, g)
-refuses_document input error fault.NoInput g h = subst (IsRefusedFor input) h g
-refuses_document input error fault.Pdf g h = subst (IsRefusedFor input) h g
-refuses_document input error (fault.Command f) g h = h
-refuses_document input error (fault.Layout e) g h = h
-refuses_document input error (fault.NoSuchPage place pages) g h = h
-refuses_document input error (fault.Read cause) g h = h
-refuses_document input error (fault.Write written cause) g h = h

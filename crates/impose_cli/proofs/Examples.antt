@@ -7,6 +7,8 @@ use Rattle.profile.specs.Papers.{points}
 use Rattle.guard.specs.Guard.{guarded}
 use Rattle.layouts.specs.declared.error.LayoutError.TheVariants as layout
 use Rattle.layouts.specs.declared.select.Which.TheVariants.{All, Odd, Even}
+use Rattle.dsc.specs.declared.errors.DscError.TheVariants.{NoMemory, NoPages, NotPostScript}
+use Rattle.imposer.specs.declared.outcome.RunError.TheVariants as run
 use Rattle.document_paper.specs.declared.media.Comment.TheVariants.{DocumentMedia}
 use Rattle.impose_cli.specs.declared.task.PaperOrigin.TheVariants.{ByComment, Assumed}
 use Rattle.impose_cli.specs.declared.fault.Fault.TheVariants as fault
@@ -15,6 +17,7 @@ use Rattle.impose_cli.specs.Sizes.{size_named}
 use Rattle.impose_cli.specs.Words.{which_of, file_asked, is_folded}
 use Rattle.impose_cli.specs.Statuses.{words_status, command_status, layout_status, fault_status}
 use Rattle.impose_cli.specs.Tasks.{own_or_a4, sheet_found, taken_text, fours}
+use Rattle.impose_cli.specs.Telling.{told_of}
 
 -- Sizes of paper.
 
@@ -101,6 +104,28 @@ unguarded = refl
 -- the guard sets the page size of the sheets
 with_guard : taken_text true (points 1 2) (codes "%!") ≡ guarded (Some (points 1 2)) (codes "%!")
 with_guard = refl
+
+-- Refused inputs.
+
+empty_input : told_of NotPostScript [] ≡ fault.NoInput
+empty_input = refl
+
+pdf : told_of NotPostScript (codes "%PDF-1.4\n") ≡ fault.Pdf
+pdf = refl
+
+-- five bytes tell a PDF, and no other ones
+shortest_pdf : told_of NotPostScript (codes "%PDF-") ≡ fault.Pdf
+shortest_pdf = refl
+
+no_pdf : map (told_of NotPostScript) (codes "%PDF" ∷ codes "%pdf-1.4" ∷ codes " %PDF-1.4" ∷ codes "\n" ∷ []) ≡ fault.Run (run.Document NotPostScript) ∷ fault.Run (run.Document NotPostScript) ∷ fault.Run (run.Document NotPostScript) ∷ fault.Run (run.Document NotPostScript) ∷ []
+no_pdf = refl
+
+-- another reason is told as it is
+no_pages : told_of NoPages (codes "%!") ≡ fault.Run (run.Document NoPages)
+no_pages = refl
+
+no_memory : told_of NoMemory (codes "%!") ≡ fault.Run (run.NoMemory 0)
+no_memory = refl
 
 -- Exit statuses.
 

@@ -2,7 +2,7 @@
 use Rattle.std.specs.Prelude.{◌≡◌, ◌⊎◌, ⊤, ℕ, ◌+◌, IfSome, List, Option, Some, Err, string_bytes}
 use Rattle.std.specs.Io.KnownBytes.{Keeps}
 use Rattle.profile.specs.Papers.{Paper}
-use Rattle.profile.specs.Run.{document_of, NotPostScript}
+use Rattle.profile.specs.Run.{document_of}
 use Rattle.layouts.specs.NoSelection.{RefusesSelection}
 use Rattle.layouts.specs.Refusals.{why_not, why_no_booklet}
 use Rattle.layouts.specs.declared.select.Which.{Which}
@@ -11,10 +11,10 @@ use Rattle.layouts.specs.declared.error.LayoutError.TheVariants.{PageNotInDocume
 use Rattle.dsc.specs.declared.errors.DscError.{DscError}
 use Rattle.dsc.specs.Faults as dsc
 use Rattle.imposer.specs.Runs.{FailedIn, HasWritten, IsRefusal}
-use Rattle.imposer.specs.Outcomes.{of_document}
 use Rattle.imposer.specs.declared.outcome.RunError.{RunError}
 use Rattle.impose_cli.specs.Faults.{without_memory}
 use Rattle.impose_cli.specs.Tasks.{HasPages, IsTask, asked_by, page_found, sheet_found}
+use Rattle.impose_cli.specs.Telling.{told_of}
 use Rattle.impose_cli.specs.declared.request.Layout.{Layout}
 use Rattle.impose_cli.specs.declared.request.Layout.TheVariants as layout
 use Rattle.impose_cli.specs.declared.request.Request.{Request}
@@ -28,15 +28,10 @@ use Rattle.impose_cli.specs.declared.task.Task.{Task}
 abbrev pub IsRefusedFor : (input : List ℕ) → DscError → Type 0
 IsRefusedFor input e = IfSome (dsc.fault_told e) (λ f. document_of input ≡ Err f)
 
+-- a reason for which the document is refused is told. Out of memory comes after the checks that need none
 abbrev pub RefusesDocument : (input : List ℕ) → Fault → Type 0
-RefusesDocument input (fault.Run e) = (why : DscError) × (e ≡ of_document why) × IsRefusedFor input why
-RefusesDocument input fault.NoInput = document_of input ≡ Err NotPostScript
-RefusesDocument input fault.Pdf = document_of input ≡ Err NotPostScript
-RefusesDocument input (fault.Command f) = ⊥
-RefusesDocument input (fault.Layout e) = ⊥
-RefusesDocument input (fault.NoSuchPage place pages) = ⊥
-RefusesDocument input (fault.Read cause) = ⊥
-RefusesDocument input (fault.Write written cause) = ⊥
+RefusesDocument input f = (why : DscError) × (f ≡ told_of why input) × IsRefusedFor input why
+    × dsc.PassedFirstChecks why input
 
 -- ---- the layout
 
@@ -73,13 +68,12 @@ RefusesRanges ranges which pages (fault.Write written cause) = ⊥
 
 -- ---- the request
 
--- why there is no task: memory ran out; or the document is refused; or it isn't, and the layout is
+-- why there is no task: the document is refused; or it isn't, and the layout is, or memory ran out
 abbrev pub RefusesTask : Request → (input : List ℕ) → Fault → Type 0
 RefusesTask r input f =
-    (f ≡ without_memory)
-    ⊎ (RefusesDocument input f
+    RefusesDocument input f
     ⊎ ((n : ℕ) × HasPages input n
-    × RefusesLayout r.layout (page_found r.page input).0 (sheet_found r.sheet (page_found r.page input).0) n f))
+    × RefusesLayout r.layout (page_found r.page input).0 (sheet_found r.sheet (page_found r.page input).0) n f)
 
 -- the fault is one of the run of the request's task, with this error
 pub record IsOfRun (P : Task → RunError → Type 0) (r : Request) (input : List ℕ) (f : Fault) : Type 0 where

@@ -14,7 +14,7 @@ ghost use Rattle.impose_cli.specs.Tasks.{sheet_found, taken_text};
 ghost use Rattle.impose_cli.specs.Refusals.{Failed, LeavesWritten, RefusesDocument, RefusesLayout, RefusesRanges};
 ghost use Rattle.impose_cli.specs.Refusals.{RefusesRequest, RefusesTask};
 ghost use Rattle.impose_cli.specs.Unread.{IsPossible, IsSpecification, RefusesSpecification, RefusesUnread};
-ghost use Rattle.impose_cli.specs.Telling.{IsFaultOf};
+ghost use Rattle.impose_cli.specs.Telling.{of_other_input, told_of};
 ghost use Rattle.impose_cli.specs.declared.request.Layout.TheVariants as layout;
 
 use crate::fault::Fault;
@@ -201,7 +201,7 @@ fn pages_of(alloc: Global, input: &[u8]) -> Result<u32, Fault>
 
 /// A document's refusal. What is empty or a PDF is told so.
 fn of_document(error: DscError, input: &[u8]) -> Fault
-    ensures { IsFaultOf error result }
+    ensures { result ≡ told_of error input.now }
 {
     match error {
         DscError::NotPostScript => not_postscript(input),
@@ -210,7 +210,7 @@ fn of_document(error: DscError, input: &[u8]) -> Fault
 }
 
 fn not_postscript(input: &[u8]) -> Fault
-    ensures { IsFaultOf DscError.NotPostScript result }
+    ensures { result ≡ of_other_input input.now }
 {
     if input.is_empty() {
         Fault::NoInput

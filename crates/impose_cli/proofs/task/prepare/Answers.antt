@@ -17,7 +17,7 @@ returns-clause-prepared c = record {
 }
 
 pub returns-in-Err-clause-refused : goal.returns-in-Err-clause-refused
-returns-in-Err-clause-refused c = inr (inl (rw c.as_slice.ensures.value at c.in-Err.ensures.refused))
+returns-in-Err-clause-refused c = inl (rw c.as_slice.ensures.value at c.in-Err.ensures.refused)
 
 pub returns-in-Err-placing-clause-refused : goal.returns-in-Err-placing-clause-refused
 returns-in-Err-placing-clause-refused c =
@@ -25,4 +25,4 @@ returns-in-Err-placing-clause-refused c =
     let found : c.page_of-page.result ≡ page_found request.page c.args.input.items = rw c.as_slice-2.ensures.value at c.page_of-page.ensures in
     let refused = rw c.sheet_of.ensures at c.in-Err-placing.ensures.refused in
     let there = subst (λ (p : Paper × PaperOrigin). RefusesLayout request.layout p.0 (sheet_found request.sheet p.0) c.in-Ok.pages c.in-Err-placing.fault) found refused in
-    inr (inr (c.in-Ok.pages, rw c.as_slice.ensures.value at c.in-Ok.ensures.counted, there))
+    inr (c.in-Ok.pages, rw c.as_slice.ensures.value at c.in-Ok.ensures.counted, there)
