@@ -1,6 +1,6 @@
 //! What the words after the program's name ask for.
 ghost use Rattle.std.specs.Prelude.{◌≡◌, IfOk, IfErr, codes, is_some, map, option_map, true, string_bytes};
-ghost use Rattle.clap.specs.Words.{first_of, first_value, found_of, is_simple, matches_of, one_of, rows_of, rule_of};
+ghost use Rattle.clap.specs.Words.{first_of, first_value, found_of, matches_of, one_of, rows_of, rule_of};
 ghost use Rattle.imposer.specs.Workers.{AreWorkers};
 ghost use Rattle.profile.specs.Signatures.{most_sides};
 ghost use Rattle.pstops_cli.specs.Command.{Finds, IsChain, ParseRefuses, Reads, RefusesFound, Refuses, Takes};
@@ -75,8 +75,6 @@ pub fn read_command(alloc: Global, words: &[String]) -> Result<Request, CommandF
     // BadWords comes only if the command doesn't take the words, and another refusal only if a value is no paper or
     // no length.
     ensures refused { IfErr result (Refuses (map string_bytes words.now)) }
-    // What the command takes and finds is a function of the words, since it is a simple one.
-    ensures simple { is_simple pstops ≡ true }
 {
     let matches = parse(alloc, words)?;
     request_of(alloc, &matches)
