@@ -28,6 +28,9 @@ const FORWARD: &str = "0";
 /// The same from the last one on.
 const BACKWARD: &str = "-0";
 
+/// The same in their order, and a sheet without a page behind them.
+const BLANK_LAST: &str = "7:0,1,2,3,4,5,6";
+
 /// Six pages of comments.
 fn large_pages(alloc: Global) -> Result<String, AllocError> {
     let mut text = String::from_str(alloc, "%!PS-Adobe-3.0\n")?;
@@ -173,19 +176,20 @@ fn run_into<R: Threads + Wait + Abort + Sync, G: Gate + Sync>(
     )
 }
 
-/// Runs with the first sheet last: each sheet is imposed by a worker, and none too early.
+/// Runs with the first sheet last: each of so many sheets is imposed by a worker, and none too early.
 fn assert_first_last<R: Threads + Wait + Abort + Sync>(
     rt: &R,
     alloc: Global,
     input: &str,
     items: &str,
+    sheets: u32,
     counts: (u32, u32),
 ) -> Result<(), RunError> {
     let words = Words::new();
-    let first_page = if items == FORWARD {
-        0
-    } else {
+    let first_page = if items == BACKWARD {
         PAGES as u32 - 1
+    } else {
+        0
     };
     let gate = FirstSheetLast {
         words: &words,
@@ -195,8 +199,8 @@ fn assert_first_last<R: Threads + Wait + Abort + Sync>(
     let report = run_into(rt, alloc, input, items, counts, &words, usize::MAX, &gate)?;
     assert_eq!(rt; words.run_out.load(SeqCst), 0);
     assert_eq!(rt; words.too_early.load(SeqCst), 0);
-    assert_eq!(rt; words.imposed.load(SeqCst), PAGES);
-    assert_eq!(rt; (report.sheets, report.swept), (6, 0));
+    assert_eq!(rt; words.imposed.load(SeqCst), sheets as usize);
+    assert_eq!(rt; (report.sheets, report.swept), (sheets, 0));
     Ok(())
 }
 
@@ -205,9 +209,19 @@ fn assert_first_last<R: Threads + Wait + Abort + Sync>(
 fn no_sheet_is_imposed_far_before_its_turn(rt: HostRuntime) -> Result<(), Fail> {
     let input = large_pages(rt.alloc())?;
     for imposers in [1, 2, 4] {
-        assert_first_last(&rt, rt.alloc(), &input, FORWARD, (6, imposers))?;
-        assert_first_last(&rt, rt.alloc(), &input, BACKWARD, (6, imposers))?;
-        assert_first_last(&rt, rt.alloc(), &input, BACKWARD, (1, imposers))?;
+        assert_first_last(&rt, rt.alloc(), &input, FORWARD, 6, (6, imposers))?;
+        assert_first_last(&rt, rt.alloc(), &input, BACKWARD, 6, (6, imposers))?;
+        assert_first_last(&rt, rt.alloc(), &input, BACKWARD, 6, (1, imposers))?;
+    }
+    Ok(())
+}
+
+// It is on the queue before all others.
+#[test]
+fn a_sheet_without_a_page_waits_for_its_turn(rt: HostRuntime) -> Result<(), Fail> {
+    let input = large_pages(rt.alloc())?;
+    for imposers in [1, 2, 4] {
+        assert_first_last(&rt, rt.alloc(), &input, BLANK_LAST, 7, (6, imposers))?;
     }
     Ok(())
 }
