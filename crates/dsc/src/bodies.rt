@@ -18,7 +18,7 @@ pub struct Body<'d> {
     bytes: Bytes<'d>,
 }
 
-// A copy lies behind a box: most bodies have none, and a list takes a word more than a reference to a part.
+/// A copy lies behind a box: most bodies have none, and a list takes a word more than a reference to a part.
 #[derive(Drop)]
 enum Bytes<'d> {
     Part(&'d [u8]),

@@ -132,7 +132,7 @@ impl Ready {
     }
 }
 
-// Tells the pass that a queue was made with the queue's capacity.
+/// Tells the pass that a queue was made with the queue's capacity.
 fn open<N: Picks>(line: &Line, token: &mut crossbeam_queue::Pass<u32, View>)
     requires { Rattle.crossbeam_queue.specs.Passes.IsPassOf line.now token.old × (view token.old ≡ opening_sight 0) }
     ensures { Rattle.crossbeam_queue.specs.Passes.IsPassOf line.now token.new

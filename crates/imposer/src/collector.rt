@@ -23,7 +23,7 @@ pub(crate) struct CollectorInput<'s, 'j, 'd, T: Texts> {
     /// The same job, with the texts of the channel's rule.
     pub(crate) ruled: &'s RuledJob<'s, 'j, 'd, T>,
     /// How many imposers haven't ended.
-    pub(crate) working: &'s AtomicU32,
+    pub(crate) imposers_left: &'s AtomicU32,
     pub(crate) receiver: &'s SheetReceiver<T>,
     /// Where texts go that were written.
     pub(crate) spent: &'s ArrayQueue<Vec<u8>>,
@@ -109,7 +109,7 @@ fn take_turn<R: Wait, T: Texts, S: Sink>(
     ensures steady { IsTrue result → S.failures state.new.sink.now ≡ S.failures state.old.sink.now }
 {
     // Asked before the channel is: what the last imposer sent is there then.
-    let is_last = input.working.load(SeqCst) == 0;
+    let is_last = input.imposers_left.load(SeqCst) == 0;
     if take_one(rt, input, state) {
         input.window.come_to(state.progress.next);
         idling.end();

@@ -104,7 +104,8 @@ pub fn gather<'j, 'd, R: Threads + Wait + Sync, G: Gate + Sync, S: Sink>(
     seat.share();
     pass.share();
     let tokens = Tokens { seat, pass };
-    let page_len = bytes_of_pages(job) / (job.plan().pages() as usize).max(1);
+    let bytes = bytes_of_pages(job);
+    let page_len = bytes / (job.plan().pages() as usize).max(1);
     let shared = Shared {
         alloc,
         gate,
@@ -112,15 +113,16 @@ pub fn gather<'j, 'd, R: Threads + Wait + Sync, G: Gate + Sync, S: Sink>(
         table,
         shelf,
         ready,
-        running: AtomicU32::new(workers.preparers),
-        working: AtomicU32::new(workers.imposers),
-        window: Window::new(job, workers),
+        preparers_left: AtomicU32::new(workers.preparers),
+        imposers_left: AtomicU32::new(workers.imposers),
+        window: Window::new(job, workers, bytes),
         preparing: Turns::new(page_len),
         imposing: Turns::new(page_len),
     };
     gather_as::<Brand, R, G, S>(rt, &shared, tokens, workers, sink)
 }
 
+/// `gather`, with the texts of the channel's rule chosen.
 fn gather_as<'d, T: Texts + Send + Sync, R: Threads + Wait + Sync, G: Gate + Sync, S: Sink>(
     rt: &R,
     shared: &Shared<'_, '_, 'd, G>,
@@ -169,7 +171,7 @@ fn gather_as<'d, T: Texts + Send + Sync, R: Threads + Wait + Sync, G: Gate + Syn
     let collector_input = CollectorInput {
         job,
         ruled: &ruled,
-        working: &shared.working,
+        imposers_left: &shared.imposers_left,
         receiver: &receiver,
         spent: &spent,
         window: &shared.window,

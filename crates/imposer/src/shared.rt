@@ -22,9 +22,9 @@ pub(crate) struct Shared<'s, 'j, 'd, G> {
     pub(crate) shelf: &'s Shelf<'d>,
     pub(crate) ready: &'s Ready,
     /// How many preparers haven't ended.
-    pub(crate) running: AtomicU32,
+    pub(crate) preparers_left: AtomicU32,
     /// How many imposers haven't ended.
-    pub(crate) working: AtomicU32,
+    pub(crate) imposers_left: AtomicU32,
     /// The sheets that may be imposed now.
     pub(crate) window: Window,
     /// Preparers take turns, and so do imposers.

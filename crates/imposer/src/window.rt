@@ -43,9 +43,10 @@ pub(crate) struct Window {
 }
 
 impl Window {
-    /// A window of about half a megabyte of text. Two sheets at least, and one for each imposer, lie in it.
-    pub(crate) fn new(job: &Job<'_, '_>, workers: Workers) -> Self {
-        let text = bytes_of_pages(job) / (job.sheets() as usize).max(1);
+    /// A window of about half a megabyte of text, of a job with so many bytes of pages. Two sheets at least, and one for
+    /// each imposer, lie in it.
+    pub(crate) fn new(job: &Job<'_, '_>, workers: Workers, bytes: usize) -> Self {
+        let text = bytes / (job.sheets() as usize).max(1);
         let fitting = (BYTES_AHEAD / text.saturating_add(BYTES_BESIDE)).min(MOST_SHEETS) as u32;
         let len = fitting.max(workers.imposers).max(2);
         Window {

@@ -101,7 +101,7 @@ pub fn deliver<'d, R: Wait>(
     })
 }
 
-// What was answered at the places of a page, and the sheets that were handed back.
+/// What was answered at the places of a page, and the sheets that were handed back.
 #[derive(Drop)]
 struct Marked {
     replies: Vec<Reply>,

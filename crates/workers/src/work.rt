@@ -24,7 +24,7 @@ pub trait Work<H> {
     // It has one share, and comes from a worker that has ended.
     ghost is_back: { Self → H → Type 0 };
 
-    // With it the preparer of this number, of so many, did its part.
+    // With it the preparer of this number, one of `count`, did its part.
     ghost has_prepared: { Self → (count number : ℕ) → H → Type 0 };
 
     // With it an imposer did its part.
@@ -34,7 +34,7 @@ pub trait Work<H> {
     // what any number of imposers did.
     ghost has_gathered: { Self → (first : H) → (count joined : ℕ) → H → Type 0 };
 
-    /// The work of the preparer with this number, of so many.
+    /// The work of the preparer with this number, one of `count`.
     fn prepare<R: Wait>(&self, rt: &R, held: H, number: u32, count: u32) -> Result<H, AllocError>
         requires count { 0 < count }
         requires held { is_new self.now held }
