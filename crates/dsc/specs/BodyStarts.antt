@@ -16,8 +16,9 @@ pub record AreBodyStarts (us : List NestedUnit) (starts : List ℕ) : Type 0 whe
   pub each : (p : ℕ) → p < length starts → IsBodyStart (slice_index_or (starts_of us) p 0) (slice_index_or starts p 0)
       (slice_index_or (split_pages (page_run us)) p [])
 
--- What a pass over the units has found: where the bodies begin of the pages before the current one, and where that of the
--- current one does; whether the unit before was dropped, whether a page has begun, and whether the pages have ended.
+-- What a pass over the units has found: where the bodies begin of the pages before the current one, and where that of
+-- the current one does; whether the unit before was dropped, whether a page has begun, and whether the pages have
+-- ended.
 pub record Sought : Type 0 where
   pub found : List ℕ
   pub current : ℕ

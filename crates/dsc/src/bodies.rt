@@ -37,8 +37,8 @@ impl<'d> Model for Body<'d> {
 impl<'d> Body<'d> {
     /// The same body as `prepare` makes, without a copy if it is one run of the page's bytes: if outermost lines are
     /// dropped at the page's start and end alone, and what is kept ends with a line end.
-    /// Refused with BadCount or ShortData, for the page's first faulty data block, or with NoMemory. A page of a document has no
-    /// faulty block.
+    /// Refused with BadCount or ShortData, for the page's first faulty data block, or with NoMemory. A page of a
+    /// document has no faulty block.
     pub fn prepare(alloc: Global, page: &'d [u8]) -> Result<Body<'d>, DscError>
         ensures answer { Gives (λ b. b) page_fault_told result (prepared page.now) }
         ensures refusals { IfErr result IsPageError }

@@ -42,8 +42,8 @@ impl<'d> Model for Document<'d> {
 impl<'d> Document<'d> {
     /// Cuts a text into the units of a document (DSC 3.0: a page begins at each `%%Page:` line outside embedded
     /// documents and data blocks; the trailer at the first `%%Trailer` or `%%EOF` line behind a page).
-    /// Refused with the first of: TooLong, NotPostScript, BadCount or ShortData (whichever data block of the text is the
-    /// first faulty one), TooManyPages, NoPages. NoMemory may come in place of any but the first two.
+    /// Refused with the first of: TooLong, NotPostScript, BadCount or ShortData (whichever data block of the text is
+    /// the first faulty one), TooManyPages, NoPages. NoMemory may come in place of any but the first two.
     pub fn read(alloc: Global, text: &'d [u8]) -> Result<Document<'d>, DscError>
         ensures answer { Gives (λ d. d) fault_told result (document_of text.now) }
         ensures first_checks { IfErr result (λ e. PassedFirstChecks e text.now) }

@@ -88,8 +88,8 @@ impl<'d> Kept<'d> {
         Ok(copied)
     }
 
-    /// Goes on by a unit of this length: the run grows, or it is held and the next one begins behind the unit. A run that
-    /// was held before is copied then. So what is one run of the text is never copied.
+    /// Goes on by a unit of this length: the run grows, or it is held and the next one begins behind the unit. A run
+    /// that was held before is copied then. So what is one run of the text is never copied.
     fn go_on(&mut self, len: usize, dropped: bool) -> Result<(), AllocError>
         requires { self.old.run_len + len ≤ length self.old.run.now }
         ensures kept { OnOk result (

@@ -1,13 +1,13 @@
-//! Lines that begin with no two percent signs. They mean nothing for the parts of a document, and no filter drops them, so
-//! they are passed many at a time.
+//! Lines that begin with no two percent signs. They mean nothing for the parts of a document, and no filter drops them,
+//! so they are passed many at a time.
 ghost use Rattle.std.specs.Prelude.{◌≡◌, ◌<◌, ◌≤◌, length, codes};
 ghost use Rattle.dsc.specs.Plain.{BeginsPlain, next_line};
 
 use crate::lines::{content_end, is_line_end, line_end_after};
 use memchr::memmem::Finder;
 
-/// How many bytes at the start of the text can be passed, by a search for two percent signs: up to the first two, or, if
-/// these begin no line, behind the line that has them.
+/// How many bytes at the start of the text can be passed, by a search for two percent signs: up to the first two, or,
+/// if these begin no line, behind the line that has them.
 pub fn plain_len(percent_signs: &Finder<'_>, text: &[u8]) -> usize
     requires { percent_signs.now ≡ codes "%%" }
     ensures plain { BeginsPlain result text.now }

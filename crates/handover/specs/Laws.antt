@@ -27,8 +27,9 @@ WholePassLosesNone = (pass : PassView) (s : ℕ) → IsPass pass → pass.share 
 abbrev pub OwnMovesAreKept : Type 0
 OwnMovesAreKept = OwnEntriesAreKept IsQueueHistory
 
--- the moves of a pass, made one after the other with whatever others did beside them, stand in one history of the queue,
--- which begins with all that the caller had seen: each at one place of its own, in the order in which they were made
+-- the moves of a pass, made one after the other with whatever others did beside them, stand in one history of the
+-- queue, which begins with all that the caller had seen: each at one place of its own, in the order in which they were
+-- made
 abbrev pub MovesStandInOneHistory : Type 0
 MovesStandInOneHistory = CallsStandInOneHistory IsQueueHistory
 

@@ -1,5 +1,6 @@
--- Read in this order: prepared pages, the shelf and its tokens; histories of the queue, the queue and its passes as clauses
--- see them, what holds of every history and of every pass; the rule that every step keeps, and what each step tells.
+-- Read in this order: prepared pages, the shelf and its tokens; histories of the queue, the queue and its passes as
+-- clauses see them, what holds of every history and of every pass; the rule that every step keeps, and what each step
+-- tells.
 pub mod Pages
 pub mod Shelves
 pub mod Queue

@@ -1,5 +1,5 @@
--- What clauses see of the ready queue and of its passes. A pass is a seat of the queue's history; what is said of seats of any history
--- stands in the crate histories.
+-- What clauses see of the ready queue and of its passes. A pass is a seat of the queue's history; what is said of seats
+-- of any history stands in the crate histories.
 use Rattle.std.specs.Prelude.{ℕ, List}
 use Rattle.atomic_table.specs.Seated.{TableId}
 use Rattle.histories.specs.Calls.{SeatView, IsOf, IsSeat, opening, own_entries}
@@ -10,7 +10,8 @@ pub record QueueView : Type 0 where
   pub queue : TableId
   pub capacity : ℕ
 
--- a pass: its queue, the capacity (its key), the history that its caller has seen, the places in it of the caller's own moves, and its share
+-- a pass: its queue, the capacity (its key), the history that its caller has seen, the places in it of the caller's own
+-- moves, and its share
 abbrev pub PassView : Type 0
 PassView = SeatView ℕ Move
 
@@ -30,8 +31,8 @@ IsPass = IsSeat IsQueueHistory
 abbrev pub own_moves : PassView → List Move
 own_moves pass = own_entries pass
 
--- the move was made: the new front begins with the old one, goes on with what others did meanwhile, and ends with this move,
--- whose place is one more own place. If the pass has all shares there are no others
+-- the move was made: the new front begins with the old one, goes on with what others did meanwhile, and ends with this
+-- move, whose place is one more own place. If the pass has all shares there are no others
 abbrev pub Made : PassView → Move → PassView → Type 0
 Made = Rattle.histories.specs.Calls.Made IsQueueHistory
 

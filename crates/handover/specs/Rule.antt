@@ -15,7 +15,8 @@ spent = Rattle.histories.specs.Seats.spent 0
 abbrev pub StandsAlone : Sight → ℕ → Type 0
 StandsAlone = Rattle.histories.specs.Own.StandsAlone IsQueueHistory
 
--- between any two steps there is one history, whose content is what the queue holds, and of which each pass has seen a beginning
+-- between any two steps there is one history, whose content is what the queue holds, and of which each pass has seen a
+-- beginning
 pub record IsKept (items : List ℕ) (views : List Sight) (capacity : ℕ) (log : List Move) : Type 0 where
   pub legal : IsQueueHistory capacity log
   pub holds : content log ≡ items

@@ -8,7 +8,8 @@ use Rattle.handover.specs.Rule.{Sight}
 abbrev pub Adds : Sight → Move → Sight → Type 0
 Adds = Rattle.histories.specs.Seats.Adds IsQueueHistory
 
--- a step that changes no pass: the front of a pass that has all shares is the whole history, and its content is what the queue held
+-- a step that changes no pass: the front of a pass that has all shares is the whole history, and its content is what
+-- the queue held
 abbrev pub Sees : Sight → List ℕ → Type 0
 Sees v items = v.share ≡ whole_share → content v.front ≡ items
 

@@ -32,9 +32,9 @@ pub fn moves_stand_in_one_history()
     ensures { MovesStandInOneHistory }
 {}
 
-/// The moves of a caller that splits its pass, makes moves with both parts, the one beside the other, and joins them again
-/// stand in one history of the queue too: each once, those of a part in their order, and between what was moved before the
-/// split and what is moved after the join.
+/// The moves of a caller that splits its pass, makes moves with both parts, the one beside the other, and joins them
+/// again stand in one history of the queue too: each once, those of a part in their order, and between what was moved
+/// before the split and what is moved after the join.
 pub fn split_moves_stand_in_one_history()
     ensures { SplitMovesStandInOneHistory }
 {}

@@ -5,8 +5,8 @@ ghost use Rattle.handover.specs.Passes.{IsPass};
 use crate::rule::View;
 use std::marker::Model;
 
-/// A caller's token for one queue. It stands for a history of the queue that the caller has seen, its front, and for the
-/// caller's own puts and takes in it. Neither is stored: a pass is eight bytes, its share.
+/// A caller's token for one queue. It stands for a history of the queue that the caller has seen, its front, and for
+/// the caller's own puts and takes in it. Neither is stored: a pass is eight bytes, its share.
 #[derive(Drop)]
 pub struct Pass {
     pub(crate) token: crossbeam_queue::Pass<u32, View>,

@@ -11,9 +11,9 @@ use dsc::{Body, Document, DscError};
 use std::alloc::{AllocError, Global};
 use std::marker::Model;
 
-/// A page of a document with its prepared body: what is kept of its bytes when it is placed on a sheet (the page comments
-/// and the page setup lines of DSC 3.0 are dropped). It takes 48 bytes, and memory for a copy of the body only if that is no
-/// run of the page's bytes.
+/// A page of a document with its prepared body: what is kept of its bytes when it is placed on a sheet (the page
+/// comments and the page setup lines of DSC 3.0 are dropped). It takes 48 bytes, and memory for a copy of the body only
+/// if that is no run of the page's bytes.
 #[derive(Drop)]
 pub struct Prepared<'d> {
     page: u32,
@@ -35,8 +35,8 @@ impl<'d> Model for Prepared<'d> {
 
 impl<'d> Prepared<'d> {
     /// Prepares a page from its bytes, `raw`. `page` is its number, counted from 0.
-    /// Refused with BadCount or ShortData, for the first faulty data block of `raw`, or with NoMemory. A page of an accepted
-    /// document has no faulty block.
+    /// Refused with BadCount or ShortData, for the first faulty data block of `raw`, or with NoMemory. A page of an
+    /// accepted document has no faulty block.
     pub fn new(alloc: Global, page: u32, raw: &'d [u8]) -> Result<Prepared<'d>, DscError>
         ensures answer { Gives (λ p. p.body) page_fault_told result (prepared raw.now) }
         ensures page { IfOk result (λ p. (p.page ≡ page) × (p.raw ≡ raw.now)) }

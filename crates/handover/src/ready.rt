@@ -23,8 +23,8 @@ type Line = RuledArrayQueue<u32, View, OneHistory>;
 
 /// The sheets that are ready, oldest first: a bounded queue for many threads, without a lock.
 ///
-/// Each call takes a `Pass` of the queue. In any schedule a put that is accepted and a take that gives a sheet are one step
-/// each, and stand in one history of the queue, which begins with all that the caller had seen.
+/// Each call takes a `Pass` of the queue. In any schedule a put that is accepted and a take that gives a sheet are one
+/// step each, and stand in one history of the queue, which begins with all that the caller had seen.
 #[derive(Drop)]
 pub struct Ready {
     line: Line,

@@ -15,7 +15,8 @@ impl Model for View {
     ghost view = { λ v. spent };
 }
 
-/// Between any two steps there is one history, whose content the queue holds and which every pass has seen a beginning of.
+/// Between any two steps there is one history, whose content the queue holds and which every pass has seen a beginning
+/// of.
 pub struct OneHistory;
 
 impl Protocol<u32, View> for OneHistory {

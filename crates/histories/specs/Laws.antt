@@ -100,8 +100,8 @@ module _ {K E : Type 0} (Legal : K → List E → Type 0) where
       × ((a b : SeatView K E) (weight : E → ℕ) → IsSeat Legal a → IsSeat Legal b → Agree a b
       → total weight (own_entries a) + total weight (own_entries b) ≤ total weight (longer a.front b.front))
 
-  -- shares are neither made nor lost: a call and a meeting leave each seat its own, a joined seat has those of both, and
-  -- a split parts one into two
+  -- shares are neither made nor lost: a call and a meeting leave each seat its own, a joined seat has those of both,
+  -- and a split parts one into two
   abbrev pub SharesAreKept : Type 0
   SharesAreKept = ((old new : SeatView K E) (es : List E) → Makes Legal old es new → new.share ≡ old.share)
       × ((a b new : SeatView K E) → Joined Legal a b new → new.share ≡ a.share + b.share)

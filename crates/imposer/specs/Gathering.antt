@@ -71,7 +71,8 @@ pub record AreWhole (table : TableView) (queue : QueueView) (its_seat : SeatView
   pub seat_share : its_seat.share ≡ whole_share
   pub pass_share : its_pass.share ≡ whole_share
 
--- how a run answers whose workers have ended, wherever its collector began: their tokens come back, but after out of memory
+-- how a run answers whose workers have ended, wherever its collector began: their tokens come back, but after out of
+-- memory
 pub record ConcludesAt (job : JobView) (old new : Option (List ℕ)) (before after : ℕ) (p : Progress) (ended : Holding)
     (gathered : Gathered) : Type 0 where
   pub answers : (start : Option (List ℕ)) (first : ℕ) → Stands job start old first before p

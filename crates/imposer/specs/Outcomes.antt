@@ -24,8 +24,8 @@ abbrev pub of_plan : PlanError → RunError
 of_plan plan.NoMemory = no_memory
 of_plan other = error.Plan other
 
--- what holds after an error: `refused` after a refusal, before which nothing was written, and of the number of bytes that
--- were written `spent` after out of memory and `failed` after a failed write
+-- what holds after an error: `refused` after a refusal, before which nothing was written, and of the number of bytes
+-- that were written `spent` after out of memory and `failed` after a failed write
 abbrev pub AfterError : RunError → (refused : Type 0) → (spent failed : ℕ → Type 0) → Type 0
 AfterError error.Options refused spent failed = refused
 AfterError (error.Spec e) refused spent failed = refused

@@ -8,7 +8,8 @@ use Rattle.imposer.specs.declared.shared.Shared.{Shared}
 use Rattle.imposer.specs.declared.tokens.Tokens.{Tokens}
 use Rattle.imposer.specs.declared.tokens.Holding.{Holding}
 
--- the tokens are of the run's table and queue, with this share, and the token of a page without a receipt is of its shelf
+-- the tokens are of the run's table and queue, with this share, and the token of a page without a receipt is of its
+-- shelf
 pub record IsHeld {G : Type 0} (run : Shared G) (share : ℕ) (h : Holding) : Type 0 where
   pub tokens : AreTokens run.table.now run.ready.now share h.tokens
   pub unshelved : IfSome h.unshelved (IsOn run.shelf.now)
@@ -19,8 +20,8 @@ pub record IsNew {G : Type 0} (run : Shared G) (h : Holding) : Type 0 where
   pub unused : AreUnused h.tokens
   pub unshelved : IsNone h.unshelved
 
--- what preparer `number` of `count` promises: if each of its pages got a receipt, exactly their work was done, and all was
--- called and put in order
+-- what preparer `number` of `count` promises: if each of its pages got a receipt, exactly their work was done, and all
+-- was called and put in order
 pub record HasPrepared {G : Type 0} (run : Shared G) (count number : ℕ) (h : Holding) : Type 0 where
   pub work : IsNone h.unshelved → (w : Duty → ℕ)
       → done w h.tokens ≡ share_below w run.table.now.layout count number run.table.now.layout.pages

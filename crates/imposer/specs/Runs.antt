@@ -45,8 +45,8 @@ pub record IsAccepted (r : Request) (spec : Spec) (us : List NestedUnit) : Type 
 abbrev pub Accepted : Request → (Spec → List NestedUnit → Type 0) → Type 0
 Accepted r P = (spec : Spec) × (us : List NestedUnit) × IsAccepted r spec us × P spec us
 
--- what an error says of the checks. A refusal names one that fails, and each before it passes; out of memory comes after
--- the checks that need none; a failed write comes after all of them
+-- what an error says of the checks. A refusal names one that fails, and each before it passes; out of memory comes
+-- after the checks that need none; a failed write comes after all of them
 abbrev pub IsRefusal : Request → RunError → Type 0
 IsRefusal r error.Options = AreOptions r.options → ⊥
 IsRefusal r (error.Spec e) = AreOptions r.options × IsSomeAnd (fault_named e) (λ f. Refuses most_slots r.spec f)
@@ -71,8 +71,8 @@ abbrev pub HasWritten : Request → Option (List ℕ) → Option (List ℕ) → 
 HasWritten r old new e = AfterError e (Keeps old new)
     (λ written. ((written ≡ 0) × Keeps old new) ⊎ WrotePart r old new written) (WrotePart r old new)
 
--- how often the sink had failed before a run that ended so, and after it: a failed write is one failure, and out of memory
--- may have met one too
+-- how often the sink had failed before a run that ended so, and after it: a failed write is one failure, and out of
+-- memory may have met one too
 abbrev pub FailedIn : RunError → (before after : ℕ) → Type 0
 FailedIn e before after = AfterError e (after ≡ before) (λ written. (after ≡ before) ⊎ (after ≡ before + 1))
     (λ written. after ≡ before + 1)
@@ -97,8 +97,8 @@ pub record IsGiven (r : Request) (chosen : Options) (given : Given) : Type 0 whe
   pub takes : Takes most_slots r.spec given.spec
   pub document : document_of r.input ≡ Ok given.document
 
--- what a run answers: at Ok exactly the output was written; an error names the first check that fails, and as much of the
--- output was written as it says. The sink had these bytes and this many failures
+-- what a run answers: at Ok exactly the output was written; an error names the first check that fails, and as much of
+-- the output was written as it says. The sink had these bytes and this many failures
 abbrev pub AnswersRequestAt : Request → (old new : Option (List ℕ)) → (before after : ℕ)
     → Result Report RunError → Type 0
 AnswersRequestAt r old new before after (Ok report) =

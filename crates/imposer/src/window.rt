@@ -43,8 +43,8 @@ pub(crate) struct Window {
 }
 
 impl Window {
-    /// A window of about half a megabyte of text, of a job with so many bytes of pages. Two sheets at least, and one for
-    /// each imposer, lie in it.
+    /// A window of about half a megabyte of text, of a job with so many bytes of pages. Two sheets at least, and one
+    /// for each imposer, lie in it.
     pub(crate) fn new(job: &Job<'_, '_>, workers: Workers, bytes: usize) -> Self {
         let text = bytes / (job.sheets() as usize).max(1);
         let fitting = (BYTES_AHEAD / text.saturating_add(BYTES_BESIDE)).min(MOST_SHEETS) as u32;

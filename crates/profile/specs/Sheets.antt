@@ -1,6 +1,6 @@
 -- Which pages stand on which sheets. Pages, sheets, items and slots are counted from 0.
--- Blocks, and pages counted from the end of the document by a minus, are of pstops(1), DESCRIPTION and EXAMPLES. That the
--- last block is filled with blanks before pages are counted from the end is this project's own profile.
+-- Blocks, and pages counted from the end of the document by a minus, are of pstops(1), DESCRIPTION and EXAMPLES. That
+-- the last block is filled with blanks before pages are counted from the end is this project's own profile.
 use Rattle.std.specs.Prelude.{◌≡◌, ℕ, ◌+◌, ◌-◌, ◌*◌, ◌/◌, nat_lt, if◌then◌else◌, List, map, flat_map, Option, Some}
 use Rattle.std.specs.Prelude.{None, length}
 use Rattle.std.specs.List.{range_with_len}
@@ -24,8 +24,8 @@ pub record Slot : Type 0 where
   pub page : Option ℕ
   pub item : Item
 
--- the sheets of a specification on a row of so many entries, each of which is a page or a blank: one sheet for each group of
--- each block, block by block
+-- the sheets of a specification on a row of so many entries, each of which is a page or a blank: one sheet for each
+-- group of each block, block by block
 abbrev pub sheets_over : Spec → (entries : ℕ) → (entry : ℕ → Option ℕ) → List (List Slot)
 sheets_over spec entries entry =
     flat_map (λ b. map (λ g.

@@ -1,6 +1,6 @@
--- Signatures: the pages in the order in which they are printed on leaves that are folded once, put into one another and bound.
--- The order, and the blanks that fill up the last signature, are of psbook(1), option -s. How many sides a signature may have is
--- this project's own profile.
+-- Signatures: the pages in the order in which they are printed on leaves that are folded once, put into one another and
+-- bound. The order, and the blanks that fill up the last signature, are of psbook(1), option -s. How many sides a
+-- signature may have is this project's own profile.
 use Rattle.std.specs.Prelude.{⊤, ◌≡◌, ℕ, ◌+◌, ◌-◌, ◌*◌, ◌/◌, ◌%◌, ◌<◌, ◌≤◌, ◌==◌, if◌then◌else◌, List, length, map}
 use Rattle.std.specs.Prelude.{flat_map, Option, Some, None, slice_index_or}
 use Rattle.std.specs.List.{range_with_len}
@@ -20,8 +20,8 @@ abbrev pub AreSidesIfGiven : Option ℕ → Type 0
 AreSidesIfGiven None = ⊤
 AreSidesIfGiven (Some s) = AreSides s
 
--- which of its pages stands at a position of a signature of s sides. Leaf j, from the outermost one, has on its outside the
--- last and the first of the pages that the leaves round it leave, and on its inside the second and the last but one
+-- which of its pages stands at a position of a signature of s sides. Leaf j, from the outermost one, has on its outside
+-- the last and the first of the pages that the leaves round it leave, and on its inside the second and the last but one
 abbrev pub page_in_signature : (s position : ℕ) → ℕ
 page_in_signature s i =
     let j = i / 4 in
@@ -51,7 +51,8 @@ entry_in (Some s) n e = entry_of (signature_row s n) e
 abbrev pub sheets_in : (sides : Option ℕ) → Spec → (n : ℕ) → List (List Slot)
 sheets_in sides spec n = sheets_over spec (row_len sides n) (entry_in sides n)
 
--- without signatures there are the pages in their order, and it is the same whether the row is said as a list or not: a law
+-- without signatures there are the pages in their order, and it is the same whether the row is said as a list or not: a
+-- law
 abbrev pub WithoutSides : Type 0
 WithoutSides = (spec : Spec) (n : ℕ) →
     (sheets_in None spec n ≡ sheets spec n)
@@ -65,8 +66,8 @@ WithoutSides = (spec : Spec) (n : ℕ) →
 abbrev pub WholeSignatures : Type 0
 WholeSignatures = (s n : ℕ) → length (signature_row s n) ≡ blocks s n * s
 
--- the order of a signature is a permutation of its positions: each position has a page of the signature, no two have the
--- same, and each page has a position: a law
+-- the order of a signature is a permutation of its positions: each position has a page of the signature, no two have
+-- the same, and each page has a position: a law
 abbrev pub IsPermutation : Type 0
 IsPermutation = (s : ℕ) → AreSides s →
     ((i : ℕ) → i < s → page_in_signature s i < s)

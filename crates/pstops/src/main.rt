@@ -32,8 +32,8 @@ fn main(rt: HostRuntime) -> ExitCode {
     }
 }
 
-// Reads the words, then the input, then creates the output and runs the request: the exit status and the line for standard
-// error. Only `main` may hand on the runtime as what starts threads, so it comes a second time, as `threads`.
+// Reads the words, then the input, then creates the output and runs the request: the exit status and the line for
+// standard error. Only `main` may hand on the runtime as what starts threads, so it comes a second time, as `threads`.
 fn status_and_line<R: Threads + Wait + Sync>(
     rt: &HostRuntime,
     threads: &R,
@@ -83,8 +83,8 @@ fn read_from(alloc: Global, reader: impl Read + Drop) -> Result<Vec<u8>, ReadFau
 // How much of the output is written at once, in bytes, if sheets are smaller.
 const WRITTEN_AT_ONCE: usize = 16_384;
 
-// A block of this many bytes is made and given back before the run. From then on the C library keeps blocks up to this size that
-// are given back, in place of handing them to the system and asking for new ones, which must be cleared.
+// A block of this many bytes is made and given back before the run. From then on the C library keeps blocks up to this
+// size that are given back, in place of handing them to the system and asking for new ones, which must be cleared.
 const KEPT_BLOCK: usize = 4_194_304;
 
 // Runs the request and flushes what it wrote.

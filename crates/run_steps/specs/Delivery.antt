@@ -103,8 +103,8 @@ abbrev pub DeliveriesClose : Type 0
 DeliveriesClose = (layout : Layout) (p i : ℕ) (was : Published) (rs : List Reply) (cs : List Closing)
     → AreAnswered layout p rs cs → CloseWhatTheyFill (delivery_calls layout p i was rs cs)
 
--- these sheets were put on the queue, in order, but for those handed back, for each of which the queue answered Full in its
--- turn: a pass that has all shares had then seen as many sheets in the queue as it has room for
+-- these sheets were put on the queue, in order, but for those handed back, for each of which the queue answered Full in
+-- its turn: a pass that has all shares had then seen as many sheets in the queue as it has room for
 abbrev pub HandedOn : QueueView → (sheets back : List ℕ) → PassView → PassView → Type 0
 HandedOn queue [] back old new = (back ≡ []) × (new ≡ old)
 HandedOn queue (s ∷ sheets) back old new =

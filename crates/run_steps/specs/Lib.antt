@@ -1,5 +1,5 @@
--- Read in this order. Who asks what `deliver` calls may stop behind `HandingBack`; what `impose` calls stands in `LookUps`
--- alone. The others weigh the calls of a whole run, which the laws speak of.
+-- Read in this order. Who asks what `deliver` calls may stop behind `HandingBack`; what `impose` calls stands in
+-- `LookUps` alone. The others weigh the calls of a whole run, which the laws speak of.
 pub mod Delivery
 pub mod HandingBack
 pub mod LookUps

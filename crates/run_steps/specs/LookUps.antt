@@ -30,12 +30,14 @@ pub record LooksUp (pages : List ℕ) (n : ℕ) (old new : SeatView) : Type 0 wh
   pub found : length indexes ≡ n
   pub made : Makes old (look_ups pages indexes) new
 
--- the first of these pages were looked up, as many as there were until this was answered: if a page isn't shown, one at least
+-- the first of these pages were looked up, as many as there were until this was answered: if a page isn't shown, one at
+-- least
 abbrev pub LooksUpUntil : List ℕ → ImposeError → (old new : SeatView) → Type 0
 LooksUpUntil pages NoMemory old new = (n : ℕ) × LooksUp pages n old new
 LooksUpUntil pages NotShown old new = (n : ℕ) × (0 < n) × LooksUp pages n old new
 
--- the page of a slot was looked up and found, and nothing else was called; a blank slot, or one that isn't there, has none
+-- the page of a slot was looked up and found, and nothing else was called; a blank slot, or one that isn't there, has
+-- none
 abbrev pub LooksAt : Option (Option ℕ) → (old new : SeatView) → Type 0
 LooksAt None old new = new ≡ old
 LooksAt (Some None) old new = new ≡ old

@@ -22,8 +22,8 @@ front_text job n =
 abbrev pub WroteFirst : JobView → (old new : Option (List ℕ)) → ℕ → Type 0
 WroteFirst job old new n = (n ≤ length (output_of job)) × Appends old new (take n (output_of job))
 
--- the header and the sheets before the next one were written; after a halt, some first part of the output. The sink failed
--- only if the halt says so
+-- the header and the sheets before the next one were written; after a halt, some first part of the output. The sink
+-- failed only if the halt says so
 abbrev pub StandsAt : JobView → (old new : Option (List ℕ)) → (before after : ℕ)
     → (next written : ℕ) → Option Halt → Type 0
 StandsAt job old new before after next written None =

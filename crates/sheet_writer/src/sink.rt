@@ -91,8 +91,8 @@ impl<T: io::Write> Sink for WriteSink<T> {
     }
 }
 
-/// A list of bytes as a sink. It has room for `room` bytes, takes at most `per_call` a call, and answers at most `calls`
-/// calls with Ok.
+/// A list of bytes as a sink. It has room for `room` bytes, takes at most `per_call` a call, and answers at most
+/// `calls` calls with Ok.
 #[derive(Drop)]
 pub struct MemorySink {
     bytes: Vec<u8>,

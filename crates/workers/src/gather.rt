@@ -13,8 +13,9 @@ use std::thread::{Scope, Threads};
 /// Starts all threads of a run, collects on the caller's thread while they work, and joins what they hold. Nothing was
 /// collected if a thread was refused; `ended` is None then, and if a worker ran out of memory.
 ///
-/// What is shared and the collector are two, since the one goes to the threads and the other, which may write to a sink that
-/// no thread may have, doesn't. The state comes back alone: in a pair it would not be known to hold what the caller lent it.
+/// What is shared and the collector are two, since the one goes to the threads and the other, which may write to a sink
+/// that no thread may have, doesn't. The state comes back alone: in a pair it would not be known to hold what the
+/// caller lent it.
 pub fn gather_by<
     R: Threads + Wait + Sync,
     H: Send + Drop,

@@ -32,7 +32,8 @@ pub(crate) fn join_preparers<'s, R: Threads, H: Drop, W: Work<H>>(
     all
 }
 
-/// Waits for all imposers, and joins what they hand back to what the preparers did. None if one of them ran out of memory.
+/// Waits for all imposers, and joins what they hand back to what the preparers did. None if one of them ran out of
+/// memory.
 pub(crate) fn join_imposers<'s, R: Threads, H: Drop, W: Work<H>>(
     rt: &R,
     shared: &'s W,

@@ -6,11 +6,12 @@ use std::alloc::AllocError;
 use std::sync::Wait;
 use std::thread::Promise;
 
-/// The work of preparers, on what all threads share. `H` is what a worker holds, and what it hands back when it ends. What is
-/// held has shares: the caller begins with some, gives one away to each worker, and has them again when all are joined.
+/// The work of preparers, on what all threads share. `H` is what a worker holds, and what it hands back when it ends.
+/// What is held has shares: the caller begins with some, gives one away to each worker, and has them again when all are
+/// joined.
 ///
-/// Neither `H` nor what is shared shows a lifetime to the code that starts and joins threads: with a lifetime there, what a
-/// thread promises couldn't be proved.
+/// Neither `H` nor what is shared shows a lifetime to the code that starts and joins threads: with a lifetime there,
+/// what a thread promises couldn't be proved.
 pub trait Work<H> {
     // It belongs to what is shared.
     ghost is_held: { Self → H → Type 0 };
@@ -30,8 +31,8 @@ pub trait Work<H> {
     // With it an imposer did its part.
     ghost has_imposed: { Self → H → Type 0 };
 
-    // It is what is left of the first, joined with what this number of preparers, the first of so many, handed back, and with
-    // what any number of imposers did.
+    // It is what is left of the first, joined with what this number of preparers, the first of so many, handed back,
+    // and with what any number of imposers did.
     ghost has_gathered: { Self → (first : H) → (count joined : ℕ) → H → Type 0 };
 
     /// The work of the preparer with this number, one of `count`.
@@ -90,8 +91,8 @@ pub trait Collector<S> {
     // What became of the state.
     ghost collected: { Self → S → S → Type 0 };
 
-    // The ghost name of the reference that the state holds, or 0: who lent it learns what was written only if it is known
-    // to be the same one.
+    // The ghost name of the reference that the state holds, or 0: who lent it learns what was written only if it is
+    // known to be the same one.
     ghost reference: { Self → S → ℕ };
 
     /// Takes what the workers finish until all have ended.

@@ -1,4 +1,5 @@
-//! Each page of a document is delivered more than once, by one caller and by several at once: each sheet is completed once.
+//! Each page of a document is delivered more than once, by one caller and by several at once: each sheet is completed
+//! once.
 use super::callers::{Caller, caller_of};
 use super::{a4, document_of};
 use dsc::Document;
@@ -37,8 +38,8 @@ fn told_of(delivered: &Delivered<'_>) -> Option<Told> {
     })
 }
 
-/// Delivers a page. Refused also for a page that isn't there, and for one of which more or less is told than of a page in one
-/// slot.
+/// Delivers a page. Refused also for a page that isn't there, and for one of which more or less is told than of a page
+/// in one slot.
 fn deliver_page<R: Wait>(
     rt: &R,
     alloc: Global,

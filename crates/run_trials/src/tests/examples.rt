@@ -1,4 +1,5 @@
-//! Worked examples of runs: small documents, many pages, wide sheets, signatures, refusals, sinks, and threads that meet.
+//! Worked examples of runs: small documents, many pages, wide sheets, signatures, refusals, sinks, and threads that
+//! meet.
 mod many_pages;
 mod refusals;
 mod signatures;

@@ -1,5 +1,5 @@
-//! Gates at which as many threads wait for each other as a run was told to start: one with fewer never comes past them, and
-//! one that makes the sheets on its caller's thread doesn't come to them.
+//! Gates at which as many threads wait for each other as a run was told to start: one with fewer never comes past them,
+//! and one that makes the sheets on its caller's thread doesn't come to them.
 ghost use Rattle.std.specs.Prelude.{None};
 
 use super::{document_of, workers};
@@ -94,8 +94,8 @@ impl Sink for Everything {
     }
 }
 
-/// Sixteen pages on sixteen sheets by so many workers of each kind, which all meet at these steps: how many were entered, which,
-/// and how many waits ran out.
+/// Sixteen pages on sixteen sheets by so many workers of each kind, which all meet at these steps: how many were
+/// entered, which, and how many waits ran out.
 fn run_barrier<R: Threads + Wait + Abort + Sync>(
     rt: &R,
     alloc: Global,

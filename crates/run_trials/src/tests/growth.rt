@@ -1,8 +1,8 @@
-//! Runs and gatherings in which each growth is refused in turn: the answer is that it is out of memory, what stands stays as it
-//! was, and what was written is the first part of the output.
+//! Runs and gatherings in which each growth is refused in turn: the answer is that it is out of memory, what stands
+//! stays as it was, and what was written is the first part of the output.
 //!
-//! Run as they are, these trials find that nothing is refused, and compare each answer once. `examples/refused-calls` runs
-//! them beside a library that refuses.
+//! Run as they are, these trials find that nothing is refused, and compare each answer once. `examples/refused-calls`
+//! runs them beside a library that refuses.
 mod runs;
 
 use std::alloc::Global;

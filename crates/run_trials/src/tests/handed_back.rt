@@ -18,8 +18,8 @@ use std::thread::Threads;
 /// How many shares a whole seat has, and a whole pass.
 const WHOLE: u64 = 4_294_967_296;
 
-/// Gathers the job into a sink that fails: how many bytes the gathering says that were written, and the shares of the seat
-/// and of the pass that came back, if they did.
+/// Gathers the job into a sink that fails: how many bytes the gathering says that were written, and the shares of the
+/// seat and of the pass that came back, if they did.
 fn gather_job<R: Threads + Wait + Abort + Sync>(
     rt: &R,
     alloc: Global,

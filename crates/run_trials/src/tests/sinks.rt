@@ -34,8 +34,8 @@ fn impose_pair<R: Threads + Wait + Abort + Sync, S: Sink>(
     run(rt, alloc, text.as_bytes(), TWO_UP, &options, &Open {}, sink)
 }
 
-/// With a sink that takes seven bytes a call and fails behind so many calls: how many bytes it has, and how many the run says
-/// that were written. They are the first of the output.
+/// With a sink that takes seven bytes a call and fails behind so many calls: how many bytes it has, and how many the
+/// run says that were written. They are the first of the output.
 fn written_behind<R: Threads + Wait + Abort + Sync>(
     rt: &R,
     alloc: Global,

@@ -1,5 +1,5 @@
-//! Pages so large that only a few sheets lie in the window of those that may be imposed: the others wait until their turn is
-//! near, unless the sheet that is written next may never come.
+//! Pages so large that only a few sheets lie in the window of those that may be imposed: the others wait until their
+//! turn is near, unless the sheet that is written next may never come.
 ghost use Rattle.std.specs.Prelude.{None};
 
 use super::workers;
@@ -111,9 +111,9 @@ impl<'w> Sink for LimitedSink<'w> {
     }
 }
 
-/// The page of the first sheet is delivered last: when all others were delivered, and as many sheets are imposed as lie in the
-/// window behind the first. A sheet is imposed too early if as many sheets as lie in a window, and this one, come behind what
-/// was written.
+/// The page of the first sheet is delivered last: when all others were delivered, and as many sheets are imposed as lie
+/// in the window behind the first. A sheet is imposed too early if as many sheets as lie in a window, and this one,
+/// come behind what was written.
 #[derive(Drop)]
 struct FirstSheetLast<'w> {
     words: &'w Words,

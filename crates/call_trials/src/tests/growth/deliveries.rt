@@ -102,8 +102,8 @@ fn impose_first<R: Abort>(
     }
 }
 
-/// Imposes the first sheet, which is complete. If a growth is refused, table and shelf answer as before, and the same call with
-/// memory gives the sheet's text.
+/// Imposes the first sheet, which is complete. If a growth is refused, table and shelf answer as before, and the same
+/// call with memory gives the sheet's text.
 fn impose_again<R: Abort>(
     rt: &R,
     alloc: Global,
@@ -147,7 +147,8 @@ fn make_text<R: Abort>(
     Ok(is_refused)
 }
 
-/// Delivers, imposes and makes the text of the sheet with the first page in so many slots; whether a growth was refused.
+/// Delivers, imposes and makes the text of the sheet with the first page in so many slots; whether a growth was
+/// refused.
 fn complete_job<R: Wait + Abort>(
     rt: &R,
     alloc: Global,

@@ -40,8 +40,8 @@ impl Gate for Late {
 /// A booklet: from the last page and the first towards the middle.
 const BOOKLET: &str = "4:-3L@.7(21cm,0)+0L@.7(21cm,14.85cm),1L@.7(21cm,0)+-2L@.7(21cm,14.85cm)";
 
-/// Runs with the growth of this number refused: the sink, how many bytes the run says that were written, None if it finished,
-/// and whether a growth was refused.
+/// Runs with the growth of this number refused: the sink, how many bytes the run says that were written, None if it
+/// finished, and whether a growth was refused.
 fn run_refused<R: Threads + Wait + Abort + Sync, G: Gate + Sync>(
     rt: &R,
     alloc: Global,
@@ -163,8 +163,8 @@ fn runs_whose_first_sheet_comes_last(rt: HostRuntime) -> Result<(), Fail> {
     Ok(())
 }
 
-/// Gathers a job: how many bytes the gathering says that it wrote, None if all went well; whether the tokens came back; and
-/// whether a growth was refused.
+/// Gathers a job: how many bytes the gathering says that it wrote, None if all went well; whether the tokens came back;
+/// and whether a growth was refused.
 fn gather_job<R: Threads + Wait + Abort + Sync>(
     rt: &R,
     alloc: Global,

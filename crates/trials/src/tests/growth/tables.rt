@@ -105,8 +105,8 @@ fn put_first<R: Abort + Wait>(rt: &R, alloc: Global, number: u32) -> Result<bool
     put_again(rt, alloc, number, &shelf)
 }
 
-/// A shelf asks for more room when it has 28 pages. If that is refused, the page is put all the same; then it is refused to the
-/// page for which there is no room, and the shelf shows the others.
+/// A shelf asks for more room when it has 28 pages. If that is refused, the page is put all the same; then it is
+/// refused to the page for which there is no room, and the shelf shows the others.
 fn put_behind<R: Abort + Wait>(rt: &R, alloc: Global, number: u32) -> Result<bool, Fail> {
     let shelf = Shelf::new(alloc)?;
     let indices = put_pages(rt, alloc, &shelf, 28)?;
