@@ -1,6 +1,8 @@
 use Rattle.std.proofs.lemmas.Result.{IfOk-equal}
 use Rattle.profile.specs.Numbers.{scale_text, points_text}
 use Rattle.placement.proofs.Joining.{matrix_joined}
+use Rattle.std.proofs.lemmas.Result.{on_err_weaker}
+use Rattle.placement.proofs.Keeping.{keeps_more, full_behind}
 use Rattle.placement.proofs.texts.append_matrix.Goals as goal
 
 pub returns-clause-appended : goal.returns-clause-appended
@@ -9,3 +11,13 @@ returns-clause-appended c =
     IfOk-equal _ _ _ _ c.append_text.ensures.appended
     (matrix_joined c.args.out.now.items (scale_text m.a) (scale_text m.b) (scale_text m.c) (scale_text m.d) (points_text m.tx) (points_text m.ty) _ _ _
     c.in_ok-append_scales.ensures.appended c.in_ok-append_points.ensures.appended c.in_ok-append_points-2.ensures.appended)
+
+pub returns-clause-full : goal.returns-clause-full
+returns-clause-full c =
+    let m = c.args.matrix.now in
+    on_err_weaker _
+    (full_behind c.args.out.now _ _ _
+    (keeps_more _ _ _ c.in_ok-append_scales.ensures.kept (keeps_more _ _ _ c.in_ok-append_points.ensures.kept c.in_ok-append_points-2.ensures.kept))
+    (matrix_joined c.args.out.now.items (scale_text m.a) (scale_text m.b) (scale_text m.c) (scale_text m.d) (points_text m.tx) (points_text m.ty) _ _ _
+    c.in_ok-append_scales.ensures.appended c.in_ok-append_points.ensures.appended c.in_ok-append_points-2.ensures.appended))
+    c.append_text.ensures.full

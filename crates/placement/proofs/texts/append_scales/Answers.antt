@@ -1,6 +1,8 @@
 use Rattle.std.proofs.lemmas.Result.{IfOk-equal}
 use Rattle.profile.specs.Numbers.{scale_text}
 use Rattle.placement.proofs.Joining.{scales_joined}
+use Rattle.std.proofs.lemmas.Result.{on_err_weaker}
+use Rattle.placement.proofs.Keeping.{keeps_more, full_behind}
 use Rattle.placement.proofs.texts.append_scales.Goals as goal
 
 pub returns-clause-appended : goal.returns-clause-appended
@@ -9,3 +11,13 @@ returns-clause-appended c =
     IfOk-equal _ _ _ _ c.append_scale-4.ensures.appended
     (scales_joined c.args.out.now.items (scale_text m.a) (scale_text m.b) (scale_text m.c) (scale_text m.d) _ _ _
     c.in_ok-append_scale.ensures.appended c.in_ok-append_scale-2.ensures.appended c.in_ok-append_scale-3.ensures.appended)
+
+pub returns-clause-full : goal.returns-clause-full
+returns-clause-full c =
+    let m = c.args.matrix.now in
+    on_err_weaker _
+    (full_behind c.args.out.now _ _ _
+    (keeps_more _ _ _ c.in_ok-append_scale.ensures.kept (keeps_more _ _ _ c.in_ok-append_scale-2.ensures.kept c.in_ok-append_scale-3.ensures.kept))
+    (scales_joined c.args.out.now.items (scale_text m.a) (scale_text m.b) (scale_text m.c) (scale_text m.d) _ _ _
+    c.in_ok-append_scale.ensures.appended c.in_ok-append_scale-2.ensures.appended c.in_ok-append_scale-3.ensures.appended))
+    c.append_scale-4.ensures.full
