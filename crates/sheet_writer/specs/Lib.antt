@@ -2,3 +2,4 @@
 -- keeps its bytes in memory, which tests use.
 pub mod Writing
 pub mod Memory
+pub mod Places

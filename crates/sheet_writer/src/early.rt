@@ -1,7 +1,9 @@
 //! The sheets that came before their turn.
-ghost use Rattle.std.specs.Prelude.{◌≡◌, IfOk, IfSome};
+ghost use Rattle.std.specs.Prelude.{◌≡◌, ◌≢◌, ℕ, Option, Some, None, length, slice_get, IfOk, IfSome};
 ghost use Rattle.sheet_text.specs.Jobs.{JobView, text_of};
 ghost use Rattle.sheet_writer.specs.Writing.{AreEarly};
+ghost use Rattle.sheet_writer.specs.declared.early.Imposed.{Imposed};
+ghost use Rattle.sheet_writer.specs.Places.{place_of, in_place};
 
 use std::alloc::{AllocError, Global};
 
@@ -28,7 +30,8 @@ pub struct Early {
 impl Early {
     /// So many places, and no sheet yet.
     pub fn new(alloc: Global, count: u32) -> Result<Self, AllocError>
-        ensures { IfOk result (λ early. (job : JobView) → AreEarly job early.places.items) }
+        ensures early { IfOk result (λ early. (job : JobView) → AreEarly job early.places.items) }
+        ensures count { IfOk result (λ early. length early.places.items ≡ count) }
     {
         let mut places = Vec::with_capacity(alloc, count as usize)?;
         for _ in 0..count {
@@ -40,8 +43,15 @@ impl Early {
     /// Puts a sheet in its place. If another sheet is there, the new one is dropped: a sheet that never came is made
     /// anew.
     pub fn put(&mut self, imposed: Imposed)
-        ensures { (job : JobView) → imposed.text.items ≡ text_of job imposed.sheet → AreEarly job self.old.places.items
-            → AreEarly job self.new.places.items }
+        ensures early { (job : JobView) → imposed.text.items ≡ text_of job imposed.sheet
+            → AreEarly job self.old.places.items → AreEarly job self.new.places.items }
+        ensures count { length self.new.places.items ≡ length self.old.places.items }
+        ensures placed { in_place self.old.places.items imposed.sheet ≡ Some None
+            → in_place self.new.places.items imposed.sheet ≡ Some (Some imposed) }
+        ensures others { (k : ℕ) → k ≢ place_of self.old.places.items imposed.sheet
+            → slice_get self.new.places.items k ≡ slice_get self.old.places.items k }
+        ensures dropped { (other : Imposed) → in_place self.old.places.items imposed.sheet ≡ Some (Some other)
+            → self.new.places.items ≡ self.old.places.items }
     {
         let place = imposed.sheet as usize % self.places.len().max(1);
         if place < self.places.len() && self.places[place].is_none() {
@@ -54,18 +64,20 @@ impl Early {
         ensures text { (job : JobView) → AreEarly job self.old.places.items
             → IfSome result (λ text. text.items ≡ text_of job sheet) }
         ensures left { (job : JobView) → AreEarly job self.old.places.items → AreEarly job self.new.places.items }
+        ensures found { (imposed : Imposed) → in_place self.old.places.items sheet ≡ Some (Some imposed)
+            → imposed.sheet ≡ sheet → result ≡ Some imposed.text }
+        ensures other { (imposed : Imposed) → in_place self.old.places.items sheet ≡ Some (Some imposed)
+            → imposed.sheet ≢ sheet → self.new.places.items ≡ self.old.places.items }
     {
         let place = sheet as usize % self.places.len().max(1);
         if place >= self.places.len() {
             return None;
         }
-        let Some(imposed) = self.places[place].take() else {
-            return None;
-        };
-        if imposed.sheet != sheet {
-            self.places[place] = Some(imposed);
+        let has_come = matches!(&self.places[place], Some(imposed) if imposed.sheet == sheet);
+        if !has_come {
             return None;
         }
+        let imposed = self.places[place].take()?;
         Some(imposed.text)
     }
 }

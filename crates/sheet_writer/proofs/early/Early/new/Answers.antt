@@ -9,5 +9,8 @@ loop-preserved c = record {
   none = search (rules, none_pushed);
 }
 
-pub returns : goal.returns
-returns c = λ job k m at. absurd (c.loop.invariant.none k m at)
+pub returns-clause-early : goal.returns-clause-early
+returns-clause-early c = λ job k m at. absurd (c.loop.invariant.none k m at)
+
+pub returns-clause-count : goal.returns-clause-count
+returns-clause-count c = search rules
