@@ -1,16 +1,22 @@
-//! A caller of a table, a shelf and a queue, with a seat and a pass of its own.
+//! A caller of a table, a shelf and a queue, with a seat and a pass of its own, and how a test gets one.
 ghost use Rattle.std.specs.Prelude.{◌≡◌};
 ghost use Rattle.profile.specs.Sheets.{layout};
 ghost use Rattle.gather_table.specs.Shared.{IsSeatOf};
 ghost use Rattle.handover.specs.Passes.{IsPassOf};
 
+use super::a4;
+use dsc::Document;
 use gather_table::{GatherTable, Seat};
 use handover::{Pass, Prepared, Ready, Shelf};
+use pagespec::read_spec;
 use run_steps::{DeliverError, Delivered, ImposeError, deliver, impose, is_complete};
-use sheet_text::Job;
+use sheet_plan::Plan;
+use sheet_text::{Job, sheet_text};
 use sheet_writer::Imposed;
-use std::alloc::Global;
+use std::alloc::{AllocError, Global};
+use std::process::Abort;
 use std::sync::Wait;
+use std::test::Fail;
 
 /// A caller that gathers the pages of a job. The table is one of the job's plan.
 #[derive(Drop)]
@@ -24,6 +30,48 @@ pub(super) struct Caller<'s, 'j, 't, 'd> {
     ghost same_plan: { table.now.layout ≡ layout job.now.plan },
     ghost seated: { IsSeatOf table.now seat },
     ghost passed: { IsPassOf ready.now pass },
+}
+
+/// What a test does with the first caller of a job, and what it comes to.
+pub(super) trait Task<R, A> {
+    fn go(&self, rt: &R, alloc: Global, caller: Caller<'_, '_, '_, '_>) -> Result<A, Fail>;
+}
+
+/// Does the task with a caller that gathers this document by this specification, with room for so many sheets in the
+/// queue.
+pub(super) fn with_caller<A, R: Abort, T: Task<R, A>>(
+    rt: &R,
+    alloc: Global,
+    text: &str,
+    items: &str,
+    room: u32,
+    task: &T,
+) -> Result<A, Fail> {
+    let spec = read_spec(alloc, items)?;
+    let document = Document::read(alloc, text.as_bytes())?;
+    let plan = Plan::new(alloc, &spec, document.pages())?;
+    with_job(
+        rt,
+        alloc,
+        &Job::new(&plan, &document, a4(rt), None),
+        room,
+        task,
+    )
+}
+
+/// The same for this job.
+fn with_job<A, R, T: Task<R, A>>(
+    rt: &R,
+    alloc: Global,
+    job: &Job<'_, '_>,
+    room: u32,
+    task: &T,
+) -> Result<A, Fail> {
+    let (table, seat) = GatherTable::new(alloc, job.plan())?;
+    let shelf = Shelf::new(alloc)?;
+    let (ready, pass) = Ready::new(alloc, room.max(1))?;
+    let caller = caller_of(job, &table, &shelf, &ready, seat, pass);
+    task.go(rt, alloc, caller)
 }
 
 /// A caller with this seat and this pass.
@@ -72,6 +120,26 @@ impl<'s, 'j, 't, 'd> Caller<'s, 'j, 't, 'd> {
             plan,
             prepared,
         ))
+    }
+
+    /// Prepares a page of the document and delivers it. Refused also for a page that isn't there.
+    pub(super) fn deliver_page<R: Wait>(
+        &mut self,
+        rt: &R,
+        alloc: Global,
+        page: u32,
+    ) -> Result<Delivered<'d>, AllocError> {
+        let document = self.job.document();
+        if page >= document.pages() {
+            return Err(AllocError);
+        }
+        let Ok(prepared) = Prepared::new(alloc, page, document.page(page)) else {
+            return Err(AllocError);
+        };
+        match self.deliver(rt, alloc, prepared) {
+            Some(Ok(delivered)) => Ok(delivered),
+            _ => Err(AllocError),
+        }
     }
 
     /// What is missing of a sheet. None for one that the job doesn't have.
@@ -127,4 +195,34 @@ impl<'s, 'j, 't, 'd> Caller<'s, 'j, 't, 'd> {
         }
         Some(impose(alloc, &mut seat, job, table, shelf, sheet))
     }
+}
+
+/// Two other callers of the same.
+pub(super) fn two_others<'s, 'j, 't, 'd>(
+    caller: &mut Caller<'s, 'j, 't, 'd>,
+) -> Result<(Caller<'s, 'j, 't, 'd>, Caller<'s, 'j, 't, 'd>), AllocError> {
+    let (Some(one), Some(other)) = (caller.another(), caller.another()) else {
+        return Err(AllocError);
+    };
+    Ok((one, other))
+}
+
+/// Imposes a sheet, which must be complete and have its text.
+pub(super) fn assert_imposed<R: Abort>(
+    rt: &R,
+    alloc: Global,
+    caller: &mut Caller<'_, '_, '_, '_>,
+    sheet: u32,
+) -> Result<(), AllocError> {
+    let job = caller.job;
+    assert!(rt; sheet < job.sheets());
+    let Some(another) = caller.another() else {
+        return Err(AllocError);
+    };
+    let Some(Ok(imposed)) = another.impose(alloc, sheet) else {
+        panic!(rt; "sheet {sheet} isn't imposed");
+    };
+    let text = sheet_text(alloc, job, sheet)?;
+    assert!(rt; imposed.text.as_slice() == text.as_slice());
+    Ok(())
 }

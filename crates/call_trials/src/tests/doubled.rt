@@ -1,14 +1,14 @@
 //! Each page of a document is delivered more than once, by one caller and by several at once: each sheet is completed
 //! once.
-use super::callers::{Caller, caller_of};
+use super::callers::{Caller, assert_imposed, caller_of, two_others};
 use super::{a4, document_of};
 use dsc::Document;
 use gather_table::{Closing, GatherTable, Published, Reply};
-use handover::{Prepared, Ready, Shelf};
+use handover::{Ready, Shelf};
 use pagespec::read_spec;
 use run_steps::Delivered;
 use sheet_plan::Plan;
-use sheet_text::{Job, sheet_text};
+use sheet_text::Job;
 use std::alloc::{AllocError, Global};
 use std::process::Abort;
 use std::sync::Wait;
@@ -46,16 +46,7 @@ fn deliver_page<R: Wait>(
     caller: &mut Caller<'_, '_, '_, '_>,
     page: u32,
 ) -> Result<Told, AllocError> {
-    let document = caller.job.document();
-    if page >= document.pages() {
-        return Err(AllocError);
-    }
-    let Ok(prepared) = Prepared::new(alloc, page, document.page(page)) else {
-        return Err(AllocError);
-    };
-    let Some(Ok(delivered)) = caller.deliver(rt, alloc, prepared) else {
-        return Err(AllocError);
-    };
+    let delivered = caller.deliver_page(rt, alloc, page)?;
     match told_of(&delivered) {
         Some(told) => Ok(told),
         None => Err(AllocError),
@@ -118,16 +109,6 @@ fn deliver_by_two<R: Threads + Wait + Sync>(
         move || deliver_own(rt, alloc, other, Order::Descending),
     );
     Ok((up?, down?))
-}
-
-/// Two other callers of the same.
-fn two_others<'s, 'j, 't, 'd>(
-    caller: &mut Caller<'s, 'j, 't, 'd>,
-) -> Result<(Caller<'s, 'j, 't, 'd>, Caller<'s, 'j, 't, 'd>), AllocError> {
-    let (Some(one), Some(other)) = (caller.another(), caller.another()) else {
-        return Err(AllocError);
-    };
-    Ok((one, other))
 }
 
 /// Who delivers the pages.
@@ -268,26 +249,6 @@ fn assert_each_once<R: Abort>(
     Ok(())
 }
 
-/// Imposes a sheet, which must be complete and have its text.
-fn assert_imposed<R: Abort>(
-    rt: &R,
-    alloc: Global,
-    caller: &mut Caller<'_, '_, '_, '_>,
-    sheet: u32,
-) -> Result<(), AllocError> {
-    let job = caller.job;
-    assert!(rt; sheet < job.sheets());
-    let Some(another) = caller.another() else {
-        return Err(AllocError);
-    };
-    let Some(Ok(imposed)) = another.impose(alloc, sheet) else {
-        panic!(rt; "sheet {sheet} isn't imposed");
-    };
-    let text = sheet_text(alloc, job, sheet)?;
-    assert!(rt; imposed.text.as_slice() == text.as_slice());
-    Ok(())
-}
-
 /// The queue gives each sheet once, each has its text, and then the queue gives none.
 fn assert_queue<R: Wait + Abort>(
     rt: &R,
@@ -310,8 +271,8 @@ fn assert_queue<R: Wait + Abort>(
     Ok(())
 }
 
-/// Delivers each page of a job more than once, on sheets of so many slots.
-fn deliver_job<R: Threads + Wait + Sync + Abort>(
+/// Delivers each page of the caller's job more than once, on sheets of so many slots.
+fn deliver_and_look<R: Threads + Wait + Sync + Abort>(
     rt: &R,
     alloc: Global,
     caller: Caller<'_, '_, '_, '_>,
@@ -326,6 +287,21 @@ fn deliver_job<R: Threads + Wait + Sync + Abort>(
     assert_queue(rt, alloc, &mut caller)
 }
 
+/// The same of a job, with room in the queue for each sheet once.
+fn deliver_job<R: Threads + Wait + Sync + Abort>(
+    rt: &R,
+    alloc: Global,
+    job: &Job<'_, '_>,
+    slots: usize,
+    callers: Callers,
+) -> Result<(), AllocError> {
+    let (table, seat) = GatherTable::new(alloc, job.plan())?;
+    let shelf = Shelf::new(alloc)?;
+    let (ready, pass) = Ready::new(alloc, job.sheets().max(1))?;
+    let caller = caller_of(job, &table, &shelf, &ready, seat, pass);
+    deliver_and_look(rt, alloc, caller, slots, callers)
+}
+
 /// So many pages a sheet, each in one slot.
 fn pages_per_sheet(alloc: Global, slots: u32) -> Result<String, AllocError> {
     let mut text = format!(in alloc; "{slots}:0")?;
@@ -336,7 +312,7 @@ fn pages_per_sheet(alloc: Global, slots: u32) -> Result<String, AllocError> {
     Ok(text)
 }
 
-/// The same of a document of so many pages, with room in the queue for each sheet once.
+/// The same of a document of so many pages.
 fn deliver_document<R: Threads + Wait + Sync + Abort>(
     rt: &R,
     alloc: Global,
@@ -352,11 +328,7 @@ fn deliver_document<R: Threads + Wait + Sync + Abort>(
     let sheets = pages / slots.max(1);
     assert_eq!(rt; (document.pages(), plan.sheets()), (pages, sheets));
     let job = Job::new(&plan, &document, a4(rt), None);
-    let (table, seat) = GatherTable::new(alloc, &plan)?;
-    let shelf = Shelf::new(alloc)?;
-    let (ready, pass) = Ready::new(alloc, plan.sheets().max(1))?;
-    let caller = caller_of(&job, &table, &shelf, &ready, seat, pass);
-    Ok(deliver_job(rt, alloc, caller, slots as usize, callers)?)
+    Ok(deliver_job(rt, alloc, &job, slots as usize, callers)?)
 }
 
 #[test]

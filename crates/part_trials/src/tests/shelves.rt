@@ -3,8 +3,9 @@ ghost use Rattle.handover.specs.Passes.{IsPassOf};
 
 use dsc::Document;
 use handover::{Full, Pass, Prepared, Ready, Shelf};
-use std::alloc::AllocError;
+use std::alloc::{AllocError, Global};
 use std::ops::Range;
+use std::process::Abort;
 use std::sync::{Mutex, Wait};
 use std::test::Fail;
 use std::thread;
@@ -14,21 +15,34 @@ fn is_page(found: &Prepared<'_>, page: u32, raw: &[u8], body: &[u8]) -> bool {
     found.page() == page && found.raw() == raw && found.body() == body
 }
 
-#[test]
-fn a_page_is_read_back(rt: HostRuntime) -> Result<(), Fail> {
-    let raw = b"%%Page: 1 1\n%%+ x\n%%PageBoundingBox: 0 0 1 1\nsave\nshowpage".as_slice();
-    let shelf = Shelf::new(rt.alloc())?;
-    let Ok(receipt) = shelf.put(&rt, Prepared::new(rt.alloc(), 3, raw)?) else {
-        return Err(AllocError)?;
+/// Puts a page on a shelf, and reads it by its receipt and by its index.
+fn assert_read_back<R: Wait + Abort>(
+    rt: &R,
+    alloc: Global,
+    raw: &[u8],
+    body: &[u8],
+) -> Result<(), AllocError> {
+    let Ok(prepared) = Prepared::new(alloc, 3, raw) else {
+        return Err(AllocError);
     };
-    let body = b"save\nshowpage\n".as_slice();
+    let shelf = Shelf::new(alloc)?;
+    let Ok(receipt) = shelf.put(rt, prepared) else {
+        return Err(AllocError);
+    };
     assert!(rt; is_page(shelf.read(&receipt), 3, raw, body));
     let Some(found) = shelf.at(receipt.index()) else {
-        return Err(AllocError)?;
+        return Err(AllocError);
     };
     assert!(rt; is_page(found, 3, raw, body));
     assert!(rt; shelf.at(4_294_967_295).is_none());
     Ok(())
+}
+
+#[test]
+fn a_page_is_read_back(rt: HostRuntime) -> Result<(), Fail> {
+    let raw = b"%%Page: 1 1\n%%+ x\n%%PageBoundingBox: 0 0 1 1\nsave\nshowpage".as_slice();
+    let body = b"save\nshowpage\n".as_slice();
+    Ok(assert_read_back(&rt, rt.alloc(), raw, body)?)
 }
 
 #[test]

@@ -1,16 +1,21 @@
-//! A writer as a sink, a sink that has answered its calls, and sheets that never came.
-ghost use Rattle.std.specs.Prelude.{◌<◌};
+//! A writer as a sink, a sink that has answered its calls, sheets that never came, and texts that are given back.
+ghost use Rattle.std.specs.Prelude.{◌<◌, length};
+ghost use Rattle.sheet_writer.specs.Writing.{AreEarly};
 
 use dsc::Document;
 use lengths::paper_by_name;
 use pagespec::read_spec;
 use sheet_plan::Plan;
-use sheet_text::Job;
+use sheet_text::{Job, sheet_text};
 use sheet_writer::{
-    Early, Imposed, MemorySink, Progress, Rest, Sink, SinkFault, WriteSink, write_rest,
+    Early, Imposed, MemorySink, Progress, Rest, Sink, SinkFault, Spent, WriteSink, write_early,
+    write_rest,
 };
 use std::alloc::{AllocError, Global};
 use std::io::{self, ErrorKind, Write};
+use std::process::Abort;
+use std::sync::atomic::AtomicUsize;
+use std::sync::atomic::Ordering::SeqCst;
 use std::test::Fail;
 
 /// Four pages.
@@ -119,18 +124,20 @@ fn a_writer_that_is_full_fails(rt: HostRuntime) -> Result<(), Fail> {
     Ok(())
 }
 
+/// Nothing was written.
+const START: Progress = Progress {
+    next: 0,
+    written: 0,
+    halted: None,
+};
+
 /// Writes the sheets of a job of which none came, and the trailer.
 fn write_anew(alloc: Global, job: &Job<'_, '_>, sink: &mut MemorySink) -> Result<Rest, Fail>
     requires countable { sink.old.failures < 10 }
 {
     let trailer = job.document().trailer_text()?;
     let mut early = Early::new(alloc, 2)?;
-    let start = Progress {
-        next: 0,
-        written: 0,
-        halted: None,
-    };
-    let rest = write_rest(alloc, job, sink, start, &mut early, trailer.as_slice());
+    let rest = write_rest(alloc, job, sink, START, &mut early, trailer.as_slice());
     Ok(rest)
 }
 
@@ -165,4 +172,66 @@ fn a_sheet_waits_in_its_place(rt: HostRuntime) -> Result<(), Fail> {
     assert_eq!(rt; text.as_slice(), b"a".as_slice());
     assert!(rt; early.take(1).is_none());
     Ok(())
+}
+
+/// Counts the bytes of the texts that are given back.
+#[derive(Drop)]
+struct Counter {
+    bytes: AtomicUsize,
+}
+
+impl Spent for Counter {
+    fn give_back(&self, text: Vec<u8>) {
+        self.bytes.fetch_add(text.len(), SeqCst);
+    }
+}
+
+/// Puts a sheet in its place.
+fn put_sheet(
+    alloc: Global,
+    job: &Job<'_, '_>,
+    early: &mut Early,
+    sheet: u32,
+) -> Result<(), AllocError>
+    requires sheet { sheet < length job.now.plan.sheets }
+    requires early { AreEarly job.now early.old.places.items }
+    ensures { AreEarly job.now early.new.places.items }
+{
+    let text = sheet_text(alloc, job, sheet)?;
+    early.put(Imposed { sheet, text });
+    Ok(())
+}
+
+/// Writes two sheets that came early: how many bytes of texts were given back.
+fn write_pair(alloc: Global, job: &Job<'_, '_>, sink: &mut MemorySink) -> Result<usize, AllocError>
+    requires sheets { 1 < length job.now.plan.sheets }
+    requires countable { sink.old.failures < 10 }
+{
+    let mut early = Early::new(alloc, 2)?;
+    put_sheet(alloc, job, &mut early, 0)?;
+    put_sheet(alloc, job, &mut early, 1)?;
+    let counter = Counter {
+        bytes: AtomicUsize::new(0),
+    };
+    write_early(job, sink, START, &mut early, &counter);
+    Ok(counter.bytes.load(SeqCst))
+}
+
+/// All bytes that were written are given back.
+fn assert_given_back<R: Abort>(rt: &R, alloc: Global, job: &Job<'_, '_>) -> Result<(), AllocError> {
+    assert!(rt; job.sheets() == 2);
+    let mut sink = MemorySink::new(alloc, 2_000, 2_000, 100)?;
+    let given_back = write_pair(alloc, job, &mut sink)?;
+    assert_eq!(rt; (given_back, sink.bytes().len()), (896, 896));
+    Ok(())
+}
+
+#[test]
+fn written_texts_are_given_back(rt: HostRuntime) -> Result<(), Fail> {
+    let spec = read_spec(rt.alloc(), TWO_UP)?;
+    let document = Document::read(rt.alloc(), FOUR_PAGES.as_bytes())?;
+    let plan = Plan::new(rt.alloc(), &spec, document.pages())?;
+    let a4 = paper_by_name("a4").expect(&rt, "a4 is a paper");
+    let job = Job::new(&plan, &document, a4, None);
+    Ok(assert_given_back(&rt, rt.alloc(), &job)?)
 }

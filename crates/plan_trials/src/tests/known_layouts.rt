@@ -436,6 +436,12 @@ fn known_layouts(rt: HostRuntime) -> Result<(), Fail> {
     Ok(())
 }
 
+/// The text of a booklet's specification, of A4 pages on A4 sheets.
+fn booklet_text(alloc: Global, a4: &Paper, long_edge: bool) -> Result<String, Fail> {
+    let spec = booklet(alloc, a4, a4, long_edge)?;
+    Ok(write_spec(alloc, &spec)?)
+}
+
 #[test]
 fn sides_of_leaves(rt: HostRuntime) -> Result<(), Fail> {
     for (long_edge, wanted) in [
@@ -449,9 +455,9 @@ fn sides_of_leaves(rt: HostRuntime) -> Result<(), Fail> {
              2R@.706650831(0,841.72863)+3R@.706650831(0,420.72863)",
         ),
     ] {
-        let paper = paper_by_name("a4").expect(&rt, "a paper");
-        let spec = booklet(rt.alloc(), &paper, &paper, long_edge)?;
-        assert_eq!(rt; write_spec(rt.alloc(), &spec)?.as_str(), wanted);
+        let a4 = paper_by_name("a4").expect(&rt, "a paper");
+        let text = booklet_text(rt.alloc(), &a4, long_edge)?;
+        assert_eq!(rt; text.as_str(), wanted);
     }
     Ok(())
 }

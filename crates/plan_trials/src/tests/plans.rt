@@ -180,6 +180,12 @@ fn limits(rt: HostRuntime) -> Result<(), Fail> {
     Ok(())
 }
 
+/// The places of a page of the plan.
+fn assert_places<R: Abort>(rt: &R, plan: &Plan<'_>, page: u32, places: &[(u32, u16)]) {
+    assert!(rt; page < plan.pages());
+    assert_eq!(rt; plan.slots_of_page(page), places);
+}
+
 #[test]
 fn four_million_places(rt: HostRuntime) -> Result<(), Fail> {
     let alloc = rt.alloc();
@@ -187,9 +193,12 @@ fn four_million_places(rt: HostRuntime) -> Result<(), Fail> {
     let plan = Plan::new(alloc, &spec, 1_000_000)?;
     assert_eq!(rt; plan.sheets(), 1_000_000);
     assert_eq!(rt; plan.pages(), 1_000_000);
-    assert_eq!(rt;
-        plan.slots_of_page(999_999),
-        [(999_999, 0), (999_999, 1), (999_999, 2), (999_999, 3)].as_slice()
+    let last = 999_999;
+    assert_places(
+        &rt,
+        &plan,
+        last,
+        &[(last, 0), (last, 1), (last, 2), (last, 3)],
     );
     Ok(())
 }

@@ -69,7 +69,25 @@ fn impose_beside<'d, R: Abort + Wait>(
     Ok(impose(alloc, &mut seat, job, &table, &shelf, 0))
 }
 
-// The same of the first of two sheets, if the page has this number; and the sheet's text.
+// The same if the page has this number; and the sheet's text.
+fn impose_page<R: Abort + Wait>(
+    rt: &R,
+    alloc: Global,
+    plan: &Plan,
+    job: &Job<'_, '_>,
+    page: u32,
+) -> Result<(Result<Imposed, ImposeError>, Vec<u8>), Fail>
+    requires job { job.now.plan ≡ plan.now }
+{
+    let document = job.document();
+    assert!(rt; page < document.pages());
+    assert!(rt; 0 < plan.sheets());
+    let prepared = Prepared::new(alloc, page, document.page(page))?;
+    let answer = impose_beside(rt, alloc, plan, job, prepared)?;
+    Ok((answer, sheet_text(alloc, job, 0)?))
+}
+
+// The same of the first of two sheets.
 fn impose_first<R: Abort + Wait>(
     rt: &R,
     alloc: Global,
@@ -77,13 +95,9 @@ fn impose_first<R: Abort + Wait>(
 ) -> Result<(Result<Imposed, ImposeError>, Vec<u8>), Fail> {
     let spec = read_spec(alloc, "0")?;
     let document = Document::read(alloc, TWO_PAGES.as_bytes())?;
-    assert!(rt; page < document.pages());
     let plan = Plan::new(alloc, &spec, document.pages())?;
-    assert!(rt; 0 < plan.sheets());
     let job = Job::new(&plan, &document, a4(rt), None);
-    let prepared = Prepared::new(alloc, page, document.page(page))?;
-    let answer = impose_beside(rt, alloc, &plan, &job, prepared)?;
-    Ok((answer, sheet_text(alloc, &job, 0)?))
+    impose_page(rt, alloc, &plan, &job, page)
 }
 
 #[test]

@@ -1,13 +1,10 @@
 //! Pages that are delivered, and sheets that are imposed.
-use super::super::callers::{Caller, caller_of};
-use super::super::{a4, document_of};
+use super::super::callers::{Caller, Task, with_caller};
+use super::super::document_of;
 use super::{MOST, has_refused, refuse};
-use dsc::Document;
-use gather_table::{Closing, GatherTable, Published, Reply};
-use handover::{Prepared, Ready, Shelf};
-use pagespec::read_spec;
+use gather_table::{Closing, Published, Reply};
+use handover::Prepared;
 use run_steps::{DeliverError, Delivered, ImposeError};
-use sheet_plan::Plan;
 use sheet_text::{Job, sheet_text};
 use std::alloc::{AllocError, Global};
 use std::process::Abort;
@@ -147,24 +144,27 @@ fn make_text<R: Abort>(
     Ok(is_refused)
 }
 
-/// Delivers, imposes and makes the text of the sheet with the first page in so many slots; whether a growth was
-/// refused.
-fn complete_job<R: Wait + Abort>(
-    rt: &R,
-    alloc: Global,
+/// The sheet with the first page in so many slots is delivered and imposed, and its text made, with this growth of each
+/// call refused. Whether one was.
+#[derive(Drop)]
+struct Refused {
     number: u32,
     slots: usize,
-    caller: Caller<'_, '_, '_, '_>,
-) -> Result<bool, Fail> {
-    let mut caller = caller;
-    let document = caller.job.document();
-    assert!(rt; 0 < document.pages());
-    let prepared = Prepared::new(alloc, 0, document.page(0))?;
-    let (delivered, is_refused) = deliver_again(rt, alloc, number, &mut caller, prepared);
-    assert_completed(rt, &mut caller, &delivered, slots);
-    let is_text_refused = make_text(rt, alloc, number, caller.job)?;
-    let is_sheet_refused = impose_again(rt, alloc, number, &mut caller)?;
-    Ok(is_refused || is_text_refused || is_sheet_refused)
+}
+
+impl<R: Wait + Abort> Task<R, bool> for Refused {
+    fn go(&self, rt: &R, alloc: Global, caller: Caller<'_, '_, '_, '_>) -> Result<bool, Fail> {
+        let mut caller = caller;
+        let number = self.number;
+        let document = caller.job.document();
+        assert!(rt; 0 < document.pages());
+        let prepared = Prepared::new(alloc, 0, document.page(0))?;
+        let (delivered, is_refused) = deliver_again(rt, alloc, number, &mut caller, prepared);
+        assert_completed(rt, &mut caller, &delivered, self.slots);
+        let is_text_refused = make_text(rt, alloc, number, caller.job)?;
+        let is_sheet_refused = impose_again(rt, alloc, number, &mut caller)?;
+        Ok(is_refused || is_text_refused || is_sheet_refused)
+    }
 }
 
 /// The same with all that it needs.
@@ -179,15 +179,7 @@ fn complete_sheet<R: Wait + Abort>(
     for _ in 1..slots {
         items.push_str("+0")?;
     }
-    let spec = read_spec(alloc, &items)?;
-    let document = Document::read(alloc, text.as_bytes())?;
-    let plan = Plan::new(alloc, &spec, document.pages())?;
-    let job = Job::new(&plan, &document, a4(rt), None);
-    let (table, seat) = GatherTable::new(alloc, &plan)?;
-    let shelf = Shelf::new(alloc)?;
-    let (ready, pass) = Ready::new(alloc, 1)?;
-    let caller = caller_of(&job, &table, &shelf, &ready, seat, pass);
-    complete_job(rt, alloc, number, slots, caller)
+    with_caller(rt, alloc, &text, &items, 1, &Refused { number, slots })
 }
 
 #[test]
