@@ -6,6 +6,7 @@ ghost use Rattle.profile.specs.Filters.{preamble_text};
 ghost use Rattle.sheet_writer.specs.Writing.{StandsSince, GoesOn, AreEarly};
 
 use crate::channel::{RuledJob, SheetReceiver, SheetRule, Texts, Ticket};
+use crate::gate::{Gate, Step};
 use crate::spent::Returns;
 use crate::window::{Idling, Window};
 use crossbeam_queue::ArrayQueue;
@@ -18,7 +19,8 @@ use workers::Collector;
 
 /// What the collector needs of the run.
 #[derive(Drop)]
-pub(crate) struct CollectorInput<'s, 'j, 'd, T: Texts> {
+pub(crate) struct CollectorInput<'s, 'j, 'd, T: Texts, G> {
+    pub(crate) gate: &'s G,
     pub(crate) job: &'s Job<'j, 'd>,
     /// The same job, with the texts of the channel's rule.
     pub(crate) ruled: &'s RuledJob<'s, 'j, 'd, T>,
@@ -43,8 +45,8 @@ pub(crate) struct CollectorState<'a, S> {
     pub(crate) progress: Progress,
 }
 
-impl<'s, 'j, 'd, 'a, T: Texts, S: Sink> Collector<CollectorState<'a, S>>
-    for CollectorInput<'s, 'j, 'd, T> {
+impl<'s, 'j, 'd, 'a, T: Texts, G: Gate, S: Sink> Collector<CollectorState<'a, S>>
+    for CollectorInput<'s, 'j, 'd, T, G> {
     ghost reference = { λ input state. state.sink.ghost_name };
 
     ghost is_ready_to_collect = { λ input state. IsSeatAt (receives_on input.receiver.now) state.ticket.now
@@ -66,9 +68,9 @@ impl<'s, 'j, 'd, 'a, T: Texts, S: Sink> Collector<CollectorState<'a, S>>
 }
 
 /// Takes finished sheets until all imposers have ended, or nothing more is to be written.
-fn take_all<R: Wait, T: Texts, S: Sink>(
+fn take_all<R: Wait, T: Texts, G: Gate, S: Sink>(
     rt: &R,
-    input: &CollectorInput<'_, '_, '_, T>,
+    input: &CollectorInput<'_, '_, '_, T, G>,
     state: &mut CollectorState<'_, S>,
 )
     requires countable { S.failures state.old.sink.now < u64.MAX }
@@ -90,9 +92,9 @@ fn take_all<R: Wait, T: Texts, S: Sink>(
 
 /// Takes a sheet if one was finished, and sleeps a little if none was. False if nothing is to come, or nothing more
 /// is to be written.
-fn take_turn<R: Wait, T: Texts, S: Sink>(
+fn take_turn<R: Wait, T: Texts, G: Gate, S: Sink>(
     rt: &R,
-    input: &CollectorInput<'_, '_, '_, T>,
+    input: &CollectorInput<'_, '_, '_, T, G>,
     idling: &mut Idling,
     state: &mut CollectorState<'_, S>,
 ) -> bool
@@ -124,9 +126,9 @@ fn take_turn<R: Wait, T: Texts, S: Sink>(
 }
 
 /// Takes a finished sheet, and writes those whose turn it is now. False if no sheet was there.
-fn take_one<R: Wait, T: Texts, S: Sink>(
+fn take_one<R: Wait, T: Texts, G: Gate, S: Sink>(
     rt: &R,
-    input: &CollectorInput<'_, '_, '_, T>,
+    input: &CollectorInput<'_, '_, '_, T, G>,
     state: &mut CollectorState<'_, S>,
 ) -> bool
     requires countable { S.failures state.old.sink.now < u64.MAX }
@@ -141,10 +143,12 @@ fn take_one<R: Wait, T: Texts, S: Sink>(
     ensures steady { state.new.progress.halted ≡ None → S.failures state.new.sink.now ≡ S.failures state.old.sink.now }
     ensures nothing { result ≡ false → state.new.progress.halted ≡ None }
 {
-    let Ok(done) = input
+    input.gate.before(Step::Collect);
+    let received = input
         .receiver
-        .try_recv_as::<SheetRule<T>, R>(rt, state.ticket)
-    else {
+        .try_recv_as::<SheetRule<T>, R>(rt, state.ticket);
+    input.gate.after(Step::Collect);
+    let Ok(done) = received else {
         return false;
     };
     state.early.put(done);

@@ -5,8 +5,12 @@
 pub enum Step {
     /// The body of this page is delivered.
     Deliver(u32),
+    /// An imposer looks for a sheet on the queue.
+    Take,
     /// This sheet is imposed.
     Impose(u32),
+    /// The collector looks for a finished sheet.
+    Collect,
 }
 
 /// Is told of each step, before it and after it. What a gate does is its own: it may wait, as tests of the threads do.

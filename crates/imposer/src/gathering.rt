@@ -169,6 +169,7 @@ fn gather_as<'d, T: Texts + Send + Sync, R: Threads + Wait + Sync, G: Gate + Syn
         ruled: &ruled,
     };
     let collector_input = CollectorInput {
+        gate: shared.gate,
         job,
         ruled: &ruled,
         imposers_left: &shared.imposers_left,

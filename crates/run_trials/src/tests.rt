@@ -1,4 +1,7 @@
-//! What the trials share: documents, specifications and options.
+//! What the trials share: documents, specifications, options, and a gathering.
+ghost use Rattle.std.specs.Prelude.{◌<◌};
+ghost use Rattle.imposer.specs.Workers.{AreWorkers};
+
 mod examples;
 mod gates;
 mod growth;
@@ -6,10 +9,14 @@ mod handed_back;
 mod sinks;
 mod windows;
 
-use imposer::{Options, Workers};
+use gather_table::GatherTable;
+use handover::{Ready, Shelf};
+use imposer::{Gathered, Job, MemorySink, Open, Options, Workers, gather};
 use lengths::{Paper, paper_by_name};
 use std::alloc::{AllocError, Global};
 use std::process::Abort;
+use std::sync::Wait;
+use std::thread::Threads;
 
 /// Two pages side by side, turned to the left.
 const TWO_UP: &str = "2:0L@.7(21cm,0)+1L@.7(21cm,14.85cm)";
@@ -41,4 +48,33 @@ fn document_of(alloc: Global, pages: u32) -> Result<String, AllocError> {
     }
     text.push_str("%%Trailer\n%%EOF\n")?;
     Ok(text)
+}
+
+/// Makes what a gathering needs, and gathers the job.
+fn gather_job<'d, R: Threads + Wait + Sync>(
+    rt: &R,
+    alloc: Global,
+    job: &Job<'_, 'd>,
+    workers: Workers,
+    sink: &mut MemorySink,
+) -> Result<Gathered<'d>, AllocError>
+    requires workers { AreWorkers workers }
+    requires countable { sink.old.failures < 10 }
+{
+    let (table, seat) = GatherTable::new(alloc, job.plan())?;
+    let shelf = Shelf::new(alloc)?;
+    let (ready, pass) = Ready::new(alloc, job.sheets().max(1))?;
+    Ok(gather(
+        rt,
+        alloc,
+        job,
+        &table,
+        seat,
+        &shelf,
+        &ready,
+        pass,
+        workers,
+        &Open {},
+        sink,
+    ))
 }

@@ -60,11 +60,9 @@ impl Barrier {
 
 /// The bit of a page or a sheet, of which there are few.
 fn bit_of(step: Step) -> usize {
-    let (Step::Deliver(number) | Step::Impose(number)) = step;
-    if number < PAGES {
-        1 << number
-    } else {
-        1 << PAGES
+    match step {
+        Step::Deliver(number) | Step::Impose(number) if number < PAGES => 1 << number,
+        _ => 1 << PAGES,
     }
 }
 
@@ -145,23 +143,16 @@ fn as_many_imposers_run_as_were_asked_for(rt: HostRuntime) -> Result<(), Fail> {
 }
 
 /// How many sheets of a run on one page were made at the end.
-fn swept_of_one<R: Threads + Wait + Abort + Sync>(
+fn swept_of_one<R: Threads + Wait + Abort + Sync, G: Gate + Sync>(
     rt: &R,
     alloc: Global,
     text: &str,
     count: u32,
+    gate: &G,
 ) -> Result<u32, RunError> {
     let options = workers(rt, count, count);
     let mut sink = Everything {};
-    let report = run(
-        rt,
-        alloc,
-        text.as_bytes(),
-        "0",
-        &options,
-        &Open {},
-        &mut sink,
-    )?;
+    let report = run(rt, alloc, text.as_bytes(), "0", &options, gate, &mut sink)?;
     Ok(report.swept)
 }
 
@@ -169,8 +160,76 @@ fn swept_of_one<R: Threads + Wait + Abort + Sync>(
 fn short_runs_leave_no_sheet_to_the_end(rt: HostRuntime) -> Result<(), Fail> {
     let text = document_of(rt.alloc(), 1)?;
     for round in 0..200u32 {
-        let swept = swept_of_one(&rt, rt.alloc(), &text, 1 + round % 2)?;
+        let swept = swept_of_one(&rt, rt.alloc(), &text, 1 + round % 2, &Open {})?;
         assert_eq!(rt; swept, 0, "round {round}");
+    }
+    Ok(())
+}
+
+/// Somebody looks and finds nothing. Before it goes on, what it looks for comes, and who brought it ends.
+#[derive(Drop)]
+struct Late {
+    look: Step,
+    work: Step,
+    looks: AtomicUsize,
+    works: AtomicUsize,
+    run_out: AtomicUsize,
+}
+
+impl Late {
+    fn new(look: Step, work: Step) -> Self {
+        Late {
+            look,
+            work,
+            looks: AtomicUsize::new(0),
+            works: AtomicUsize::new(0),
+            run_out: AtomicUsize::new(0),
+        }
+    }
+
+    /// Waits until this was done once.
+    fn wait_for(&self, word: &AtomicUsize) {
+        for _ in 0..YIELDS {
+            if word.load(SeqCst) > 0 {
+                return;
+            }
+            thread::yield_now();
+        }
+        self.run_out.fetch_add(1, SeqCst);
+    }
+}
+
+impl Gate for Late {
+    fn before(&self, step: Step) {
+        if step == self.work {
+            self.wait_for(&self.looks);
+        }
+    }
+
+    fn after(&self, step: Step) {
+        if step == self.work {
+            self.works.fetch_add(1, SeqCst);
+        }
+        if step == self.look && self.looks.fetch_add(1, SeqCst) == 0 {
+            self.wait_for(&self.works);
+            // Who brought it has nothing else to do.
+            for _ in 0..100_000u32 {
+                thread::yield_now();
+            }
+        }
+    }
+}
+
+#[test]
+fn what_comes_while_somebody_looks_is_found(rt: HostRuntime) -> Result<(), Fail> {
+    let text = document_of(rt.alloc(), 1)?;
+    for (look, work) in [
+        (Step::Take, Step::Deliver(0)),
+        (Step::Collect, Step::Impose(0)),
+    ] {
+        let gate = Late::new(look, work);
+        let swept = swept_of_one(&rt, rt.alloc(), &text, 1, &gate)?;
+        assert_eq!(rt; (swept, gate.run_out.load(SeqCst)), (0, 0));
     }
     Ok(())
 }

@@ -1,15 +1,12 @@
 //! Gatherings into sinks that fail: seat and pass come back whole.
 ghost use Rattle.std.specs.Prelude.{◌<◌};
-ghost use Rattle.imposer.specs.Workers.{AreWorkers};
 
-use super::{TWO_UP, a4, document_of};
+use super::{TWO_UP, a4, document_of, gather_job};
 use dsc::Document;
-use gather_table::GatherTable;
-use handover::{Ready, Shelf};
-use imposer::{Gathered, Job, MemorySink, Open, RunError, Workers, gather};
+use imposer::{Gathered, Job, MemorySink, RunError, Workers};
 use pagespec::read_spec;
 use sheet_plan::Plan;
-use std::alloc::{AllocError, Global};
+use std::alloc::Global;
 use std::process::Abort;
 use std::sync::Wait;
 use std::test::Fail;
@@ -18,48 +15,8 @@ use std::thread::Threads;
 /// How many shares a whole seat has, and a whole pass.
 const WHOLE: u64 = 4_294_967_296;
 
-/// Gathers the job into a sink that fails: how many bytes the gathering says that were written, and the shares of the
-/// seat and of the pass that came back, if they did.
-fn gather_job<R: Threads + Wait + Abort + Sync>(
-    rt: &R,
-    alloc: Global,
-    job: &Job<'_, '_>,
-    workers: Workers,
-    sink: &mut MemorySink,
-) -> Result<(u64, Option<(u64, u64)>), AllocError>
-    requires workers { AreWorkers workers }
-    requires countable { sink.old.failures < 10 }
-{
-    let (table, seat) = GatherTable::new(alloc, job.plan())?;
-    let shelf = Shelf::new(alloc)?;
-    let (ready, pass) = Ready::new(alloc, job.sheets().max(1))?;
-    let Gathered {
-        outcome,
-        unshelved: _,
-        tokens,
-    } = gather(
-        rt,
-        alloc,
-        job,
-        &table,
-        seat,
-        &shelf,
-        &ready,
-        pass,
-        workers,
-        &Open {},
-        sink,
-    );
-    let Err(RunError::Write { written }) = outcome else {
-        panic!(rt; "the sink didn't fail");
-    };
-    let Some((seat, pass)) = tokens else {
-        return Ok((written, None));
-    };
-    Ok((written, Some((seat.share(), pass.share()))))
-}
-
-/// Gathers eight pages, two a sheet.
+/// Gathers eight pages, two a sheet, into a sink that fails: how many bytes the gathering says that were written, and
+/// the shares of the seat and of the pass that came back, if they did.
 fn gather_pairs<R: Threads + Wait + Abort + Sync>(
     rt: &R,
     alloc: Global,
@@ -76,7 +33,18 @@ fn gather_pairs<R: Threads + Wait + Abort + Sync>(
         preparers: 2,
         imposers: 3,
     };
-    Ok(gather_job(rt, alloc, &job, workers, sink)?)
+    let Gathered {
+        outcome,
+        unshelved: _,
+        tokens,
+    } = gather_job(rt, alloc, &job, workers, sink)?;
+    let Err(RunError::Write { written }) = outcome else {
+        panic!(rt; "the sink didn't fail");
+    };
+    let Some((seat, pass)) = tokens else {
+        return Ok((written, None));
+    };
+    Ok((written, Some((seat.share(), pass.share()))))
 }
 
 #[test]

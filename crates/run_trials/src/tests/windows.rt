@@ -138,6 +138,7 @@ impl<'w> Gate for FirstSheetLast<'w> {
                 }
                 self.words.imposed.fetch_add(1, SeqCst);
             }
+            Step::Take | Step::Collect => {}
         }
     }
 

@@ -1,12 +1,9 @@
 //! Two hundred pages, by few workers and by many.
 ghost use Rattle.std.specs.Prelude.{◌<◌};
-ghost use Rattle.imposer.specs.Workers.{AreWorkers};
 
-use crate::tests::{TWO_UP, a4, document_of, workers};
+use crate::tests::{TWO_UP, a4, document_of, gather_job, workers};
 use dsc::Document;
-use gather_table::GatherTable;
-use handover::{Ready, Shelf};
-use imposer::{Gathered, Job, MemorySink, Open, Report, RunError, Workers, gather, run};
+use imposer::{Gathered, Job, MemorySink, Open, Report, RunError, Workers, run};
 use pagespec::read_spec;
 use sheet_plan::Plan;
 use std::alloc::Global;
@@ -55,44 +52,8 @@ fn no_byte_depends_on_the_workers(rt: HostRuntime) -> Result<(), Fail> {
     Ok(())
 }
 
-/// Gathers the job: the report, whether a page was left without a receipt, and the shares of the seat and of the pass.
-fn gather_job<R: Threads + Wait + Abort + Sync>(
-    rt: &R,
-    alloc: Global,
-    job: &Job<'_, '_>,
-    workers: Workers,
-    sink: &mut MemorySink,
-) -> Result<(Report, bool, (u64, u64)), Fail>
-    requires workers { AreWorkers workers }
-    requires countable { sink.old.failures < 10 }
-{
-    let (table, seat) = GatherTable::new(alloc, job.plan())?;
-    let shelf = Shelf::new(alloc)?;
-    let (ready, pass) = Ready::new(alloc, job.sheets().max(1))?;
-    let Gathered {
-        outcome,
-        unshelved,
-        tokens,
-    } = gather(
-        rt,
-        alloc,
-        job,
-        &table,
-        seat,
-        &shelf,
-        &ready,
-        pass,
-        workers,
-        &Open {},
-        sink,
-    );
-    let Some((seat, pass)) = tokens else {
-        panic!(rt; "the tokens are missing");
-    };
-    Ok((outcome?, unshelved.is_some(), (seat.share(), pass.share())))
-}
-
-/// Gathers two hundred pages, two a sheet.
+/// Gathers two hundred pages, two a sheet: the report, whether a page was left without a receipt, and the shares of the
+/// seat and of the pass.
 fn gather_pairs<R: Threads + Wait + Abort + Sync>(
     rt: &R,
     alloc: Global,
@@ -109,7 +70,15 @@ fn gather_pairs<R: Threads + Wait + Abort + Sync>(
         preparers: 2,
         imposers: 3,
     };
-    gather_job(rt, alloc, &job, workers, sink)
+    let Gathered {
+        outcome,
+        unshelved,
+        tokens,
+    } = gather_job(rt, alloc, &job, workers, sink)?;
+    let Some((seat, pass)) = tokens else {
+        panic!(rt; "the tokens are missing");
+    };
+    Ok((outcome?, unshelved.is_some(), (seat.share(), pass.share())))
 }
 
 #[test]

@@ -177,13 +177,14 @@ struct Told {
 }
 
 /// What a step adds: one to its own eight bits of the word. All steps that two pages on two sheets don't have share the
-/// rest.
+/// rest. How often somebody looks depends on the threads, and isn't counted.
 fn one_more(step: Step) -> usize {
     match step {
         Step::Deliver(0) => 1,
         Step::Deliver(1) => 0x100,
         Step::Impose(0) => 0x1_0000,
         Step::Impose(1) => 0x100_0000,
+        Step::Take | Step::Collect => 0,
         _ => 0x1_0000_0000,
     }
 }

@@ -165,7 +165,7 @@ fn runs_whose_first_sheet_comes_last(rt: HostRuntime) -> Result<(), Fail> {
 
 /// Gathers a job: how many bytes the gathering says that it wrote, None if all went well; whether the tokens came back;
 /// and whether a growth was refused.
-fn gather_job<R: Threads + Wait + Abort + Sync>(
+fn gather_refused<R: Threads + Wait + Abort + Sync>(
     rt: &R,
     alloc: Global,
     number: u32,
@@ -221,7 +221,7 @@ fn gather_pairs<R: Threads + Wait + Abort + Sync>(
     let document = Document::read(alloc, text.as_bytes())?;
     let plan = Plan::new(alloc, &spec, document.pages())?;
     let job = Job::new(&plan, &document, a4(rt), None);
-    Ok(gather_job(rt, alloc, number, &job, sink)?)
+    Ok(gather_refused(rt, alloc, number, &job, sink)?)
 }
 
 #[test]
