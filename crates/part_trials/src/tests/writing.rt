@@ -222,7 +222,7 @@ fn assert_given_back<R: Abort>(rt: &R, alloc: Global, job: &Job<'_, '_>) -> Resu
     assert!(rt; job.sheets() == 2);
     let mut sink = MemorySink::new(alloc, 2_000, 2_000, 100)?;
     let given_back = write_pair(alloc, job, &mut sink)?;
-    assert_eq!(rt; (given_back, sink.bytes().len()), (896, 896));
+    assert_eq!(rt; (given_back, sink.bytes().len()), (894, 894));
     Ok(())
 }
 
