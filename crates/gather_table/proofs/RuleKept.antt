@@ -47,4 +47,4 @@ learns_moves layout slots id me i s kept homes at lt =
 
 -- every table has a word
 pub some_word : {layout : Layout} {words pages : ℕ} {homes : List Home} → KeepsCounts layout words pages homes → 0 < words
-some_word {layout} k = let r = k.room in let l = at_least layout (length layout.sheets) in omega arith
+some_word {layout} k = let r = k.words_are in let l = at_least layout (length layout.sheets) in omega arith

@@ -1,15 +1,15 @@
 -- What a table of the program keeps beside its words.
-use Rattle.std.specs.Prelude.{◌≡◌, ℕ, ◌<◌, ◌≤◌, List, length, slice_index_or}
+use Rattle.std.specs.Prelude.{◌≡◌, ℕ, ◌<◌, List, length, slice_index_or}
 use Rattle.profile.specs.Sheets.{Layout}
 use Rattle.gather_table.specs.declared.lane.Home.{Home}
 use Rattle.gather_table.specs.Table.{IsSound}
 use Rattle.gather_table.specs.Lanes.{wide_at}
 use Rattle.gather_table.specs.Homes.{IsHome}
 
--- the number of pages, and of each sheet how many slots it has and where its bits stand
+-- the number of words and of pages, and of each sheet how many slots it has and where its bits stand
 pub record KeepsCounts (layout : Layout) (words page_count : ℕ) (homes : List Home) : Type 0 where
   pub sound : IsSound layout
   pub pages : page_count ≡ layout.pages
-  pub room : wide_at layout (length layout.sheets) ≤ words
+  pub words_are : words ≡ wide_at layout (length layout.sheets)
   pub count : length homes ≡ length layout.sheets
   pub homes_are : (s : ℕ) (d : Home) → s < length layout.sheets → IsHome layout s (slice_index_or homes s d)

@@ -1,6 +1,7 @@
 -- The rule of the ready queue, and what its passes know.
 use Rattle.std.specs.Prelude.{◌≡◌, ℕ, List}
 use Rattle.histories.specs.Seats.{AreSeats}
+use Rattle.histories.specs.Laws.{StandTogether}
 use Rattle.handover.specs.Queue.{Move, content, IsQueueHistory}
 
 -- what a pass knows: its seat of the queue's history, whose capacity is the key
@@ -24,3 +25,9 @@ pub record IsKept (items : List ℕ) (views : List Sight) (capacity : ℕ) (log 
 
 abbrev pub Kept : List ℕ → List Sight → Type 0
 Kept items views = (capacity : ℕ) × (log : List Move) × IsKept items views capacity log
+
+-- all passes of a queue at one moment, whether they ever met or not: their moves stand in one history, whose content is
+-- what the queue holds, and no move is an own move of two of them. So it is between any two steps: a law
+abbrev pub PassesStandTogether : Type 0
+PassesStandTogether = (items : List ℕ) (views : List Sight) → Kept items views
+    → (capacity : ℕ) × (log : List Move) × (content log ≡ items) × StandTogether IsQueueHistory capacity log views

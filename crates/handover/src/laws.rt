@@ -1,6 +1,7 @@
 //! Laws: what holds of every history of the queue, and of every pass. Each is a function that does nothing.
 ghost use Rattle.handover.specs.Laws.{FirstPutIsFirstTaken, NeverOverfull, WholePassMadeAll, WholePassLosesNone};
 ghost use Rattle.handover.specs.Laws.{OwnMovesAreKept, MovesStandInOneHistory, SplitMovesStandInOneHistory};
+ghost use Rattle.handover.specs.Rule.{PassesStandTogether};
 
 /// Sheets are taken in the order in which they were put, and none is lost or doubled.
 pub fn first_put_is_first_taken()
@@ -37,4 +38,10 @@ pub fn moves_stand_in_one_history()
 /// before the split and what is moved after the join.
 pub fn split_moves_stand_in_one_history()
     ensures { SplitMovesStandInOneHistory }
+{}
+
+/// The moves of all passes of a queue, whether they ever met or not, stand in one history at every moment, whose content is
+/// what the queue holds: no move is that of two passes.
+pub fn passes_stand_together()
+    ensures { PassesStandTogether }
 {}

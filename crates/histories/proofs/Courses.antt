@@ -78,6 +78,38 @@ module _ {K E : Type 0} (Legal : K → List E → Type 0) where
       end : List E
       end = longer one'.front two'.front
 
+  in_two_back : (old one two one' two' new : SeatView K E) (c d : Course E) → Split Legal old one two → Stands one c one' → Stands two d two' → Joined Legal two' one' new → Stands old (InTwo c d) new
+  in_two_back old one two one' two' new c d s first second j = subst (λ (z : SeatView K E). Stands old (InTwo c d) z) (sym j.joined) (record {
+    begins = begins_further old.front one'.front end (subst (λ (z : SeatView K E). IsPrefix z.front one'.front) s.keeps first.begins) j.agree.two;
+    places = first.places ++ second.places;
+    calls = (
+      first.places,
+      second.places,
+      course_later one'.front end _ _ _ first.places c j.agree.two (length_begins _ _ j.agree.two) (subst (λ (z : SeatView K E). CourseStands one'.front (length z.front) (length one'.front) first.places c) s.keeps first.calls),
+      course_later two'.front end _ _ _ second.places d j.agree.one (length_begins _ _ j.agree.one) (subst (λ (z : SeatView K E). CourseStands two'.front (length z.front) (length two'.front) second.places d) s.gives second.calls),
+      refl,
+    );
+    own = λ x.
+        let t = times-append x first.places second.places in
+        let u = times-append x two'.own one'.own in
+        let a = first.own x in
+        let b = second.own x in
+        let kept : times x one.own ≡ times x old.own = ap (λ (z : SeatView K E). times x z.own) s.keeps in
+        omega arith;
+    same = (second.same.0 ∙ ap (λ (z : SeatView K E). z.table) s.gives, second.same.1 ∙ ap (λ (z : SeatView K E). z.key) s.gives);
+  })
+    where
+      end : List E
+      end = longer two'.front one'.front
+
+  taken_in : (old new other : SeatView K E) → Joined Legal old other new → Stands old TakesIn new
+  taken_in old new other j = subst (λ (z : SeatView K E). Stands old TakesIn z) (sym j.joined)
+      (still old _ TakesIn j.agree.one (length_begins _ _ j.agree.one, refl) (λ x. let t = times-append x old.own other.own in omega arith) (refl, refl))
+
+  taken_by : (old new other : SeatView K E) → other.table ≡ old.table → other.key ≡ old.key → Joined Legal other old new → Stands old TakesIn new
+  taken_by old new other table key j = subst (λ (z : SeatView K E). Stands old TakesIn z) (sym j.joined)
+      (still old _ TakesIn j.agree.two (length_begins _ _ j.agree.two, refl) (λ x. let t = times-append x other.own old.own in omega arith) (table, key))
+
   stands : (old new : SeatView K E) (c : Course E) → Goes Legal old c new → Stands old c new
   stands old new Rests g = subst (λ (z : SeatView K E). Stands old Rests z) g (still old old Rests (begins_self old.front) (omega arith, refl) (λ x. omega arith) (refl, refl))
   stands old new (Calls e) g = called old new e g
@@ -86,8 +118,7 @@ module _ {K E : Type 0} (Legal : K → List E → Type 0) where
       (λ (m : Met Legal g.0 old g.1 new). met_as old new g.0 (longer g.0.front old.front) m.agree.two m.two)
       g.2
   stands old new Gives g = subst (λ (z : SeatView K E). Stands old Gives z) (sym g.1.keeps) (still old _ Gives (begins_self old.front) (omega arith, refl) (λ x. omega arith) (refl, refl))
-  stands old new TakesIn g = subst (λ (z : SeatView K E). Stands old TakesIn z) (sym g.1.joined)
-      (still old _ TakesIn g.1.agree.one (length_begins _ _ g.1.agree.one, refl) (λ x. let t = times-append x old.own g.0.own in omega arith) (refl, refl))
+  stands old new TakesIn g = ⊎_elim (λ (j : Joined Legal old g.0 new). taken_in old new g.0 j) (λ j. taken_by old new g.0 j.0 j.1 j.2) g.1
   stands old new (Then c d) g =
       let one = stands old g.0 c g.1 in
       let two = stands g.0 new d g.2 in
@@ -98,16 +129,19 @@ module _ {K E : Type 0} (Legal : K → List E → Type 0) where
         own = λ x. let t = times-append x one.places two.places in let a = one.own x in let b = two.own x in omega arith;
         same = (two.same.0 ∙ one.same.0, two.same.1 ∙ one.same.1);
       }
-  stands old new (InTwo c d) g = in_two old g.0 g.1 g.2 g.3 new c d g.4 (stands g.0 g.2 c g.5) (stands g.1 g.3 d g.6) g.7
+  stands old new (InTwo c d) g =
+      let one = stands g.0 g.2 c g.5 in
+      let two = stands g.1 g.3 d g.6 in
+      ⊎_elim (λ (j : Joined Legal g.2 g.3 new). in_two old g.0 g.1 g.2 g.3 new c d g.4 one two j) (λ (j : Joined Legal g.3 g.2 new). in_two_back old g.0 g.1 g.2 g.3 new c d g.4 one two j) g.7
 
   seat_goes : (old new : SeatView K E) (c : Course E) → IsSeat Legal old → Goes Legal old c new → IsSeat Legal new
   seat_goes old new Rests k g = subst (IsSeat Legal) g k
   seat_goes old new (Calls e) k g = g.after
   seat_goes old new Meets k g = ⊎_elim (λ (m : Met Legal old g.0 new g.1). m.seats.0) (λ (m : Met Legal g.0 old g.1 new). m.seats.1) g.2
   seat_goes old new Gives k g = g.1.seats.0
-  seat_goes old new TakesIn k g = g.1.seat
+  seat_goes old new TakesIn k g = ⊎_elim (λ (j : Joined Legal old g.0 new). j.seat) (λ j. j.2.seat) g.1
   seat_goes old new (Then c d) k g = seat_goes g.0 new d (seat_goes old g.0 c k g.1) g.2
-  seat_goes old new (InTwo c d) k g = g.7.seat
+  seat_goes old new (InTwo c d) k g = ⊎_elim (λ (j : Joined Legal g.2 g.3 new). j.seat) (λ (j : Joined Legal g.3 g.2 new). j.seat) g.7
 
   pub courses_stand : CoursesStandInOneHistory Legal
   courses_stand old new c k g =

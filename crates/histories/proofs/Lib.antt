@@ -6,3 +6,4 @@ pub mod Runs
 pub mod Views
 pub mod Calls
 pub mod Courses
+pub mod Together

@@ -1,9 +1,11 @@
 -- What holds of seats by what their calls leave: where a caller's entries stand in the one history, and that they stay
 -- its own.
 use Rattle.std.specs.Prelude.{◌≡◌, ◌⊎◌, ℕ, ◌+◌, ◌<◌, ◌≤◌, List, [], ◌∷◌, ◌++◌, length, Some, slice_get}
+use mathlib.Core.Option.{some}
 use mathlib.Core.List.{IsPrefix}
-use Rattle.histories.specs.Seats.{whole_share, longer, times, total}
-use Rattle.histories.specs.Own.{StandAt}
+use lib.ListN.{get_elem?}
+use Rattle.histories.specs.Seats.{Sight, AreSeats, whole_share, longer, owned, times, total}
+use Rattle.histories.specs.Own.{StandAt, entries_at}
 use Rattle.histories.specs.Calls.{SeatView, IsSeat, Agree, Made, Makes, Split, Met, Joined, own_entries}
 
 -- what a caller does with a seat: nothing; one call; it meets another seat; it gives a part of its share to a new seat
@@ -54,11 +56,14 @@ module _ {K E : Type 0} (Legal : K → List E → Type 0) where
   Goes old Meets new = (other : SeatView K E) × (after : SeatView K E)
       × (Met Legal old other new after ⊎ Met Legal other old after new)
   Goes old Gives new = (given : SeatView K E) × Split Legal old new given
-  Goes old TakesIn new = (other : SeatView K E) × Joined Legal old other new
+  Goes old TakesIn new = (other : SeatView K E)
+      × (Joined Legal old other new
+      ⊎ ((other.table ≡ old.table) × (other.key ≡ old.key) × Joined Legal other old new))
   Goes old (Then c d) new = (mid : SeatView K E) × Goes old c mid × Goes mid d new
   Goes old (InTwo c d) new =
       (one : SeatView K E) × (two : SeatView K E) × (one' : SeatView K E) × (two' : SeatView K E)
-      × Split Legal old one two × Goes one c one' × Goes two d two' × Joined Legal one' two' new
+      × Split Legal old one two × Goes one c one' × Goes two d two'
+      × (Joined Legal one' two' new ⊎ Joined Legal two' one' new)
 
   -- the calls of a course stand in one legal history, which begins with all that the caller had seen: each at one place
   -- of its own, which it hadn't before, and in the order of the course
@@ -107,3 +112,17 @@ module _ {K E : Type 0} (Legal : K → List E → Type 0) where
       × ((a b new : SeatView K E) → Joined Legal a b new → new.share ≡ a.share + b.share)
       × ((a b a' b' : SeatView K E) → Met Legal a b a' b' → (a'.share ≡ a.share) × (b'.share ≡ b.share))
       × ((old kept given : SeatView K E) → Split Legal old kept given → kept.share + given.share ≡ old.share)
+
+  -- all seats that there are at one moment, whether they ever met or not: there is one legal history, which begins with
+  -- what each of them has seen; no entry of it is an own entry of two of them; and whatever is counted of the own
+  -- entries of all of them is at most what it is of the history
+  pub record StandTogether (key : K) (log : List E) (views : List (Sight K E)) : Type 0 where
+    pub legal : Legal key log
+    pub begins : (id : ℕ) (v : Sight K E) → get_elem? views id ≡ some v → IsPrefix v.front log
+    pub apart : (x : ℕ) → total (owned x) views ≤ 1
+    pub counted : (weight : E → ℕ)
+        → total (λ (v : Sight K E). total weight (entries_at v.front v.own)) views ≤ total weight log
+
+  abbrev pub SeatsStandTogether : Type 0
+  SeatsStandTogether = (key : K) (log : List E) (views : List (Sight K E)) → Legal key log → AreSeats key log views
+      → StandTogether key log views

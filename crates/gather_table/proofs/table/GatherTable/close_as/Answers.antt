@@ -20,7 +20,7 @@ fetch_or-found-requires g c =
     let has = may.group in
     let home : IsHome layout c.args.sheet c.index-home.result.now = subst (IsHome layout c.args.sheet) (sym c.index-home.ensures) (c.self.invariant.homes_are c.args.sheet _ has.sheet) in
     let word = home.wide has.wide in
-    let room = wide_room layout c.args.sheet _ has.wide has.sheet c.self.invariant.room in
+    let room = wide_room layout c.args.sheet c.self.inside.table.shared.table_id.words has.wide has.sheet (let are = c.self.invariant.words_are in omega arith) in
     let few = few_groups layout c.self.invariant.sound.narrow in
     let most = few c.args.sheet has.sheet in
     let low = has.group in (

@@ -16,7 +16,7 @@ load-found-requires g c =
     let has : HasGroup layout c.args.sheet c.args.group = subst (λ (p : Layout). HasGroup p c.args.sheet c.args.group) (sym same) c.requires.group in
     let home : IsHome layout c.args.sheet c.index-home.result.now = subst (IsHome layout c.args.sheet) (sym c.index-home.ensures) (c.self.invariant.homes_are c.args.sheet _ has.sheet) in
     let word = home.wide has.wide in
-    let room = wide_room layout c.args.sheet _ has.wide has.sheet c.self.invariant.room in
+    let room = wide_room layout c.args.sheet c.self.inside.table.shared.table_id.words has.wide has.sheet (let are = c.self.invariant.words_are in omega arith) in
     let low = has.group in
     (ours, omega arith, load_at layout _ _ _ _ _ _ _ (omega arith) (c.requires.entry ∙ ap (λ (p : Layout). look_group_of p c.args.sheet c.args.group) (sym same)) (look_group_moves layout _ _ _ c.args.sheet c.args.group has c.seat.invariant.1.held.some_share))
 

@@ -19,7 +19,7 @@ load-found-requires g c =
     let home : IsHome layout c.args.sheet c.index-home.result.now = subst (IsHome layout c.args.sheet) (sym c.index-home.ensures) (c.self.invariant.homes_are c.args.sheet _ below) in
     let word = (home.lane kind).0 in
     let room = lane_below layout c.args.sheet (length layout.sheets) below in
-    let words = c.self.invariant.room in
+    let words = c.self.invariant.words_are in
     (ours, omega arith, load_at layout _ _ _ _ _ _ _ word (c.requires.entry ∙ ap (λ (p : Layout). look_of p c.args.sheet) (sym same)) (look_moves layout _ _ _ c.args.sheet kind below c.seat.invariant.1.held.some_share))
 
 pub returns : goal.returns

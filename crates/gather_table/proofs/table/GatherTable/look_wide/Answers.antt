@@ -17,8 +17,8 @@ load-found-requires g c =
     let kind : is_wide layout c.args.sheet ≡ true = subst (λ (p : Layout). is_wide p c.args.sheet ≡ true) (sym same) c.requires.wide in
     let home : IsHome layout c.args.sheet c.index-home.result.now = subst (IsHome layout c.args.sheet) (sym c.index-home.ensures) (c.self.invariant.homes_are c.args.sheet _ below) in
     let word = home.wide kind in
-    let room = wide_room layout c.args.sheet _ kind below c.self.invariant.room in
-    let words = c.self.invariant.room in
+    let room = wide_room layout c.args.sheet c.self.inside.table.shared.table_id.words kind below (let are = c.self.invariant.words_are in omega arith) in
+    let words = c.self.invariant.words_are in
     (ours, omega arith, load_at layout _ _ _ _ _ _ _ word (c.requires.entry ∙ ap (λ (p : Layout). wide_look_of p c.args.sheet) (sym same)) (wide_look_moves layout _ _ _ c.args.sheet kind below c.seat.invariant.1.held.some_share))
 
 pub returns : goal.returns

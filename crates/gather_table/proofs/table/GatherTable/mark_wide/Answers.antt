@@ -23,7 +23,7 @@ fetch_or-found-requires g c =
     let in_sheet : c.args.slot < slot_count layout c.args.sheet = below_length _ c.args.slot _ markable.needed in
     let home : IsHome layout c.args.sheet c.index-home.result.now = subst (IsHome layout c.args.sheet) (sym c.index-home.ensures) (c.self.invariant.homes_are c.args.sheet _ below) in
     let word = home.wide wide in
-    let room = wide_room layout c.args.sheet _ wide below c.self.invariant.room in
+    let room = wide_room layout c.args.sheet c.self.inside.table.shared.table_id.words wide below (let are = c.self.invariant.words_are in omega arith) in
     let group = group_of_slot layout c.args.sheet c.args.slot in_sheet in (
       ours,
       omega arith,

@@ -11,7 +11,7 @@ compare_exchange-found-requires c =
     let ours = ap (λ t. t.table) c.seat.view_is ∙ c.requires.seat.0 ∙ sym (ap (λ t. t.table) c.self.view_is) in
     let same = ap (λ t. t.layout) c.self.view_is in
     let below : c.args.page < c.self.inside.table.shared.key.pages = subst (λ p. c.args.page < p.pages) (sym same) c.requires.page in
-    let room = c.self.invariant.room in
+    let room = c.self.invariant.words_are in
     let least = at_least (layout_of c.self.inside.table.shared.key) (length (layout_of c.self.inside.table.shared.key).sheets) in
     (ours, omega arith, publish_moves _ _ _ _ _ _ below (omega arith) c.seat.invariant.1.held.some_share)
 

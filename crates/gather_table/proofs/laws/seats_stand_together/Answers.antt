@@ -1,0 +1,5 @@
+use Rattle.gather_table.proofs.Together.{stand_together}
+use Rattle.gather_table.proofs.laws.seats_stand_together.Goals as goal
+
+pub returns : goal.returns
+returns c = stand_together
