@@ -21,7 +21,7 @@ flipped xs ys false e = by_test (bytes_eq ys xs)
     (λ is. let same : ys ≡ xs = (bytes_eq-Decides ys xs).0 is in let same_yes : bytes_eq xs ys ≡ true = (bytes_eq-Decides xs ys).1 (sym same) in absurd (false≢true (sym e ∙ same_yes)))
     (λ isnt. isnt)
 
-abbrev in_key : ℕ → Bool
+abbrev pub in_key : ℕ → Bool
 in_key b = not (is_blank b || (b == 58))
 
 -- a name with a colon behind it is the key

@@ -21,3 +21,5 @@ pub mod Slices
 pub mod FoundBodies
 pub mod Trailers
 pub mod Preambles
+pub mod Letters
+pub mod LineBlocks

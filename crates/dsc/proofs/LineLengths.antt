@@ -143,7 +143,7 @@ content_found text n h = sym (length-content text ∙ first_end text n h.0.high 
 pub no_end_found : (text : List ℕ) → IsFirstByte (is_byte2 13 10) text None → length text ≡ length (content_of text)
 no_end_found text h = sym (length-content text ∙ nowhere_end text (λ k at is. h k (omega arith) at is))
 
-added_on : (a b : ℕ) (o : Option ℕ) → option_map (λ k. a + b + k) o ≡ option_map (λ k. a + k) (option_map (λ k. b + k) o)
+pub added_on : (a b : ℕ) (o : Option ℕ) → option_map (λ k. a + b + k) o ≡ option_map (λ k. a + k) (option_map (λ k. b + k) o)
 added_on a b None = refl
 added_on a b (Some k) = ap Some (omega arith)
 

@@ -100,7 +100,7 @@ content_split (b ∷ bs) (suc k) h = by_test (is_end b)
     let same : 1 + content_len bs ≡ suc k + content_len (drop k bs) = (let i = content_split bs k (omega (arith, h)) in omega (arith, i)) in
     rw no_ same)
 
-line_split : (text : List ℕ) (k : ℕ) → k ≤ content_len text → line_len text ≡ k + line_len (drop k text)
+pub line_split : (text : List ℕ) (k : ℕ) → k ≤ content_len text → line_len text ≡ k + line_len (drop k text)
 line_split text k h =
     let n : ℕ = content_len (drop k text) in
     let c : content_len text ≡ k + n = content_split text k h in

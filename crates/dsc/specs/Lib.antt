@@ -4,6 +4,7 @@ pub mod Bodies
 pub mod Plain
 pub mod Walks
 pub mod Fields
+pub mod Letters
 pub mod Views
 pub mod Laws
 pub mod Marks

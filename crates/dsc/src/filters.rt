@@ -4,7 +4,7 @@ ghost use Rattle.std.specs.Prelude.{if◌then◌else◌, false, Ok, codes, decim
 ghost use Rattle.profile.specs.Bytes.{line};
 ghost use Rattle.profile.specs.Units.{cut};
 ghost use Rattle.profile.specs.Parts.{bytes_of};
-ghost use Rattle.profile.specs.Filters.{kept, drops_in_header, ended, prepared};
+ghost use Rattle.profile.specs.Filters.{kept, drops_in_header, drops_in_page, ended, prepared};
 ghost use Rattle.dsc.specs.Units.{or_none, units_of};
 ghost use Rattle.dsc.specs.Views.{unit_of, at_depth, Gives};
 ghost use Rattle.dsc.specs.Faults.{block_fault_told, page_fault_told, IsPageError};
@@ -13,7 +13,7 @@ ghost use Rattle.dsc.specs.declared.errors.DscError.TheVariants.{NoMemory};
 ghost use Rattle.dsc.specs.Filters.{drops_of, is_dropped, filter_on};
 
 use crate::errors::{CutError, DscError, widen};
-use crate::keys::key_of;
+use crate::keys::{comment_letter, key_of};
 use crate::lines::is_line_end;
 use crate::units::Unit;
 use crate::walk::Walk;
@@ -31,24 +31,37 @@ pub enum Drops {
 fn drops_line(drops: Drops, content: &[u8]) -> bool
     ensures { result ≡ drops_of drops content.now }
 {
-    if !content.starts_with(b"%%") {
-        return false;
-    }
-    let key = key_of(content);
     match drops {
-        Drops::PageSetup => {
-            key.starts_with(b"%%Page")
-                || (key == b"%%BeginPageSetup".as_slice() || key == b"%%EndPageSetup".as_slice())
-        }
-        Drops::DocumentSetup => {
-            key == b"%%Pages".as_slice()
-                || (key == b"%%PageOrder".as_slice()
-                    || (key == b"%%BoundingBox".as_slice()
-                        || (key == b"%%HiResBoundingBox".as_slice()
-                            || (key == b"%%DocumentMedia".as_slice()
-                                || key == b"%%Orientation".as_slice()))))
-        }
+        Drops::PageSetup => drops_in_page(content),
+        Drops::DocumentSetup => drops_in_header(content),
     }
+}
+
+/// Whether such a line is dropped from a page. Its letter says whether its key matters.
+fn drops_in_page(content: &[u8]) -> bool
+    ensures { result ≡ drops_in_page content.now }
+{
+    match comment_letter(content) {
+        Some(b'P') => content.starts_with(b"%%Page"),
+        Some(b'B' | b'E') => {
+            let key = key_of(content);
+            key == b"%%BeginPageSetup".as_slice() || key == b"%%EndPageSetup".as_slice()
+        }
+        _ => false,
+    }
+}
+
+/// Whether such a line is dropped from a preamble or a trailer.
+fn drops_in_header(content: &[u8]) -> bool
+    ensures { result ≡ drops_in_header content.now }
+{
+    let key = key_of(content);
+    key == b"%%Pages".as_slice()
+        || (key == b"%%PageOrder".as_slice()
+            || (key == b"%%BoundingBox".as_slice()
+                || (key == b"%%HiResBoundingBox".as_slice()
+                    || (key == b"%%DocumentMedia".as_slice()
+                        || key == b"%%Orientation".as_slice()))))
 }
 
 /// Whether the filter drops this unit; `was`: it dropped the one before.

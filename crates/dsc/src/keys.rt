@@ -1,7 +1,9 @@
 //! The keys of lines, and what a line's key means for the parts of a document.
-ghost use Rattle.std.specs.Prelude.{◌≡◌, ◌<◌, length};
+ghost use Rattle.std.specs.Prelude.{◌≡◌, ◌<◌, length, nat_eq, codes, false};
+ghost use Rattle.std.specs.List.{starts_with};
 ghost use Rattle.profile.specs.Units.{key};
 ghost use Rattle.profile.specs.Parts.{begins_page, begins_trailer, depth_after};
+ghost use Rattle.dsc.specs.Letters.{letter_of};
 ghost use Rattle.dsc.specs.Views.{unit_of, at_depth, comment_line};
 
 use crate::units::Unit;
@@ -24,6 +26,16 @@ pub fn key_of(content: &[u8]) -> &[u8]
     key
 }
 
+/// The letter that tells most comments apart: the byte behind the two percent signs that a line begins with.
+pub fn comment_letter(content: &[u8]) -> Option<u8>
+    ensures { result ≡ letter_of content.now }
+{
+    match content {
+        [b'%', b'%', letter, ..] => Some(*letter),
+        _ => None,
+    }
+}
+
 /// What a unit means for the parts: whether it begins a page or the trailer, and the depth after it.
 #[derive(Clone, Copy)]
 pub struct Meaning {
@@ -32,9 +44,32 @@ pub struct Meaning {
     pub depth: usize,
 }
 
-/// What a line means that begins with two percent signs.
-fn meaning_of_comment(content: &[u8], depth: usize) -> Meaning
+/// What a line means. Its letter says whether its key matters.
+fn meaning_of_line(content: &[u8], depth: usize) -> Meaning
     requires { depth < usize.MAX }
+    ensures page { result.is_page ≡ begins_page (at_depth depth (comment_line content.now)) }
+    ensures trailer { result.is_trailer ≡ begins_trailer (at_depth depth (comment_line content.now)) }
+    ensures depth { result.depth ≡ depth_after depth (comment_line content.now) }
+{
+    match comment_letter(content) {
+        Some(b'P') => Meaning {
+            is_page: depth == 0 && content.starts_with(b"%%Page:"),
+            is_trailer: false,
+            depth,
+        },
+        Some(b'B' | b'E' | b'T') => meaning_of_key(content, depth),
+        _ => Meaning {
+            is_page: false,
+            is_trailer: false,
+            depth,
+        },
+    }
+}
+
+/// What a line means that begins no page.
+fn meaning_of_key(content: &[u8], depth: usize) -> Meaning
+    requires countable { depth < usize.MAX }
+    requires no_page { starts_with nat_eq content.now (codes "%%Page:") ≡ false }
     ensures page { result.is_page ≡ begins_page (at_depth depth (comment_line content.now)) }
     ensures trailer { result.is_trailer ≡ begins_trailer (at_depth depth (comment_line content.now)) }
     ensures depth { result.depth ≡ depth_after depth (comment_line content.now) }
@@ -54,7 +89,7 @@ fn meaning_of_comment(content: &[u8], depth: usize) -> Meaning
         }
     } else {
         Meaning {
-            is_page: depth == 0 && content.starts_with(b"%%Page:"),
+            is_page: false,
             is_trailer: depth == 0
                 && (key == b"%%Trailer".as_slice() || key == b"%%EOF".as_slice()),
             depth,
@@ -69,12 +104,12 @@ pub fn meaning_of(unit: &Unit<'_>, depth: usize) -> Meaning
     ensures trailer { result.is_trailer ≡ begins_trailer (at_depth depth (unit_of unit.now)) }
     ensures depth { result.depth ≡ depth_after depth (unit_of unit.now) }
 {
-    if unit.is_block || !unit.content.starts_with(b"%%") {
+    if unit.is_block {
         return Meaning {
             is_page: false,
             is_trailer: false,
             depth,
         };
     }
-    meaning_of_comment(unit.content, depth)
+    meaning_of_line(unit.content, depth)
 }

@@ -1,8 +1,12 @@
 //! The lines of a text. A line ends with CR LF, CR or LF; the last one may have no end.
-ghost use Rattle.std.specs.Prelude.{◌≡◌, ◌<◌, ◌≤◌, length, IfSome};
+ghost use Rattle.std.specs.Prelude.{◌≡◌, ◌+◌, ◌-◌, ◌<◌, ◌≤◌, ◌==◌, length, drop, option_map, IfSome};
+ghost use Rattle.std.specs.List.{count_by};
 ghost use Rattle.profile.specs.Units.{is_end, line_len, lines_len, end_len, content_of};
 
 use memchr::memchr2_iter;
+
+/// Lines without CR are counted by so many bytes: a count of them fits a byte, and the compiler counts many at once.
+const BLOCK: usize = 240;
 
 /// Whether the byte ends a line.
 pub fn is_line_end(byte: u8) -> bool
@@ -54,9 +58,10 @@ pub fn lines_end(count: usize, text: &[u8]) -> Option<usize>
     ensures value { result ≡ lines_len count text.now }
     ensures within { IfSome result (λ n. n ≤ length text.now) }
 {
-    let mut rest = text;
-    let mut end = 0usize;
-    for i in 0..count {
+    let (lines, passed) = first_blocks(count, text);
+    let mut rest = &text[passed..];
+    let mut end = passed;
+    for i in lines..count {
         if rest.is_empty() {
             return None;
         }
@@ -66,4 +71,44 @@ pub fn lines_end(count: usize, text: &[u8]) -> Option<usize>
         rest = others;
     }
     Some(end)
+}
+
+/// The blocks without CR at the start of the text, in which fewer lines end than these, and behind which bytes stand:
+/// how many lines end in them, and how many bytes they have.
+fn first_blocks(count: usize, text: &[u8]) -> (usize, usize)
+    ensures fewer { result.0 ≤ count }
+    ensures within { result.1 ≤ length text.now }
+    ensures passed { lines_len count text.now
+        ≡ option_map (λ n. result.1 + n) (lines_len (count - result.0) (drop result.1 text.now)) }
+{
+    let mut rest = text;
+    let mut lines = 0usize;
+    let mut passed = 0usize;
+    while rest.len() > BLOCK {
+        let (block, others) = rest.split_at(BLOCK);
+        let (feeds, returns) = ends_in(block);
+        let feeds = usize::from(feeds);
+        if returns != 0 || feeds >= count - lines {
+            return (lines, passed);
+        }
+        lines += feeds;
+        passed += BLOCK;
+        rest = others;
+    }
+    (lines, passed)
+}
+
+/// How many LF and how many CR a block has.
+fn ends_in(block: &[u8]) -> (u8, u8)
+    requires { length block.now ≤ BLOCK }
+    ensures feeds { result.0 ≡ count_by (λ b. b == 10) block.now }
+    ensures returns { result.1 ≡ count_by (λ b. b == 13) block.now }
+{
+    let mut feeds = 0u8;
+    let mut returns = 0u8;
+    for byte in block {
+        feeds += u8::from(*byte == b'\n');
+        returns += u8::from(*byte == b'\r');
+    }
+    (feeds, returns)
 }

@@ -13,7 +13,7 @@ pub fn plain_len(percent_signs: &Finder<'_>, text: &[u8]) -> usize
     ensures plain { BeginsPlain result text.now }
     ensures within { result ≤ length text.now }
 {
-    if text.starts_with(b"%%") {
+    if let [b'%', b'%', ..] = text {
         return 0;
     }
     match percent_signs.find(text) {

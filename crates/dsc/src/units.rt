@@ -5,6 +5,7 @@ ghost use Rattle.dsc.specs.Fields.{fields_in, third_is, data_in};
 ghost use Rattle.dsc.specs.Views.{unit_of, fault_of, Reads};
 
 use crate::fields::{count_in, next_field};
+use crate::keys::comment_letter;
 use crate::lines::{content_end, line_end_after, lines_end};
 
 /// A line with its end, or a data block: a line and the data behind it. The content is the line's, without its end.
@@ -28,7 +29,7 @@ fn data_heading(content: &[u8]) -> Option<(&[u8], bool)>
         (begins_block content.now ≡ true) × (fields content.now ≡ fields_in h.0.now)
         × (is_comment (codes "%%BeginData") content.now ≡ h.1)) }
 {
-    if !content.starts_with(b"%%Begin") {
+    if comment_letter(content) != Some(b'B') {
         return None;
     }
     if let Some(behind) = content.strip_prefix(b"%%BeginData:") {

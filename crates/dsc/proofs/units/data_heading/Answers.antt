@@ -1,5 +1,4 @@
-use Rattle.dsc.proofs.Headings.{data_found, binary_found, none_found, unheaded}
-use Rattle.std.proofs.Common.{sym, ◌∙◌}
+use Rattle.dsc.proofs.Headings.{data_found, binary_found, none_found}
 use Rattle.dsc.proofs.units.data_heading.Goals as goal
 
 pub returns-in-Some : goal.returns-in-Some
@@ -10,6 +9,3 @@ returns-in-Some-strip_prefix c = let w = c.in-Some-strip_prefix.ensures.cases in
 
 pub returns-in-None : goal.returns-in-None
 returns-in-None c = none_found c.args.content.now c.in_default.ensures.cases c.in-None.ensures.cases
-
-pub returns-then-not-starts_with : goal.returns-then-not-starts_with
-returns-then-not-starts_with c = unheaded c.args.content.now (sym c.starts_with.ensures.value ∙ c.if-not-starts_with.true)

@@ -1,0 +1,17 @@
+use Rattle.std.specs.Prelude.{Some}
+use Rattle.std.specs.Str.{bytes_eq}
+use Rattle.std.proofs.Common.{sym, ap, arith, ◌∙◌}
+use Rattle.dsc.proofs.Letters.{another, page_letter, key_letter}
+use Rattle.dsc.proofs.filters.drops_in_page.Goals as goal
+
+pub returns-in-Some-eq80 : goal.returns-in-Some-eq80
+returns-in-Some-eq80 c =
+    let a = c.in-Some-eq80 in
+    c.starts_with.ensures.value ∙ page_letter c.args.content.now (sym c.comment_letter.ensures ∙ a.is ∙ ap Some a.field-0-test)
+
+pub returns-else-eq : goal.returns-else-eq
+returns-else-eq c =
+    let a = c.in-Some-eq66 in
+    let t = a.field-0-test in
+    key_letter c.args.content.now c.key_of-key.result.now _ (λ e. another a.field-0 80 (λ same. omega (arith, t, same)) (sym a.is ∙ c.comment_letter.ensures ∙ e))
+    c.key_of-key.ensures (c.if-eq.ensures ∙ ap (bytes_eq c.key_of-key.result.now) c.as_slice.ensures) (c.eq-else-eq.ensures ∙ ap (bytes_eq c.key_of-key.result.now) c.as_slice-else-eq.ensures)

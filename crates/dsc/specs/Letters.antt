@@ -1,0 +1,9 @@
+-- The letter that tells most comments apart.
+use Rattle.std.specs.Prelude.{ℕ, ◌&&◌, ◌==◌, if◌then◌else◌, List, [], ◌∷◌, Option, Some, None}
+
+-- the byte behind the two percent signs that a line begins with
+abbrev pub letter_of : List ℕ → Option ℕ
+letter_of [] = None
+letter_of (a ∷ []) = None
+letter_of (a ∷ b ∷ []) = None
+letter_of (a ∷ b ∷ letter ∷ rest) = if (a == 37) && (b == 37) then Some letter else None
