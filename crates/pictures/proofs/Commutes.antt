@@ -1,0 +1,156 @@
+-- A machine in a placed state does what it does in the state, placed.
+use Rattle.std.specs.Prelude.{Option, Some, None}
+use Rattle.std.proofs.Common.{◌≡◌, ℕ, zero, suc, refl, ap, ◌∙◌, sym, subst, ◌==◌, if◌then◌else◌, List, [], ◌∷◌, ◌++◌, map, append_assoc, Bool, true, false}
+use Rattle.pictures.specs.Objects.{Token, Name, Opens, Closes, Bound, Unknown, Object, Procedure}
+use Rattle.pictures.specs.Objects.{Saved, Operator, Kind, Computes, Controls, Draws, PushesGraphics, PopsGraphics, Saves, Restores, Ships, Resets}
+use Rattle.pictures.specs.Objects.{Effect, Segments, Transforms, Sets, Paints, PaintsBeside, Shows, Clips, Forgets}
+use Rattle.pictures.specs.Operators.{Work, taken, computed, controlled}
+use Rattle.pictures.specs.Dictionaries.{meaning, system}
+use Rattle.pictures.specs.Machine.{State, Graphics, Snapshot, keep, body_of, opened, drawn, worked, running, popped, save_of, back, restored, perform, done, meant, act, step_on, step, steps, and_then, may_go_back}
+use Rattle.pictures.specs.Placing.{Around, state_at, snapshot_at, graphics_at}
+use Rattle.pictures.specs.Pictures.{PlacingCommutes}
+use Rattle.pictures.proofs.Runs.{nothing}
+
+-- where the one goes on, the other does, placed
+abbrev pub Follows : Around → Option State → Option State → Type 0
+Follows a None r = Unit {0}
+Follows a (Some t) r = r ≡ Some (state_at a t)
+
+-- where the one finds a procedure, the other finds it with more behind
+abbrev pub Extends : List Token → Option (List Token × List Token) → Option (List Token × List Token) → Type 0
+Extends more None r = Unit {0}
+Extends more (Some (ts, rest)) r = r ≡ Some (ts, rest ++ more)
+
+keeps : (more : List Token) (t : Token) (x y : Option (List Token × List Token)) → Extends more x y → Extends more (keep t x) (keep t y)
+keeps more t None y h = tt
+keeps more t (Some (ts, rest)) y h = ap (keep t) h
+
+pub body_goes_on : (more ts : List Token) (depth : ℕ) → Extends more (body_of ts depth) (body_of (ts ++ more) depth)
+body_goes_on more [] depth = tt
+body_goes_on more (Closes ∷ ts) zero = refl
+body_goes_on more (Closes ∷ ts) (suc depth) = keeps more Closes (body_of ts depth) (body_of (ts ++ more) depth) (body_goes_on more ts depth)
+body_goes_on more (Opens ∷ ts) depth = keeps more Opens (body_of ts (suc depth)) (body_of (ts ++ more) (suc depth)) (body_goes_on more ts (suc depth))
+body_goes_on more (Unknown ∷ ts) depth = tt
+body_goes_on more (t ∷ ts) depth = keeps more t (body_of ts depth) (body_of (ts ++ more) depth) (body_goes_on more ts depth)
+
+opens : (a : Around) (x y : Option (List Token × List Token)) (s : State) → Extends a.left x y → Follows a (opened x s) (opened y (state_at a s))
+opens a None y s h = tt
+opens a (Some (ts, rest)) y s h = ap (λ r. opened r (state_at a s)) h
+
+draws : (a : Around) (e : Effect) (name : List ℕ) (x : Option (List Object × List Object)) (s : State) → Follows a (drawn e name x s) (drawn e name x (state_at a s))
+draws a e name None s = tt
+draws a Segments name (Some (os, rest)) s = refl
+draws a Transforms name (Some (os, rest)) s = refl
+draws a Sets name (Some (os, rest)) s = refl
+draws a Paints name (Some (os, rest)) s = refl
+draws a PaintsBeside name (Some (os, rest)) s = refl
+draws a Shows name (Some (os, rest)) s = refl
+draws a Clips name (Some (os, rest)) s = refl
+draws a Forgets name (Some (os, rest)) s = refl
+
+works : (a : Around) (x : Option Work) (s : State) → Follows a (worked x s) (worked x (state_at a s))
+works a None s = tt
+works a (Some w) s = refl
+
+goes_before : (a : Around) (ts : List Token) (s : State) →
+    (Some (record (state_at a s) { left = ts ++ (s.left ++ a.left) })) ≡ Some (state_at a (record s { left = ts ++ s.left }))
+goes_before a ts s = ap (λ l. Some (record (state_at a s) { left = l })) (sym (append_assoc ts s.left a.left))
+
+runs_next : (a : Around) (x : Option (List Token × Work)) (s : State) → Follows a (running x s) (running x (state_at a s))
+runs_next a None s = tt
+runs_next a (Some (ts, w)) s = goes_before a ts (record s { work = w })
+
+pops : (a : Around) (s : State) (gs : List Graphics) (shots : List Snapshot) →
+    Follows a (popped gs (record s { saves = shots })) (popped (map (graphics_at a.place) gs) (state_at a (record s { saves = shots })))
+pops a s (g ∷ gs) shots = refl
+pops a s [] [] = tt
+pops a s [] (shot ∷ shots) = refl
+
+abbrev Finds : Around → Option (Snapshot × List Snapshot) → Option (Snapshot × List Snapshot) → Type 0
+Finds a None y = Unit {0}
+Finds a (Some (shot, shots)) y = y ≡ Some (snapshot_at a.place shot, map (snapshot_at a.place) shots ++ a.saves)
+
+choose_save : (a : Around) (here : Bool) (shot : Snapshot) (shots : List Snapshot) (x y : Option (Snapshot × List Snapshot)) → Finds a x y →
+    Finds a (if here then Some (shot, shots) else x) (if here then Some (snapshot_at a.place shot, map (snapshot_at a.place) shots ++ a.saves) else y)
+choose_save a true shot shots x y h = refl
+choose_save a false shot shots x y h = h
+
+finds_save : (a : Around) (level : ℕ) (shots : List Snapshot) → Finds a (save_of level shots) (save_of level (map (snapshot_at a.place) shots ++ a.saves))
+finds_save a level [] = tt
+finds_save a level (shot ∷ shots) =
+    choose_save a (shot.level == level) shot shots (save_of level shots) (save_of level (map (snapshot_at a.place) shots ++ a.saves)) (finds_save a level shots)
+
+goes_back_if : (a : Around) (may : Bool) (t : State) → Follows a (if may then Some t else None) (if may then Some (state_at a t) else None)
+goes_back_if a true t = refl
+goes_back_if a false t = tt
+
+goes_back : (a : Around) (os : List Object) (x y : Option (Snapshot × List Snapshot)) (s : State) → Finds a x y → Follows a (back os x s) (back os y (state_at a s))
+goes_back a os None y s h = tt
+goes_back a os (Some (shot, shots)) y s h = goes (back_there shot shots)
+  where
+    back_there : (shot : Snapshot) (shots : List Snapshot) → Follows a (back os (Some (shot, shots)) s) (back os (Some (snapshot_at a.place shot, map (snapshot_at a.place) shots ++ a.saves)) (state_at a s))
+    back_there shot shots = goes_back_if a (may_go_back shot os s.work) (record s {
+      work = record s.work { operands = os; entries = shot.entries; made = shot.made };
+      level = shot.level;
+      graphics = shot.graphics;
+      stacked = shot.stacked;
+      saves = shots;
+    })
+
+    goes : Follows a (back os (Some (shot, shots)) s) (back os (Some (snapshot_at a.place shot, map (snapshot_at a.place) shots ++ a.saves)) (state_at a s)) → Follows a (back os (Some (shot, shots)) s) (back os y (state_at a s))
+    goes f = subst (λ z. Follows a (back os (Some (shot, shots)) s) (back os z (state_at a s))) (sym h) f
+
+restores : (a : Around) (os : List Object) (s : State) → Follows a (restored os s) (restored os (state_at a s))
+restores a (Saved level ∷ os) s = goes_back a os (save_of level s.saves) (save_of level (state_at a s).saves) s (finds_save a level s.saves)
+restores a os s = tt
+
+performs : (a : Around) (name : List ℕ) (k : Kind) (s : State) → Follows a (perform true name k s) (perform false name k (state_at a s))
+performs a name (Computes c) s = works a (computed c s.work) s
+performs a name (Controls c) s = runs_next a (controlled c s.work) s
+performs a name (Draws wants e) s = draws a e name (taken wants s.work.operands) s
+performs a name PushesGraphics s = refl
+performs a name PopsGraphics s = pops a s s.stacked s.saves
+performs a name Saves s = refl
+performs a name Restores s = restores a s.work.operands s
+performs a name Ships s = tt
+performs a name Resets s = tt
+
+does : (a : Around) (o : Object) (s : State) → Follows a (done true o s) (done false o (state_at a s))
+does a (Procedure ts) s = goes_before a ts s
+does a (Operator name kind) s = performs a name kind s
+does a o s = refl
+
+means : (a : Around) (x : Option Object) (s : State) → Follows a (meant true x s) (meant false x (state_at a s))
+means a None s = tt
+means a (Some o) s = does a o s
+
+acts : (a : Around) (t : Token) (s : State) → Follows a (act true t s) (act false t (state_at a s))
+acts a (Name name) s = means a (meaning s.work.dictionaries s.work.entries name) s
+acts a (Bound name) s = means a (system name) s
+acts a Opens s = opens a (body_of s.left 0) (body_of (s.left ++ a.left) 0) s (body_goes_on a.left s.left 0)
+acts a Closes s = tt
+acts a Unknown s = tt
+acts a t s = refl
+
+steps_on : (a : Around) (s : State) (ts : List Token) → Follows a (step_on true ts s) (step_on false (ts ++ a.left) (state_at a s))
+steps_on a s [] = tt
+steps_on a s (t ∷ ts) = acts a t (record s { left = ts })
+
+pub steps_there : (a : Around) (s : State) → Follows a (step true s) (step false (state_at a s))
+steps_there a s = steps_on a s s.left
+
+goes_on : (a : Around) (n : ℕ) (x y : Option State) (t : State) → Follows a x y → ((s : State) → x ≡ Some s → steps true n s ≡ Some t → steps false n (state_at a s) ≡ Some (state_at a t))
+    → and_then (steps true n) x ≡ Some t → and_then (steps false n) y ≡ Some (state_at a t)
+goes_on a n None y t f h e = absurd (nothing (and_then (steps true n) None) t refl e)
+goes_on a n (Some s) y t f h e = ap (and_then (steps false n)) f ∙ h s refl e
+
+all_steps : (a : Around) (n : ℕ) (s t : State) → steps true n s ≡ Some t → steps false n (state_at a s) ≡ Some (state_at a t)
+all_steps a zero s t e = ap (state_there a) e
+  where
+    state_there : Around → Option State → Option State
+    state_there a None = None
+    state_there a (Some s) = Some (state_at a s)
+all_steps a (suc n) s t e = goes_on a n (step true s) (step false (state_at a s)) t (steps_there a s) (λ r _ k. all_steps a n r t k) e
+
+pub placing_commutes : PlacingCommutes
+placing_commutes a s t (n, e) = (n, all_steps a n s t e)

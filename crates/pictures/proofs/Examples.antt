@@ -1,0 +1,22 @@
+-- Worked examples, computed from the definitions.
+pub mod Scanned
+pub mod TwoUp
+pub mod Premises
+pub mod Whole
+pub mod ByHand
+pub mod Applied
+pub mod Turned
+pub mod Scaled
+pub mod Bordered
+pub mod BlankSlots
+pub mod Signatures
+pub mod OnTwoSheets
+pub mod PrologProcedures
+pub mod GraphicsNests
+pub mod Strings
+pub mod WideSheet
+pub mod PageStacks
+pub mod PageEnds
+pub mod PageTexts
+pub mod Setups
+pub mod PagesTogether

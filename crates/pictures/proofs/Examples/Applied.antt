@@ -1,0 +1,71 @@
+-- What an application of the laws to a document needs: its units, the state behind its preamble, its pages' own runs.
+use Rattle.std.proofs.Common.{◌≡◌, ℕ, List, [], ◌∷◌, refl, Some, None, true}
+use Rattle.std.specs.Prelude.{codes, Result, Ok, Err}
+use Rattle.profile.specs.Parts.{NestedUnit}
+use Rattle.profile.specs.Run.{document_of, DocumentFault}
+use Rattle.pictures.specs.Objects.{Name, Call}
+use Rattle.pictures.specs.Dictionaries.{Entry, meaning, system, entry_of}
+use Rattle.pictures.specs.Machine.{State, Graphics, Painting}
+use Rattle.pictures.specs.Scanner.{tokens, IsComplete}
+use Rattle.pictures.specs.Kept.{page_comments_apart}
+use Rattle.pictures.specs.Sheets.{IsGround, run_of}
+use Rattle.pictures.specs.Documents.{started, page_of}
+use Rattle.pictures.specs.Unaware.{IsPlainGround, PagePrints, absent, no_saved_in, unaware_steps}
+
+abbrev units_of : Result (List NestedUnit) DocumentFault → List NestedUnit
+units_of (Ok us) = us
+units_of (Err e) = []
+
+abbrev pub units : List ℕ → List NestedUnit
+units document = units_of (document_of document)
+
+-- the state behind a preamble that has set this and defined these names
+abbrev pub behind : (settings : List Call) → List Entry → State
+behind settings es = record (started []) {
+  work = record { operands = []; dictionaries = 0 ∷ []; entries = es; made = 0 };
+  graphics = record { chain = []; path = []; clip = []; settings = settings };
+}
+
+pub plain_ground :
+    (settings : List Call) (es : List Entry) → IsGround (behind settings es) → no_saved_in es ≡ true
+    → entry_of 0 (codes "showpage") es ≡ None → entry_of 0 (codes "ImposeSave") es ≡ None
+    → IsPlainGround (behind settings es)
+plain_ground settings es ground saved showpage save = record {
+  ground = ground;
+  stacked = refl;
+  saves = refl;
+  painted = refl;
+  operands = refl;
+  entries = saved;
+  has_userdict = refl;
+  no_showpage = showpage;
+  no_save = save;
+}
+
+-- a page that leaves all names as they were prints itself, if it runs up to its showpage
+pub page_prints :
+    (us : List NestedUnit) (s : State) (p count : ℕ) (graphics : Graphics) (picture : List Painting) → IsPlainGround s
+    → absent s.work.dictionaries s.work.entries (codes "showpage") ≡ true
+    → absent s.work.dictionaries s.work.entries (codes "ImposeSave") ≡ true
+    → meaning s.work.dictionaries s.work.entries (codes "restore") ≡ system (codes "restore")
+    → IsComplete (page_of us p) → page_comments_apart (page_of us p) ≡ true
+    → unaware_steps count (run_of (tokens (page_of us p)) s)
+    ≡ Some (record s { left = Name (codes "showpage") ∷ []; graphics = graphics; painted = picture })
+    → PagePrints us s p picture
+page_prints us s p count graphics picture ground showpage save restore complete apart run = (
+  complete,
+  apart,
+  record {
+    end = record s { left = Name (codes "showpage") ∷ []; graphics = graphics; painted = picture };
+    count = count;
+    run = run;
+    last = refl;
+    operands = refl;
+    dictionaries = refl;
+    saves = ground.saves;
+    showpage = showpage;
+    save_name = save;
+    restore_name = restore;
+    picture_is = refl;
+  },
+)

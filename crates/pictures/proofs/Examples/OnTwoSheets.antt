@@ -1,0 +1,108 @@
+-- Each page on two sheets, one behind the other; and the law at this document.
+use Rattle.std.proofs.Common.{◌≡◌, ℕ, zero, suc, List, [], ◌∷◌, refl, Some, None, false}
+use Rattle.std.specs.Prelude.{codes, Ok}
+use Rattle.std.specs.Fmt.{digits}
+use Rattle.profile.specs.Parts.{NestedUnit, preamble, bytes_of}
+use Rattle.profile.specs.Specification.{Spec, settled}
+use Rattle.profile.specs.Signatures.{sheets_in}
+use Rattle.profile.proofs.Examples.Written.{item, written}
+use Rattle.pictures.specs.Objects.{Call}
+use Rattle.pictures.specs.Machine.{State, Graphics, Clip, Painting}
+use Rattle.pictures.specs.Sheets.{IsGround}
+use Rattle.pictures.specs.Documents.{PreambleRuns, IsPrinted, sheet_pictures}
+use Rattle.pictures.specs.Unaware.{IsPlainGround, PagePrints}
+use Rattle.pictures.proofs.Own.{sheets_show_the_pages}
+use Rattle.pictures.proofs.Examples.TwoUp.{lines}
+use Rattle.pictures.proofs.Examples.ByHand.{says, matrix, path, paper, edge, clip_to, in_order, prints}
+use Rattle.pictures.proofs.Examples.Applied.{units, behind, plain_ground, page_prints}
+
+abbrev document : List ℕ
+document = lines (
+    codes "%!PS-Adobe-3.0"
+    ∷ codes "%%EndComments"
+    ∷ codes "%%Page: 1 1"
+    ∷ codes ".5 setgray 10 20 moveto 0 40 rlineto stroke"
+    ∷ codes "showpage"
+    ∷ codes "%%Page: 2 2"
+    ∷ codes "10 20 moveto 40 0 rlineto stroke"
+    ∷ codes "showpage"
+    ∷ codes "%%EOF"
+    ∷ [])
+
+-- `0,0`
+abbrev twice : Spec
+twice = settled (written 1 ((item false 0 [] ∷ []) ∷ (item false 0 [] ∷ []) ∷ []))
+
+abbrev place : Call
+place = matrix (codes "1 0 0 1 0 0")
+
+abbrev line_in : List Call → List Clip → List Call → List ℕ → Painting
+line_in chain clip settings to = record {
+  call = says (codes "stroke");
+  graphics = record {
+    chain = chain;
+    path = path chain (codes "10 20 moveto" ∷ to ∷ []);
+    clip = clip;
+    settings = settings;
+  };
+}
+
+abbrev gray : List Call
+gray = says (codes ".5 setgray") ∷ []
+
+abbrev first_line : Painting
+first_line = line_in (place ∷ []) (clip_to (edge (place ∷ [])) ∷ []) gray (codes "0 40 rlineto")
+
+abbrev second_line : Painting
+second_line = line_in (place ∷ []) (clip_to (edge (place ∷ [])) ∷ []) [] (codes "40 0 rlineto")
+
+abbrev sheets : List (List Painting)
+sheets = (first_line ∷ []) ∷ (first_line ∷ []) ∷ (second_line ∷ []) ∷ (second_line ∷ []) ∷ []
+
+each_page_twice : prints document None twice paper ≡ Ok (Some sheets)
+unfolding digits
+each_page_twice = refl
+
+-- The same by the law.
+
+abbrev us : List NestedUnit
+us = units document
+
+abbrev ready : State
+ready = behind [] []
+
+ground : IsGround ready
+ground = record { names = λ name h. refl; operands = refl; dictionaries = refl; graphics = refl }
+
+plain : IsPlainGround ready
+plain = plain_ground [] [] ground refl refl refl
+
+preamble_runs : PreambleRuns (bytes_of (preamble us)) ready
+unfolding digits
+preamble_runs = (refl, (0, refl), refl, refl, refl, ground)
+
+-- what each page prints of itself
+abbrev picture : ℕ → List Painting
+picture zero = line_in [] [] gray (codes "0 40 rlineto") ∷ []
+picture (suc p) = line_in [] [] [] (codes "40 0 rlineto") ∷ []
+
+abbrev set_to : List Call → Graphics
+set_to settings = record { chain = []; path = []; clip = []; settings = settings }
+
+first : PagePrints us ready 0 (picture 0)
+unfolding digits
+first = page_prints us ready 0 9 (set_to gray) (picture 0) plain refl refl refl refl refl refl
+
+second : PagePrints us ready 1 (picture 1)
+unfolding digits
+second = page_prints us ready 1 7 (set_to []) (picture 1) plain refl refl refl refl refl refl
+
+by_the_law : IsPrinted paper None twice us picture ready
+unfolding digits
+by_the_law =
+    sheets_show_the_pages paper None twice document us picture ready refl refl preamble_runs plain
+    ((first, tt), ((first, tt), ((second, tt), ((second, tt), tt))))
+
+these_sheets : in_order (sheet_pictures paper us picture ready (sheets_in None twice 2)) ≡ sheets
+unfolding digits
+these_sheets = refl

@@ -1,0 +1,46 @@
+-- Setups that leave more than names behind them, and what comes of it. Sheets and paintings stand the latest first.
+use Rattle.std.proofs.Common.{◌≡◌, [], ◌∷◌, ◌++◌, refl, Some, None}
+use Rattle.std.specs.Prelude.{codes, Ok}
+use Rattle.std.specs.Fmt.{digits}
+use Rattle.pictures.proofs.Examples.Premises.{own, imposed, stroke, placed, not_placed}
+
+-- a setup that paints: that is on the first sheet, and isn't placed
+paints : imposed stroke (stroke ∷ stroke ∷ []) ≡ Ok (Some ((placed ∷ []) ∷ (placed ∷ not_placed ∷ []) ∷ []))
+unfolding digits
+paints = refl
+
+-- a setup that prints: a sheet more
+prints : imposed (codes "showpage") (stroke ∷ []) ≡ Ok (Some ((placed ∷ []) ∷ [] ∷ []))
+unfolding digits
+prints = refl
+
+-- a setup that pushes a graphics state, which a page takes back: the sheet's save lies between them
+pushes : own (codes "gsave") ((codes "grestore " ++ stroke) ∷ []) ≡ Some ((not_placed ∷ []) ∷ [])
+pushes = refl
+
+pushes_imposed : imposed (codes "gsave") ((codes "grestore " ++ stroke) ∷ []) ≡ Ok (Some ((not_placed ∷ []) ∷ []))
+unfolding digits
+pushes_imposed = refl
+
+-- a setup that saves, and a page that restores: with the setup's save the name of the sheet's own is gone
+saves : own (codes "/s save def") ((codes "s restore " ++ stroke) ∷ []) ≡ Some ((not_placed ∷ []) ∷ [])
+saves = refl
+
+saves_imposed : imposed (codes "/s save def") ((codes "s restore " ++ stroke) ∷ []) ≡ Ok None
+unfolding digits
+saves_imposed = refl
+
+-- the save may be an operand too
+saves_on_the_stack : own (codes "save") ((codes "restore save " ++ stroke) ∷ []) ≡ Some ((not_placed ∷ []) ∷ [])
+saves_on_the_stack = refl
+
+saves_on_the_stack_imposed : imposed (codes "save") ((codes "restore save " ++ stroke) ∷ []) ≡ Ok None
+unfolding digits
+saves_on_the_stack_imposed = refl
+
+-- a setup that defines the name of the save does no harm if no page asks for it. Here the laws ask for more than is
+-- needed
+has_the_name : imposed (codes "/ImposeSave 1 def") (stroke ∷ stroke ∷ [])
+    ≡ Ok (Some ((placed ∷ []) ∷ (placed ∷ []) ∷ []))
+unfolding digits
+has_the_name = refl

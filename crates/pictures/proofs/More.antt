@@ -1,0 +1,110 @@
+-- More tokens behind those that are left change nothing but that they are left too.
+use Rattle.std.specs.Prelude.{Option, Some, None}
+use Rattle.std.proofs.Common.{◌≡◌, ℕ, zero, suc, refl, ap, ◌∙◌, sym, if◌then◌else◌, List, [], ◌∷◌, ◌++◌, append_assoc, Bool, true, false}
+use Rattle.pictures.specs.Objects.{Token, Name, Opens, Closes, Bound, Unknown, Object, Procedure}
+use Rattle.pictures.specs.Objects.{Saved, Operator, Kind, Computes, Controls, Draws, PushesGraphics, PopsGraphics, Saves, Restores, Ships, Resets}
+use Rattle.pictures.specs.Objects.{Effect}
+use Rattle.pictures.specs.Operators.{Work, taken, computed, controlled}
+use Rattle.pictures.specs.Dictionaries.{meaning, system}
+use Rattle.pictures.specs.Machine.{State, Graphics, Snapshot, body_of, opened, drawn, worked, running, popped, save_of, back, restored, perform, done, meant, act, step_on, step, steps, and_then, Runs, may_go_back}
+use Rattle.pictures.proofs.Runs.{nothing}
+use Rattle.pictures.proofs.Commutes.{Extends, body_goes_on}
+
+abbrev pub with_more : List Token → State → State
+with_more more s = record s { left = s.left ++ more }
+
+-- where the one goes on, the other does
+abbrev Follows : List Token → Option State → Option State → Type 0
+Follows more None r = Unit {0}
+Follows more (Some t) r = r ≡ Some (with_more more t)
+
+opens : (more : List Token) (x y : Option (List Token × List Token)) (s : State) → Extends more x y → Follows more (opened x s) (opened y (with_more more s))
+opens more None y s h = tt
+opens more (Some (ts, rest)) y s h = ap (λ r. opened r (with_more more s)) h
+
+draws : (more : List Token) (e : Effect) (name : List ℕ) (x : Option (List Object × List Object)) (s : State) → Follows more (drawn e name x s) (drawn e name x (with_more more s))
+draws more e name None s = tt
+draws more e name (Some (os, rest)) s = refl
+
+works : (more : List Token) (x : Option Work) (s : State) → Follows more (worked x s) (worked x (with_more more s))
+works more None s = tt
+works more (Some w) s = refl
+
+goes_before : (more ts : List Token) (s : State) → Some (record s { left = ts ++ (s.left ++ more) }) ≡ Some (with_more more (record s { left = ts ++ s.left }))
+goes_before more ts s = ap (λ l. Some (record s { left = l })) (sym (append_assoc ts s.left more))
+
+runs_next : (more : List Token) (x : Option (List Token × Work)) (s : State) → Follows more (running x s) (running x (with_more more s))
+runs_next more None s = tt
+runs_next more (Some (ts, w)) s = goes_before more ts (record s { work = w })
+
+pops : (more : List Token) (s : State) (gs : List Graphics) (shots : List Snapshot) →
+    Follows more (popped gs (record s { saves = shots })) (popped gs (with_more more (record s { saves = shots })))
+pops more s (g ∷ gs) shots = refl
+pops more s [] [] = tt
+pops more s [] (shot ∷ shots) = refl
+
+goes_back_if : (more : List Token) (may : Bool) (t : State) → Follows more (if may then Some t else None) (if may then Some (with_more more t) else None)
+goes_back_if more true t = refl
+goes_back_if more false t = tt
+
+goes_back : (more : List Token) (os : List Object) (x : Option (Snapshot × List Snapshot)) (s : State) → Follows more (back os x s) (back os x (with_more more s))
+goes_back more os None s = tt
+goes_back more os (Some (shot, shots)) s = goes_back_if more (may_go_back shot os s.work) (record s {
+  work = record s.work { operands = os; entries = shot.entries; made = shot.made };
+  level = shot.level;
+  graphics = shot.graphics;
+  stacked = shot.stacked;
+  saves = shots;
+})
+
+restores : (more : List Token) (os : List Object) (s : State) → Follows more (restored os s) (restored os (with_more more s))
+restores more (Saved level ∷ os) s = goes_back more os (save_of level s.saves) s
+restores more os s = tt
+
+performs : (more : List Token) (name : List ℕ) (k : Kind) (s : State) → Follows more (perform false name k s) (perform false name k (with_more more s))
+performs more name (Computes c) s = works more (computed c s.work) s
+performs more name (Controls c) s = runs_next more (controlled c s.work) s
+performs more name (Draws wants e) s = draws more e name (taken wants s.work.operands) s
+performs more name PushesGraphics s = refl
+performs more name PopsGraphics s = pops more s s.stacked s.saves
+performs more name Saves s = refl
+performs more name Restores s = restores more s.work.operands s
+performs more name Ships s = refl
+performs more name Resets s = refl
+
+does : (more : List Token) (o : Object) (s : State) → Follows more (done false o s) (done false o (with_more more s))
+does more (Procedure ts) s = goes_before more ts s
+does more (Operator name kind) s = performs more name kind s
+does more o s = refl
+
+means : (more : List Token) (x : Option Object) (s : State) → Follows more (meant false x s) (meant false x (with_more more s))
+means more None s = tt
+means more (Some o) s = does more o s
+
+acts : (more : List Token) (t : Token) (s : State) → Follows more (act false t s) (act false t (with_more more s))
+acts more (Name name) s = means more (meaning s.work.dictionaries s.work.entries name) s
+acts more (Bound name) s = means more (system name) s
+acts more Opens s = opens more (body_of s.left 0) (body_of (s.left ++ more) 0) s (body_goes_on more s.left 0)
+acts more Closes s = tt
+acts more Unknown s = tt
+acts more t s = refl
+
+steps_on : (more : List Token) (s : State) (ts : List Token) → Follows more (step_on false ts s) (step_on false (ts ++ more) (with_more more s))
+steps_on more s [] = tt
+steps_on more s (t ∷ ts) = acts more t (record s { left = ts })
+
+goes_on : (more : List Token) (n : ℕ) (x y : Option State) (t : State) → Follows more x y → ((s : State) → steps false n s ≡ Some t → steps false n (with_more more s) ≡ Some (with_more more t))
+    → and_then (steps false n) x ≡ Some t → and_then (steps false n) y ≡ Some (with_more more t)
+goes_on more n None y t f h e = absurd (nothing (and_then (steps false n) None) t refl e)
+goes_on more n (Some s) y t f h e = ap (and_then (steps false n)) f ∙ h s e
+
+all_steps : (more : List Token) (n : ℕ) (s t : State) → steps false n s ≡ Some t → steps false n (with_more more s) ≡ Some (with_more more t)
+all_steps more zero s t e = ap there e
+  where
+    there : Option State → Option State
+    there None = None
+    there (Some s) = Some (with_more more s)
+all_steps more (suc n) s t e = goes_on more n (step false s) (step false (with_more more s)) t (steps_on more s s.left) (λ r k. all_steps more n r t k) e
+
+pub runs_with_more : (more : List Token) (s t : State) → Runs false s t → Runs false (with_more more s) (with_more more t)
+runs_with_more more s t (n, e) = (n, all_steps more n s t e)

@@ -1,0 +1,165 @@
+-- Dictionaries with the names that the sheet's text puts, and without them.
+use Rattle.std.specs.Prelude.{Option, Some, None, if◌then◌else◌, codes, bytes_eq, option_map}
+use Rattle.std.specs.List.{list_all}
+use Rattle.std.specs.Char.{is_ascii_digit}
+use Rattle.std.proofs.lemmas.Slice.Eq.{bytes_eq-Decides}
+use Rattle.std.proofs.Common.{◌≡◌, ℕ, ◌+◌, refl, ap, ap₂, ◌∙◌, sym, subst, Bool, true, false, not, ◌&&◌, ◌||◌, ◌==◌, List, [], ◌∷◌, map, true≢false}
+use Rattle.profile.specs.Numbers.{number_of}
+use Rattle.pictures.specs.Objects.{Token, Number, Name, Literal, Object, Plain, Truth, Procedure, Dictionary}
+use Rattle.pictures.specs.Objects.{Saved, Font, Operator, Computation, Computes, Control, Execute, If, IfElse, Repeat}
+use Rattle.pictures.specs.Objects.{Pop, Duplicate, Exchange, OpenArray, CloseArray, Put, Define, Begin, End, MakeDictionary, Load, Bind, Known, Index, ClearToMark, FindFont, ScaleFont}
+use Rattle.pictures.specs.Dictionaries.{Entry, meaning, entry_of, or, has}
+use Rattle.pictures.specs.Operators.{Work, with_operands, collected, gathered, below_mark, cleared, nth, loaded, bound_to, bound, define, ended, computed_on, controlled_on, times}
+use Rattle.pictures.specs.Sheets.{among, in_userdict}
+use Rattle.pictures.specs.Unaware.{put_names, names_in, none_among, asked_by}
+use Rattle.pictures.proofs.Tests.{first, second, by_test}
+use Rattle.pictures.proofs.Shifted.{up, ups, up_collected, collected_up, below_mark_up, nth_up, system_same}
+
+abbrev pub two : ℕ → List Entry
+two level = in_userdict (codes "showpage") (Procedure []) ∷ in_userdict (codes "ImposeSave") (Saved level) ∷ []
+
+-- what these entries have is what those have, shifted, and the two names besides
+abbrev pub Agree : ℕ → List Entry → List Entry → Type 0
+Agree n es fs = (d : ℕ) (k : List ℕ) → entry_of d k es ≡ or (option_map up (entry_of d k fs)) (entry_of d k (two n))
+
+among_false : (k : List ℕ) (other : List ℕ) → bytes_eq k other ≡ false → bytes_eq other k ≡ false
+among_false k other e = by_test (bytes_eq other k)
+    (λ t. absurd (true≢false (sym ((bytes_eq-Decides k other).1 (sym ((bytes_eq-Decides other k).0 t))) ∙ e)))
+    (λ f. f)
+
+or_first : (a b : Bool) → (a || b) ≡ false → a ≡ false
+or_first true b e = e
+or_first false b e = refl
+
+or_second : (a b : Bool) → (a || b) ≡ false → b ≡ false
+or_second true b e = absurd (true≢false e)
+or_second false b e = e
+
+not_two : (n d : ℕ) (k : List ℕ) → among k put_names ≡ false → entry_of d k (two n) ≡ None
+not_two n d k e =
+    let rest = or_second (bytes_eq k (codes "showpage")) (bytes_eq k (codes "ImposeSave") || false) e in
+    ap (λ b. if b && (0 == d) then Some (Procedure []) else entry_of d k (in_userdict (codes "ImposeSave") (Saved n) ∷ [])) (among_false k (codes "showpage") (or_first (bytes_eq k (codes "showpage")) (bytes_eq k (codes "ImposeSave") || false) e))
+    ∙ ap (λ b. if b && (0 == d) then Some (Saved n) else None) (among_false k (codes "ImposeSave") (or_first (bytes_eq k (codes "ImposeSave")) false rest))
+
+or_up : (x y : Option Object) → or (or (option_map up x) None) (option_map up y) ≡ option_map up (or x y)
+or_up None y = refl
+or_up (Some o) y = refl
+
+pub meaning_agrees : (n : ℕ) (es fs : List Entry) (ds : List ℕ) (k : List ℕ) → Agree n es fs → among k put_names ≡ false → meaning ds es k ≡ option_map up (meaning ds fs k)
+meaning_agrees n es fs [] k a e = sym (system_same k)
+meaning_agrees n es fs (d ∷ ds) k a e =
+    ap₂ or (a d k ∙ ap (or (option_map up (entry_of d k fs))) (not_two n d k e)) (meaning_agrees n es fs ds k a e)
+    ∙ or_up (entry_of d k fs) (meaning ds fs k)
+
+or_if : (b : Bool) (o : Object) (x y : Option Object) → (if b then Some (up o) else or (option_map up x) y) ≡ or (option_map up (if b then Some o else x)) y
+or_if true o x y = refl
+or_if false o x y = refl
+
+pub agrees_put : (n : ℕ) (es fs : List Entry) (d : ℕ) (name : List ℕ) (o : Object) → Agree n es fs
+    → Agree n (record { dictionary = d; key = name; value = up o } ∷ es) (record { dictionary = d; key = name; value = o } ∷ fs)
+agrees_put n es fs d name o a c k =
+    ap (λ x. if bytes_eq name k && (d == c) then Some (up o) else x) (a c k) ∙ or_if (bytes_eq name k && (d == c)) o (entry_of c k fs) (entry_of c k (two n))
+
+abbrev pub up_work : List Entry → Work → Work
+up_work es w = record { operands = ups w.operands; dictionaries = w.dictionaries; entries = es; made = w.made }
+
+abbrev pub WorkGoes : ℕ → Option Work → Option Work → Type 0
+WorkGoes n None r = Unit {0}
+WorkGoes n (Some w) r = (es : List Entry) × (r ≡ Some (up_work es w)) × Agree n es w.entries
+
+gathered_goes : (n : ℕ) (x : Option (List Token × List Object)) (w : Work) (es : List Entry) → Agree n es w.entries → WorkGoes n (gathered x w) (gathered (up_collected x) (up_work es w))
+gathered_goes n None w es a = tt
+gathered_goes n (Some (ts, os)) w es a = (es, refl, a)
+
+cleared_goes : (n : ℕ) (x : Option (List Object)) (w : Work) (es : List Entry) → Agree n es w.entries → WorkGoes n (cleared x w) (cleared (option_map ups x) (up_work es w))
+cleared_goes n None w es a = tt
+cleared_goes n (Some os) w es a = (es, refl, a)
+
+loaded_goes : (n : ℕ) (x : Option Object) (w : Work) (es : List Entry) → Agree n es w.entries → WorkGoes n (loaded x w) (loaded (option_map up x) (up_work es w))
+loaded_goes n None w es a = tt
+loaded_goes n (Some o) w es a = (es, refl, a)
+
+define_goes : (n : ℕ) (ds : List ℕ) (name : List ℕ) (o : Object) (w : Work) (es : List Entry) → Agree n es w.entries → WorkGoes n (define ds name o w) (define ds name (up o) (up_work es w))
+define_goes n [] name o w es a = tt
+define_goes n (d ∷ ds) name o w es a = (record { dictionary = d; key = name; value = up o } ∷ es, refl, agrees_put n es w.entries d name o a)
+
+ended_goes : (n : ℕ) (ds : List ℕ) (w : Work) (es : List Entry) → Agree n es w.entries → WorkGoes n (ended ds w) (ended ds (up_work es w))
+ended_goes n [] w es a = tt
+ended_goes n (d ∷ []) w es a = tt
+ended_goes n (d ∷ e ∷ ds) w es a = (es, refl, a)
+
+if_goes : (n : ℕ) (b : Bool) (x y : Option Work) → WorkGoes n x y → WorkGoes n (if b then x else None) (if b then y else None)
+if_goes n true x y g = g
+if_goes n false x y g = tt
+
+bound_up : (x : Option Object) (t : Token) → bound_to (option_map up x) t ≡ bound_to x t
+bound_up None t = refl
+bound_up (Some (Saved level)) t = refl
+bound_up (Some o) t = refl
+
+pub not_true : (b : Bool) → not b ≡ true → b ≡ false
+not_true true e = sym e
+not_true false e = refl
+
+all_bound : (n : ℕ) (w : Work) (es : List Entry) (ts : List Token) → Agree n es w.entries → none_among (names_in ts) put_names ≡ true → map (bound (up_work es w)) ts ≡ map (bound w) ts
+all_bound n w es [] a q = refl
+all_bound n w es (Name name ∷ ts) a q =
+    ap₂ (λ x xs. x ∷ xs)
+    (ap (λ o. bound_to o (Name name)) (meaning_agrees n es w.entries w.dictionaries name a (not_true (among name put_names) (first (not (among name put_names)) (none_among (names_in ts) put_names) q))) ∙ bound_up (meaning w.dictionaries w.entries name) (Name name))
+    (all_bound n w es ts a (second (not (among name put_names)) (none_among (names_in ts) put_names) q))
+all_bound n w es (t ∷ ts) a q = ap (λ xs. t ∷ xs) (all_bound n w es ts a q)
+
+known_goes : (n : ℕ) (d : ℕ) (name : List ℕ) (w : Work) (es : List Entry) → Agree n es w.entries → among name put_names ≡ false → has (entry_of d name es) ≡ has (entry_of d name w.entries)
+known_goes n d name w es a e = ap has (a d name ∙ ap (or (option_map up (entry_of d name w.entries))) (not_two n d name e)) ∙ either (entry_of d name w.entries)
+  where
+    either : (x : Option Object) → has (or (option_map up x) None) ≡ has x
+    either None = refl
+    either (Some o) = refl
+
+one_not : (name : List ℕ) → none_among (name ∷ []) put_names ≡ true → among name put_names ≡ false
+one_not name q = not_true (among name put_names) (first (not (among name put_names)) true q)
+
+pub works_on : (n : ℕ) (name : List ℕ) (c : Computation) (os : List Object) (w : Work) (es : List Entry) → Agree n es w.entries
+    → none_among (asked_by (Some (Operator name (Computes c))) os) put_names ≡ true → WorkGoes n (computed_on c os w) (computed_on c (ups os) (up_work es w))
+works_on n name Pop (o ∷ os) w es a q = (es, refl, a)
+works_on n name Duplicate (o ∷ os) w es a q = (es, refl, a)
+works_on n name Exchange (o ∷ p ∷ os) w es a q = (es, refl, a)
+works_on n name OpenArray os w es a q = (es, refl, a)
+works_on n name CloseArray os w es a q =
+    subst (λ x. WorkGoes n (gathered (collected [] os) w) (gathered x (up_work es w))) (sym (collected_up [] os)) (gathered_goes n (collected [] os) w es a)
+works_on n name Put (o ∷ Plain (Literal k) ∷ Dictionary d ∷ os) w es a q = (record { dictionary = d; key = k; value = up o } ∷ es, refl, agrees_put n es w.entries d k o a)
+works_on n name Define (o ∷ Plain (Literal k) ∷ os) w es a q = define_goes n w.dictionaries k o (with_operands w os) es a
+works_on n name Begin (Dictionary d ∷ os) w es a q = (es, refl, a)
+works_on n name End os w es a q = ended_goes n w.dictionaries w es a
+works_on n name MakeDictionary (Plain (Number text) ∷ os) w es a q =
+    if_goes n (list_all is_ascii_digit text) (Some (record w { operands = Dictionary (w.made + 1) ∷ os; made = w.made + 1 }))
+    (Some (up_work es (record w { operands = Dictionary (w.made + 1) ∷ os; made = w.made + 1 }))) (es, refl, a)
+works_on n name Load (Plain (Literal k) ∷ os) w es a q =
+    subst (λ x. WorkGoes n (loaded (meaning w.dictionaries w.entries k) (with_operands w os)) (loaded x (up_work es (with_operands w os)))) (sym (meaning_agrees n es w.entries w.dictionaries k a (one_not k q)))
+    (loaded_goes n (meaning w.dictionaries w.entries k) (with_operands w os) es a)
+works_on n name Bind (Procedure ts ∷ os) w es a q = (es, ap (λ us. Some (with_operands (up_work es w) (Procedure us ∷ ups os))) (all_bound n w es ts a q), a)
+works_on n name Known (Plain (Literal k) ∷ Dictionary d ∷ os) w es a q = (es, ap (λ b. Some (with_operands (up_work es w) (Truth b ∷ ups os))) (known_goes n d k w es a (one_not k q)), a)
+works_on n name Index (Plain (Number text) ∷ os) w es a q =
+    if_goes n (list_all is_ascii_digit text) (loaded (nth (number_of text) os) (with_operands w os)) (loaded (nth (number_of text) (ups os)) (up_work es (with_operands w os)))
+    (subst (λ x. WorkGoes n (loaded (nth (number_of text) os) (with_operands w os)) (loaded x (up_work es (with_operands w os)))) (sym (nth_up (number_of text) os)) (loaded_goes n (nth (number_of text) os) (with_operands w os) es a))
+works_on n name ClearToMark os w es a q =
+    subst (λ x. WorkGoes n (cleared (below_mark os) w) (cleared x (up_work es w))) (sym (below_mark_up os)) (cleared_goes n (below_mark os) w es a)
+works_on n name FindFont (Plain (Literal k) ∷ os) w es a q = (es, refl, a)
+works_on n name ScaleFont (Plain (Number text) ∷ Font ts ∷ os) w es a q = (es, refl, a)
+works_on n name c os w es a q = tt
+
+abbrev pub ControlGoes : ℕ → Option (List Token × Work) → Option (List Token × Work) → Type 0
+ControlGoes n None r = Unit {0}
+ControlGoes n (Some (ts, w)) r = (es : List Entry) × (r ≡ Some (ts, up_work es w)) × Agree n es w.entries
+
+if_control : (n : ℕ) (b : Bool) (x y : Option (List Token × Work)) → ControlGoes n x y → ControlGoes n (if b then x else None) (if b then y else None)
+if_control n true x y g = g
+if_control n false x y g = tt
+
+pub controls_on : (n : ℕ) (c : Control) (os : List Object) (w : Work) (es : List Entry) → Agree n es w.entries → ControlGoes n (controlled_on c os w) (controlled_on c (ups os) (up_work es w))
+controls_on n Execute (Procedure ts ∷ os) w es a = (es, refl, a)
+controls_on n If (Procedure ts ∷ Truth test ∷ os) w es a = (es, refl, a)
+controls_on n IfElse (Procedure us ∷ Procedure ts ∷ Truth test ∷ os) w es a = (es, refl, a)
+controls_on n Repeat (Procedure ts ∷ Plain (Number text) ∷ os) w es a =
+    if_control n (list_all is_ascii_digit text) (Some (times (number_of text) ts, with_operands w os)) (Some (times (number_of text) ts, up_work es (with_operands w os))) (es, refl, a)
+controls_on n c os w es a = tt

@@ -1,0 +1,141 @@
+-- What a machine prints of an output.
+use Rattle.std.specs.Prelude.{Option, Some, None, codes, decimal, flat_map, if◌then◌else◌}
+use Rattle.std.specs.List.{enumerate_from}
+use Rattle.std.proofs.Common.{◌≡◌, ℕ, ◌+◌, refl, ap, ◌∙◌, sym, subst, false, List, [], ◌∷◌, ◌++◌, map, append_assoc, append-nil, length}
+use Rattle.std.proofs.lemmas.Grind.{flat_map-append}
+use Rattle.std.proofs.lemmas.List.{map-append}
+use Rattle.profile.specs.Bytes.{line, line_feed}
+use Rattle.profile.specs.Specification.{Item}
+use Rattle.profile.specs.Sheets.{Slot}
+use Rattle.profile.specs.Signatures.{sheets_in}
+use Rattle.profile.specs.Parts.{NestedUnit, pages}
+use Rattle.profile.specs.Filters.{preamble_text, trailer_text}
+use Rattle.profile.specs.Output.{Frame, opening_text, closing_text, slot_text, sheet_text, output}
+use Rattle.pictures.specs.Objects.{Token, Name}
+use Rattle.pictures.specs.Machine.{State, Painting, Runs}
+use Rattle.pictures.specs.Scanner.{Reading, Between, InComment, scan_from, behind, ended, tokens, IsComplete}
+use Rattle.pictures.specs.Sheets.{Shown, saving_tokens, placing_tokens, closing_tokens, placed_tokens, sheet_tokens}
+use Rattle.pictures.specs.Pictures.{sheets_tokens, AllSheetsPaint}
+use Rattle.pictures.specs.Sheets.{AllPaint}
+use Rattle.pictures.specs.Documents.{numbers_of, started, body_of_page, shown_slot, shown_sheet, sheet_pictures, PagePaints, OnSlot, OnSlots, OnSheets, OutputIsPrinted}
+use Rattle.pictures.proofs.Runs.{runs_join}
+use Rattle.pictures.proofs.More.{runs_with_more}
+use Rattle.pictures.proofs.Sheets.{sheets_are_printed}
+use Rattle.pictures.proofs.Scanned.{tokens_join}
+use Rattle.pictures.proofs.NumberTokens.{Reads, reads_join, AllDigits, decimal_digits}
+use Rattle.pictures.proofs.OpeningTokens.{opening_read}
+
+comment_digits : (ds : List ℕ) → AllDigits ds → Reads InComment ds [] InComment
+comment_digits [] h = refl
+comment_digits (d ∷ ds) h =
+    ap (λ b. behind [] (scan_from (if b then Between else InComment) ds)) h.0.4 ∙ ap (behind []) (comment_digits ds h.1)
+
+page_line : (n : ℕ) → Reads Between (line (codes "%%Page: " ++ decimal n ++ codes " " ++ decimal n)) [] Between
+page_line n =
+    let start : List ℕ = codes "%%Page: " in
+    let d : List ℕ = decimal n in
+    reads_join Between InComment Between (((start ++ d) ++ codes " ") ++ d) (line_feed ∷ []) [] []
+    (reads_join Between InComment InComment ((start ++ d) ++ codes " ") d [] []
+    (reads_join Between InComment InComment (start ++ d) (codes " ") [] []
+    (reads_join Between InComment InComment start d [] [] refl (comment_digits d (decimal_digits n)))
+    refl)
+    (comment_digits d (decimal_digits n)))
+    refl
+
+-- the line that counts the sheets
+pub count_line : (n : ℕ) → Reads Between (line (codes "%%Pages: " ++ decimal n)) [] Between
+count_line n =
+    let start : List ℕ = codes "%%Pages: " in
+    reads_join Between InComment Between (start ++ decimal n) (line_feed ∷ []) [] []
+    (reads_join Between InComment InComment start (decimal n) [] [] refl (comment_digits (decimal n) (decimal_digits n)))
+    refl
+
+-- a complete text is read to its end
+complete_read : (text : List ℕ) → IsComplete text → Reads Between text (tokens text) Between
+complete_read text e =
+    let x : List Token × Reading = scan_from Between text in
+    ap (λ r. (x.0, r)) e ∙ ap (λ ts. (ts, Between)) (sym (append-nil x.0) ∙ ap (λ r. x.0 ++ ended r) (sym e))
+
+abbrev placed_of : List Shown → List Token
+placed_of xs = flat_map placed_tokens (map (λ x. x.placed) xs)
+
+slot_read : (frame : Frame) (us : List NestedUnit) (picture : ℕ → List Painting) (s : State) (page : Option ℕ) (item : Item) → OnSlot (λ p. PagePaints us s p (picture p)) page
+    → Reads Between (slot_text frame (pages us) page item) (placed_of (shown_slot frame us picture page item)) Between
+slot_read frame us picture s None item h = refl
+slot_read frame us picture s (Some p) item h =
+    let body : List Token = tokens (body_of_page us p) in
+    let placing : List Token = placing_tokens (numbers_of frame item) in
+    let same : ((saving_tokens ++ placing) ++ body) ++ closing_tokens ≡ (saving_tokens ++ (placing ++ (body ++ closing_tokens))) ++ [] =
+    append_assoc (saving_tokens ++ placing) body closing_tokens ∙ append_assoc saving_tokens placing (body ++ closing_tokens) ∙ sym (append-nil (saving_tokens ++ (placing ++ (body ++ closing_tokens)))) in
+    subst (λ ts. Reads Between (slot_text frame (pages us) (Some p) item) ts Between) same
+    (reads_join Between Between Between (opening_text frame item ++ body_of_page us p) closing_text ((saving_tokens ++ placing) ++ body) closing_tokens
+    (reads_join Between Between Between (opening_text frame item) (body_of_page us p) (saving_tokens ++ placing) body (opening_read frame item) (complete_read (body_of_page us p) h.0))
+    refl)
+
+placed_append : (xs ys : List Shown) → placed_of (xs ++ ys) ≡ placed_of xs ++ placed_of ys
+placed_append xs ys = ap (flat_map placed_tokens) (map-append (λ x. x.placed) xs ys) ∙ flat_map-append placed_tokens (map (λ x. x.placed) xs) (map (λ x. x.placed) ys)
+
+slots_read : (frame : Frame) (us : List NestedUnit) (picture : ℕ → List Painting) (s : State) (slots : List Slot) → OnSlots (λ p. PagePaints us s p (picture p)) slots
+    → Reads Between (flat_map (λ slot. slot_text frame (pages us) slot.page slot.item) slots) (placed_of (shown_sheet frame us picture slots)) Between
+slots_read frame us picture s [] h = refl
+slots_read frame us picture s (slot ∷ slots) h =
+    let here : List Shown = shown_slot frame us picture slot.page slot.item in
+    let text : List ℕ = flat_map (λ slot. slot_text frame (pages us) slot.page slot.item) (slot ∷ slots) in
+    subst (λ ts. Reads Between text ts Between) (sym (placed_append here (shown_sheet frame us picture slots)))
+    (reads_join Between Between Between (slot_text frame (pages us) slot.page slot.item) (flat_map (λ slot. slot_text frame (pages us) slot.page slot.item) slots) (placed_of here) (placed_of (shown_sheet frame us picture slots))
+    (slot_read frame us picture s slot.page slot.item h.0)
+    (slots_read frame us picture s slots h.1))
+
+sheet_read : (frame : Frame) (us : List NestedUnit) (picture : ℕ → List Painting) (s : State) (k : ℕ) (slots : List Slot) → OnSlots (λ p. PagePaints us s p (picture p)) slots
+    → Reads Between (sheet_text frame (pages us) k slots) (sheet_tokens (map (λ x. x.placed) (shown_sheet frame us picture slots))) Between
+sheet_read frame us picture s k slots h =
+    let header : List ℕ = line (codes "%%Page: " ++ decimal (k + 1) ++ codes " " ++ decimal (k + 1)) in
+    let middle : List ℕ = flat_map (λ slot. slot_text frame (pages us) slot.page slot.item) slots in
+    reads_join Between Between Between (header ++ middle) (line (codes "showpage")) (placed_of (shown_sheet frame us picture slots)) (Name (codes "showpage") ∷ [])
+    (reads_join Between Between Between header middle [] (placed_of (shown_sheet frame us picture slots)) (page_line (k + 1)) (slots_read frame us picture s slots h))
+    refl
+
+sheets_read : (frame : Frame) (us : List NestedUnit) (picture : ℕ → List Painting) (s : State) (k : ℕ) (all : List (List Slot)) → OnSheets (λ p. PagePaints us s p (picture p)) all
+    → Reads Between (flat_map (λ (s, slots). sheet_text frame (pages us) s slots) (enumerate_from k all)) (sheets_tokens (map (shown_sheet frame us picture) all)) Between
+sheets_read frame us picture s k [] h = refl
+sheets_read frame us picture s k (slots ∷ more) h =
+    reads_join Between Between Between (sheet_text frame (pages us) k slots) (flat_map (λ (s, slots). sheet_text frame (pages us) s slots) (enumerate_from (k + 1) more))
+    (sheet_tokens (map (λ x. x.placed) (shown_sheet frame us picture slots))) (sheets_tokens (map (shown_sheet frame us picture) more))
+    (sheet_read frame us picture s k slots h.0)
+    (sheets_read frame us picture s (k + 1) more h.1)
+
+-- what is said of slots, said of what they show
+
+slot_paints : (frame : Frame) (us : List NestedUnit) (picture : ℕ → List Painting) (s : State) (page : Option ℕ) (item : Item) (xs : List Shown) → OnSlot (λ p. PagePaints us s p (picture p)) page → AllPaint s xs
+    → AllPaint s (shown_slot frame us picture page item ++ xs)
+slot_paints frame us picture s None item xs h k = k
+slot_paints frame us picture s (Some p) item xs h k = (h.1, k)
+
+slots_paint : (frame : Frame) (us : List NestedUnit) (picture : ℕ → List Painting) (s : State) (slots : List Slot) → OnSlots (λ p. PagePaints us s p (picture p)) slots → AllPaint s (shown_sheet frame us picture slots)
+slots_paint frame us picture s [] h = tt
+slots_paint frame us picture s (slot ∷ slots) h = slot_paints frame us picture s slot.page slot.item (shown_sheet frame us picture slots) h.0 (slots_paint frame us picture s slots h.1)
+
+sheets_paint : (frame : Frame) (us : List NestedUnit) (picture : ℕ → List Painting) (s : State) (all : List (List Slot)) → OnSheets (λ p. PagePaints us s p (picture p)) all → AllSheetsPaint s (map (shown_sheet frame us picture) all)
+sheets_paint frame us picture s [] h = tt
+sheets_paint frame us picture s (slots ∷ more) h = (slots_paint frame us picture s slots h.0, sheets_paint frame us picture s more h.1)
+
+pub output_is_printed : OutputIsPrinted
+output_is_printed frame sides spec us picture s (complete, run, nothing_left, nothing_painted, nothing_printed, ground) h =
+    let all : List (List Slot) = sheets_in sides spec (length (pages us)) in
+    let first : List ℕ = preamble_text (length all) us in
+    let middle : List ℕ = flat_map (λ (s, slots). sheet_text frame (pages us) s slots) (enumerate_from 0 all) in
+    let shown : List (List Shown) = map (shown_sheet frame us picture) all in
+    let last : List Token = tokens (trailer_text us) in
+    let more : List Token = sheets_tokens shown ++ last in
+    let both : Reads Between (first ++ middle) (tokens first ++ sheets_tokens shown) Between =
+    reads_join Between Between Between first middle (tokens first) (sheets_tokens shown) (complete_read first complete) (sheets_read frame us picture s 0 all h) in
+    let cut : tokens (output frame sides spec us) ≡ tokens first ++ more =
+    tokens_join (first ++ middle) (trailer_text us) (ap (λ x. x.1) both)
+    ∙ ap (λ ts. ts ++ last) (ap (λ x. x.0 ++ ended x.1) both ∙ append-nil (tokens first ++ sheets_tokens shown))
+    ∙ append_assoc (tokens first) (sheets_tokens shown) last in
+    let end : State = record s { left = last; sheets = sheet_pictures frame us picture s all } in
+    subst (λ ts. Runs false (started ts) end) (sym cut)
+    (runs_join false (started (tokens first ++ more)) (record s { left = s.left ++ more }) end
+    (runs_with_more more (started (tokens first)) s run)
+    (subst (λ l. Runs false (record s { left = l ++ more }) end) (sym nothing_left)
+    (sheets_are_printed s shown last ground nothing_painted (sheets_paint frame us picture s all h))))

@@ -1,0 +1,251 @@
+-- What a page prints of itself is what it paints by itself.
+use Rattle.std.specs.Prelude.{Option, Some, None, Ok, if◌then◌else◌, codes, option_map, bytes_eq}
+use Rattle.std.proofs.lemmas.Slice.Eq.{bytes_eq-Decides}
+use Rattle.std.proofs.Common.{◌≡◌, ℕ, zero, suc, refl, ap, ap₂, ◌∙◌, sym, subst, Bool, true, false, not, ◌&&◌, ◌||◌, ◌==◌, List, [], ◌∷◌, true≢false, eqb-true, length}
+use Rattle.pictures.specs.Objects.{Token, Name, Opens, Closes, Bound, Unknown, Object, Procedure, Saved, Operator, Kind, Effect}
+use Rattle.pictures.specs.Objects.{Computes, Controls, Draws, PushesGraphics, PopsGraphics, Saves, Restores, Ships, Resets}
+use Rattle.pictures.specs.Dictionaries.{Entry, meaning, system, entry_of, or, has}
+use Rattle.pictures.specs.Operators.{Work, taken, computed, controlled}
+use Rattle.pictures.specs.Machine.{State, Graphics, Snapshot, Painting, body_of, opened, drawn, worked, running, popped, save_of, back, restored, perform, done, meant, act, step_on, step, and_then, may_go_back, initial, shipped, Runs}
+use Rattle.pictures.specs.Sheets.{run_of, alone, entries_before, PaintsAlone}
+use Rattle.pictures.specs.Unaware.{put_names, none_among, asked_on, unaware_step, unaware_steps, absent, is_in, IsPlainGround, PrintsItself, OwnPicture, PagePrints, SheetsShowThePages}
+use Rattle.profile.specs.Sheets.{Slot}
+use Rattle.profile.specs.Signatures.{sheets_in}
+use Rattle.profile.specs.Parts.{NestedUnit, pages, preamble, bytes_of}
+use Rattle.profile.specs.Filters.{preamble_text}
+use Rattle.profile.specs.Run.{document_of}
+use Rattle.pictures.specs.Kept.{preamble_comments_apart}
+use Rattle.pictures.proofs.Kept.{kept_runs_alike, preamble_runs_alike}
+use Rattle.pictures.specs.Scanner.{tokens}
+use Rattle.pictures.specs.Documents.{started, page_of, PreambleRuns, PagePaints, OnSlot, OnSlots, OnSheets}
+use Rattle.pictures.proofs.Output.{output_is_printed}
+use Rattle.pictures.proofs.Tests.{first, second}
+use Rattle.pictures.proofs.Runs.{nothing, runs_join, runs_one, runs_none}
+use Rattle.pictures.proofs.Shifted.{up, ups, ups_same, entry_same, system_same}
+use Rattle.pictures.proofs.Names.{Agree, two, meaning_agrees}
+use Rattle.pictures.proofs.Unaware.{all_steps_free, all_steps_go, up_state, up_shots, AllAgree}
+
+-- A held machine prints nothing.
+
+abbrev Keeps : State → Option State → Type 0
+Keeps s None = Unit {0}
+Keeps s (Some t) = t.sheets ≡ s.sheets
+
+keeps_opened : (x : Option (List Token × List Token)) (s : State) → Keeps s (opened x s)
+keeps_opened None s = tt
+keeps_opened (Some (ts, rest)) s = refl
+
+keeps_drawn : (e : Effect) (name : List ℕ) (x : Option (List Object × List Object)) (s : State) → Keeps s (drawn e name x s)
+keeps_drawn e name None s = tt
+keeps_drawn e name (Some (os, rest)) s = refl
+
+keeps_worked : (x : Option Work) (s : State) → Keeps s (worked x s)
+keeps_worked None s = tt
+keeps_worked (Some w) s = refl
+
+keeps_running : (x : Option (List Token × Work)) (s : State) → Keeps s (running x s)
+keeps_running None s = tt
+keeps_running (Some (ts, w)) s = refl
+
+keeps_popped : (gs : List Graphics) (shots : List Snapshot) (s : State) → Keeps s (popped gs (record s { saves = shots }))
+keeps_popped (g ∷ gs) shots s = refl
+keeps_popped [] [] s = tt
+keeps_popped [] (shot ∷ shots) s = refl
+
+keeps_if : (b : Bool) (s t : State) → t.sheets ≡ s.sheets → Keeps s (if b then Some t else None)
+keeps_if true s t e = e
+keeps_if false s t e = tt
+
+keeps_back : (os : List Object) (x : Option (Snapshot × List Snapshot)) (s : State) → Keeps s (back os x s)
+keeps_back os None s = tt
+keeps_back os (Some (shot, shots)) s = keeps_if (may_go_back shot os s.work) s (record s {
+  work = record s.work { operands = os; entries = shot.entries; made = shot.made };
+  level = shot.level;
+  graphics = shot.graphics;
+  stacked = shot.stacked;
+  saves = shots;
+}) refl
+
+keeps_restored : (os : List Object) (s : State) → Keeps s (restored os s)
+keeps_restored (Saved level ∷ os) s = keeps_back os (save_of level s.saves) s
+keeps_restored os s = tt
+
+keeps_performed : (name : List ℕ) (k : Kind) (s : State) → Keeps s (perform true name k s)
+keeps_performed name (Computes c) s = keeps_worked (computed c s.work) s
+keeps_performed name (Controls c) s = keeps_running (controlled c s.work) s
+keeps_performed name (Draws wants e) s = keeps_drawn e name (taken wants s.work.operands) s
+keeps_performed name PushesGraphics s = refl
+keeps_performed name PopsGraphics s = keeps_popped s.stacked s.saves s
+keeps_performed name Saves s = refl
+keeps_performed name Restores s = keeps_restored s.work.operands s
+keeps_performed name Ships s = tt
+keeps_performed name Resets s = tt
+
+keeps_done : (o : Object) (s : State) → Keeps s (done true o s)
+keeps_done (Operator name k) s = keeps_performed name k s
+keeps_done (Procedure ts) s = refl
+keeps_done o s = refl
+
+keeps_meant : (x : Option Object) (s : State) → Keeps s (meant true x s)
+keeps_meant None s = tt
+keeps_meant (Some o) s = keeps_done o s
+
+keeps_act : (t : Token) (s : State) → Keeps s (act true t s)
+keeps_act (Name name) s = keeps_meant (meaning s.work.dictionaries s.work.entries name) s
+keeps_act (Bound name) s = keeps_meant (system name) s
+keeps_act Opens s = keeps_opened (body_of s.left 0) s
+keeps_act Closes s = tt
+keeps_act Unknown s = tt
+keeps_act t s = refl
+
+keeps_step : (ts : List Token) (s : State) → Keeps s (step_on true ts s)
+keeps_step [] s = tt
+keeps_step (t ∷ ts) s = keeps_act t (record s { left = ts })
+
+keeps_unaware : (b : Bool) (s : State) (x : Option State) → Keeps s x → Keeps s (if b then x else None)
+keeps_unaware true s x k = k
+keeps_unaware false s x k = tt
+
+keeps_on : (n : ℕ) (s t : State) (x : Option State) → Keeps s x → ((r : State) → unaware_steps n r ≡ Some t → t.sheets ≡ r.sheets) → and_then (unaware_steps n) x ≡ Some t → t.sheets ≡ s.sheets
+keeps_on n s t None k f e = absurd (nothing (and_then (unaware_steps n) None) t refl e)
+keeps_on n s t (Some r) k f e = f r e ∙ k
+
+keeps_sheets : (n : ℕ) (s t : State) → unaware_steps n s ≡ Some t → t.sheets ≡ s.sheets
+keeps_sheets zero s t e = sym (ap (sheets_or s) e)
+  where
+    sheets_or : State → Option State → List (List Painting)
+    sheets_or s None = s.sheets
+    sheets_or s (Some t) = t.sheets
+keeps_sheets (suc n) s t e =
+    keeps_on n s t (unaware_step s) (keeps_unaware (none_among (asked_on s.left s) put_names) s (step true s) (keeps_step s.left s)) (λ r f. keeps_sheets n r t f) e
+
+-- Names that no dictionary on the stack has.
+
+none_of : (x : Option Object) → not (has x) ≡ true → x ≡ None
+none_of None e = refl
+none_of (Some o) e = absurd (true≢false (sym e))
+
+absent_means : (ds : List ℕ) (es : List Entry) (k : List ℕ) → absent ds es k ≡ true → meaning ds es k ≡ system k
+absent_means [] es k e = refl
+absent_means (d ∷ ds) es k e =
+    ap₂ or (none_of (entry_of d k es) (first (not (has (entry_of d k es))) (absent ds es k) e)) (absent_means ds es k (second (not (has (entry_of d k es))) (absent ds es k) e))
+
+two_found : (n : ℕ) (es fs : List Entry) (ds : List ℕ) (k : List ℕ) (v : Object) → Agree n es fs → ((d : ℕ) → entry_of d k (two n) ≡ (if 0 == d then Some v else None))
+    → absent ds fs k ≡ true → is_in 0 ds ≡ true → meaning ds es k ≡ Some v
+two_found n es fs [] k v a t e i = absurd (true≢false (sym i))
+two_found n es fs (d ∷ ds) k v a t e i =
+    ap (λ x. or x (meaning ds es k))
+    (a d k ∙ ap₂ (λ x y. or (option_map up x) y) (none_of (entry_of d k fs) (first (not (has (entry_of d k fs))) (absent ds fs k) e)) (t d))
+    ∙ by (0 == d) (λ rest. two_found n es fs ds k v a t (second (not (has (entry_of d k fs))) (absent ds fs k) e) rest) i
+  where
+    by : (b : Bool) → (is_in 0 ds ≡ true → meaning ds es k ≡ Some v) → (b || is_in 0 ds) ≡ true → or (if b then Some v else None) (meaning ds es k) ≡ Some v
+    by true f i = refl
+    by false f i = f i
+
+begins_if : (b c : Bool) (e : Option Object) (x y : Object) → (b ≡ true → e ≡ None) → (c ≡ true → e ≡ None) → option_map up e ≡ e
+    → (if b then Some x else (if c then Some y else e)) ≡ or (option_map up e) (if b then Some x else (if c then Some y else None))
+begins_if true c e x y p q r = ap (λ z. or (option_map up z) (Some x)) (sym (p refl))
+begins_if false true e x y p q r = ap (λ z. or (option_map up z) (Some y)) (sym (q refl))
+begins_if false false None x y p q r = refl
+begins_if false false (Some o) x y p q r = sym r
+
+at_userdict : (key k : List ℕ) (d : ℕ) (es : List Entry) → entry_of 0 key es ≡ None → (bytes_eq key k && (0 == d)) ≡ true → entry_of d k es ≡ None
+at_userdict key k d es e h =
+    subst (λ c. entry_of c k es ≡ None) (eqb-true 0 d (second (bytes_eq key k) (0 == d) h))
+    (subst (λ l. entry_of 0 l es ≡ None) ((bytes_eq-Decides key k).0 (first (bytes_eq key k) (0 == d) h)) e)
+
+begins : (s : State) → IsPlainGround s → Agree s.level (entries_before s) s.work.entries
+begins s p d k =
+    begins_if (bytes_eq (codes "showpage") k && (0 == d)) (bytes_eq (codes "ImposeSave") k && (0 == d)) (entry_of d k s.work.entries) (Procedure []) (Saved s.level)
+    (at_userdict (codes "showpage") k d s.work.entries p.no_showpage)
+    (at_userdict (codes "ImposeSave") k d s.work.entries p.no_save)
+    (entry_same d k s.work.entries p.entries)
+
+-- The state of the page by itself.
+
+plain_graphics : (g : Graphics) → initial g ≡ g → record { chain = []; path = []; clip = []; settings = g.settings } ≡ g
+plain_graphics g e =
+    ap₂ (λ c p. record { chain = c; path = p; clip = []; settings = g.settings }) (ap (λ x. x.chain) e) (ap (λ x. x.path) e)
+    ∙ ap (λ c. record { chain = g.chain; path = g.path; clip = c; settings = g.settings }) (ap (λ x. x.clip) e)
+
+abbrev by_itself : State → List Token → List Object → Graphics → List Graphics → List Painting → State
+by_itself s body os g gs ps = record (alone s body) { work = record (alone s body).work { operands = os }; graphics = g; stacked = gs; painted = ps }
+
+same_start : (s : State) (body : List Token) → IsPlainGround s → up_state (entries_before s) [] (run_of body s) ≡ alone s body
+same_start s body p = sym (
+    ap₂ (λ os g. by_itself s body os g [] []) (sym (ups_same s.work.operands p.operands)) (plain_graphics s.graphics p.ground.graphics)
+    ∙ ap₂ (λ gs ps. by_itself s body (ups s.work.operands) s.graphics gs ps) (sym p.stacked) (sym p.painted))
+
+no_shots : (ess : List (List Entry)) → up_shots ess [] ≡ []
+no_shots [] = refl
+no_shots (es ∷ ess) = refl
+
+prints : (s : State) (body : List Token) (picture : List Painting) → IsPlainGround s → PrintsItself s body picture
+    → (t : State) × Runs false (run_of body s) t × (t.sheets ≡ picture ∷ s.sheets)
+prints s body picture p q =
+    let t : State = shipped (record q.end { left = [] }) in (
+      t,
+      runs_join false (run_of body s) q.end t (q.count, all_steps_free q.count (run_of body s) q.end q.run)
+          (runs_one false q.end t t (ap (λ l. step_on false l q.end) q.last ∙ ap (λ x. meant false x (record q.end { left = [] })) (absent_means q.end.work.dictionaries q.end.work.entries (codes "showpage") q.showpage)) (runs_none false t)),
+      ap₂ (λ x xs. x ∷ xs) q.picture_is (keeps_sheets q.count (run_of body s) q.end q.run),
+    )
+
+paints : (s : State) (body : List Token) (picture : List Painting) → IsPlainGround s → PrintsItself s body picture → PaintsAlone s body picture
+paints s body picture p q =
+    let n : ℕ = s.level in
+    let z = all_steps_go n q.count (run_of body s) q.end (entries_before s) [] (begins s p) (subst (λ x. AllAgree n [] x) (sym p.saves) tt) q.run in
+    let near : State = up_state z.0 z.1 q.end in
+    let there : State = record near { left = [] } in
+    let userdict : is_in 0 q.end.work.dictionaries ≡ true = ap (is_in 0) q.dictionaries ∙ p.has_userdict in
+    let run : Runs true (up_state (entries_before s) [] (run_of body s)) there =
+    runs_join true (up_state (entries_before s) [] (run_of body s)) near there (q.count, z.2)
+    (runs_one true near there there
+    (ap (λ l. step_on true l near) q.last ∙ ap (λ x. meant true x there) (two_found n z.0 q.end.work.entries q.end.work.dictionaries (codes "showpage") (Procedure []) z.3 (λ d. refl) q.showpage userdict))
+    (runs_none true there)) in
+    record {
+      end = there;
+      run = subst (λ x. Runs true x there) (same_start s body p) run;
+      leaves = record {
+        nothing_left = refl;
+        operands = ap ups q.operands ∙ ups_same s.work.operands p.operands;
+        dictionaries = q.dictionaries;
+        saves = ap (up_shots z.1) q.saves ∙ no_shots z.1;
+        save_name = two_found n z.0 q.end.work.entries q.end.work.dictionaries (codes "ImposeSave") (Saved n) z.3 (λ d. refl) q.save_name userdict;
+        restore_name = meaning_agrees n z.0 q.end.work.entries q.end.work.dictionaries (codes "restore") z.3 refl ∙ ap (option_map up) q.restore_name ∙ system_same (codes "restore");
+      };
+      picture_is = q.picture_is;
+    }
+
+pub own_picture : OwnPicture
+own_picture s body picture p q = (prints s body picture p q, paints s body picture p q)
+
+-- what is so of each page, where something else is
+
+on_slot : (P Q : ℕ → Type 0) → ((p : ℕ) → P p → Q p) → (page : Option ℕ) → OnSlot P page → OnSlot Q page
+on_slot P Q f None h = tt
+on_slot P Q f (Some p) h = f p h
+
+on_slots : (P Q : ℕ → Type 0) → ((p : ℕ) → P p → Q p) → (slots : List Slot) → OnSlots P slots → OnSlots Q slots
+on_slots P Q f [] h = tt
+on_slots P Q f (slot ∷ slots) h = (on_slot P Q f slot.page h.0, on_slots P Q f slots h.1)
+
+on_sheets : (P Q : ℕ → Type 0) → ((p : ℕ) → P p → Q p) → (all : List (List Slot)) → OnSheets P all → OnSheets Q all
+on_sheets P Q f [] h = tt
+on_sheets P Q f (slots ∷ more) h = (on_slots P Q f slots h.0, on_sheets P Q f more h.1)
+
+page_paints : (us : List NestedUnit) (s : State) (p : ℕ) (picture : List Painting) → IsPlainGround s → PagePrints us s p picture → PagePaints us s p picture
+page_paints us s p picture g (complete, apart, q) =
+    let alike = kept_runs_alike (page_of us p) apart complete in
+    (alike.1, subst (λ ts. PaintsAlone s ts picture) (sym alike.0) (paints s (tokens (page_of us p)) picture g q))
+
+preamble_runs : (sheets : ℕ) (text : List ℕ) (us : List NestedUnit) (s : State) → document_of text ≡ Ok us → preamble_comments_apart us ≡ true
+    → PreambleRuns (bytes_of (preamble us)) s → PreambleRuns (preamble_text sheets us) s
+preamble_runs sheets text us s d a (complete, run, left, painted, printed, ground) =
+    let alike = preamble_runs_alike sheets text us d a complete in
+    (alike.1, subst (λ ts. Runs false (started ts) s) (sym alike.0) run, left, painted, printed, ground)
+
+pub sheets_show_the_pages : SheetsShowThePages
+sheets_show_the_pages frame sides spec text us picture s d a r g h =
+    let all : List (List Slot) = sheets_in sides spec (length (pages us)) in
+    output_is_printed frame sides spec us picture s (preamble_runs (length all) text us s d a r)
+    (on_sheets (λ p. PagePrints us s p (picture p)) (λ p. PagePaints us s p (picture p)) (λ p q. page_paints us s p (picture p) g q) all h)

@@ -1,0 +1,246 @@
+-- A held machine that asks for none of the names that the sheet's text puts does the same with them, one save further
+-- in, and what a free machine does without them.
+use Rattle.std.specs.Prelude.{Option, Some, None, if◌then◌else◌, option_map}
+use Rattle.std.proofs.lemmas.Bool.{ne_eqb}
+use Rattle.std.proofs.lemmas.Bool.Decides.{eqb_tells}
+use Rattle.std.proofs.Common.{◌≡◌, ℕ, zero, suc, ◌+◌, refl, ap, ◌∙◌, sym, subst, Bool, true, false, not, ◌&&◌, ◌==◌, List, [], ◌∷◌, eq-eqb, arith, ⊎_elim}
+use Rattle.pictures.specs.Objects.{Token, Name, Opens, Closes, Bound, Unknown, Object, Procedure}
+use Rattle.pictures.specs.Objects.{Saved, Operator, Kind, Effect, Computes, Controls, Draws, PushesGraphics, PopsGraphics, Saves, Restores, Ships, Resets}
+use Rattle.pictures.specs.Dictionaries.{Entry, meaning, system}
+use Rattle.pictures.specs.Operators.{Work, taken, computed_on, controlled_on, all_old}
+use Rattle.pictures.specs.Machine.{State, Graphics, Snapshot, body_of, opened, drawn, worked, running, popped, save_of, back, restored, perform, done, meant, act, step_on, step, steps, and_then, may_go_back}
+use Rattle.pictures.specs.Sheets.{among}
+use Rattle.pictures.specs.Unaware.{put_names, none_among, asked_by, asked_on, unaware_step, unaware_steps}
+use Rattle.pictures.proofs.Tests.{first, second}
+use Rattle.pictures.proofs.Runs.{nothing}
+use Rattle.pictures.proofs.Shifted.{up, ups, up_taken, taken_up, all_are_old_up, system_same}
+use Rattle.pictures.proofs.Names.{Agree, up_work, WorkGoes, ControlGoes, works_on, controls_on, meaning_agrees, not_true}
+
+-- Free, and held.
+
+abbrev Stays : Option State → Option State → Type 0
+Stays None r = Unit {0}
+Stays (Some t) r = r ≡ Some t
+
+stays : (x : Option State) → Stays x x
+stays None = tt
+stays (Some t) = refl
+
+performs_free : (name : List ℕ) (k : Kind) (s : State) → Stays (perform true name k s) (perform false name k s)
+performs_free name Ships s = tt
+performs_free name Resets s = tt
+performs_free name k s = stays (perform true name k s)
+
+does_free : (o : Object) (s : State) → Stays (done true o s) (done false o s)
+does_free (Operator name k) s = performs_free name k s
+does_free o s = stays (done true o s)
+
+means_free : (x : Option Object) (s : State) → Stays (meant true x s) (meant false x s)
+means_free None s = tt
+means_free (Some o) s = does_free o s
+
+acts_free : (t : Token) (s : State) → Stays (act true t s) (act false t s)
+acts_free (Name name) s = means_free (meaning s.work.dictionaries s.work.entries name) s
+acts_free (Bound name) s = means_free (system name) s
+acts_free t s = stays (act true t s)
+
+steps_on_free : (ts : List Token) (s : State) → Stays (step_on true ts s) (step_on false ts s)
+steps_on_free [] s = tt
+steps_on_free (t ∷ ts) s = acts_free t (record s { left = ts })
+
+unaware_free : (b : Bool) (x y : Option State) → Stays x y → Stays (if b then x else None) y
+unaware_free true x y h = h
+unaware_free false x y h = tt
+
+goes_free : (n : ℕ) (x y : Option State) (t : State) → Stays x y → ((s : State) → unaware_steps n s ≡ Some t → steps false n s ≡ Some t)
+    → and_then (unaware_steps n) x ≡ Some t → and_then (steps false n) y ≡ Some t
+goes_free n None y t f h e = absurd (nothing (and_then (unaware_steps n) None) t refl e)
+goes_free n (Some s) y t f h e = ap (and_then (steps false n)) f ∙ h s e
+
+pub all_steps_free : (n : ℕ) (s t : State) → unaware_steps n s ≡ Some t → steps false n s ≡ Some t
+all_steps_free zero s t e = e
+all_steps_free (suc n) s t e =
+    goes_free n (unaware_step s) (step false s) t (unaware_free (none_among (asked_on s.left s) put_names) (step true s) (step false s) (steps_on_free s.left s)) (λ r k. all_steps_free n r t k) e
+
+-- With the names, and without.
+
+abbrev pub up_shot : List Entry → Snapshot → Snapshot
+up_shot es b = record { level = b.level + 1; entries = es; made = b.made; graphics = b.graphics; stacked = b.stacked }
+
+abbrev pub up_shots : List (List Entry) → List Snapshot → List Snapshot
+up_shots [] bs = []
+up_shots (es ∷ ess) [] = []
+up_shots (es ∷ ess) (b ∷ bs) = up_shot es b ∷ up_shots ess bs
+
+abbrev pub AllAgree : ℕ → List (List Entry) → List Snapshot → Type 0
+AllAgree n [] [] = Unit {0}
+AllAgree n [] (b ∷ bs) = ⊥
+AllAgree n (es ∷ ess) [] = ⊥
+AllAgree n (es ∷ ess) (b ∷ bs) = Agree n es b.entries × AllAgree n ess bs
+
+abbrev pub up_state : List Entry → List (List Entry) → State → State
+up_state es ess s = record {
+  left = s.left;
+  work = up_work es s.work;
+  level = s.level + 1;
+  graphics = s.graphics;
+  stacked = s.stacked;
+  saves = up_shots ess s.saves;
+  painted = s.painted;
+  sheets = [];
+}
+
+abbrev pub Goes : ℕ → Option State → Option State → Type 0
+Goes n None r = Unit {0}
+Goes n (Some t) r = (es : List Entry) × (ess : List (List Entry)) × (r ≡ Some (up_state es ess t)) × Agree n es t.work.entries × AllAgree n ess t.saves
+
+worked_goes : (n : ℕ) (x y : Option Work) (s : State) (es : List Entry) (ess : List (List Entry)) → WorkGoes n x y → AllAgree n ess s.saves → Goes n (worked x s) (worked y (up_state es ess s))
+worked_goes n None y s es ess g h = tt
+worked_goes n (Some w) y s es ess g h = (g.0, ess, ap (λ r. worked r (up_state es ess s)) g.1, g.2, h)
+
+running_goes : (n : ℕ) (x y : Option (List Token × Work)) (s : State) (es : List Entry) (ess : List (List Entry)) → ControlGoes n x y → AllAgree n ess s.saves → Goes n (running x s) (running y (up_state es ess s))
+running_goes n None y s es ess g h = tt
+running_goes n (Some (ts, w)) y s es ess g h = (g.0, ess, ap (λ r. running r (up_state es ess s)) g.1, g.2, h)
+
+drawn_goes : (n : ℕ) (e : Effect) (name : List ℕ) (x : Option (List Object × List Object)) (s : State) (es : List Entry) (ess : List (List Entry)) → Agree n es s.work.entries → AllAgree n ess s.saves
+    → Goes n (drawn e name x s) (drawn e name (up_taken x) (up_state es ess s))
+drawn_goes n e name None s es ess a h = tt
+drawn_goes n e name (Some (os, rest)) s es ess a h = (es, ess, refl, a, h)
+
+opened_goes : (n : ℕ) (x : Option (List Token × List Token)) (s : State) (es : List Entry) (ess : List (List Entry)) → Agree n es s.work.entries → AllAgree n ess s.saves
+    → Goes n (opened x s) (opened x (up_state es ess s))
+opened_goes n None s es ess a h = tt
+opened_goes n (Some (ts, rest)) s es ess a h = (es, ess, refl, a, h)
+
+popped_goes : (n : ℕ) (gs : List Graphics) (shots : List Snapshot) (s : State) (es : List Entry) (ess : List (List Entry)) → Agree n es s.work.entries → AllAgree n ess shots
+    → Goes n (popped gs (record s { saves = shots })) (popped gs (up_state es ess (record s { saves = shots })))
+popped_goes n (g ∷ gs) shots s es ess a h = (es, ess, refl, a, h)
+popped_goes n [] [] s es ess a h = tt
+popped_goes n [] (b ∷ bs) s es [] a h = absurd h
+popped_goes n [] (b ∷ bs) s es (fs ∷ ess) a h = (es, fs ∷ ess, refl, a, h)
+
+same_next : (a b : ℕ) → (a + 1 == b + 1) ≡ (a == b)
+same_next a b = ⊎_elim
+    (λ t. eq-eqb (a + 1) (b + 1) (ap (λ n. n + 1) t.1) ∙ sym t.0)
+    (λ f. ne_eqb (a + 1) (b + 1) (λ e. f.1 (omega (arith, e))) ∙ sym f.0)
+    (eqb_tells a b)
+
+abbrev Found : ℕ → Option (Snapshot × List Snapshot) → Option (Snapshot × List Snapshot) → Type 0
+Found n None y = Unit {0}
+Found n (Some (shot, rest)) y = (es : List Entry) × (ess : List (List Entry)) × (y ≡ Some (up_shot es shot, up_shots ess rest)) × Agree n es shot.entries × AllAgree n ess rest
+
+found_if : (n : ℕ) (here : Bool) (shot : Snapshot) (rest : List Snapshot) (x y : Option (Snapshot × List Snapshot)) (es : List Entry) (ess : List (List Entry))
+    → Agree n es shot.entries → AllAgree n ess rest → Found n x y
+    → Found n (if here then Some (shot, rest) else x) (if here then Some (up_shot es shot, up_shots ess rest) else y)
+found_if n true shot rest x y es ess a h f = (es, ess, refl, a, h)
+found_if n false shot rest x y es ess a h f = f
+
+finds : (n level : ℕ) (shots : List Snapshot) (ess : List (List Entry)) → AllAgree n ess shots → Found n (save_of level shots) (save_of (level + 1) (up_shots ess shots))
+finds n level [] [] h = tt
+finds n level [] (es ∷ ess) h = absurd h
+finds n level (b ∷ bs) [] h = absurd h
+finds n level (b ∷ bs) (es ∷ ess) h =
+    subst (λ t. Found n (save_of level (b ∷ bs)) (if t then Some (up_shot es b, up_shots ess bs) else save_of (level + 1) (up_shots ess bs))) (sym (same_next b.level level))
+    (found_if n (b.level == level) b bs (save_of level bs) (save_of (level + 1) (up_shots ess bs)) es ess h.0 h.1 (finds n level bs ess h.1))
+
+back_if : (n : ℕ) (b c : Bool) (t u : State) (es : List Entry) (ess : List (List Entry)) → c ≡ b → u ≡ up_state es ess t → Agree n es t.work.entries → AllAgree n ess t.saves
+    → Goes n (if b then Some t else None) (if c then Some u else None)
+back_if n true c t u es ess e f a h = (es, ess, ap (λ x. if x then Some u else None) e ∙ ap Some f, a, h)
+back_if n false c t u es ess e f a h = tt
+
+back_goes : (n : ℕ) (os : List Object) (x y : Option (Snapshot × List Snapshot)) (s : State) (es : List Entry) (ess : List (List Entry)) → Found n x y
+    → Goes n (back os x s) (back (ups os) y (up_state es ess s))
+back_goes n os None y s es ess f = tt
+back_goes n os (Some (shot, rest)) y s es ess f =
+    let t : State = record s {
+      work = record s.work { operands = os; entries = shot.entries; made = shot.made };
+      level = shot.level;
+      graphics = shot.graphics;
+      stacked = shot.stacked;
+      saves = rest;
+    } in
+    subst (λ z. Goes n (back os (Some (shot, rest)) s) (back (ups os) z (up_state es ess s))) (sym f.2)
+    (back_if n (may_go_back shot os s.work) (may_go_back (up_shot f.0 shot) (ups os) (up_work es s.work)) t (up_state f.0 f.1 t) f.0 f.1
+    (ap (λ b. b && all_old shot.made s.work.dictionaries) (all_are_old_up shot.made shot.level os)) refl f.3 f.4)
+
+restores_goes : (n : ℕ) (os : List Object) (s : State) (es : List Entry) (ess : List (List Entry)) → AllAgree n ess s.saves → Goes n (restored os s) (restored (ups os) (up_state es ess s))
+restores_goes n (Saved level ∷ os) s es ess h = back_goes n os (save_of level s.saves) (save_of (level + 1) (up_shots ess s.saves)) s es ess (finds n level s.saves ess h)
+restores_goes n os s es ess h = tt
+
+performs_goes : (n : ℕ) (name : List ℕ) (k : Kind) (s : State) (es : List Entry) (ess : List (List Entry)) → Agree n es s.work.entries → AllAgree n ess s.saves
+    → none_among (asked_by (Some (Operator name k)) s.work.operands) put_names ≡ true → Goes n (perform true name k s) (perform true name k (up_state es ess s))
+performs_goes n name (Computes c) s es ess a h q =
+    worked_goes n (computed_on c s.work.operands s.work) (computed_on c (ups s.work.operands) (up_work es s.work)) s es ess (works_on n name c s.work.operands s.work es a q) h
+performs_goes n name (Controls c) s es ess a h q =
+    running_goes n (controlled_on c s.work.operands s.work) (controlled_on c (ups s.work.operands) (up_work es s.work)) s es ess (controls_on n c s.work.operands s.work es a) h
+performs_goes n name (Draws wants e) s es ess a h q =
+    subst (λ x. Goes n (drawn e name (taken wants s.work.operands) s) (drawn e name x (up_state es ess s))) (sym (taken_up wants s.work.operands))
+    (drawn_goes n e name (taken wants s.work.operands) s es ess a h)
+performs_goes n name PushesGraphics s es ess a h q = (es, ess, refl, a, h)
+performs_goes n name PopsGraphics s es ess a h q = popped_goes n s.stacked s.saves s es ess a h
+performs_goes n name Saves s es ess a h q = (es, es ∷ ess, refl, a, (a, h))
+performs_goes n name Restores s es ess a h q = restores_goes n s.work.operands s es ess h
+performs_goes n name Ships s es ess a h q = tt
+performs_goes n name Resets s es ess a h q = tt
+
+does_goes : (n : ℕ) (o : Object) (s : State) (es : List Entry) (ess : List (List Entry)) → Agree n es s.work.entries → AllAgree n ess s.saves
+    → none_among (asked_by (Some o) s.work.operands) put_names ≡ true → Goes n (done true o s) (done true (up o) (up_state es ess s))
+does_goes n (Operator name k) s es ess a h q = performs_goes n name k s es ess a h q
+does_goes n (Procedure ts) s es ess a h q = (es, ess, refl, a, h)
+does_goes n (Saved level) s es ess a h q = (es, ess, refl, a, h)
+does_goes n o s es ess a h q = (es, ess, refl, a, h)
+
+means_goes : (n : ℕ) (x : Option Object) (s : State) (es : List Entry) (ess : List (List Entry)) → Agree n es s.work.entries → AllAgree n ess s.saves
+    → none_among (asked_by x s.work.operands) put_names ≡ true → Goes n (meant true x s) (meant true (option_map up x) (up_state es ess s))
+means_goes n None s es ess a h q = tt
+means_goes n (Some o) s es ess a h q = does_goes n o s es ess a h q
+
+acts_goes : (n : ℕ) (t : Token) (ts : List Token) (s : State) (es : List Entry) (ess : List (List Entry)) → Agree n es s.work.entries → AllAgree n ess s.saves
+    → none_among (asked_on (t ∷ ts) s) put_names ≡ true → Goes n (act true t (record s { left = ts })) (act true t (up_state es ess (record s { left = ts })))
+acts_goes n (Name name) ts s es ess a h q =
+    let x : Option Object = meaning s.work.dictionaries s.work.entries name in
+    let here = first (not (among name put_names)) (none_among (asked_by x s.work.operands) put_names) q in
+    subst (λ y. Goes n (meant true x (record s { left = ts })) (meant true y (up_state es ess (record s { left = ts })))) (sym (meaning_agrees n es s.work.entries s.work.dictionaries name a (not_true (among name put_names) here)))
+    (means_goes n x (record s { left = ts }) es ess a h (second (not (among name put_names)) (none_among (asked_by x s.work.operands) put_names) q))
+acts_goes n (Bound name) ts s es ess a h q =
+    subst (λ y. Goes n (meant true (system name) (record s { left = ts })) (meant true y (up_state es ess (record s { left = ts })))) (system_same name)
+    (means_goes n (system name) (record s { left = ts }) es ess a h q)
+acts_goes n Opens ts s es ess a h q = opened_goes n (body_of ts 0) (record s { left = ts }) es ess a h
+acts_goes n Closes ts s es ess a h q = tt
+acts_goes n Unknown ts s es ess a h q = tt
+acts_goes n t ts s es ess a h q = (es, ess, refl, a, h)
+
+steps_on_goes : (n : ℕ) (ts : List Token) (s : State) (es : List Entry) (ess : List (List Entry)) → Agree n es s.work.entries → AllAgree n ess s.saves
+    → none_among (asked_on ts s) put_names ≡ true → Goes n (step_on true ts s) (step_on true ts (up_state es ess s))
+steps_on_goes n [] s es ess a h q = tt
+steps_on_goes n (t ∷ ts) s es ess a h q = acts_goes n t ts s es ess a h q
+
+goes_if : (n : ℕ) (b : Bool) (x y : Option State) → (b ≡ true → Goes n x y) → Goes n (if b then x else None) y
+goes_if n true x y f = f refl
+goes_if n false x y f = tt
+
+abbrev Ends : ℕ → ℕ → State → State → Type 0
+Ends n k r t = (es : List Entry) × (ess : List (List Entry)) × (steps true k r ≡ Some (up_state es ess t)) × Agree n es t.work.entries × AllAgree n ess t.saves
+
+goes_on : (n k : ℕ) (x : Option State) (r t : State) → Goes n x (step true r)
+    → ((s : State) (es : List Entry) (ess : List (List Entry)) → Agree n es s.work.entries → AllAgree n ess s.saves → unaware_steps k s ≡ Some t → Ends n k (up_state es ess s) t)
+    → and_then (unaware_steps k) x ≡ Some t → Ends n (suc k) r t
+goes_on n k None r t g f e = absurd (nothing (and_then (unaware_steps k) None) t refl e)
+goes_on n k (Some s) r t g f e =
+    let z = f s g.0 g.1 g.3 g.4 e in
+    (z.0, z.1, ap (and_then (steps true k)) g.2 ∙ z.2, z.3, z.4)
+
+pub all_steps_go : (n k : ℕ) (s t : State) (es : List Entry) (ess : List (List Entry)) → Agree n es s.work.entries → AllAgree n ess s.saves → unaware_steps k s ≡ Some t → Ends n k (up_state es ess s) t
+all_steps_go n zero s t es ess a h e =
+    subst (λ z. Ends n zero (up_state es ess s) z) (some_same s t e) (es, ess, refl, a, h)
+  where
+    or_s : State → Option State → State
+    or_s s None = s
+    or_s s (Some t) = t
+
+    some_same : (s t : State) → Some s ≡ Some t → s ≡ t
+    some_same s t e = ap (or_s s) e
+all_steps_go n (suc k) s t es ess a h e =
+    goes_on n k (unaware_step s) (up_state es ess s) t
+    (goes_if n (none_among (asked_on s.left s) put_names) (step true s) (step true (up_state es ess s)) (λ q. steps_on_goes n s.left s es ess a h q))
+    (λ r fs fss b g f. all_steps_go n k r t fs fss b g f) e

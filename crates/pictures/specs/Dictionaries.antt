@@ -1,0 +1,102 @@
+-- Dictionaries and names (PostScript Language Reference, third edition, 3.3.9, 3.4, 3.7.5). All dictionaries are one list
+-- of entries, the latest first. The topmost dictionary on the stack that has a name says what it means; below them all
+-- is systemdict, which never changes.
+use Rattle.std.specs.Prelude.{ℕ, List, [], ◌∷◌, Bool, true, false, ◌&&◌, ◌==◌, if◌then◌else◌, Option, Some, None, codes}
+use Rattle.std.specs.Prelude.{bytes_eq}
+use Rattle.pictures.specs.Objects.{Object, Dictionary, Truth, Operator, Kind, Computes, Controls, Draws}
+use Rattle.pictures.specs.Objects.{PushesGraphics, PopsGraphics, Saves}
+use Rattle.pictures.specs.Objects.{Restores, Ships, Resets, Pop, Duplicate, Exchange, OpenArray, CloseArray, Put}
+use Rattle.pictures.specs.Objects.{Define, Begin, End}
+use Rattle.pictures.specs.Objects.{MakeDictionary, Load, Bind, Known, Index, ClearToMark, FindFont, ScaleFont, Execute}
+use Rattle.pictures.specs.Objects.{If, IfElse, Repeat, Want, ANumber, AText, AnArray}
+use Rattle.pictures.specs.Objects.{AMatrix, AFont, AName, Effect, Segments, Transforms, Sets, Paints, PaintsBeside}
+use Rattle.pictures.specs.Objects.{Shows, Clips, Forgets}
+
+-- what one dictionary has for one key; dictionaries are known by their numbers
+pub record Entry : Type 0 where
+  pub dictionary : ℕ
+  pub key : List ℕ
+  pub value : Object
+
+-- the dictionary that is made first, and that is never taken from the stack
+abbrev pub userdict : ℕ
+userdict = 0
+
+-- a graphics operator, by the operands that it wants and by its effect
+abbrev pub draws : List ℕ → List Want → Effect → Entry
+draws name wants effect = record { dictionary = userdict; key = name; value = Operator name (Draws wants effect) }
+
+abbrev pub is : List ℕ → Kind → Entry
+is name kind = record { dictionary = userdict; key = name; value = Operator name kind }
+
+abbrev pub constant : List ℕ → Object → Entry
+constant name object = record { dictionary = userdict; key = name; value = object }
+
+-- each by its name in 8.2, 'Operator details', with its operands there, the topmost first. userdict, true and false are
+-- no operators, but values. Where an operator takes operands of several kinds, one kind is here
+abbrev pub systemdict : List Entry
+systemdict =
+    constant (codes "userdict") (Dictionary userdict)
+    ∷ constant (codes "true") (Truth true) ∷ constant (codes "false") (Truth false)
+    ∷ is (codes "pop") (Computes Pop) ∷ is (codes "dup") (Computes Duplicate) ∷ is (codes "exch") (Computes Exchange)
+    ∷ is (codes "[") (Computes OpenArray) ∷ is (codes "]") (Computes CloseArray)
+    ∷ is (codes "put") (Computes Put) ∷ is (codes "def") (Computes Define)
+    ∷ is (codes "begin") (Computes Begin) ∷ is (codes "end") (Computes End)
+    ∷ is (codes "dict") (Computes MakeDictionary)
+    ∷ is (codes "load") (Computes Load) ∷ is (codes "bind") (Computes Bind)
+    ∷ is (codes "known") (Computes Known) ∷ is (codes "index") (Computes Index)
+    ∷ is (codes "mark") (Computes OpenArray) ∷ is (codes "cleartomark") (Computes ClearToMark)
+    ∷ is (codes "findfont") (Computes FindFont) ∷ is (codes "scalefont") (Computes ScaleFont)
+    ∷ is (codes "exec") (Controls Execute) ∷ is (codes "if") (Controls If) ∷ is (codes "ifelse") (Controls IfElse)
+    ∷ is (codes "repeat") (Controls Repeat)
+    ∷ draws (codes "newpath") [] Forgets
+    ∷ draws (codes "moveto") (ANumber ∷ ANumber ∷ []) Segments
+    ∷ draws (codes "rmoveto") (ANumber ∷ ANumber ∷ []) Segments
+    ∷ draws (codes "lineto") (ANumber ∷ ANumber ∷ []) Segments
+    ∷ draws (codes "rlineto") (ANumber ∷ ANumber ∷ []) Segments
+    ∷ draws (codes "curveto") (ANumber ∷ ANumber ∷ ANumber ∷ ANumber ∷ ANumber ∷ ANumber ∷ []) Segments
+    ∷ draws (codes "rcurveto") (ANumber ∷ ANumber ∷ ANumber ∷ ANumber ∷ ANumber ∷ ANumber ∷ []) Segments
+    ∷ draws (codes "arc") (ANumber ∷ ANumber ∷ ANumber ∷ ANumber ∷ ANumber ∷ []) Segments
+    ∷ draws (codes "arcn") (ANumber ∷ ANumber ∷ ANumber ∷ ANumber ∷ ANumber ∷ []) Segments
+    ∷ draws (codes "closepath") [] Segments
+    ∷ draws (codes "concat") (AMatrix ∷ []) Transforms ∷ draws (codes "translate") (ANumber ∷ ANumber ∷ []) Transforms
+    ∷ draws (codes "scale") (ANumber ∷ ANumber ∷ []) Transforms ∷ draws (codes "rotate") (ANumber ∷ []) Transforms
+    ∷ draws (codes "setlinewidth") (ANumber ∷ []) Sets ∷ draws (codes "setlinecap") (ANumber ∷ []) Sets
+    ∷ draws (codes "setlinejoin") (ANumber ∷ []) Sets ∷ draws (codes "setmiterlimit") (ANumber ∷ []) Sets
+    ∷ draws (codes "setdash") (ANumber ∷ AnArray ∷ []) Sets ∷ draws (codes "setgray") (ANumber ∷ []) Sets
+    ∷ draws (codes "setrgbcolor") (ANumber ∷ ANumber ∷ ANumber ∷ []) Sets
+    ∷ draws (codes "setcmykcolor") (ANumber ∷ ANumber ∷ ANumber ∷ ANumber ∷ []) Sets
+    ∷ draws (codes "setfont") (AFont ∷ []) Sets ∷ draws (codes "selectfont") (ANumber ∷ AName ∷ []) Sets
+    ∷ draws (codes "fill") [] Paints ∷ draws (codes "eofill") [] Paints ∷ draws (codes "stroke") [] Paints
+    ∷ draws (codes "rectfill") (ANumber ∷ ANumber ∷ ANumber ∷ ANumber ∷ []) PaintsBeside
+    ∷ draws (codes "rectstroke") (ANumber ∷ ANumber ∷ ANumber ∷ ANumber ∷ []) PaintsBeside
+    ∷ draws (codes "show") (AText ∷ []) Shows ∷ draws (codes "ashow") (AText ∷ ANumber ∷ ANumber ∷ []) Shows
+    ∷ draws (codes "widthshow") (AText ∷ ANumber ∷ ANumber ∷ ANumber ∷ []) Shows
+    ∷ draws (codes "awidthshow") (AText ∷ ANumber ∷ ANumber ∷ ANumber ∷ ANumber ∷ ANumber ∷ []) Shows
+    ∷ draws (codes "clip") [] Clips ∷ draws (codes "eoclip") [] Clips
+    ∷ is (codes "gsave") PushesGraphics ∷ is (codes "grestore") PopsGraphics
+    ∷ is (codes "save") Saves ∷ is (codes "restore") Restores
+    ∷ is (codes "showpage") Ships ∷ is (codes "initgraphics") Resets
+    ∷ []
+
+-- what a dictionary has for a key
+abbrev pub entry_of : ℕ → List ℕ → List Entry → Option Object
+entry_of d key [] = None
+entry_of d key (e ∷ es) = if bytes_eq e.key key && (e.dictionary == d) then Some e.value else entry_of d key es
+
+abbrev pub has : Option Object → Bool
+has None = false
+has (Some o) = true
+
+-- what systemdict has
+abbrev pub system : List ℕ → Option Object
+system key = entry_of userdict key systemdict
+
+abbrev pub or : Option Object → Option Object → Option Object
+or None next = next
+or (Some o) next = Some o
+
+-- what a name means (3.3.8), if these dictionaries are on the stack, the topmost first
+abbrev pub meaning : List ℕ → List Entry → List ℕ → Option Object
+meaning [] es key = system key
+meaning (d ∷ ds) es key = or (entry_of d key es) (meaning ds es key)

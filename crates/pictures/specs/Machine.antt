@@ -1,0 +1,229 @@
+-- The machine: its state, and one step. A step takes the next token (PostScript Language Reference, third edition, 3.5).
+-- None is an error, or that nothing is left to run. Transformations are free: the current transformation (4.3.2) is the
+-- list of matrices that were concatenated, the innermost first, and none is multiplied. A point is its operands with the
+-- list of its time (4.4.1). Whoever reads a list as the product of its matrices reads every mark so.
+use Rattle.std.specs.Prelude.{◌≡◌, ℕ, zero, suc, ◌+◌, List, [], ◌∷◌, ◌++◌, Bool, ◌&&◌, ◌||◌, ◌==◌, if◌then◌else◌}
+use Rattle.std.specs.Prelude.{Option}
+use Rattle.std.specs.Prelude.{Some, None, codes, bytes_eq}
+use Rattle.pictures.specs.Objects.{Token, Name, Opens, Closes, Bound, Unknown, Object, Plain, Procedure, Saved, Operator, Call}
+use Rattle.pictures.specs.Objects.{Effect, Segments, Transforms, Sets, Paints, PaintsBeside, Shows, Clips, Forgets}
+use Rattle.pictures.specs.Objects.{Kind, Computes, Controls, Draws}
+use Rattle.pictures.specs.Objects.{PushesGraphics, PopsGraphics, Saves, Restores, Ships, Resets}
+use Rattle.pictures.specs.Dictionaries.{Entry, meaning, system}
+use Rattle.pictures.specs.Operators.{Work, with_operands, taken, computed, controlled, all_old, all_are_old}
+
+-- a segment of a path: the operator with its operands, and the transformation at the time. After `show` the current
+-- point hangs on the settings too
+pub record Segment : Type 0 where
+  pub call : Call
+  pub chain : List Call
+  pub settings : List Call
+
+-- the path within which is painted, and the operator that set it: `clip` and `eoclip` of 8.2, which narrow what there was
+pub record Clip : Type 0 where
+  pub name : List ℕ
+  pub path : List Segment
+
+-- the graphics state (4.2), all lists the latest first: the latest setting of a kind is the one that counts
+pub record Graphics : Type 0 where
+  pub chain : List Call
+  pub path : List Segment
+  pub clip : List Clip
+  pub settings : List Call
+
+-- one painting: the operator with its operands, and the graphics state at the time
+pub record Painting : Type 0 where
+  pub call : Call
+  pub graphics : Graphics
+
+-- what a save keeps (3.7.3)
+pub record Snapshot : Type 0 where
+  pub level : ℕ
+  pub entries : List Entry
+  pub made : ℕ
+  pub graphics : Graphics
+  pub stacked : List Graphics
+
+-- what is left to run; the graphics states that were pushed since the last save; the saves; what has been painted on
+-- this sheet, the latest first; the sheets that were printed, the latest first
+pub record State : Type 0 where
+  pub left : List Token
+  pub work : Work
+  pub level : ℕ
+  pub graphics : Graphics
+  pub stacked : List Graphics
+  pub saves : List Snapshot
+  pub painted : List Painting
+  pub sheets : List (List Painting)
+
+-- one operand more (3.4)
+abbrev pub push : Object → State → State
+push o s = record s { work = with_operands s.work (o ∷ s.work.operands) }
+
+-- a procedure's tokens, up to its closing brace, and those behind it (3.2, Procedures): none of them is run yet (3.5.3)
+abbrev pub keep : Token → Option (List Token × List Token) → Option (List Token × List Token)
+keep t None = None
+keep t (Some (ts, rest)) = Some (t ∷ ts, rest)
+
+abbrev pub body_of : List Token → ℕ → Option (List Token × List Token)
+body_of [] depth = None
+body_of (Closes ∷ ts) zero = Some ([], ts)
+body_of (Closes ∷ ts) (suc depth) = keep Closes (body_of ts depth)
+body_of (Opens ∷ ts) depth = keep Opens (body_of ts (suc depth))
+body_of (Unknown ∷ ts) depth = None
+body_of (t ∷ ts) depth = keep t (body_of ts depth)
+
+abbrev pub opened : Option (List Token × List Token) → State → Option State
+opened None s = None
+opened (Some (ts, rest)) s = Some (push (Procedure ts) (record s { left = rest }))
+
+-- the effect of a graphics operator, each by its name in 8.2: `fill`, `eofill` and `stroke` take the path away,
+-- `rectfill` and `rectstroke` leave it alone, and so do `clip` and `eoclip`; `show` moves the current point
+abbrev pub changed : Effect → Call → Graphics → Graphics
+changed Segments c g = record g { path = record { call = c; chain = g.chain; settings = [] } ∷ g.path }
+changed Transforms c g = record g { chain = c ∷ g.chain }
+changed Sets c g = record g { settings = c ∷ g.settings }
+changed Paints c g = record g { path = [] }
+changed PaintsBeside c g = g
+changed Shows c g = record g { path = record { call = c; chain = g.chain; settings = g.settings } ∷ g.path }
+changed Clips c g = record g { clip = record { name = c.name; path = g.path } ∷ g.clip }
+changed Forgets c g = record g { path = [] }
+
+abbrev pub painting : Effect → Call → Graphics → List Painting → List Painting
+painting Paints c g ps = record { call = c; graphics = g } ∷ ps
+painting PaintsBeside c g ps = record { call = c; graphics = g } ∷ ps
+painting Shows c g ps = record { call = c; graphics = g } ∷ ps
+painting e c g ps = ps
+
+abbrev pub drawn : Effect → List ℕ → Option (List Object × List Object) → State → Option State
+drawn e name None s = None
+drawn e name (Some (os, rest)) s = Some (record s {
+  work = with_operands s.work rest;
+  graphics = changed e (record { name = name; operands = os }) s.graphics;
+  painted = painting e (record { name = name; operands = os }) s.graphics s.painted;
+})
+
+abbrev pub worked : Option Work → State → Option State
+worked None s = None
+worked (Some w) s = Some (record s { work = w })
+
+abbrev pub running : Option (List Token × Work) → State → Option State
+running None s = None
+running (Some (ts, w)) s = Some (record s { left = ts ++ s.left; work = w })
+
+-- `grestore` of 8.2: the graphics state is back. If none was pushed since the last save, it is that of the save, which
+-- stays
+abbrev pub popped : List Graphics → State → Option State
+popped (g ∷ gs) s = Some (record s { graphics = g; stacked = gs })
+popped [] s = below s.saves s
+  where
+    below : List Snapshot → State → Option State
+    below [] s = None
+    below (shot ∷ shots) s = Some (record s { graphics = shot.graphics })
+
+-- `save` of 8.2 keeps dictionaries and graphics, and begins a stack of its own
+abbrev pub saved : State → State
+saved s = record s {
+  work = with_operands s.work (Saved s.level ∷ s.work.operands);
+  level = s.level + 1;
+  stacked = [];
+  saves = record {
+    level = s.level;
+    entries = s.work.entries;
+    made = s.work.made;
+    graphics = s.graphics;
+    stacked = s.stacked;
+  } ∷ s.saves;
+}
+
+-- the save of this level, and those before it
+abbrev pub save_of : ℕ → List Snapshot → Option (Snapshot × List Snapshot)
+save_of level [] = None
+save_of level (shot ∷ shots) = if shot.level == level then Some (shot, shots) else save_of level shots
+
+-- no operand or dictionary on the stack is newer than the save: else invalidrestore
+abbrev pub may_go_back : Snapshot → List Object → Work → Bool
+may_go_back shot os w = all_are_old shot.made shot.level os && all_old shot.made w.dictionaries
+
+-- `restore` of 8.2: dictionaries and graphics are those of the save; saves after it are void
+abbrev pub back : List Object → Option (Snapshot × List Snapshot) → State → Option State
+back os None s = None
+back os (Some (shot, shots)) s =
+    if may_go_back shot os s.work then Some (record s {
+      work = record s.work { operands = os; entries = shot.entries; made = shot.made };
+      level = shot.level;
+      graphics = shot.graphics;
+      stacked = shot.stacked;
+      saves = shots;
+    }) else None
+
+abbrev pub restored : List Object → State → Option State
+restored (Saved level ∷ os) s = back os (save_of level s.saves) s
+restored os s = None
+
+-- the settings that `initgraphics` of 8.2 leaves alone
+abbrev pub fonts : List Call → List Call
+fonts [] = []
+fonts (c ∷ cs) =
+    if bytes_eq c.name (codes "setfont") || bytes_eq c.name (codes "selectfont") then c ∷ fonts cs else fonts cs
+
+abbrev pub initial : Graphics → Graphics
+initial g = record { chain = []; path = []; clip = []; settings = fonts g.settings }
+
+abbrev pub reset : State → State
+reset s = record s { graphics = initial s.graphics }
+
+-- `showpage` of 8.2: the sheet is printed, and the next one begins, empty and with `initgraphics` done
+abbrev pub shipped : State → State
+shipped s = record (reset s) { painted = []; sheets = s.painted ∷ s.sheets }
+
+-- a machine that is held may neither print nor reset: so what it runs can't tell where it is, nor leave it
+abbrev pub perform : (held : Bool) → List ℕ → Kind → State → Option State
+perform held name (Computes c) s = worked (computed c s.work) s
+perform held name (Controls c) s = running (controlled c s.work) s
+perform held name (Draws wants e) s = drawn e name (taken wants s.work.operands) s
+perform held name PushesGraphics s = Some (record s { stacked = s.graphics ∷ s.stacked })
+perform held name PopsGraphics s = popped s.stacked s
+perform held name Saves s = Some (saved s)
+perform held name Restores s = restored s.work.operands s
+perform held name Ships s = if held then None else Some (shipped s)
+perform held name Resets s = if held then None else Some (reset s)
+
+-- what a name's value does (3.5.5): a procedure is run, an operator performed, all else pushed
+abbrev pub done : Bool → Object → State → Option State
+done held (Procedure ts) s = Some (record s { left = ts ++ s.left })
+done held (Operator name kind) s = perform held name kind s
+done held o s = Some (push o s)
+
+abbrev pub meant : Bool → Option Object → State → Option State
+meant held None s = None
+meant held (Some o) s = done held o s
+
+-- a name is looked up when it is run (3.3.8); one that was bound is systemdict's
+abbrev pub act : Bool → Token → State → Option State
+act held (Name name) s = meant held (meaning s.work.dictionaries s.work.entries name) s
+act held (Bound name) s = meant held (system name) s
+act held Opens s = opened (body_of s.left 0) s
+act held Closes s = None
+act held Unknown s = None
+act held t s = Some (push (Plain t) s)
+
+abbrev pub step_on : Bool → List Token → State → Option State
+step_on held [] s = None
+step_on held (t ∷ ts) s = act held t (record s { left = ts })
+
+abbrev pub step : Bool → State → Option State
+step held s = step_on held s.left s
+
+abbrev pub and_then : (State → Option State) → Option State → Option State
+and_then f None = None
+and_then f (Some s) = f s
+
+-- so many steps
+abbrev pub steps : Bool → ℕ → State → Option State
+steps held zero s = Some s
+steps held (suc n) s = and_then (steps held n) (step held s)
+
+-- runs from one state to another
+abbrev pub Runs : (held : Bool) → State → State → Type 0
+Runs held s t = (n : ℕ) × (steps held n s ≡ Some t)

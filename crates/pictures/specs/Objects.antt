@@ -1,0 +1,96 @@
+-- Tokens and objects of a small PostScript machine. What is cited is the PostScript Language Reference, third edition:
+-- 3.2 has the syntax of tokens, 3.3 the types of objects. Numbers are their texts, and nothing is computed with them. An
+-- array is its elements, which are tokens: it holds numbers, literal names and strings, and no array. Arrays, procedures
+-- and strings are values here (3.3.1 has them shared), since no operator of this machine changes one in place.
+use Rattle.std.specs.Prelude.{ℕ, List, Bool}
+
+-- a number, an executable and a literal name, a string as it is written and one in hexadecimal digits, the braces of a
+-- procedure; a name that `bind` has bound to an operator (3.12.1); and what this machine doesn't know, at which it stops
+pub data Token : Type 0 where
+  Number : (text : List ℕ) → Token
+  Name : (name : List ℕ) → Token
+  Literal : (name : List ℕ) → Token
+  Text : (bytes : List ℕ) → Token
+  Hexadecimal : (digits : List ℕ) → Token
+  Opens : Token
+  Closes : Token
+  Bound : (name : List ℕ) → Token
+  Unknown : Token
+
+-- operators on operands and dictionaries, and those that say what is run next
+pub data Computation : Type 0 where
+  Pop : Computation
+  Duplicate : Computation
+  Exchange : Computation
+  OpenArray : Computation
+  CloseArray : Computation
+  Put : Computation
+  Define : Computation
+  Begin : Computation
+  End : Computation
+  MakeDictionary : Computation
+  Load : Computation
+  Bind : Computation
+  Known : Computation
+  Index : Computation
+  ClearToMark : Computation
+  FindFont : Computation
+  ScaleFont : Computation
+
+pub data Control : Type 0 where
+  Execute : Control
+  If : Control
+  IfElse : Control
+  Repeat : Control
+
+-- what an operand has to be
+pub data Want : Type 0 where
+  ANumber : Want
+  AText : Want
+  AnArray : Want
+  AMatrix : Want
+  AFont : Want
+  AName : Want
+
+-- what a graphics operator does with its operands: a segment of the path (4.4), a matrix of the chain (4.3), a setting
+-- (4.2), painting with the path, beside the path (4.5), at the current point (5.1), narrowing the clip (4.4.2), an empty
+-- path
+pub data Effect : Type 0 where
+  Segments : Effect
+  Transforms : Effect
+  Sets : Effect
+  Paints : Effect
+  PaintsBeside : Effect
+  Shows : Effect
+  Clips : Effect
+  Forgets : Effect
+
+-- operators by what they do: the graphics stack (4.2), saves (3.7.3), printing a sheet, `initgraphics`
+pub data Kind : Type 0 where
+  Computes : Computation → Kind
+  Controls : Control → Kind
+  Draws : List Want → Effect → Kind
+  PushesGraphics : Kind
+  PopsGraphics : Kind
+  Saves : Kind
+  Restores : Kind
+  Ships : Kind
+  Resets : Kind
+
+-- a token that stands for itself, a boolean, a mark, an array, a procedure, a dictionary by its number, a save by its
+-- level, a font by what it was made of, an operator (3.3)
+pub data Object : Type 0 where
+  Plain : Token → Object
+  Truth : Bool → Object
+  Mark : Object
+  Array : List Token → Object
+  Procedure : List Token → Object
+  Dictionary : (number : ℕ) → Object
+  Saved : (level : ℕ) → Object
+  Font : List Token → Object
+  Operator : (name : List ℕ) → Kind → Object
+
+-- a matrix of the chain, a setting: the operator's name and its operands, the topmost first
+pub record Call : Type 0 where
+  pub name : List ℕ
+  pub operands : List Object

@@ -1,0 +1,170 @@
+-- What operators do with operands, dictionaries and procedures: all that paints nothing. Each is by its name in 8.2,
+-- 'Operator details', of the PostScript Language Reference, third edition; an operand that it doesn't take stops the
+-- machine.
+use Rattle.std.specs.List.{list_all}
+use Rattle.std.specs.Char.{is_ascii_digit}
+use Rattle.profile.specs.Numbers.{number_of}
+use Rattle.std.specs.Prelude.{ℕ, zero, suc, ◌+◌, List, [], ◌∷◌, ◌++◌, map, length, Bool, true, false, ◌&&◌, ◌==◌}
+use Rattle.std.specs.Prelude.{nat_lt, if◌then◌else◌, Option, Some, None}
+use Rattle.pictures.specs.Objects.{Token, Number, Name, Literal, Text, Hexadecimal, Bound, Object, Plain, Truth, Mark, Array}
+use Rattle.pictures.specs.Objects.{Procedure, Dictionary, Saved}
+use Rattle.pictures.specs.Objects.{Font, Operator, Computation, Pop, Duplicate, Exchange, OpenArray, CloseArray, Put}
+use Rattle.pictures.specs.Objects.{Define, Begin, End}
+use Rattle.pictures.specs.Objects.{MakeDictionary, Load, Bind, Known, Index, ClearToMark, FindFont, ScaleFont, Control}
+use Rattle.pictures.specs.Objects.{Execute, If, IfElse, Repeat, Want, ANumber, AText, AnArray}
+use Rattle.pictures.specs.Objects.{AMatrix, AFont, AName}
+use Rattle.pictures.specs.Dictionaries.{Entry, meaning, entry_of, has}
+
+-- the operands and the dictionaries on their stacks, the topmost first (3.4); all entries; how many dictionaries have been
+-- made
+pub record Work : Type 0 where
+  pub operands : List Object
+  pub dictionaries : List ℕ
+  pub entries : List Entry
+  pub made : ℕ
+
+abbrev pub with_operands : Work → List Object → Work
+with_operands w os = record w { operands = os }
+
+abbrev pub are_numbers : List Token → Bool
+are_numbers [] = true
+are_numbers (Number text ∷ ts) = are_numbers ts
+are_numbers (t ∷ ts) = false
+
+-- an array is one of numbers, and a matrix one of six (4.3.3)
+abbrev pub fits : Want → Object → Bool
+fits ANumber (Plain (Number text)) = true
+fits AText (Plain (Text bytes)) = true
+fits AText (Plain (Hexadecimal digits)) = true
+fits AnArray (Array ts) = are_numbers ts
+fits AMatrix (Array ts) = are_numbers ts && (length ts == 6)
+fits AFont (Font ts) = true
+fits AName (Plain (Literal name)) = true
+fits w o = false
+
+abbrev pub also : Object → Option (List Object × List Object) → Option (List Object × List Object)
+also o None = None
+also o (Some (os, rest)) = Some (o ∷ os, rest)
+
+-- the operands that are wanted, and those below them
+abbrev pub taken : List Want → List Object → Option (List Object × List Object)
+taken [] os = Some ([], os)
+taken (w ∷ ws) [] = None
+taken (w ∷ ws) (o ∷ os) = if fits w o then also o (taken ws os) else None
+
+-- the elements down to the mark, the first one first
+abbrev pub collected : List Token → List Object → Option (List Token × List Object)
+collected ts (Mark ∷ os) = Some (ts, os)
+collected ts (Plain t ∷ os) = collected (t ∷ ts) os
+collected ts os = None
+
+-- `bind`: a name that means an operator is bound to it, whatever it means later. The operator's own name is kept. Inner
+-- procedures are bound too
+abbrev pub bound_to : Option Object → Token → Token
+bound_to (Some (Operator name kind)) t = Bound name
+bound_to o t = t
+
+abbrev pub bound : Work → Token → Token
+bound w (Name name) = bound_to (meaning w.dictionaries w.entries name) (Name name)
+bound w t = t
+
+abbrev pub loaded : Option Object → Work → Option Work
+loaded None w = None
+loaded (Some o) w = Some (with_operands w (o ∷ w.operands))
+
+abbrev pub gathered : Option (List Token × List Object) → Work → Option Work
+gathered None w = None
+gathered (Some (ts, os)) w = Some (with_operands w (Array ts ∷ os))
+
+abbrev pub put_entry : ℕ → List ℕ → Object → Work → Work
+put_entry d name o w = record w { entries = record { dictionary = d; key = name; value = o } ∷ w.entries }
+
+abbrev pub define : List ℕ → List ℕ → Object → Work → Option Work
+define [] name o w = None
+define (d ∷ ds) name o w = Some (put_entry d name o w)
+
+abbrev pub ended : List ℕ → Work → Option Work
+ended [] w = None
+ended (d ∷ []) w = None
+ended (d ∷ e ∷ ds) w = Some (record w { dictionaries = e ∷ ds })
+
+-- the operands below the topmost mark
+abbrev pub below_mark : List Object → Option (List Object)
+below_mark [] = None
+below_mark (Mark ∷ os) = Some os
+below_mark (o ∷ os) = below_mark os
+
+abbrev pub cleared : Option (List Object) → Work → Option Work
+cleared None w = None
+cleared (Some os) w = Some (with_operands w os)
+
+abbrev pub nth : ℕ → List Object → Option Object
+nth n [] = None
+nth zero (o ∷ os) = Some o
+nth (suc n) (o ∷ os) = nth n os
+
+abbrev pub times : ℕ → List Token → List Token
+times zero ts = []
+times (suc n) ts = ts ++ times n ts
+
+-- by the operands, the topmost first
+abbrev pub computed_on : Computation → List Object → Work → Option Work
+computed_on Pop (o ∷ os) w = Some (with_operands w os)
+computed_on Duplicate (o ∷ os) w = Some (with_operands w (o ∷ o ∷ os))
+computed_on Exchange (o ∷ p ∷ os) w = Some (with_operands w (p ∷ o ∷ os))
+computed_on OpenArray os w = Some (with_operands w (Mark ∷ os))
+computed_on CloseArray os w = gathered (collected [] os) w
+computed_on Put (o ∷ Plain (Literal name) ∷ Dictionary d ∷ os) w = Some (put_entry d name o (with_operands w os))
+computed_on Define (o ∷ Plain (Literal name) ∷ os) w = define w.dictionaries name o (with_operands w os)
+computed_on Begin (Dictionary d ∷ os) w = Some (record w { operands = os; dictionaries = d ∷ w.dictionaries })
+computed_on End os w = ended w.dictionaries w
+computed_on MakeDictionary (Plain (Number text) ∷ os) w =
+    if list_all is_ascii_digit text then Some (record w { operands = Dictionary (w.made + 1) ∷ os; made = w.made + 1 })
+    else None
+computed_on Load (Plain (Literal name) ∷ os) w = loaded (meaning w.dictionaries w.entries name) (with_operands w os)
+computed_on Bind (Procedure ts ∷ os) w = Some (with_operands w (Procedure (map (bound w) ts) ∷ os))
+computed_on Known (Plain (Literal name) ∷ Dictionary d ∷ os) w =
+    Some (with_operands w (Truth (has (entry_of d name w.entries)) ∷ os))
+computed_on Index (Plain (Number text) ∷ os) w =
+    if list_all is_ascii_digit text then loaded (nth (number_of text) os) (with_operands w os) else None
+computed_on ClearToMark os w = cleared (below_mark os) w
+computed_on FindFont (Plain (Literal name) ∷ os) w = Some (with_operands w (Font (Literal name ∷ []) ∷ os))
+computed_on ScaleFont (Plain (Number text) ∷ Font ts ∷ os) w = Some (with_operands w (Font (Number text ∷ ts) ∷ os))
+computed_on c os w = None
+
+abbrev pub computed : Computation → Work → Option Work
+computed c w = computed_on c w.operands w
+
+-- what is run next
+abbrev pub controlled_on : Control → List Object → Work → Option (List Token × Work)
+controlled_on Execute (Procedure ts ∷ os) w = Some (ts, with_operands w os)
+controlled_on If (Procedure ts ∷ Truth test ∷ os) w = Some (if test then ts else [], with_operands w os)
+controlled_on IfElse (Procedure us ∷ Procedure ts ∷ Truth test ∷ os) w =
+    Some (if test then ts else us, with_operands w os)
+controlled_on Repeat (Procedure ts ∷ Plain (Number text) ∷ os) w =
+    if list_all is_ascii_digit text then Some (times (number_of text) ts, with_operands w os) else None
+controlled_on c os w = None
+
+abbrev pub controlled : Control → Work → Option (List Token × Work)
+controlled c w = controlled_on c w.operands w
+
+-- no dictionary is newer than so many
+abbrev pub all_old : ℕ → List ℕ → Bool
+all_old n [] = true
+all_old n (d ∷ ds) = nat_lt d (n + 1) && all_old n ds
+
+-- an operand that was there when so many dictionaries had been made and so many saves were in force: of an array, a
+-- procedure, a string or a font that isn't known, and it is taken for newer
+abbrev pub is_old : (made level : ℕ) → Object → Bool
+is_old made level (Dictionary d) = nat_lt d (made + 1)
+is_old made level (Saved l) = nat_lt l level
+is_old made level (Plain (Text bytes)) = false
+is_old made level (Plain (Hexadecimal digits)) = false
+is_old made level (Array ts) = false
+is_old made level (Procedure ts) = false
+is_old made level (Font ts) = false
+is_old made level o = true
+
+abbrev pub all_are_old : (made level : ℕ) → List Object → Bool
+all_are_old made level [] = true
+all_are_old made level (o ∷ os) = is_old made level o && all_are_old made level os

@@ -1,0 +1,226 @@
+-- How bytes are cut into tokens (PostScript Language Reference, third edition, 3.2), by a reader that takes one byte at
+-- a time. What this machine doesn't know, names with two slashes, dictionary brackets, strings in base 85, numbers with
+-- a radix and binary tokens (3.14), is a token of its own, at which it stops; and so are errors of syntax.
+use Rattle.std.specs.Prelude.{◌≡◌, ℕ, zero, suc, List, [], ◌∷◌, ◌++◌, reverse, Bool, true, false, ◌&&◌, ◌||◌, ◌==◌}
+use Rattle.std.specs.Prelude.{if◌then◌else◌, nat_lt}
+use Rattle.std.specs.Char.{is_ascii_digit}
+use Rattle.profile.specs.Bytes.{tab, line_feed, carriage_return, space, opening_parenthesis, closing_parenthesis}
+use Rattle.profile.specs.Bytes.{plus_sign, minus_sign, dot}
+use Rattle.pictures.specs.Objects.{Token, Number, Name, Literal, Text, Hexadecimal, Opens, Closes, Unknown}
+
+-- Bytes by name, as ASCII numbers them.
+
+abbrev pub null : ℕ
+null = 0
+
+abbrev pub form_feed : ℕ
+form_feed = 12
+
+abbrev pub number_sign : ℕ
+number_sign = 35
+
+abbrev pub percent_sign : ℕ
+percent_sign = 37
+
+abbrev pub slash : ℕ
+slash = 47
+
+abbrev pub less_than : ℕ
+less_than = 60
+
+abbrev pub greater_than : ℕ
+greater_than = 62
+
+abbrev pub opening_bracket : ℕ
+opening_bracket = 91
+
+abbrev pub backslash : ℕ
+backslash = 92
+
+abbrev pub closing_bracket : ℕ
+closing_bracket = 93
+
+abbrev pub opening_brace : ℕ
+opening_brace = 123
+
+abbrev pub closing_brace : ℕ
+closing_brace = 125
+
+-- what the reader is in: nothing, a comment, a word, a literal name, a string so many parentheses deep, a string behind
+-- a backslash, hexadecimal digits. What was read so far stands with it, the latest byte first
+pub data Reading : Type 0 where
+  Between : Reading
+  InComment : Reading
+  InWord : List ℕ → Reading
+  InLiteral : List ℕ → Reading
+  InText : ℕ → List ℕ → Reading
+  Escaped : ℕ → List ℕ → Reading
+  InHexadecimal : List ℕ → Reading
+
+-- what a byte is outside strings and comments
+pub data Class : Type 0 where
+  White : Class
+  Percent : Class
+  Slash : Class
+  OpensText : Class
+  OpensHexadecimal : Class
+  OpensBody : Class
+  ClosesBody : Class
+  Bracket : Class
+  NotKnown : Class
+  Regular : Class
+
+-- white-space characters
+abbrev pub is_white : ℕ → Bool
+is_white b = (b == space) || (b == line_feed) || (b == carriage_return) || (b == tab) || (b == form_feed) || (b == null)
+
+-- a comment ends at a newline or a form feed
+abbrev pub ends_comment : ℕ → Bool
+ends_comment b = (b == line_feed) || (b == carriage_return) || (b == form_feed)
+
+-- the bytes at which binary tokens begin (3.14)
+abbrev pub is_binary : ℕ → Bool
+is_binary b = nat_lt 127 b && nat_lt b 160
+
+abbrev pub class_of : ℕ → Class
+class_of b =
+    if is_white b then White
+    else if b == percent_sign then Percent
+    else if b == slash then Slash
+    else if b == opening_parenthesis then OpensText
+    else if b == less_than then OpensHexadecimal
+    else if b == opening_brace then OpensBody
+    else if b == closing_brace then ClosesBody
+    else if (b == opening_bracket) || (b == closing_bracket) then Bracket
+    else if (b == closing_parenthesis) || (b == greater_than) || is_binary b then NotKnown
+    else Regular
+
+-- Numbers.
+
+abbrev pub is_sign : ℕ → Bool
+is_sign b = (b == minus_sign) || (b == plus_sign)
+
+abbrev pub whole_from : (some : Bool) → List ℕ → Bool
+whole_from some [] = some
+whole_from some (b ∷ bs) = is_ascii_digit b && whole_from true bs
+
+-- a sign or none, and digits
+abbrev pub is_whole : List ℕ → Bool
+is_whole [] = false
+is_whole (b ∷ bs) = if is_sign b then whole_from false bs else whole_from false (b ∷ bs)
+
+-- E or e
+abbrev pub begins_exponent : ℕ → Bool
+begins_exponent b = (b == 69) || (b == 101)
+
+abbrev pub decimals_from : (some : Bool) → List ℕ → Bool
+decimals_from some [] = some
+decimals_from some (b ∷ bs) =
+    if begins_exponent b then some && is_whole bs else is_ascii_digit b && decimals_from true bs
+
+-- digits with a dot among them at most, one digit at least, and an exponent or none
+abbrev pub digits_from : (some : Bool) → List ℕ → Bool
+digits_from some [] = some
+digits_from some (b ∷ bs) =
+    if b == dot then decimals_from some bs
+    else if begins_exponent b then some && is_whole bs
+    else is_ascii_digit b && digits_from true bs
+
+abbrev pub is_number : List ℕ → Bool
+is_number [] = false
+is_number (b ∷ bs) = if is_sign b then digits_from false bs else digits_from false (b ∷ bs)
+
+-- digits and a number sign: it may be a number with a radix
+abbrev pub has_radix : (some : Bool) → List ℕ → Bool
+has_radix some [] = false
+has_radix some (b ∷ bs) = if b == number_sign then some else is_ascii_digit b && has_radix true bs
+
+-- a word is a number or a name
+abbrev pub word : List ℕ → Token
+word text = if is_number text then Number text else if has_radix false text then Unknown else Name text
+
+-- the token that ends
+abbrev pub ended : Reading → List Token
+ended Between = []
+ended InComment = []
+ended (InWord bs) = word (reverse bs) ∷ []
+ended (InLiteral bs) = Literal (reverse bs) ∷ []
+ended (InText depth bs) = Unknown ∷ []
+ended (Escaped depth bs) = Unknown ∷ []
+ended (InHexadecimal bs) = Unknown ∷ []
+
+abbrev pub behind : List Token → List Token × Reading → List Token × Reading
+behind ts (us, r) = (ts ++ us, r)
+
+-- a byte that stands between tokens: what it is by itself, and what the reader is in behind it
+abbrev pub begun : Class → ℕ → List Token × Reading
+begun White b = ([], Between)
+begun Percent b = ([], InComment)
+begun Slash b = ([], InLiteral [])
+begun OpensText b = ([], InText 0 [])
+begun OpensHexadecimal b = ([], InHexadecimal [])
+begun OpensBody b = (Opens ∷ [], Between)
+begun ClosesBody b = (Closes ∷ [], Between)
+begun Bracket b = (Name (b ∷ []) ∷ [], Between)
+begun NotKnown b = (Unknown ∷ [], Between)
+begun Regular b = ([], InWord (b ∷ []))
+
+-- a byte behind a word's first ones
+abbrev pub in_word : Class → List ℕ → ℕ → List Token × Reading
+in_word Regular bs b = ([], InWord (b ∷ bs))
+in_word class bs b = behind (word (reverse bs) ∷ []) (begun class b)
+
+-- behind a slash
+abbrev pub in_literal : Class → List ℕ → ℕ → List Token × Reading
+in_literal Regular bs b = ([], InLiteral (b ∷ bs))
+in_literal Slash [] b = (Unknown ∷ [], InLiteral [])
+in_literal class bs b = behind (Literal (reverse bs) ∷ []) (begun class b)
+
+-- in parentheses, which may be nested
+abbrev pub in_text : ℕ → List ℕ → ℕ → List Token × Reading
+in_text depth bs b =
+    if b == backslash then ([], Escaped depth (b ∷ bs))
+    else if b == opening_parenthesis then ([], InText (suc depth) (b ∷ bs))
+    else if b == closing_parenthesis then closed depth
+    else ([], InText depth (b ∷ bs))
+  where
+    closed : ℕ → List Token × Reading
+    closed zero = (Text (reverse bs) ∷ [], Between)
+    closed (suc n) = ([], InText n (b ∷ bs))
+
+abbrev pub is_hexadecimal : ℕ → Bool
+is_hexadecimal b = is_ascii_digit b || (nat_lt 64 b && nat_lt b 71) || (nat_lt 96 b && nat_lt b 103)
+
+-- between angle brackets; white space says nothing there
+abbrev pub in_hexadecimal : List ℕ → ℕ → List Token × Reading
+in_hexadecimal bs b =
+    if is_hexadecimal b then ([], InHexadecimal (b ∷ bs))
+    else if is_white b then ([], InHexadecimal bs)
+    else if b == greater_than then (Hexadecimal (reverse bs) ∷ [], Between)
+    else (Unknown ∷ [], Between)
+
+-- the next byte: the tokens that it ends, and what the reader is in then
+abbrev pub next : Reading → ℕ → List Token × Reading
+next Between b = begun (class_of b) b
+next InComment b = ([], if ends_comment b then Between else InComment)
+next (InWord bs) b = in_word (class_of b) bs b
+next (InLiteral bs) b = in_literal (class_of b) bs b
+next (InText depth bs) b = in_text depth bs b
+next (Escaped depth bs) b = ([], InText depth (b ∷ bs))
+next (InHexadecimal bs) b = in_hexadecimal bs b
+
+abbrev pub scan_from : Reading → List ℕ → List Token × Reading
+scan_from r [] = ([], r)
+scan_from r (b ∷ bs) = behind (next r b).0 (scan_from (next r b).1 bs)
+
+-- the tokens of a text
+abbrev pub tokens : List ℕ → List Token
+tokens text = (scan_from Between text).0 ++ ended (scan_from Between text).1
+
+-- the text ends between tokens
+abbrev pub IsComplete : List ℕ → Type 0
+IsComplete text = (scan_from Between text).1 ≡ Between
+
+-- the tokens of a complete text and another behind it are those of the one and those of the other: a law
+abbrev pub TokensJoin : Type 0
+TokensJoin = (a b : List ℕ) → IsComplete a → tokens (a ++ b) ≡ tokens a ++ tokens b

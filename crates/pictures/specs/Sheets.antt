@@ -1,0 +1,198 @@
+-- The text of a sheet as tokens, and the picture that is to come of it. Its operators are of the PostScript Language
+-- Reference, third edition, 8.2: what a page changes is saved and restored, its `showpage` is a procedure that does
+-- nothing, and `concat` and `clip` come before all that it does.
+use Rattle.std.specs.Prelude.{◌≡◌, ℕ, ◌+◌, List, [], ◌∷◌, ◌++◌, flat_map, Bool, true, false, ◌||◌, Option, Some, None}
+use Rattle.std.specs.Prelude.{codes, bytes_eq}
+use Rattle.pictures.specs.Objects.{Token, Number, Name, Literal, Opens, Closes, Object, Plain, Array, Procedure, Saved}
+use Rattle.pictures.specs.Objects.{Call}
+use Rattle.pictures.specs.Dictionaries.{Entry, userdict, meaning, system}
+use Rattle.pictures.specs.Operators.{all_old, all_are_old}
+use Rattle.pictures.specs.Machine.{Segment, Graphics, Painting, State, initial, Runs}
+use Rattle.pictures.specs.Placing.{Place, picture_at}
+
+-- the texts of the numbers by which a page is placed: its matrix, the paper's width and height, the border's width if
+-- there is one
+pub record Numbers : Type 0 where
+  pub a : List ℕ
+  pub b : List ℕ
+  pub c : List ℕ
+  pub d : List ℕ
+  pub x : List ℕ
+  pub y : List ℕ
+  pub width : List ℕ
+  pub height : List ℕ
+  pub border : Option (List ℕ)
+
+abbrev pub zero_text : List ℕ
+zero_text = codes "0"
+
+-- a path round the paper
+abbrev pub edge_tokens : Numbers → List Token
+edge_tokens n =
+    Name (codes "newpath") ∷ Number zero_text ∷ Number zero_text ∷ Name (codes "moveto")
+    ∷ Number n.width ∷ Number zero_text ∷ Name (codes "lineto")
+    ∷ Number n.width ∷ Number n.height ∷ Name (codes "lineto")
+    ∷ Number zero_text ∷ Number n.height ∷ Name (codes "lineto") ∷ Name (codes "closepath") ∷ []
+
+abbrev pub border_tokens : Numbers → Option (List ℕ) → List Token
+border_tokens n None = []
+border_tokens n (Some width) =
+    Name (codes "gsave") ∷ Number width ∷ Name (codes "setlinewidth")
+    ∷ (edge_tokens n ++ Name (codes "stroke") ∷ Name (codes "grestore") ∷ [])
+
+abbrev pub saving_tokens : List Token
+saving_tokens =
+    Name (codes "userdict") ∷ Literal (codes "ImposeSave") ∷ Name (codes "save") ∷ Name (codes "put")
+    ∷ Name (codes "userdict") ∷ Literal (codes "showpage") ∷ Opens ∷ Closes ∷ Name (codes "put") ∷ []
+
+abbrev pub placing_tokens : Numbers → List Token
+placing_tokens n =
+    Name (codes "[") ∷ Number n.a ∷ Number n.b ∷ Number n.c ∷ Number n.d ∷ Number n.x ∷ Number n.y ∷ Name (codes "]")
+    ∷ Name (codes "concat")
+    ∷ (edge_tokens n ++ (Name (codes "clip") ∷ Name (codes "newpath") ∷ border_tokens n n.border))
+
+abbrev pub closing_tokens : List Token
+closing_tokens = Name (codes "ImposeSave") ∷ Name (codes "restore") ∷ []
+
+-- a placed page
+pub record Placed : Type 0 where
+  pub numbers : Numbers
+  pub body : List Token
+
+abbrev pub placed_tokens : Placed → List Token
+placed_tokens p = saving_tokens ++ (placing_tokens p.numbers ++ (p.body ++ closing_tokens))
+
+-- a sheet with these placed pages
+abbrev pub sheet_tokens : List Placed → List Token
+sheet_tokens ps = flat_map placed_tokens ps ++ (Name (codes "showpage") ∷ [])
+
+-- The picture.
+
+abbrev pub matrix_of : Numbers → Call
+matrix_of n = record {
+  name = codes "concat";
+  operands = Array (Number n.a ∷ Number n.b ∷ Number n.c ∷ Number n.d ∷ Number n.x ∷ Number n.y ∷ []) ∷ [];
+}
+
+abbrev pub point : List ℕ → List ℕ → List ℕ → List Call → Segment
+point name x y chain = record {
+  call = record { name = name; operands = Plain (Number y) ∷ Plain (Number x) ∷ [] };
+  chain = chain;
+  settings = [];
+}
+
+-- round the paper
+abbrev pub edge : Numbers → List Call → List Segment
+edge n chain =
+    record { call = record { name = codes "closepath"; operands = [] }; chain = chain; settings = [] }
+    ∷ point (codes "lineto") zero_text n.height chain ∷ point (codes "lineto") n.width n.height chain
+    ∷ point (codes "lineto") n.width zero_text chain ∷ point (codes "moveto") zero_text zero_text chain ∷ []
+
+-- where a page is placed that is placed by these numbers, if the graphics state was this: its matrix is the outermost
+-- but for those that were there, and its paper too
+abbrev pub place_in : Graphics → Numbers → Place
+place_in g n = record {
+  chain = matrix_of n ∷ g.chain;
+  clip = record { name = codes "clip"; path = edge n (matrix_of n ∷ g.chain) } ∷ g.clip;
+}
+
+-- the border, which is painted before the page
+abbrev pub border_in : Graphics → Numbers → Option (List ℕ) → List Painting
+border_in g n None = []
+border_in g n (Some width) = record {
+  call = record { name = codes "stroke"; operands = [] };
+  graphics = record {
+    chain = (place_in g n).chain;
+    path = edge n (place_in g n).chain;
+    clip = (place_in g n).clip;
+    settings = record { name = codes "setlinewidth"; operands = Plain (Number width) ∷ [] } ∷ g.settings;
+  };
+} ∷ []
+
+-- The page by itself.
+
+abbrev pub in_userdict : List ℕ → Object → Entry
+in_userdict name o = record { dictionary = userdict; key = name; value = o }
+
+-- what the sheet's text has put before a page
+abbrev pub entries_before : State → List Entry
+entries_before s =
+    in_userdict (codes "showpage") (Procedure []) ∷ in_userdict (codes "ImposeSave") (Saved s.level) ∷ s.work.entries
+
+-- a page by itself: with the names that the sheet's text puts, no place, and nothing below it that it could get back to
+abbrev pub alone : State → List Token → State
+alone s body = record {
+  left = body;
+  work = record s.work { entries = entries_before s };
+  level = s.level + 1;
+  graphics = record { chain = []; path = []; clip = []; settings = s.graphics.settings };
+  stacked = [];
+  saves = [];
+  painted = [];
+  sheets = [];
+}
+
+-- it has run, and left the stacks as they were; and its saves are gone
+pub record LeavesAsItWas (s t : State) : Type 0 where
+  pub nothing_left : t.left ≡ []
+  pub operands : t.work.operands ≡ s.work.operands
+  pub dictionaries : t.work.dictionaries ≡ s.work.dictionaries
+  pub saves : t.saves ≡ []
+  pub save_name : meaning t.work.dictionaries t.work.entries (codes "ImposeSave") ≡ Some (Saved s.level)
+  pub restore_name : meaning t.work.dictionaries t.work.entries (codes "restore") ≡ system (codes "restore")
+
+-- from a state behind the preamble the page paints this by itself
+pub record PaintsAlone (s : State) (body : List Token) (picture : List Painting) : Type 0 where
+  pub end : State
+  pub run : Runs true (alone s body) end
+  pub leaves : LeavesAsItWas s end
+  pub picture_is : end.painted ≡ picture
+
+-- The state behind the preamble.
+
+abbrev pub among : List ℕ → List (List ℕ) → Bool
+among name [] = false
+among name (other ∷ others) = bytes_eq name other || among name others
+
+-- the operators that the sheet's text uses, but for showpage
+abbrev pub placing_names : List (List ℕ)
+placing_names =
+    codes "userdict" ∷ codes "save" ∷ codes "put" ∷ codes "[" ∷ codes "]" ∷ codes "concat" ∷ codes "newpath"
+    ∷ codes "moveto" ∷ codes "lineto" ∷ codes "closepath" ∷ codes "clip" ∷ codes "gsave" ∷ codes "setlinewidth"
+    ∷ codes "stroke" ∷ codes "grestore" ∷ []
+
+abbrev pub sheet_names : List (List ℕ)
+sheet_names = codes "showpage" ∷ placing_names
+
+-- the names that the sheet's text uses mean the operators; nothing on the stacks is newer than the state; and the
+-- graphics state is what `initgraphics` makes of it, since the first sheet's `showpage` does so
+pub record IsGround (s : State) : Type 0 where
+  pub names :
+      (name : List ℕ) → among name sheet_names ≡ true → meaning s.work.dictionaries s.work.entries name ≡ system name
+  pub operands : all_are_old s.work.made s.level s.work.operands ≡ true
+  pub dictionaries : all_old s.work.made s.work.dictionaries ≡ true
+  pub graphics : initial s.graphics ≡ s.graphics
+
+-- Sheets.
+
+-- a placed page with what it paints by itself
+pub record Shown : Type 0 where
+  pub placed : Placed
+  pub picture : List Painting
+
+abbrev pub AllPaint : State → List Shown → Type 0
+AllPaint s [] = Unit {0}
+AllPaint s (x ∷ xs) = PaintsAlone s x.placed.body x.picture × AllPaint s xs
+
+-- a page on its sheet: its own picture placed, behind its border; the latest painting first
+abbrev pub page_picture : Graphics → Shown → List Painting
+page_picture g x =
+    picture_at (place_in g x.placed.numbers) x.picture ++ border_in g x.placed.numbers x.placed.numbers.border
+
+-- a sheet: the pictures of its pages in their order, the latest painting first
+abbrev pub sheet_picture : Graphics → List Shown → List Painting → List Painting
+sheet_picture g [] before = before
+sheet_picture g (x ∷ xs) before = sheet_picture g xs (page_picture g x ++ before)
+
+abbrev pub run_of : List Token → State → State
+run_of ts s = record s { left = ts }

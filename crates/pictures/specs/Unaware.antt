@@ -1,0 +1,124 @@
+-- A page that the document itself prints, and that asks for none of the names that the sheet's text puts.
+use Rattle.std.specs.Prelude.{◌≡◌, ℕ, zero, suc, List, [], ◌∷◌, Bool, true, false, not, ◌&&◌, ◌||◌, ◌==◌, if◌then◌else◌}
+use Rattle.std.specs.Prelude.{Option, Some, None, Ok, codes}
+use Rattle.profile.specs.Specification.{Spec}
+use Rattle.profile.specs.Parts.{NestedUnit, preamble, bytes_of}
+use Rattle.profile.specs.Run.{document_of}
+use Rattle.profile.specs.Output.{Frame}
+use Rattle.pictures.specs.Scanner.{tokens, IsComplete}
+use Rattle.pictures.specs.Documents.{page_of, PreambleRuns, OnSheets, all_sheets, IsPrinted}
+use Rattle.pictures.specs.Kept.{page_comments_apart, preamble_comments_apart}
+use Rattle.pictures.specs.Objects.{Token, Name, Literal, Bound, Object, Plain, Procedure, Saved, Operator, Computes}
+use Rattle.pictures.specs.Objects.{Load, Known, Bind}
+use Rattle.pictures.specs.Dictionaries.{Entry, userdict, meaning, system, entry_of, has}
+use Rattle.pictures.specs.Machine.{State, Painting, step, and_then, Runs}
+use Rattle.pictures.specs.Sheets.{among, run_of, IsGround, PaintsAlone}
+
+-- the names that the sheet's text puts
+abbrev pub put_names : List (List ℕ)
+put_names = codes "showpage" ∷ codes "ImposeSave" ∷ []
+
+-- the names in a procedure
+abbrev pub names_in : List Token → List (List ℕ)
+names_in [] = []
+names_in (Name name ∷ ts) = name ∷ names_in ts
+names_in (t ∷ ts) = names_in ts
+
+-- the names that an operator looks up: `load`, `known`, `bind`
+abbrev pub asked_by : Option Object → List Object → List (List ℕ)
+asked_by (Some (Operator name (Computes Load))) (Plain (Literal k) ∷ os) = k ∷ []
+asked_by (Some (Operator name (Computes Known))) (Plain (Literal k) ∷ os) = k ∷ []
+asked_by (Some (Operator name (Computes Bind))) (Procedure ts ∷ os) = names_in ts
+asked_by o os = []
+
+-- the names whose meaning the next step asks for
+abbrev pub asked_on : List Token → State → List (List ℕ)
+asked_on [] s = []
+asked_on (Name name ∷ ts) s = name ∷ asked_by (meaning s.work.dictionaries s.work.entries name) s.work.operands
+asked_on (Bound name ∷ ts) s = asked_by (system name) s.work.operands
+asked_on (t ∷ ts) s = []
+
+abbrev pub none_among : List (List ℕ) → List (List ℕ) → Bool
+none_among [] names = true
+none_among (k ∷ ks) names = not (among k names) && none_among ks names
+
+-- one step of a held machine that asks for none of these names
+abbrev pub unaware_step : State → Option State
+unaware_step s = if none_among (asked_on s.left s) put_names then step true s else None
+
+abbrev pub unaware_steps : ℕ → State → Option State
+unaware_steps zero s = Some s
+unaware_steps (suc n) s = and_then (unaware_steps n) (unaware_step s)
+
+-- no dictionary on the stack has the name
+abbrev pub absent : List ℕ → List Entry → List ℕ → Bool
+absent [] es name = true
+absent (d ∷ ds) es name = not (has (entry_of d name es)) && absent ds es name
+
+abbrev pub is_in : ℕ → List ℕ → Bool
+is_in n [] = false
+is_in n (m ∷ ms) = (n == m) || is_in n ms
+
+abbrev pub is_saved : Object → Bool
+is_saved (Saved level) = true
+is_saved o = false
+
+abbrev pub no_saved : List Object → Bool
+no_saved [] = true
+no_saved (o ∷ os) = not (is_saved o) && no_saved os
+
+abbrev pub no_saved_in : List Entry → Bool
+no_saved_in [] = true
+no_saved_in (e ∷ es) = not (is_saved e.value) && no_saved_in es
+
+-- behind the preamble nothing is saved, pushed or painted; and userdict is on the stack, without the names that the
+-- sheet's text puts
+pub record IsPlainGround (s : State) : Type 0 where
+  pub ground : IsGround s
+  pub stacked : s.stacked ≡ []
+  pub saves : s.saves ≡ []
+  pub painted : s.painted ≡ []
+  pub operands : no_saved s.work.operands ≡ true
+  pub entries : no_saved_in s.work.entries ≡ true
+  pub has_userdict : is_in userdict s.work.dictionaries ≡ true
+  pub no_showpage : entry_of userdict (codes "showpage") s.work.entries ≡ None
+  pub no_save : entry_of userdict (codes "ImposeSave") s.work.entries ≡ None
+
+-- behind the preamble the page runs up to its showpage, which is all that is left, and leaves the stacks as they were
+pub record PrintsItself (s : State) (body : List Token) (picture : List Painting) : Type 0 where
+  pub end : State
+  pub count : ℕ
+  pub run : unaware_steps count (run_of body s) ≡ Some end
+  pub last : end.left ≡ Name (codes "showpage") ∷ []
+  pub operands : end.work.operands ≡ s.work.operands
+  pub dictionaries : end.work.dictionaries ≡ s.work.dictionaries
+  pub saves : end.saves ≡ []
+  pub showpage : absent end.work.dictionaries end.work.entries (codes "showpage") ≡ true
+  pub save_name : absent end.work.dictionaries end.work.entries (codes "ImposeSave") ≡ true
+  pub restore_name : meaning end.work.dictionaries end.work.entries (codes "restore") ≡ system (codes "restore")
+  pub picture_is : end.painted ≡ picture
+
+-- What a page prints of itself, behind the preamble, is what it paints by itself: a law. So what a sheet has of it is
+-- what the document printed, placed
+abbrev pub OwnPicture : Type 0
+OwnPicture =
+    (s : State) (body : List Token) (picture : List Painting) → IsPlainGround s → PrintsItself s body picture
+    → ((t : State) × Runs false (run_of body s) t × (t.sheets ≡ picture ∷ s.sheets)) × PaintsAlone s body picture
+
+-- the page, as the document has it, prints this of itself; its text ends between tokens, and so does what stands before
+-- each of its lines that is dropped
+abbrev pub PagePrints : List NestedUnit → State → ℕ → List Painting → Type 0
+PagePrints us s p picture =
+    IsComplete (page_of us p) × (page_comments_apart (page_of us p) ≡ true)
+    × PrintsItself s (tokens (page_of us p)) picture
+
+-- Of an accepted document: if a machine runs the preamble, and each page prints a picture of itself, then it prints of
+-- the output, sheet by sheet, those pictures, placed: a law. Preamble and pages are the document's own
+abbrev pub SheetsShowThePages : Type 0
+SheetsShowThePages =
+    (frame : Frame) (sides : Option ℕ) (spec : Spec) (text : List ℕ) (us : List NestedUnit) (picture : ℕ → List Painting)
+    (s : State)
+    → document_of text ≡ Ok us
+    → preamble_comments_apart us ≡ true → PreambleRuns (bytes_of (preamble us)) s → IsPlainGround s
+    → OnSheets (λ p. PagePrints us s p (picture p)) (all_sheets sides spec us)
+    → IsPrinted frame sides spec us picture s
