@@ -6,7 +6,7 @@ ghost use Rattle.profile.specs.Filters.{preamble_text};
 ghost use Rattle.sheet_writer.specs.Writing.{StandsSince, GoesOn, AreEarly};
 
 use crate::channel::{RuledJob, SheetReceiver, SheetRule, Texts, Ticket};
-use crate::gate::{Gate, Step};
+use crate::gate::{Gate, Look};
 use crate::spent::Returns;
 use crate::window::{Idling, Window};
 use crossbeam_queue::ArrayQueue;
@@ -143,11 +143,11 @@ fn take_one<R: Wait, T: Texts, G: Gate, S: Sink>(
     ensures steady { state.new.progress.halted ≡ None → S.failures state.new.sink.now ≡ S.failures state.old.sink.now }
     ensures nothing { result ≡ false → state.new.progress.halted ≡ None }
 {
-    input.gate.before(Step::Collect);
+    input.gate.before_look(Look::Channel);
     let received = input
         .receiver
         .try_recv_as::<SheetRule<T>, R>(rt, state.ticket);
-    input.gate.after(Step::Collect);
+    input.gate.after_look(Look::Channel);
     let Ok(done) = received else {
         return false;
     };

@@ -18,7 +18,7 @@ mod turns;
 mod window;
 mod work;
 
-pub use gate::{Gate, Open, Step};
+pub use gate::{Gate, Look, Open, Step};
 pub use gathering::{Gathered, gather};
 pub use options::{Options, Workers};
 pub use outcome::{Report, RunError};

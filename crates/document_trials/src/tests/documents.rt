@@ -184,6 +184,16 @@ fn header_comments_of_the_whole_document_are_dropped(rt: HostRuntime) -> Result<
 }
 
 #[test]
+fn a_bare_trailer_is_kept(rt: HostRuntime) -> Result<(), Fail> {
+    let text =
+        b"%!PS-Adobe-3.0\n%%Pages: 1\n%%EndComments\n%%Page: 1 1\n(0) pop\nshowpage\n%%Trailer\n%%EOF\n".as_slice();
+    let document = Document::read(rt.alloc(), text)?;
+    let trailer = document.trailer_text()?;
+    assert_eq!(rt; trailer.as_slice(), b"%%Trailer\n%%EOF\n".as_slice());
+    Ok(())
+}
+
+#[test]
 fn comments_with_other_keys_are_kept(rt: HostRuntime) -> Result<(), Fail> {
     let text =
         b"%!PS\n%%Creator: a\n%%LanguageLevel: 2\n%%Requirements: duplex\n%%DocumentFonts: b\n%%DocumentNeededResources: font b\n%%pageorder: Ascend\n%%documentmedia: a\n%%orientation: Portrait\n%%PageTrailer\n%%Page: 1 1\n%%IncludeResource: font b\n%%End\nshowpage\n".as_slice();

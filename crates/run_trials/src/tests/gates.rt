@@ -3,7 +3,7 @@
 ghost use Rattle.std.specs.Prelude.{None};
 
 use super::{document_of, workers};
-use imposer::{Gate, Open, Report, RunError, Sink, SinkFault, Step, run};
+use imposer::{Gate, Look, Open, Report, RunError, Sink, SinkFault, Step, run};
 use std::alloc::Global;
 use std::process::Abort;
 use std::sync::Wait;
@@ -143,16 +143,23 @@ fn as_many_imposers_run_as_were_asked_for(rt: HostRuntime) -> Result<(), Fail> {
 }
 
 /// How many sheets of a run on one page were made at the end.
-fn swept_of_one<R: Threads + Wait + Abort + Sync, G: Gate + Sync>(
+fn swept_of_one<R: Threads + Wait + Abort + Sync>(
     rt: &R,
     alloc: Global,
     text: &str,
     count: u32,
-    gate: &G,
 ) -> Result<u32, RunError> {
     let options = workers(rt, count, count);
     let mut sink = Everything {};
-    let report = run(rt, alloc, text.as_bytes(), "0", &options, gate, &mut sink)?;
+    let report = run(
+        rt,
+        alloc,
+        text.as_bytes(),
+        "0",
+        &options,
+        &Open {},
+        &mut sink,
+    )?;
     Ok(report.swept)
 }
 
@@ -160,34 +167,62 @@ fn swept_of_one<R: Threads + Wait + Abort + Sync, G: Gate + Sync>(
 fn short_runs_leave_no_sheet_to_the_end(rt: HostRuntime) -> Result<(), Fail> {
     let text = document_of(rt.alloc(), 1)?;
     for round in 0..200u32 {
-        let swept = swept_of_one(&rt, rt.alloc(), &text, 1 + round % 2, &Open {})?;
+        let swept = swept_of_one(&rt, rt.alloc(), &text, 1 + round % 2)?;
         assert_eq!(rt; swept, 0, "round {round}");
     }
     Ok(())
 }
 
-/// Somebody looks and finds nothing. Before it goes on, what it looks for comes, and who brought it ends.
+/// Where the first look waits.
+#[derive(Clone, Copy, PartialEq, Eq)]
+enum Side {
+    Before,
+    After,
+}
+
+/// What is looked for is held back until the first look waits on this side of it, and the look waits until it has come.
+/// So a look that waits before it is made finds it, and one that waits after it has found nothing.
 #[derive(Drop)]
 struct Late {
-    look: Step,
-    work: Step,
-    looks: AtomicUsize,
-    works: AtomicUsize,
+    look: Look,
+    side: Side,
+    /// How many looks began and ended.
+    begun: AtomicUsize,
+    ended: AtomicUsize,
+    /// How many looks waited.
+    waited: AtomicUsize,
+    /// How many pages or sheets were worked on, and how many of them came.
+    worked: AtomicUsize,
+    came: AtomicUsize,
+    /// How many looks had begun as it was found.
+    found_by: AtomicUsize,
     run_out: AtomicUsize,
 }
 
 impl Late {
-    fn new(look: Step, work: Step) -> Self {
+    fn new(look: Look, side: Side) -> Self {
         Late {
             look,
-            work,
-            looks: AtomicUsize::new(0),
-            works: AtomicUsize::new(0),
+            side,
+            begun: AtomicUsize::new(0),
+            ended: AtomicUsize::new(0),
+            waited: AtomicUsize::new(0),
+            worked: AtomicUsize::new(0),
+            came: AtomicUsize::new(0),
+            found_by: AtomicUsize::new(0),
             run_out: AtomicUsize::new(0),
         }
     }
 
-    /// Waits until this was done once.
+    /// Whether the step brings what is looked for.
+    fn is_brought_by(&self, step: Step) -> bool {
+        match self.look {
+            Look::Queue => matches!(step, Step::Deliver(_)),
+            Look::Channel => matches!(step, Step::Impose(_)),
+        }
+    }
+
+    /// Waits until this happened once.
     fn wait_for(&self, word: &AtomicUsize) {
         for _ in 0..YIELDS {
             if word.load(SeqCst) > 0 {
@@ -197,39 +232,111 @@ impl Late {
         }
         self.run_out.fetch_add(1, SeqCst);
     }
+
+    /// The first look waits on this side of it until what it looks for has come, and who brought it ends.
+    fn wait_at(&self, side: Side) {
+        if side != self.side {
+            return;
+        }
+        self.waited.fetch_add(1, SeqCst);
+        self.wait_for(&self.came);
+        for _ in 0..100_000u32 {
+            thread::yield_now();
+        }
+    }
+
+    fn is_found(&self) {
+        self.found_by.store(self.begun.load(SeqCst), SeqCst);
+    }
 }
 
 impl Gate for Late {
     fn before(&self, step: Step) {
-        if step == self.work {
-            self.wait_for(&self.looks);
+        if self.is_brought_by(step) {
+            self.wait_for(&self.waited);
+        } else if self.look == Look::Queue {
+            self.is_found();
         }
     }
 
     fn after(&self, step: Step) {
-        if step == self.work {
-            self.works.fetch_add(1, SeqCst);
-        }
-        if step == self.look && self.looks.fetch_add(1, SeqCst) == 0 {
-            self.wait_for(&self.works);
-            // Who brought it has nothing else to do.
-            for _ in 0..100_000u32 {
-                thread::yield_now();
+        if self.is_brought_by(step) {
+            self.worked.fetch_add(1, SeqCst);
+            // A sheet is sent behind this step, before its imposer looks again.
+            if self.look == Look::Queue {
+                self.came.fetch_add(1, SeqCst);
             }
+        }
+    }
+
+    fn before_look(&self, look: Look) {
+        if look == self.look {
+            if self.begun.fetch_add(1, SeqCst) == 0 {
+                self.wait_at(Side::Before);
+            }
+        } else if look == Look::Queue && self.worked.load(SeqCst) > 0 {
+            self.came.fetch_add(1, SeqCst);
+        }
+    }
+
+    fn after_look(&self, look: Look) {
+        if look == self.look && self.ended.fetch_add(1, SeqCst) == 0 {
+            self.wait_at(Side::After);
         }
     }
 }
 
+/// Takes all bytes. The second call has the only sheet.
+#[derive(Drop)]
+struct OneSheet<'w> {
+    late: &'w Late,
+    calls: u32,
+}
+
+impl<'w> Sink for OneSheet<'w> {
+    ghost told = { λ _. None };
+
+    ghost failures = { λ _. 0 };
+
+    fn accept(&mut self, bytes: &[u8]) -> Result<usize, SinkFault> {
+        self.calls = self.calls.saturating_add(1);
+        if self.calls == 2 && self.late.look == Look::Channel {
+            self.late.is_found();
+        }
+        Ok(bytes.len())
+    }
+}
+
+/// One page on one sheet: how many sheets were made at the end, how many looks had begun as the page's sheet was found,
+/// and how many waits ran out.
+fn run_late<R: Threads + Wait + Abort + Sync>(
+    rt: &R,
+    alloc: Global,
+    look: Look,
+    side: Side,
+) -> Result<(u32, usize, usize), RunError> {
+    let gate = Late::new(look, side);
+    let text = document_of(alloc, 1)?;
+    let options = workers(rt, 1, 1);
+    let mut sink = OneSheet {
+        late: &gate,
+        calls: 0,
+    };
+    let report = run(rt, alloc, text.as_bytes(), "0", &options, &gate, &mut sink)?;
+    Ok((
+        report.swept,
+        gate.found_by.load(SeqCst),
+        gate.run_out.load(SeqCst),
+    ))
+}
+
 #[test]
 fn what_comes_while_somebody_looks_is_found(rt: HostRuntime) -> Result<(), Fail> {
-    let text = document_of(rt.alloc(), 1)?;
-    for (look, work) in [
-        (Step::Take, Step::Deliver(0)),
-        (Step::Collect, Step::Impose(0)),
-    ] {
-        let gate = Late::new(look, work);
-        let swept = swept_of_one(&rt, rt.alloc(), &text, 1, &gate)?;
-        assert_eq!(rt; (swept, gate.run_out.load(SeqCst)), (0, 0));
+    for look in [Look::Queue, Look::Channel] {
+        let found = run_late(&rt, rt.alloc(), look, Side::Before)?;
+        assert_eq!(rt; found, (0, 1, 0), "{look:?}");
+        let found = run_late(&rt, rt.alloc(), look, Side::After)?;
+        assert_eq!(rt; found, (0, 2, 0), "{look:?}");
     }
     Ok(())
 }

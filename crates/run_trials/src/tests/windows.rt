@@ -138,7 +138,6 @@ impl<'w> Gate for FirstSheetLast<'w> {
                 }
                 self.words.imposed.fetch_add(1, SeqCst);
             }
-            Step::Take | Step::Collect => {}
         }
     }
 

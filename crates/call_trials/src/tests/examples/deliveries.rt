@@ -1,6 +1,6 @@
 //! A page is delivered: what the table, the queue and the shelf answer.
 use super::ONE_PAGE;
-use crate::tests::callers::{Caller, Task, with_caller};
+use crate::tests::callers::{Caller, Task, assert_imposed, with_caller};
 use gather_table::{Published, Reply};
 use run_steps::Delivered;
 use std::alloc::Global;
@@ -20,7 +20,7 @@ fn assert_answers<R: Abort>(
     assert_eq!(rt; delivered.handed_back.as_slice(), handed_back);
 }
 
-/// A page that stands twice on one sheet, delivered twice.
+/// A page that stands twice on one sheet, delivered, the sheet imposed, and the page delivered again.
 #[derive(Drop)]
 struct CompleteOnce {}
 
@@ -32,6 +32,7 @@ impl<R: Wait + Abort> Task<R, ()> for CompleteOnce {
         assert_answers(rt, &first, Published::Stored, replies, &[]);
         assert_eq!(rt; caller.take(rt), Some(0));
         assert_eq!(rt; caller.look(0), Some(0));
+        assert_imposed(rt, alloc, &mut caller, 0)?;
         let second = caller.deliver_page(rt, alloc, 0)?;
         let held = Published::Held(first.receipt.index());
         assert_answers(rt, &second, held, [Reply::Repeated, Reply::Repeated], &[]);

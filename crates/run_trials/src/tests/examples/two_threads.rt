@@ -1,9 +1,9 @@
 //! Gates at which threads wait for each other: a run on one thread would never come past them.
-ghost use Rattle.std.specs.Prelude.{None};
+ghost use Rattle.std.specs.Prelude.{◌<◌, None};
 
 use super::TWO_PAGES;
 use crate::tests::workers;
-use imposer::{Gate, MemorySink, Report, RunError, Sink, SinkFault, Step, run};
+use imposer::{Gate, Look, MemorySink, Report, RunError, Sink, SinkFault, Step, run};
 use std::alloc::Global;
 use std::process::Abort;
 use std::sync::Wait;
@@ -177,15 +177,14 @@ struct Told {
 }
 
 /// What a step adds: one to its own eight bits of the word. All steps that two pages on two sheets don't have share the
-/// rest. How often somebody looks depends on the threads, and isn't counted.
+/// rest.
 fn one_more(step: Step) -> usize {
     match step {
         Step::Deliver(0) => 1,
         Step::Deliver(1) => 0x100,
         Step::Impose(0) => 0x1_0000,
         Step::Impose(1) => 0x100_0000,
-        Step::Take | Step::Collect => 0,
-        _ => 0x1_0000_0000,
+        Step::Deliver(_) | Step::Impose(_) => 0x1_0000_0000,
     }
 }
 
@@ -219,5 +218,69 @@ fn run_told<R: Threads + Wait + Abort + Sync>(
 fn a_gate_is_told_once_before_each_step_and_once_after_it(rt: HostRuntime) -> Result<(), Fail> {
     let told = run_told(&rt, rt.alloc())?;
     assert_eq!(rt; told, (0x101_0101, 0x101_0101));
+    Ok(())
+}
+
+/// Counts how often it is told of a look at the queue and of one at the channel, before it and after it.
+#[derive(Drop)]
+struct Looks {
+    before: [AtomicUsize; 2],
+    after: [AtomicUsize; 2],
+}
+
+/// The place of a look in a row of counts.
+fn place_of(look: Look) -> usize
+    ensures { result < 2 }
+{
+    match look {
+        Look::Queue => 0,
+        Look::Channel => 1,
+    }
+}
+
+impl Gate for Looks {
+    fn before(&self, _step: Step) {}
+
+    fn after(&self, _step: Step) {}
+
+    fn before_look(&self, look: Look) {
+        self.before[place_of(look)].fetch_add(1, SeqCst);
+    }
+
+    fn after_look(&self, look: Look) {
+        self.after[place_of(look)].fetch_add(1, SeqCst);
+    }
+}
+
+/// So many looks at the queue and at the channel.
+type Counts = [usize; 2];
+
+/// Two pages on two sheets: how many looks the gate was told of before them, and of how many after them.
+fn run_looks<R: Threads + Wait + Abort + Sync>(
+    rt: &R,
+    alloc: Global,
+) -> Result<(Counts, Counts), RunError> {
+    let gate = Looks {
+        before: [AtomicUsize::new(0), AtomicUsize::new(0)],
+        after: [AtomicUsize::new(0), AtomicUsize::new(0)],
+    };
+    let mut sink = MemorySink::new(alloc, 1_000, 1_000, 100)?;
+    let options = workers(rt, 2, 2);
+    let input = TWO_PAGES.as_bytes();
+    run(rt, alloc, input, "0", &options, &gate, &mut sink)?;
+    let Looks { before, after } = gate;
+    Ok((
+        [before[0].load(SeqCst), before[1].load(SeqCst)],
+        [after[0].load(SeqCst), after[1].load(SeqCst)],
+    ))
+}
+
+// How often somebody looks depends on the threads. Each of two sheets is found by a look, and each of two imposers ends
+// when one finds nothing.
+#[test]
+fn a_gate_is_told_of_each_look_before_it_and_after_it(rt: HostRuntime) -> Result<(), Fail> {
+    let (before, after) = run_looks(&rt, rt.alloc())?;
+    assert_eq!(rt; before, after);
+    assert!(rt; before[0] >= 4 && before[1] >= 2);
     Ok(())
 }
