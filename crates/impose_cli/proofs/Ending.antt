@@ -10,6 +10,8 @@ use Rattle.profile.specs.Run.{document_of}
 use Rattle.profile.specs.Output.{output}
 use Rattle.profile.proofs.OneFault.{one_answer}
 use Rattle.layouts.specs.Selections.{IsSelection}
+use Rattle.layouts.specs.Grids.{leaves, n_up}
+use Rattle.layouts.specs.Laws.{IsNUp, IsBooklet}
 use Rattle.imposer.specs.Runs.{Accepted, Reports, frame_of}
 use Rattle.imposer.specs.declared.outcome.Report.{Report}
 use Rattle.impose_cli.specs.Tasks.{Finishes, IsPlaced, IsTask, LaysOut, asked_by}
@@ -31,8 +33,12 @@ one_spec text one other h g = ap (read_or one) (one_answer most_slots text (Ok o
 -- what the text of a layout is taken as is the layout's specification
 pub lays_out : (l : Layout) (page sheet : Paper) (pages : ℕ) (text : List ℕ) (sides : Option ℕ) (spec : Spec)
     → IsPlaced l page sheet pages text sides → Takes most_slots text spec → LaysOut l page sheet pages spec sides
-lays_out (layout.NUp n) page sheet pages text sides spec h g = (one_spec text spec _ g h.0.1, h.1)
-lays_out (layout.Booklet signature long_edge) page sheet pages text sides spec h g = (one_spec text spec _ g h.0.1, h.1)
+lays_out (layout.NUp n) page sheet pages text sides spec h g =
+    let e : spec ≡ n_up page sheet n = one_spec text spec _ g h.0.0.1 in
+    ((e, subst (λ s. IsNUp page sheet n s) (sym e) h.0.1), h.1)
+lays_out (layout.Booklet signature long_edge) page sheet pages text sides spec h g =
+    let e : spec ≡ leaves page sheet long_edge = one_spec text spec _ g h.0.0.1 in
+    ((e, subst (λ s. IsBooklet page sheet long_edge s) (sym e) h.0.1), h.1)
 lays_out (layout.Selection ranges which) page sheet pages text sides spec h g =
     (subst (λ s. IsSelection (string_bytes ranges) which pages s) (one_spec text h.0.0 spec h.0.2.1 g) h.0.1, h.1)
 lays_out (layout.Spec specs) page sheet pages text sides spec h g = (subst (λ t. Takes most_slots t spec) h.0 g, h.1)
@@ -52,6 +58,9 @@ finishes r input task old new report is h =
       layout_is = lays_out r.layout _ _ _ _ _ spec is.placed accepted.takes;
       units = units;
       taken = ap document_of (sym is.text) ∙ accepted.document;
+      valid = accepted.options.2;
+      admissible = record { text = string_bytes task.spec; taken = accepted.takes };
+      plan = accepted.plan;
       written = subst (λ b. Appends old new (output (record { paper = task.options.paper; border = b }) task.options.sides spec units)) is.border h.3.0;
       report = subst (λ b. Reports (record { paper = task.options.paper; border = b }) task.options.sides spec units report) is.border h.3.1;
     }

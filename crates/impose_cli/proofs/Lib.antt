@@ -2,4 +2,6 @@ pub mod Commands
 pub mod Found
 pub mod Placing
 pub mod Ending
+pub mod Again
+pub mod InTurn
 pub mod Examples

@@ -7,6 +7,8 @@ pub mod Sizing
 pub mod Faults
 pub mod Tasks
 pub mod Refusals
+pub mod Endings
 pub mod Telling
 pub mod Unread
+pub mod Laws
 pub mod Statuses

@@ -1,6 +1,5 @@
--- What a refused or failed request says, and what was written then.
-use Rattle.std.specs.Prelude.{◌≡◌, ◌⊎◌, ⊤, ℕ, ◌+◌, IfSome, List, Option, Some, Err, string_bytes}
-use Rattle.std.specs.Io.KnownBytes.{Keeps}
+-- What a refused request says.
+use Rattle.std.specs.Prelude.{◌≡◌, ◌⊎◌, ℕ, IfSome, List, Some, Err, string_bytes}
 use Rattle.profile.specs.Papers.{Paper}
 use Rattle.profile.specs.Run.{document_of}
 use Rattle.layouts.specs.NoSelection.{RefusesSelection}
@@ -10,17 +9,14 @@ use Rattle.layouts.specs.declared.error.LayoutError.{LayoutError}
 use Rattle.layouts.specs.declared.error.LayoutError.TheVariants.{PageNotInDocument}
 use Rattle.dsc.specs.declared.errors.DscError.{DscError}
 use Rattle.dsc.specs.Faults as dsc
-use Rattle.imposer.specs.Runs.{FailedIn, HasWritten, IsRefusal}
-use Rattle.imposer.specs.declared.outcome.RunError.{RunError}
 use Rattle.impose_cli.specs.Faults.{without_memory}
-use Rattle.impose_cli.specs.Tasks.{HasPages, IsTask, asked_by, page_found, sheet_found}
+use Rattle.impose_cli.specs.Tasks.{HasPages, page_found, sheet_found}
 use Rattle.impose_cli.specs.Telling.{told_of}
 use Rattle.impose_cli.specs.declared.request.Layout.{Layout}
 use Rattle.impose_cli.specs.declared.request.Layout.TheVariants as layout
 use Rattle.impose_cli.specs.declared.request.Request.{Request}
 use Rattle.impose_cli.specs.declared.fault.Fault.{Fault}
 use Rattle.impose_cli.specs.declared.fault.Fault.TheVariants as fault
-use Rattle.impose_cli.specs.declared.task.Task.{Task}
 
 -- ---- the document
 
@@ -74,23 +70,3 @@ RefusesTask r input f =
     RefusesDocument input f
     ⊎ ((n : ℕ) × HasPages input n
     × RefusesLayout r.layout (page_found r.page input).0 (sheet_found r.sheet (page_found r.page input).0) n f)
-
--- the fault is one of the run of the request's task, with this error
-pub record IsOfRun (P : Task → RunError → Type 0) (r : Request) (input : List ℕ) (f : Fault) : Type 0 where
-  pub task : Task
-  pub is_task : IsTask r input task
-  pub error : RunError
-  pub is_run : f ≡ fault.Run error
-  pub holds : P task error
-
--- a fault is told before the run, or is the first check of the run that fails
-abbrev pub RefusesRequest : Request → (input : List ℕ) → Fault → Type 0
-RefusesRequest r input f = RefusesTask r input f ⊎ IsOfRun (λ task e. IsRefusal (asked_by task) e) r input f
-
--- nothing was written before the run; and in it as much as its error says, which is nothing at a refusal
-abbrev pub LeavesWritten : Request → (input : List ℕ) → (old new : Option (List ℕ)) → Fault → Type 0
-LeavesWritten r input old new f = Keeps old new ⊎ IsOfRun (λ task e. HasWritten (asked_by task) old new e) r input f
-
--- how often the sink had failed before, and after it
-abbrev pub Failed : (before after : ℕ) → Fault → Type 0
-Failed before after f = (after ≡ before) ⊎ ((e : RunError) × (f ≡ fault.Run e) × FailedIn e before after)

@@ -3,14 +3,17 @@ use Rattle.std.specs.Prelude.{◌≡◌, ℕ, ◌+◌, ◌*◌, ◌/◌, Bool, t
 use Rattle.std.specs.Prelude.{Some, None, Ok, string_bytes}
 use Rattle.profile.specs.Papers.{Paper}
 use Rattle.profile.specs.Specification.{Spec, canonical}
-use Rattle.profile.specs.Admissible.{Takes, most_slots}
+use Rattle.profile.specs.Admissible.{IsAdmissible, Takes, most_slots}
 use Rattle.profile.specs.Parts.{NestedUnit, pages}
-use Rattle.profile.specs.Run.{document_of}
+use Rattle.profile.specs.Run.{document_of, plan_in}
+use Rattle.profile.specs.Sheets.{Slot}
+use Rattle.profile.specs.Signatures.{AreSidesIfGiven, sheets_in}
 use Rattle.guard.specs.Guard.{guarded}
 use Rattle.layouts.specs.Grids.{leaves, n_up}
+use Rattle.layouts.specs.Laws.{IsNUp, IsBooklet}
 use Rattle.layouts.specs.Selections.{IsSelection}
 use Rattle.std.specs.Io.KnownBytes.{Appends}
-use Rattle.profile.specs.Output.{output}
+use Rattle.profile.specs.Output.{Frame, output}
 use Rattle.imposer.specs.Runs.{Reports}
 use Rattle.imposer.specs.Runs as runs
 use Rattle.document_paper.specs.Media.{a4, document_paper}
@@ -54,9 +57,11 @@ IsWritten spec text = (text ≡ canonical spec) × Takes most_slots text spec
 
 -- the text of the specification and the sides of a signature to which a layout comes, for so many pages of a paper
 abbrev pub IsPlaced : Layout → (page sheet : Paper) → (pages : ℕ) → (text : List ℕ) → (sides : Option ℕ) → Type 0
-IsPlaced (layout.NUp n) page sheet pages text sides = IsWritten (n_up page sheet n) text × (sides ≡ None)
+IsPlaced (layout.NUp n) page sheet pages text sides =
+    (IsWritten (n_up page sheet n) text × IsNUp page sheet n (n_up page sheet n)) × (sides ≡ None)
 IsPlaced (layout.Booklet signature long_edge) page sheet pages text sides =
-    IsWritten (leaves page sheet long_edge) text × (sides ≡ Some (unwrap_or signature (fours pages)))
+    (IsWritten (leaves page sheet long_edge) text × IsBooklet page sheet long_edge (leaves page sheet long_edge))
+    × (sides ≡ Some (unwrap_or signature (fours pages)))
 IsPlaced (layout.Selection ranges which) page sheet pages text sides =
     ((spec : Spec) × IsSelection (string_bytes ranges) which pages spec × IsWritten spec text) × (sides ≡ None)
 IsPlaced (layout.Spec specs) page sheet pages text sides = (text ≡ string_bytes specs) × (sides ≡ None)
@@ -80,12 +85,18 @@ asked_by t = runs.request t.options (string_bytes t.spec) t.text.items
 
 -- the specification to which a layout comes, and the sides of a signature, for so many pages of a paper
 abbrev pub LaysOut : Layout → (page sheet : Paper) → (pages : ℕ) → Spec → (sides : Option ℕ) → Type 0
-LaysOut (layout.NUp n) page sheet pages spec sides = (spec ≡ n_up page sheet n) × (sides ≡ None)
-LaysOut (layout.Booklet signature long_edge) page sheet pages spec sides = (spec ≡ leaves page sheet long_edge)
+LaysOut (layout.NUp n) page sheet pages spec sides =
+    ((spec ≡ n_up page sheet n) × IsNUp page sheet n spec) × (sides ≡ None)
+LaysOut (layout.Booklet signature long_edge) page sheet pages spec sides =
+    ((spec ≡ leaves page sheet long_edge) × IsBooklet page sheet long_edge spec)
     × (sides ≡ Some (unwrap_or signature (fours pages)))
 LaysOut (layout.Selection ranges which) page sheet pages spec sides = IsSelection (string_bytes ranges) which pages spec
     × (sides ≡ None)
 LaysOut (layout.Spec specs) page sheet pages spec sides = Takes most_slots (string_bytes specs) spec × (sides ≡ None)
+
+-- how the pages were placed: by their paper, and with the border that is asked for
+abbrev pub frame_used : Request → Finished → Frame
+frame_used r done = record { paper = done.page; border = r.border }
 
 -- the request was carried out for this document: exactly the output was appended that the profile defines for the
 -- layout's specification and the document, with the guard in it if it is asked for
@@ -98,5 +109,13 @@ pub record Finishes (r : Request) (input : List ℕ) (old new : Option (List ℕ
   pub layout_is : LaysOut r.layout done.page (sheet_found r.sheet done.page) page_count spec sides
   pub units : List NestedUnit
   pub taken : document_of (taken_text r.is_guarded (sheet_found r.sheet done.page) input) ≡ Ok units
-  pub written : Appends old new (output (record { paper = done.page; border = r.border }) sides spec units)
-  pub report : Reports (record { paper = done.page; border = r.border }) sides spec units done.report
+  pub valid : AreSidesIfGiven sides
+  pub admissible : IsAdmissible most_slots spec
+  pub plan : plan_in sides spec (length (pages units)) ≡ Ok (sheets_in sides spec (length (pages units)))
+  pub written : Appends old new (output (frame_used r done) sides spec units)
+  pub report : Reports (frame_used r done) sides spec units done.report
+
+-- the sheets that were made
+abbrev pub sheets_made : {r : Request} {input : List ℕ} {old new : Option (List ℕ)} {done : Finished}
+    → Finishes r input old new done → List (List Slot)
+sheets_made h = sheets_in h.sides h.spec (length (pages h.units))

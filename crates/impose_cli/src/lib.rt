@@ -5,6 +5,7 @@ mod arguments;
 mod caret;
 mod command;
 mod fault;
+pub mod laws;
 mod lines;
 mod printed;
 mod request;

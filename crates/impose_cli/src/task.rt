@@ -4,6 +4,7 @@ ghost use Rattle.std.specs.Io.KnownBytes.{Appends};
 ghost use Rattle.profile.specs.Output.{output};
 ghost use Rattle.profile.specs.Run.{most_pages};
 ghost use Rattle.layouts.specs.Grids.{leaves, n_up};
+ghost use Rattle.layouts.specs.Laws.{IsNUp, IsBooklet};
 ghost use Rattle.layouts.specs.Refusals.{why_not, why_no_booklet};
 ghost use Rattle.layouts.specs.Selections.{IsSelection};
 ghost use Rattle.imposer.specs.Runs.{Accepted, FailedIn, HasWritten, IsRefusal, Reports, frame_of};
@@ -11,8 +12,8 @@ ghost use Rattle.profile.specs.Specification.{Spec as SpecValue};
 ghost use Rattle.impose_cli.specs.Faults.{of_selection as selection_fault, without_memory};
 ghost use Rattle.impose_cli.specs.Tasks.{Finishes, HasPages, IsPlaced, IsTask, IsWritten, asked_by, fours, page_found};
 ghost use Rattle.impose_cli.specs.Tasks.{sheet_found, taken_text};
-ghost use Rattle.impose_cli.specs.Refusals.{Failed, LeavesWritten, RefusesDocument, RefusesLayout, RefusesRanges};
-ghost use Rattle.impose_cli.specs.Refusals.{RefusesRequest, RefusesTask};
+ghost use Rattle.impose_cli.specs.Refusals.{RefusesDocument, RefusesLayout, RefusesRanges, RefusesTask};
+ghost use Rattle.impose_cli.specs.Endings.{Ends};
 ghost use Rattle.impose_cli.specs.Unread.{IsPossible, IsSpecification, RefusesSpecification, RefusesUnread};
 ghost use Rattle.impose_cli.specs.Telling.{of_other_input, told_of};
 ghost use Rattle.impose_cli.specs.declared.request.Layout.TheVariants as layout;
@@ -257,7 +258,8 @@ fn placing(
 
 fn nup_placing(alloc: Global, count: u32, page: &Paper, sheet: &Paper) -> Result<Placed, Fault>
     ensures placed { IfOk result (λ placed.
-        IsWritten (n_up page.now sheet.now count) (string_bytes placed.0) × (placed.1 ≡ None)) }
+        (IsWritten (n_up page.now sheet.now count) (string_bytes placed.0)
+        × IsNUp page.now sheet.now count (n_up page.now sheet.now count)) × (placed.1 ≡ None)) }
     ensures refused { IfErr result (RefusesLayout (layout.NUp count) page.now sheet.now 0) }
 {
     match nup(alloc, count, page, sheet) {
@@ -274,7 +276,8 @@ fn booklet_placing(
     sides: u32,
 ) -> Result<Placed, Fault>
     ensures placed { IfOk result (λ placed.
-        IsWritten (leaves page.now sheet.now long_edge) (string_bytes placed.0) × (placed.1 ≡ Some sides)) }
+        (IsWritten (leaves page.now sheet.now long_edge) (string_bytes placed.0)
+        × IsBooklet page.now sheet.now long_edge (leaves page.now sheet.now long_edge)) × (placed.1 ≡ Some sides)) }
     ensures refused { IfErr result (RefusesLayout (layout.Booklet None long_edge) page.now sheet.now 0) }
 {
     match booklet(alloc, page, sheet, long_edge) {
@@ -337,25 +340,24 @@ pub fn run_request<R: Threads + Wait + Sync, S: Sink>(
     requires countable { S.failures sink.old < u64.MAX }
     // Exactly the output was appended that the profile defines for the layout's specification and the guarded document.
     ensures finished { IfOk result (Finishes request.now input.items (S.told sink.old) (S.told sink.new)) }
-    // A fault names the first check that fails.
-    ensures refused { IfErr result (RefusesRequest request.now input.items) }
-    // After a fault before the run nothing was written, and after one in it as much as its error says.
-    ensures written { IfErr result (LeavesWritten request.now input.items (S.told sink.old) (S.told sink.new)) }
-    ensures steady { OnOk result (S.failures sink.new ≡ S.failures sink.old) }
-    ensures failed { IfErr result (Failed (S.failures sink.old) (S.failures sink.new)) }
+    // It was carried out and no write failed; or a fault was told before the run, and nothing was written; or the fault
+    // is the run's, which names the first check that fails, or says after how many bytes memory ran out or a write failed.
+    ensures ended { Ends request.now input.items (S.told sink.old) (S.told sink.new)
+        (S.failures sink.old) (S.failures sink.new) result }
 {
     let task = match prepare(alloc, request, input) {
         Ok(task) => task,
         Err(fault) => return Err(fault),
     };
-    match run_task(rt, alloc, &task, sink) {
-        Ok(report) => Ok(Finished {
-            report,
-            page: task.options.paper,
-            origin: task.origin,
-        }),
-        Err(error) => Err(Fault::Run(error)),
-    }
+    let report = match run_task(rt, alloc, &task, sink) {
+        Ok(report) => report,
+        Err(error) => return Err(Fault::Run(error)),
+    };
+    Ok(Finished {
+        report,
+        page: task.options.paper,
+        origin: task.origin,
+    })
 }
 
 /// Imposes a task.

@@ -1,5 +1,6 @@
 -- Reading ranges off a text, from the left.
 use Rattle.std.specs.Prelude.{◌≡◌, ℕ, suc, min, if◌then◌else◌, List, length, map, Option, Some, None}
+use Rattle.profile.specs.Bytes.{comma, minus_sign}
 use Rattle.profile.specs.Numbers.{number_of}
 use Rattle.lengths.specs.Reading.{least_large, digits, past_digits, is_empty}
 use Rattle.pagespec.specs.Reading.{◌>>=◌, byte_at, joined_at, whole}
@@ -19,10 +20,10 @@ range_from p (Some rest) text = if is_empty (digits rest) then (From p, rest)
 -- the range at the front, and what stands behind it
 unfoldable pub range_at : List ℕ → Option (Range × List ℕ)
 range_at text = if is_empty (digits text) then None
-    else Some (range_from (number_of (digits text)) (byte_at 45 (past_digits text)) (past_digits text))
+    else Some (range_from (number_of (digits text)) (byte_at minus_sign (past_digits text)) (past_digits text))
 
 abbrev pub row_at : List ℕ → Option (List Range × List ℕ)
-row_at text = joined_at 44 range_at (suc (length text)) text
+row_at text = joined_at comma range_at (suc (length text)) text
 
 -- the ranges that a text stands for
 abbrev pub ranges_at : List ℕ → Option (List Range)
