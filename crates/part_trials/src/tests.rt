@@ -1,4 +1,5 @@
 //! Worked examples, each public call once, and threads beside each other.
+mod ended_tables;
 mod shelves;
 mod tables;
 mod texts;

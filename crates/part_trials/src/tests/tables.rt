@@ -14,6 +14,9 @@ use std::test::Fail;
 use std::thread;
 use std::thread::Threads;
 
+// A look that shows all of 64 slots, or groups, as missing.
+const ALL: u64 = 18_446_744_073_709_551_615;
+
 // The calls of a table, each None if its numbers are out of bounds, the slot is blank, its page has no index, the sheet
 // isn't wide, or a slot of the group to be closed is missing.
 trait Calls {
@@ -139,7 +142,7 @@ fn close_checked(
 }
 
 // Publishes the page of a slot, if it has one, and marks the slot.
-fn bring_one(
+pub(super) fn bring_one(
     table: &GatherTable,
     plan: &Plan,
     seat: &mut Seat,
@@ -303,14 +306,14 @@ impl<'t, 's> Calls for Caller<'t, 's> {
     }
 }
 
-fn spec_of<R: Abort>(rt: &R, alloc: Global, text: &str) -> Spec {
+pub(super) fn spec_of<R: Abort>(rt: &R, alloc: Global, text: &str) -> Spec {
     let Ok(spec) = read_spec(alloc, text) else {
         panic!(rt; "a specification is refused")
     };
     spec
 }
 
-fn plan_of<'s, R: Abort>(rt: &R, alloc: Global, spec: &'s Spec, pages: u32) -> Plan<'s>
+pub(super) fn plan_of<'s, R: Abort>(rt: &R, alloc: Global, spec: &'s Spec, pages: u32) -> Plan<'s>
     ensures { result.pages ≡ pages }
 {
     let Ok(plan) = Plan::new(alloc, spec, pages) else {
@@ -320,7 +323,7 @@ fn plan_of<'s, R: Abort>(rt: &R, alloc: Global, spec: &'s Spec, pages: u32) -> P
 }
 
 // A group of items that are all the same.
-fn same_items(alloc: Global, item: &str, count: u32) -> Result<String, AllocError> {
+pub(super) fn same_items(alloc: Global, item: &str, count: u32) -> Result<String, AllocError> {
     let mut text = String::new(alloc);
     for at in 0..count {
         if at > 0 {
@@ -375,6 +378,98 @@ fn brings_a_page_to_65_slots<R: Abort, C: Calls>(rt: &R, table: &mut C) {
     assert_eq!(rt; table.mark(0, 64), Some(Reply::Repeated));
 }
 
+// Marks the slots of a group of the first sheet one after the other: the last one fills it. `missing` is what a look at
+// the group shows if no slot is marked.
+fn fills_group<R: Abort, C: Calls>(rt: &R, table: &mut C, group: u8, slots: u16, missing: u64) {
+    let first = 64 * u16::from(group);
+    let last = first.saturating_add(slots.saturating_sub(1));
+    assert_eq!(rt; table.look_group(0, group), Some(missing), "group {group}");
+    for slot in first..last {
+        assert_eq!(rt; table.mark(0, slot), Some(Reply::Fresh), "slot {slot}");
+    }
+    let highest = 1u64 << slots.saturating_sub(1).min(63);
+    assert_eq!(rt; table.look_group(0, group), Some(highest), "group {group}");
+    assert_eq!(rt; table.close_group(0, group), None, "group {group}");
+    assert_eq!(rt;
+        table.mark(0, last),
+        Some(Reply::Fills(group)),
+        "slot {last}"
+    );
+    assert_eq!(rt; table.look_group(0, group), Some(0), "group {group}");
+    assert_eq!(rt; table.mark(0, last), Some(Reply::Repeated), "slot {last}");
+}
+
+// Closes a group of the first sheet, which is full. `left` is what a look at the sheet shows then.
+fn closes_group<R: Abort, C: Calls>(rt: &R, table: &mut C, group: u8, closing: Closing, left: u64) {
+    assert_eq!(rt; table.close_group(0, group), Some(closing), "group {group}");
+    assert_eq!(rt; table.look(0), Some(left), "group {group}");
+    assert_eq!(rt;
+        table.close_group(0, group),
+        Some(Closing::Again),
+        "group {group}"
+    );
+}
+
+// A sheet of 64 slots has no groups: its last mark completes it.
+fn brings_a_page_to_64_slots<R: Abort, C: Calls>(rt: &R, table: &mut C) {
+    assert_eq!(rt; table.look(0), Some(ALL));
+    assert_eq!(rt; table.look_group(0, 0), None);
+    assert_eq!(rt; table.publish(0, 0), Some(Published::Stored));
+    for slot in 0..63 {
+        assert_eq!(rt; table.mark(0, slot), Some(Reply::Fresh), "slot {slot}");
+    }
+    assert_eq!(rt; table.look(0), Some(1 << 63));
+    assert_eq!(rt; table.mark(0, 63), Some(Reply::Completing));
+    assert_eq!(rt; table.look(0), Some(0));
+    assert_eq!(rt; table.close_group(0, 0), None);
+    assert_eq!(rt; table.mark(0, 64), None);
+}
+
+// 128 slots are two whole groups. They are filled and closed from the last one on.
+fn brings_a_page_to_128_slots<R: Abort, C: Calls>(rt: &R, table: &mut C) {
+    assert_eq!(rt; table.look(0), Some(3));
+    assert_eq!(rt; table.look_group(0, 2), None);
+    assert_eq!(rt; table.publish(0, 0), Some(Published::Stored));
+    fills_group(rt, table, 1, 64, ALL);
+    closes_group(rt, table, 1, Closing::Closed, 1);
+    fills_group(rt, table, 0, 64, ALL);
+    assert_eq!(rt; table.look(0), Some(1));
+    closes_group(rt, table, 0, Closing::Completing, 0);
+    assert_eq!(rt; table.mark(0, 128), None);
+}
+
+// 129 slots are two whole groups and one of a single slot. All are filled before the first is closed.
+fn brings_a_page_to_129_slots<R: Abort, C: Calls>(rt: &R, table: &mut C) {
+    assert_eq!(rt; table.look(0), Some(7));
+    assert_eq!(rt; table.look_group(0, 3), None);
+    assert_eq!(rt; table.publish(0, 0), Some(Published::Stored));
+    fills_group(rt, table, 0, 64, ALL);
+    fills_group(rt, table, 2, 1, 1);
+    fills_group(rt, table, 1, 64, ALL);
+    assert_eq!(rt; table.look(0), Some(7));
+    closes_group(rt, table, 1, Closing::Closed, 5);
+    closes_group(rt, table, 2, Closing::Closed, 1);
+    closes_group(rt, table, 0, Closing::Completing, 0);
+    assert_eq!(rt; table.mark(0, 128), Some(Reply::Repeated));
+    assert_eq!(rt; table.mark(0, 129), None);
+}
+
+// 4,095 slots are 63 whole groups and one of 63 slots.
+fn brings_a_page_to_4095_slots<R: Abort, C: Calls>(rt: &R, table: &mut C) {
+    assert_eq!(rt; table.look(0), Some(ALL));
+    assert_eq!(rt; table.publish(0, 0), Some(Published::Stored));
+    let mut left = ALL;
+    for group in 0..63u8 {
+        fills_group(rt, table, group, 64, ALL);
+        left &= !(1u64 << group);
+        closes_group(rt, table, group, Closing::Closed, left);
+    }
+    assert_eq!(rt; left, 1 << 63);
+    fills_group(rt, table, 63, 63, ALL >> 1);
+    closes_group(rt, table, 63, Closing::Completing, 0);
+    assert_eq!(rt; table.mark(0, 4_095), None);
+}
+
 // One sheet with 64 blank slots and then a page.
 fn brings_a_page_behind_a_blank_group<R: Abort, C: Calls>(rt: &R, table: &mut C) {
     assert_eq!(rt; table.look(0), Some(2));
@@ -385,8 +480,8 @@ fn brings_a_page_behind_a_blank_group<R: Abort, C: Calls>(rt: &R, table: &mut C)
 
 // One sheet with a page in each of its 4,096 slots.
 fn shows_64_groups<R: Abort, C: Calls>(rt: &R, table: &mut C) {
-    assert_eq!(rt; table.look(0), Some(18_446_744_073_709_551_615));
-    assert_eq!(rt; table.look_group(0, 63), Some(18_446_744_073_709_551_615));
+    assert_eq!(rt; table.look(0), Some(ALL));
+    assert_eq!(rt; table.look_group(0, 63), Some(ALL));
     assert_eq!(rt; table.look_group(0, 64), None);
 }
 
@@ -426,23 +521,58 @@ fn a_blank_slot_counts_as_marked(rt: HostRuntime) -> Result<(), Fail> {
     Ok(())
 }
 
+// The calls of one caller on a sheet with a page in each of so many slots.
+fn brings_a_page_to<R: Abort, C: Calls>(rt: &R, table: &mut C, slots: u32) {
+    match slots {
+        64 => brings_a_page_to_64_slots(rt, table),
+        65 => brings_a_page_to_65_slots(rt, table),
+        128 => brings_a_page_to_128_slots(rt, table),
+        129 => brings_a_page_to_129_slots(rt, table),
+        4_095 => brings_a_page_to_4095_slots(rt, table),
+        _ => panic!(rt; "no calls for {slots} slots"),
+    }
+}
+
+// Both tables answer these calls as they should.
+fn assert_brought<R: Abort>(rt: &R, alloc: Global, slots: u32) -> Result<(), Fail> {
+    let text = same_items(alloc, "0", slots)?;
+    let spec = spec_of(rt, alloc, text.as_str());
+    let plan = plan_of(rt, alloc, &spec, 1);
+    let table = PlainTable::new(alloc, &plan)?;
+    brings_a_page_to(rt, &mut OneThread { table, plan: &plan }, slots);
+    let (table, seat) = GatherTable::new(alloc, &plan)?;
+    let mut caller = Caller {
+        table: &table,
+        plan: &plan,
+        seat,
+    };
+    brings_a_page_to(rt, &mut caller, slots);
+    Ok(())
+}
+
+#[test]
+fn a_sheet_of_64_slots_is_completed_by_a_mark(rt: HostRuntime) -> Result<(), Fail> {
+    assert_brought(&rt, rt.alloc(), 64)
+}
+
 #[test]
 fn a_wide_sheet_is_completed_by_closings(rt: HostRuntime) -> Result<(), Fail> {
-    let text = same_items(rt.alloc(), "0", 65)?;
-    let spec = spec_of(&rt, rt.alloc(), text.as_str());
-    let plan = plan_of(&rt, rt.alloc(), &spec, 1);
-    let table = PlainTable::new(rt.alloc(), &plan)?;
-    brings_a_page_to_65_slots(&rt, &mut OneThread { table, plan: &plan });
-    let (table, seat) = GatherTable::new(rt.alloc(), &plan)?;
-    brings_a_page_to_65_slots(
-        &rt,
-        &mut Caller {
-            table: &table,
-            plan: &plan,
-            seat,
-        },
-    );
-    Ok(())
+    assert_brought(&rt, rt.alloc(), 65)
+}
+
+#[test]
+fn two_whole_groups_are_filled_and_closed(rt: HostRuntime) -> Result<(), Fail> {
+    assert_brought(&rt, rt.alloc(), 128)
+}
+
+#[test]
+fn a_third_group_has_a_slot(rt: HostRuntime) -> Result<(), Fail> {
+    assert_brought(&rt, rt.alloc(), 129)
+}
+
+#[test]
+fn a_last_group_has_63_slots(rt: HostRuntime) -> Result<(), Fail> {
+    assert_brought(&rt, rt.alloc(), 4_095)
 }
 
 #[test]
