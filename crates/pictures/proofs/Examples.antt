@@ -20,3 +20,4 @@ pub mod PageEnds
 pub mod PageTexts
 pub mod Setups
 pub mod PagesTogether
+pub mod Independence

@@ -197,9 +197,13 @@ units_of (Ok vs) us e = (
   same_ok (nested vs) us (refused _ NoPages (Ok (nested vs)) us (refused _ InputTooManyPages (refuse_if _ NoPages (Ok (nested vs))) us e)),
 )
 
+-- the units of an accepted document are those of its text
+pub cut_of : (text : List ℕ) (us : List NestedUnit) → document_of text ≡ Ok us → (vs : List TextUnit) × (cut text ≡ Ok vs) × (nested vs ≡ us)
+cut_of text us e = units_of (cut text) us (refused _ NotPostScript _ us (refused _ InputTooLong _ us e))
+
 pub document_lines : (text : List ℕ) (us : List NestedUnit) → document_of text ≡ Ok us → AreLines us
 document_lines text us e =
-    let z = units_of (cut text) us (refused _ NotPostScript _ us (refused _ InputTooLong _ us e)) in
+    let z = cut_of text us e in
     subst AreLines z.2 (nested_lines 0 text z.0 ((cut_is_units text z.0).0 z.1))
 
 count_same : (sheets : ℕ) (ks : List NestedUnit) → first_is_complete ks ≡ true → scan_from Between (with_count sheets ks) ≡ scan_from Between (bytes_of ks)

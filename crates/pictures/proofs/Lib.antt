@@ -18,4 +18,6 @@ pub mod Shifted
 pub mod Names
 pub mod Unaware
 pub mod Own
+pub mod EndsOnce
+pub mod DocumentRun
 pub mod Examples

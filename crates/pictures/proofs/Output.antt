@@ -51,7 +51,7 @@ count_line n =
     refl
 
 -- a complete text is read to its end
-complete_read : (text : List ℕ) → IsComplete text → Reads Between text (tokens text) Between
+pub complete_read : (text : List ℕ) → IsComplete text → Reads Between text (tokens text) Between
 complete_read text e =
     let x : List Token × Reading = scan_from Between text in
     ap (λ r. (x.0, r)) e ∙ ap (λ ts. (ts, Between)) (sym (append-nil x.0) ∙ ap (λ r. x.0 ++ ended r) (sym e))

@@ -8,6 +8,7 @@ use Rattle.pictures.specs.Dictionaries.{Entry, meaning, system, entry_of, or, ha
 use Rattle.pictures.specs.Operators.{Work, taken, computed, controlled}
 use Rattle.pictures.specs.Machine.{State, Graphics, Snapshot, Painting, body_of, opened, drawn, worked, running, popped, save_of, back, restored, perform, done, meant, act, step_on, step, and_then, may_go_back, initial, shipped, Runs}
 use Rattle.pictures.specs.Sheets.{run_of, alone, entries_before, PaintsAlone}
+use Rattle.pictures.specs.DocumentRun.{PrintsSheet}
 use Rattle.pictures.specs.Unaware.{put_names, none_among, asked_on, unaware_step, unaware_steps, absent, is_in, IsPlainGround, PrintsItself, OwnPicture, PagePrints, SheetsShowThePages}
 use Rattle.profile.specs.Sheets.{Slot}
 use Rattle.profile.specs.Signatures.{sheets_in}
@@ -180,13 +181,16 @@ no_shots : (ess : List (List Entry)) → up_shots ess [] ≡ []
 no_shots [] = refl
 no_shots (es ∷ ess) = refl
 
-prints : (s : State) (body : List Token) (picture : List Painting) → IsPlainGround s → PrintsItself s body picture
-    → (t : State) × Runs false (run_of body s) t × (t.sheets ≡ picture ∷ s.sheets)
+pub prints : (s : State) (body : List Token) (picture : List Painting) → IsPlainGround s → PrintsItself s body picture → PrintsSheet s body picture
 prints s body picture p q =
     let t : State = shipped (record q.end { left = [] }) in (
       t,
-      runs_join false (run_of body s) q.end t (q.count, all_steps_free q.count (run_of body s) q.end q.run)
-          (runs_one false q.end t t (ap (λ l. step_on false l q.end) q.last ∙ ap (λ x. meant false x (record q.end { left = [] })) (absent_means q.end.work.dictionaries q.end.work.entries (codes "showpage") q.showpage)) (runs_none false t)),
+      (
+        runs_join false (run_of body s) q.end t (q.count, all_steps_free q.count (run_of body s) q.end q.run)
+            (runs_one false q.end t t (ap (λ l. step_on false l q.end) q.last ∙ ap (λ x. meant false x (record q.end { left = [] })) (absent_means q.end.work.dictionaries q.end.work.entries (codes "showpage") q.showpage)) (runs_none false t)),
+        refl,
+      ),
+      refl,
       ap₂ (λ x xs. x ∷ xs) q.picture_is (keeps_sheets q.count (run_of body s) q.end q.run),
     )
 

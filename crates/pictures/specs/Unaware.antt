@@ -7,11 +7,12 @@ use Rattle.profile.specs.Run.{document_of}
 use Rattle.profile.specs.Output.{Frame}
 use Rattle.pictures.specs.Scanner.{tokens, IsComplete}
 use Rattle.pictures.specs.Documents.{page_of, PreambleRuns, OnSheets, all_sheets, IsPrinted}
+use Rattle.pictures.specs.DocumentRun.{PrintsSheet, OnPages, PagesAreIndependent, DocumentPrints}
 use Rattle.pictures.specs.Kept.{page_comments_apart, preamble_comments_apart}
 use Rattle.pictures.specs.Objects.{Token, Name, Literal, Bound, Object, Plain, Procedure, Saved, Operator, Computes}
 use Rattle.pictures.specs.Objects.{Load, Known, Bind}
 use Rattle.pictures.specs.Dictionaries.{Entry, userdict, meaning, system, entry_of, has}
-use Rattle.pictures.specs.Machine.{State, Painting, step, and_then, Runs}
+use Rattle.pictures.specs.Machine.{State, Painting, step, and_then}
 use Rattle.pictures.specs.Sheets.{among, run_of, IsGround, PaintsAlone}
 
 -- the names that the sheet's text puts
@@ -103,7 +104,7 @@ pub record PrintsItself (s : State) (body : List Token) (picture : List Painting
 abbrev pub OwnPicture : Type 0
 OwnPicture =
     (s : State) (body : List Token) (picture : List Painting) → IsPlainGround s → PrintsItself s body picture
-    → ((t : State) × Runs false (run_of body s) t × (t.sheets ≡ picture ∷ s.sheets)) × PaintsAlone s body picture
+    → PrintsSheet s body picture × PaintsAlone s body picture
 
 -- the page, as the document has it, prints this of itself; its text ends between tokens, and so does what stands before
 -- each of its lines that is dropped
@@ -122,3 +123,14 @@ SheetsShowThePages =
     → preamble_comments_apart us ≡ true → PreambleRuns (bytes_of (preamble us)) s → IsPlainGround s
     → OnSheets (λ p. PagePrints us s p (picture p)) (all_sheets sides spec us)
     → IsPrinted frame sides spec us picture s
+
+-- Of an accepted document whose pages are independent: the document prints a picture for each page, and its output shows
+-- these, sheet by sheet, placed: a law
+abbrev pub SheetsShowTheDocument : Type 0
+SheetsShowTheDocument =
+    (frame : Frame) (sides : Option ℕ) (spec : Spec) (text : List ℕ) (us : List NestedUnit) (picture : ℕ → List Painting)
+    (s : State)
+    → document_of text ≡ Ok us
+    → preamble_comments_apart us ≡ true → PreambleRuns (bytes_of (preamble us)) s → IsPlainGround s
+    → OnPages (λ p. PagePrints us s p (picture p)) us → PagesAreIndependent us s
+    → DocumentPrints text us picture × IsPrinted frame sides spec us picture s

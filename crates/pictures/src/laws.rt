@@ -1,8 +1,9 @@
 //! Laws of the machine and of what it paints. The functions do nothing.
+ghost use Rattle.pictures.specs.DocumentRun.{PagesArePrinted};
 ghost use Rattle.pictures.specs.Documents.{OpeningIsCut, OutputIsPrinted};
 ghost use Rattle.pictures.specs.Kept.{KeptRunsAlike, PreambleRunsAlike};
 ghost use Rattle.pictures.specs.Readings.{PointsArePut, ReadingFollows};
-ghost use Rattle.pictures.specs.Unaware.{OwnPicture, SheetsShowThePages};
+ghost use Rattle.pictures.specs.Unaware.{OwnPicture, SheetsShowTheDocument, SheetsShowThePages};
 ghost use Rattle.pictures.specs.Scanner.{TokensJoin};
 ghost use Rattle.pictures.specs.Pictures.{PageIsPlaced, PlacesCompose, PlacingCommutes, SheetsArePrinted};
 
@@ -54,6 +55,16 @@ pub fn own_picture()
 /// A machine prints of an output, sheet by sheet, what the document's own pages print, placed.
 pub fn sheets_show_the_pages()
     ensures { SheetsShowThePages }
+{}
+
+/// A document prints, page after page, what each page prints behind the preamble, if its pages are independent.
+pub fn pages_are_printed()
+    ensures { PagesArePrinted }
+{}
+
+/// And a machine prints of an output, sheet by sheet, what the document has printed, placed.
+pub fn sheets_show_the_document()
+    ensures { SheetsShowTheDocument }
 {}
 
 /// A picture that is placed, and placed again, is placed once, in the one place within the other.

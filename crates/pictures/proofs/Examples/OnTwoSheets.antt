@@ -16,7 +16,7 @@ use Rattle.pictures.proofs.Examples.TwoUp.{lines}
 use Rattle.pictures.proofs.Examples.ByHand.{says, matrix, path, paper, edge, clip_to, in_order, prints}
 use Rattle.pictures.proofs.Examples.Applied.{units, behind, plain_ground, page_prints}
 
-abbrev document : List ℕ
+abbrev pub document : List ℕ
 document = lines (
     codes "%!PS-Adobe-3.0"
     ∷ codes "%%EndComments"
@@ -30,7 +30,7 @@ document = lines (
     ∷ [])
 
 -- `0,0`
-abbrev twice : Spec
+abbrev pub twice : Spec
 twice = settled (written 1 ((item false 0 [] ∷ []) ∷ (item false 0 [] ∷ []) ∷ []))
 
 abbrev place : Call
@@ -65,35 +65,35 @@ each_page_twice = refl
 
 -- The same by the law.
 
-abbrev us : List NestedUnit
+abbrev pub us : List NestedUnit
 us = units document
 
-abbrev ready : State
+abbrev pub ready : State
 ready = behind [] []
 
 ground : IsGround ready
 ground = record { names = λ name h. refl; operands = refl; dictionaries = refl; graphics = refl }
 
-plain : IsPlainGround ready
+pub plain : IsPlainGround ready
 plain = plain_ground [] [] ground refl refl refl
 
-preamble_runs : PreambleRuns (bytes_of (preamble us)) ready
+pub preamble_runs : PreambleRuns (bytes_of (preamble us)) ready
 unfolding digits
 preamble_runs = (refl, (0, refl), refl, refl, refl, ground)
 
 -- what each page prints of itself
-abbrev picture : ℕ → List Painting
+abbrev pub picture : ℕ → List Painting
 picture zero = line_in [] [] gray (codes "0 40 rlineto") ∷ []
 picture (suc p) = line_in [] [] [] (codes "40 0 rlineto") ∷ []
 
 abbrev set_to : List Call → Graphics
 set_to settings = record { chain = []; path = []; clip = []; settings = settings }
 
-first : PagePrints us ready 0 (picture 0)
+pub first : PagePrints us ready 0 (picture 0)
 unfolding digits
 first = page_prints us ready 0 9 (set_to gray) (picture 0) plain refl refl refl refl refl refl
 
-second : PagePrints us ready 1 (picture 1)
+pub second : PagePrints us ready 1 (picture 1)
 unfolding digits
 second = page_prints us ready 1 7 (set_to []) (picture 1) plain refl refl refl refl refl refl
 

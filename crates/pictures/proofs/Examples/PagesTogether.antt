@@ -14,7 +14,7 @@ abbrev triangle : List ℕ
 triangle = codes "0 0 moveto 9 0 lineto 9 9 lineto paint"
 
 -- the second page uses a procedure that the first one defines: the machine stops there
-abbrev defines_and_uses : List (List ℕ)
+abbrev pub defines_and_uses : List (List ℕ)
 defines_and_uses = (codes "/paint {fill} def " ++ triangle) ∷ triangle ∷ []
 
 uses_it : own [] defines_and_uses ≡ Some ((not_placed ∷ []) ∷ (not_placed ∷ []) ∷ [])

@@ -1,0 +1,187 @@
+-- What a document prints, page after page.
+use Rattle.std.specs.Prelude.{Option, Some, None, Ok, flat_map, slice_index_or, if◌then◌else◌, nat_lt}
+use Rattle.std.proofs.Common.{◌≡◌, ℕ, zero, suc, ◌+◌, ◌*◌, ◌<◌, ◌≤◌, refl, ap, ◌∙◌, sym, subst, Bool, true, false, List, [], ◌∷◌, ◌++◌, map, append_assoc, append-nil, length, take, arith}
+use Rattle.std.proofs.lemmas.Grind.{flat_map-append}
+use Rattle.std.proofs.lemmas.List.{take_more, take_all}
+use Rattle.std.proofs.lemmas.Bool.{ltb-true}
+use Rattle.profile.specs.Specification.{Item, Spec}
+use Rattle.std.specs.List.{range_with_len}
+use Rattle.profile.specs.Sheets.{Slot, blocks, place, page_at}
+use Rattle.profile.specs.Signatures.{signature_row, page_in_signature, row_len, entry_in, sheets_in}
+use Rattle.profile.specs.Parts.{NestedUnit, preamble, pages, trailer, bytes_of}
+use Rattle.profile.specs.Run.{document_of}
+use Rattle.profile.proofs.Whole.{parts_make_text}
+use Rattle.pictures.specs.Objects.{Token}
+use Rattle.pictures.specs.Machine.{State, Painting, Runs}
+use Rattle.pictures.specs.Scanner.{Between, ended, tokens, IsComplete}
+use Rattle.pictures.specs.Sheets.{run_of}
+use Rattle.pictures.specs.Documents.{started, page_of, OnSlot, OnSlots, OnSheets}
+use Rattle.pictures.specs.DocumentRun.{ComesTo, PrintsSheet, pages_before, PagesAreIndependent, OnPages, page_pictures, PagesArePrinted}
+use Rattle.pictures.specs.Unaware.{PagePrints, SheetsShowTheDocument}
+use Rattle.pictures.proofs.Runs.{runs_join, runs_none}
+use Rattle.pictures.proofs.More.{runs_with_more, with_more}
+use Rattle.pictures.proofs.Scanned.{tokens_join}
+use Rattle.pictures.proofs.NumberTokens.{Reads, reads_join}
+use Rattle.pictures.proofs.Output.{complete_read}
+use Rattle.pictures.proofs.Kept.{cut_of}
+use Rattle.pictures.proofs.Own.{prints, sheets_show_the_pages}
+
+-- Runs to an end, one behind the other.
+
+pub come_none : (s : State) → ComesTo s [] (run_of [] s)
+come_none s = (runs_none false (run_of [] s), refl)
+
+come_further : (s u t : State) (ts us : List Token) → ComesTo s ts u → Runs false (run_of us u) t → Runs false (run_of (ts ++ us) s) t
+come_further s u t ts us (run, left) more =
+    runs_join false (run_of (ts ++ us) s) (with_more us u) t (runs_with_more us (run_of ts s) u run)
+    (subst (λ l. Runs false (record u { left = l ++ us }) t) (sym left) more)
+
+-- what has been printed when the document has come to a page
+record Stands (us : List NestedUnit) (s : State) (picture : ℕ → List Painting) (p : ℕ) : Type 0 where
+  state : State
+  comes : ComesTo s (pages_before us p) state
+  painted : state.painted ≡ []
+  sheets : state.sheets ≡ page_pictures picture p
+
+one_more : (us : List NestedUnit) (p : ℕ) → p < length (pages us) → pages_before us (suc p) ≡ pages_before us p ++ tokens (page_of us p)
+one_more us p h =
+    let next : suc p ≡ p + 1 = omega arith in
+    ap (λ n. pages_before us n) next ∙ ap (flat_map tokens) (take_more (pages us) p [] h) ∙ flat_map-append tokens (take p (pages us)) (page_of us p ∷ [])
+    ∙ ap (λ ts. pages_before us p ++ ts) (append-nil (tokens (page_of us p)))
+
+next_stands : (us : List NestedUnit) (s : State) (picture : ℕ → List Painting) (p : ℕ) → p < length (pages us)
+    → (x : Stands us s picture p) → PrintsSheet x.state (tokens (page_of us p)) (picture p) → Stands us s picture (suc p)
+next_stands us s picture p h x (t, (run, left), painted, sheets) = record {
+  state = t;
+  comes = (
+    subst (λ ts. Runs false (run_of ts s) t) (sym (one_more us p h))
+        (come_further s x.state t (pages_before us p) (tokens (page_of us p)) x.comes run),
+    left,
+  );
+  painted = painted;
+  sheets = sheets ∙ ap (λ xs. picture p ∷ xs) x.sheets;
+}
+
+all_stand : (us : List NestedUnit) (s : State) (picture : ℕ → List Painting) → s.painted ≡ [] → s.sheets ≡ []
+    → OnPages (λ p. IsComplete (page_of us p) × PrintsSheet s (tokens (page_of us p)) (picture p)) us → PagesAreIndependent us s
+    → (p : ℕ) → p ≤ length (pages us) → Stands us s picture p
+all_stand us s picture e f prints same zero h = record { state = run_of [] s; comes = come_none s; painted = e; sheets = f }
+all_stand us s picture e f prints same (suc p) h =
+    let less : p < length (pages us) = omega (arith, h) in
+    let x : Stands us s picture p = all_stand us s picture e f prints same p (omega (arith, h)) in
+    next_stands us s picture p less x (same p x.state (picture p) less x.comes (prints p less).1)
+
+-- The document's tokens.
+
+pages_read : (ps : List (List ℕ)) → ((p : ℕ) → p < length ps → IsComplete (slice_index_or ps p []))
+    → Reads Between (flat_map (λ page. page) ps) (flat_map tokens ps) Between
+pages_read [] h = refl
+pages_read (page ∷ ps) h =
+    reads_join Between Between Between page (flat_map (λ page. page) ps) (tokens page) (flat_map tokens ps)
+    (complete_read page (h zero (omega arith)))
+    (pages_read ps (λ p l. h (suc p) (omega (arith, l))))
+
+whole : (text : List ℕ) (us : List NestedUnit) → document_of text ≡ Ok us
+    → bytes_of (preamble us) ++ flat_map (λ page. page) (pages us) ++ bytes_of (trailer us) ≡ text
+whole text us e =
+    let z = cut_of text us e in
+    subst (λ vs. bytes_of (preamble vs) ++ flat_map (λ page. page) (pages vs) ++ bytes_of (trailer vs) ≡ text) z.2
+    (parts_make_text text z.0 z.1)
+
+document_tokens : (text : List ℕ) (us : List NestedUnit) → document_of text ≡ Ok us → IsComplete (bytes_of (preamble us))
+    → ((p : ℕ) → p < length (pages us) → IsComplete (page_of us p))
+    → tokens text ≡ tokens (bytes_of (preamble us)) ++ (flat_map tokens (pages us) ++ tokens (bytes_of (trailer us)))
+document_tokens text us e complete h =
+    let first : List ℕ = bytes_of (preamble us) in
+    let middle : List ℕ = flat_map (λ page. page) (pages us) in
+    let last : List ℕ = bytes_of (trailer us) in
+    let ts : List Token = tokens first ++ flat_map tokens (pages us) in
+    let both : Reads Between (first ++ middle) ts Between =
+    reads_join Between Between Between first middle (tokens first) (flat_map tokens (pages us)) (complete_read first complete) (pages_read (pages us) h) in
+    ap tokens (sym (whole text us e)) ∙ tokens_join (first ++ middle) last (ap (λ x. x.1) both)
+    ∙ ap (λ us. us ++ tokens last) (ap (λ x. x.0 ++ ended x.1) both ∙ append-nil ts)
+    ∙ append_assoc (tokens first) (flat_map tokens (pages us)) (tokens last)
+
+pub pages_are_printed : PagesArePrinted
+pages_are_printed text us picture s e (complete, come, painted, sheets) h same =
+    let n : ℕ = length (pages us) in
+    let last : List Token = tokens (bytes_of (trailer us)) in
+    let x : Stands us s picture n = all_stand us s picture painted sheets h same n (omega arith) in
+    let end : State = with_more last x.state in
+    let behind : Runs false (run_of (flat_map tokens (pages us) ++ last) s) end =
+    subst (λ ps. Runs false (run_of (flat_map tokens ps ++ last) s) end) (take_all n (pages us) (omega arith))
+    (runs_with_more last (run_of (pages_before us n) s) x.state x.comes.0) in (
+      end,
+      subst (λ ts. Runs false (started ts) end) (sym (document_tokens text us e complete (λ p l. (h p l).0)))
+          (come_further (started []) s end (tokens (bytes_of (preamble us))) (flat_map tokens (pages us) ++ last) come behind),
+      ap (λ l. l ++ last) x.comes.1,
+      x.painted,
+      x.sheets,
+    )
+
+-- Only pages of the document stand on sheets.
+
+page_on : (P : ℕ → Type 0) (n place : ℕ) (b : Bool) → ((p : ℕ) → p < n → P p) → (b ≡ true → place < n) → OnSlot P (if b then Some place else None)
+page_on P n place true h k = h place (k refl)
+page_on P n place false h k = tt
+
+page_at_on : (P : ℕ → Type 0) (n place : ℕ) → ((p : ℕ) → p < n → P p) → OnSlot P (page_at n place)
+page_at_on P n place h = page_on P n place (nat_lt place n) h (λ e. ltb-true place n e)
+
+abbrev AllOn : (ℕ → Type 0) → List (Option ℕ) → Type 0
+AllOn P [] = Unit {0}
+AllOn P (x ∷ xs) = OnSlot P x × AllOn P xs
+
+all_on_join : (P : ℕ → Type 0) (xs ys : List (Option ℕ)) → AllOn P xs → AllOn P ys → AllOn P (xs ++ ys)
+all_on_join P [] ys h k = k
+all_on_join P (x ∷ xs) ys h k = (h.0, all_on_join P xs ys h.1 k)
+
+all_on_map : {X : Type 0} (P : ℕ → Type 0) (f : X → Option ℕ) (xs : List X) → ((x : X) → OnSlot P (f x)) → AllOn P (map f xs)
+all_on_map P f [] h = tt
+all_on_map P f (x ∷ xs) h = (h x, all_on_map P f xs h)
+
+all_on_parts : {X : Type 0} (P : ℕ → Type 0) (f : X → List (Option ℕ)) (xs : List X) → ((x : X) → AllOn P (f x)) → AllOn P (flat_map f xs)
+all_on_parts P f [] h = tt
+all_on_parts P f (x ∷ xs) h = all_on_join P (f x) (flat_map f xs) (h x) (all_on_parts P f xs h)
+
+entry_of_row : (P : ℕ → Type 0) (row : List (Option ℕ)) (e : ℕ) → AllOn P row → OnSlot P (slice_index_or row e None)
+entry_of_row P [] e h = tt
+entry_of_row P (x ∷ row) zero h = h.0
+entry_of_row P (x ∷ row) (suc e) h = entry_of_row P row e h.1
+
+entry_on : (P : ℕ → Type 0) (sides : Option ℕ) (n e : ℕ) → ((p : ℕ) → p < n → P p) → OnSlot P (entry_in sides n e)
+entry_on P None n e h = page_at_on P n e h
+entry_on P (Some s) n e h =
+    entry_of_row P (signature_row s n) e
+    (all_on_parts P (λ b. map (λ i. page_at n (b * s + page_in_signature s i)) (range_with_len 0 s)) (range_with_len 0 (blocks s n))
+    (λ b. all_on_map P (λ i. page_at n (b * s + page_in_signature s i)) (range_with_len 0 s) (λ i. page_at_on P n (b * s + page_in_signature s i) h)))
+
+slots_on : (P : ℕ → Type 0) (f : Item → Slot) (items : List Item) → ((i : Item) → OnSlot P (f i).page) → OnSlots P (map f items)
+slots_on P f [] h = tt
+slots_on P f (i ∷ items) h = (h i, slots_on P f items h)
+
+sheets_on : {X : Type 0} (P : ℕ → Type 0) (f : X → List Slot) (xs : List X) → ((x : X) → OnSlots P (f x)) → OnSheets P (map f xs)
+sheets_on P f [] h = tt
+sheets_on P f (x ∷ xs) h = (h x, sheets_on P f xs h)
+
+sheets_join : (P : ℕ → Type 0) (xs ys : List (List Slot)) → OnSheets P xs → OnSheets P ys → OnSheets P (xs ++ ys)
+sheets_join P [] ys h k = k
+sheets_join P (x ∷ xs) ys h k = (h.0, sheets_join P xs ys h.1 k)
+
+blocks_on : {X : Type 0} (P : ℕ → Type 0) (f : X → List (List Slot)) (xs : List X) → ((x : X) → OnSheets P (f x)) → OnSheets P (flat_map f xs)
+blocks_on P f [] h = tt
+blocks_on P f (x ∷ xs) h = sheets_join P (f x) (flat_map f xs) (h x) (blocks_on P f xs h)
+
+pub on_all_sheets : (P : ℕ → Type 0) (sides : Option ℕ) (spec : Spec) (n : ℕ) → ((p : ℕ) → p < n → P p) → OnSheets P (sheets_in sides spec n)
+on_all_sheets P sides spec n h =
+    let slot : ℕ → Item → Slot = λ b i. record { page = entry_in sides n (place spec.modulo (row_len sides n) b i); item = i } in
+    blocks_on P (λ b. map (λ g. map (slot b) g) spec.groups) (range_with_len 0 (blocks spec.modulo (row_len sides n)))
+    (λ b. sheets_on P (λ g. map (slot b) g) spec.groups (λ g. slots_on P (slot b) g (λ i. entry_on P sides n (place spec.modulo (row_len sides n) b i) h)))
+
+pub sheets_show_the_document : SheetsShowTheDocument
+sheets_show_the_document frame sides spec text us picture s e apart (complete, run, left, painted, printed, ground) plain h same = (
+  pages_are_printed text us picture s e (complete, (run, left), painted, printed)
+      (λ p l. ((h p l).0, prints s (tokens (page_of us p)) (picture p) plain (h p l).2)) same,
+  sheets_show_the_pages frame sides spec text us picture s e apart (complete, run, left, painted, printed, ground) plain
+      (on_all_sheets (λ p. PagePrints us s p (picture p)) sides spec (length (pages us)) h),
+)
