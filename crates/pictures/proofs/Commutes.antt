@@ -6,7 +6,7 @@ use Rattle.pictures.specs.Objects.{Saved, Operator, Kind, Computes, Controls, Dr
 use Rattle.pictures.specs.Objects.{Effect, Segments, Transforms, Sets, Paints, PaintsBeside, Shows, Clips, Forgets}
 use Rattle.pictures.specs.Operators.{Work, taken, computed, controlled}
 use Rattle.pictures.specs.Dictionaries.{meaning, system}
-use Rattle.pictures.specs.Machine.{State, Graphics, Snapshot, keep, body_of, opened, drawn, worked, running, popped, save_of, back, restored, perform, done, meant, act, step_on, step, steps, and_then, may_go_back}
+use Rattle.pictures.specs.Machine.{State, Graphics, Snapshot, keep, body_of, opened, drawn, worked, running, popped, save_of, back, returned, restored, perform, done, meant, act, step_on, step, steps, and_then, may_go_back}
 use Rattle.pictures.specs.Placing.{Around, state_at, snapshot_at, graphics_at}
 use Rattle.pictures.specs.Pictures.{PlacingCommutes}
 use Rattle.pictures.proofs.Runs.{nothing}
@@ -89,13 +89,7 @@ goes_back a os None y s h = tt
 goes_back a os (Some (shot, shots)) y s h = goes (back_there shot shots)
   where
     back_there : (shot : Snapshot) (shots : List Snapshot) → Follows a (back os (Some (shot, shots)) s) (back os (Some (snapshot_at a.place shot, map (snapshot_at a.place) shots ++ a.saves)) (state_at a s))
-    back_there shot shots = goes_back_if a (may_go_back shot os s.work) (record s {
-      work = record s.work { operands = os; entries = shot.entries; made = shot.made };
-      level = shot.level;
-      graphics = shot.graphics;
-      stacked = shot.stacked;
-      saves = shots;
-    })
+    back_there shot shots = goes_back_if a (may_go_back shot os s.work) (returned os shot shots s)
 
     goes : Follows a (back os (Some (shot, shots)) s) (back os (Some (snapshot_at a.place shot, map (snapshot_at a.place) shots ++ a.saves)) (state_at a s)) → Follows a (back os (Some (shot, shots)) s) (back os y (state_at a s))
     goes f = subst (λ z. Follows a (back os (Some (shot, shots)) s) (back os z (state_at a s))) (sym h) f

@@ -21,3 +21,4 @@ pub mod PageTexts
 pub mod Setups
 pub mod PagesTogether
 pub mod Independence
+pub mod BehindShowpage

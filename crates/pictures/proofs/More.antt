@@ -6,7 +6,7 @@ use Rattle.pictures.specs.Objects.{Saved, Operator, Kind, Computes, Controls, Dr
 use Rattle.pictures.specs.Objects.{Effect}
 use Rattle.pictures.specs.Operators.{Work, taken, computed, controlled}
 use Rattle.pictures.specs.Dictionaries.{meaning, system}
-use Rattle.pictures.specs.Machine.{State, Graphics, Snapshot, body_of, opened, drawn, worked, running, popped, save_of, back, restored, perform, done, meant, act, step_on, step, steps, and_then, Runs, may_go_back}
+use Rattle.pictures.specs.Machine.{State, Graphics, Snapshot, body_of, opened, drawn, worked, running, popped, save_of, back, returned, restored, perform, done, meant, act, step_on, step, steps, and_then, Runs, may_go_back}
 use Rattle.pictures.proofs.Runs.{nothing}
 use Rattle.pictures.proofs.Commutes.{Extends, body_goes_on}
 
@@ -49,13 +49,7 @@ goes_back_if more false t = tt
 
 goes_back : (more : List Token) (os : List Object) (x : Option (Snapshot × List Snapshot)) (s : State) → Follows more (back os x s) (back os x (with_more more s))
 goes_back more os None s = tt
-goes_back more os (Some (shot, shots)) s = goes_back_if more (may_go_back shot os s.work) (record s {
-  work = record s.work { operands = os; entries = shot.entries; made = shot.made };
-  level = shot.level;
-  graphics = shot.graphics;
-  stacked = shot.stacked;
-  saves = shots;
-})
+goes_back more os (Some (shot, shots)) s = goes_back_if more (may_go_back shot os s.work) (returned os shot shots s)
 
 restores : (more : List Token) (os : List Object) (s : State) → Follows more (restored os s) (restored os (with_more more s))
 restores more (Saved level ∷ os) s = goes_back more os (save_of level s.saves) s

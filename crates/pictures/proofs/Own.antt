@@ -1,15 +1,15 @@
 -- What a page prints of itself is what it paints by itself.
-use Rattle.std.specs.Prelude.{Option, Some, None, Ok, if◌then◌else◌, codes, option_map, bytes_eq}
+use Rattle.std.specs.Prelude.{nat_lt, Option, Some, None, Ok, if◌then◌else◌, codes, option_map, bytes_eq}
 use Rattle.std.proofs.lemmas.Slice.Eq.{bytes_eq-Decides}
-use Rattle.std.proofs.Common.{◌≡◌, ℕ, zero, suc, refl, ap, ap₂, ◌∙◌, sym, subst, Bool, true, false, not, ◌&&◌, ◌||◌, ◌==◌, List, [], ◌∷◌, true≢false, eqb-true, length}
+use Rattle.std.proofs.Common.{◌≡◌, ℕ, zero, suc, refl, ap, ap₂, ◌∙◌, sym, subst, Bool, true, false, not, ◌&&◌, ◌||◌, ◌==◌, List, [], ◌∷◌, true≢false, eqb-true, length, ◌+◌, arith}
 use Rattle.pictures.specs.Objects.{Token, Name, Opens, Closes, Bound, Unknown, Object, Procedure, Saved, Operator, Kind, Effect}
 use Rattle.pictures.specs.Objects.{Computes, Controls, Draws, PushesGraphics, PopsGraphics, Saves, Restores, Ships, Resets}
 use Rattle.pictures.specs.Dictionaries.{Entry, meaning, system, entry_of, or, has}
 use Rattle.pictures.specs.Operators.{Work, taken, computed, controlled}
-use Rattle.pictures.specs.Machine.{State, Graphics, Snapshot, Painting, body_of, opened, drawn, worked, running, popped, save_of, back, restored, perform, done, meant, act, step_on, step, and_then, may_go_back, initial, shipped, Runs}
+use Rattle.pictures.specs.Machine.{State, Graphics, Snapshot, Painting, body_of, opened, drawn, worked, running, popped, save_of, back, returned, restored, perform, done, meant, act, step_on, step, and_then, may_go_back, initial, shipped, Runs}
 use Rattle.pictures.specs.Sheets.{run_of, alone, entries_before, PaintsAlone}
 use Rattle.pictures.specs.DocumentRun.{PrintsSheet}
-use Rattle.pictures.specs.Unaware.{put_names, none_among, asked_on, unaware_step, unaware_steps, absent, is_in, IsPlainGround, PrintsItself, OwnPicture, PagePrints, SheetsShowThePages}
+use Rattle.pictures.specs.Unaware.{put_names, none_among, asked_on, unaware_step, unaware_steps, absent, is_in, IsPlainGround, EndsThePage, PrintsItself, none_before, OwnPicture, PagePrints, SheetsShowThePages}
 use Rattle.profile.specs.Sheets.{Slot}
 use Rattle.profile.specs.Signatures.{sheets_in}
 use Rattle.profile.specs.Parts.{NestedUnit, pages, preamble, bytes_of}
@@ -23,8 +23,9 @@ use Rattle.pictures.proofs.Output.{output_is_printed}
 use Rattle.pictures.proofs.Tests.{first, second}
 use Rattle.pictures.proofs.Runs.{nothing, runs_join, runs_one, runs_none}
 use Rattle.pictures.proofs.Shifted.{up, ups, ups_same, entry_same, system_same}
-use Rattle.pictures.proofs.Names.{Agree, two, meaning_agrees}
-use Rattle.pictures.proofs.Unaware.{all_steps_free, all_steps_go, up_state, up_shots, AllAgree}
+use Rattle.pictures.proofs.Names.{Agree, two, meaning_agrees, not_true}
+use Rattle.pictures.proofs.Unaware.{all_steps_free, all_steps_go, up_state, up_shot, up_shots, AllAgree}
+use Rattle.std.proofs.lemmas.Bool.{ne_eqb, ltb-false}
 
 -- A held machine prints nothing.
 
@@ -59,13 +60,7 @@ keeps_if false s t e = tt
 
 keeps_back : (os : List Object) (x : Option (Snapshot × List Snapshot)) (s : State) → Keeps s (back os x s)
 keeps_back os None s = tt
-keeps_back os (Some (shot, shots)) s = keeps_if (may_go_back shot os s.work) s (record s {
-  work = record s.work { operands = os; entries = shot.entries; made = shot.made };
-  level = shot.level;
-  graphics = shot.graphics;
-  stacked = shot.stacked;
-  saves = shots;
-}) refl
+keeps_back os (Some (shot, shots)) s = keeps_if (may_go_back shot os s.work) s (returned os shot shots s) refl
 
 keeps_restored : (os : List Object) (s : State) → Keeps s (restored os s)
 keeps_restored (Saved level ∷ os) s = keeps_back os (save_of level s.saves) s
@@ -177,48 +172,80 @@ same_start s body p = sym (
     ap₂ (λ os g. by_itself s body os g [] []) (sym (ups_same s.work.operands p.operands)) (plain_graphics s.graphics p.ground.graphics)
     ∙ ap₂ (λ gs ps. by_itself s body (ups s.work.operands) s.graphics gs ps) (sym p.stacked) (sym p.painted))
 
-no_shots : (ess : List (List Entry)) → up_shots ess [] ≡ []
-no_shots [] = refl
-no_shots (es ∷ ess) = refl
+-- shifted, no save of the page is of the level of the sheet's
+up_missing : (n : ℕ) (ess : List (List Entry)) (shots : List Snapshot) → none_before n shots ≡ true → save_of n (up_shots ess shots) ≡ None
+up_missing n [] shots e = refl
+up_missing n (es ∷ ess) [] e = refl
+up_missing n (es ∷ ess) (shot ∷ shots) e =
+    let newer : nat_lt shot.level n ≡ false = not_true (nat_lt shot.level n) (first (not (nat_lt shot.level n)) (none_before n shots) e) in
+    ap (λ b. if b then Some (up_shot es shot, up_shots ess shots) else save_of n (up_shots ess shots))
+    (ne_eqb (shot.level + 1) n (λ k. omega (arith, ltb-false shot.level n newer, k)))
+    ∙ up_missing n ess shots (second (not (nat_lt shot.level n)) (none_before n shots) e)
 
 pub prints : (s : State) (body : List Token) (picture : List Painting) → IsPlainGround s → PrintsItself s body picture → PrintsSheet s body picture
 prints s body picture p q =
-    let t : State = shipped (record q.end { left = [] }) in (
-      t,
+    let t : State = shipped (run_of q.after q.at) in (
+      q.ends.printed,
       (
-        runs_join false (run_of body s) q.end t (q.count, all_steps_free q.count (run_of body s) q.end q.run)
-            (runs_one false q.end t t (ap (λ l. step_on false l q.end) q.last ∙ ap (λ x. meant false x (record q.end { left = [] })) (absent_means q.end.work.dictionaries q.end.work.entries (codes "showpage") q.showpage)) (runs_none false t)),
-        refl,
+        runs_join false (run_of body s) q.at q.ends.printed (q.count, all_steps_free q.count (run_of body s) q.at q.run)
+            (runs_one false q.at t q.ends.printed (ap (λ l. step_on false l q.at) q.last ∙ ap (λ x. meant false x (run_of q.after q.at)) (absent_means q.at.work.dictionaries q.at.work.entries (codes "showpage") q.showpage)) q.ends.printed_run),
+        q.ends.printed_left,
       ),
-      refl,
-      ap₂ (λ x xs. x ∷ xs) q.picture_is (keeps_sheets q.count (run_of body s) q.end q.run),
+      q.ends.printed_nothing,
+      q.ends.printed_once ∙ ap₂ (λ x xs. x ∷ xs) q.picture_is (keeps_sheets q.count (run_of body s) q.at q.run),
     )
 
 paints : (s : State) (body : List Token) (picture : List Painting) → IsPlainGround s → PrintsItself s body picture → PaintsAlone s body picture
 paints s body picture p q =
     let n : ℕ = s.level in
-    let z = all_steps_go n q.count (run_of body s) q.end (entries_before s) [] (begins s p) (subst (λ x. AllAgree n [] x) (sym p.saves) tt) q.run in
-    let near : State = up_state z.0 z.1 q.end in
-    let there : State = record near { left = [] } in
-    let userdict : is_in 0 q.end.work.dictionaries ≡ true = ap (is_in 0) q.dictionaries ∙ p.has_userdict in
-    let run : Runs true (up_state (entries_before s) [] (run_of body s)) there =
-    runs_join true (up_state (entries_before s) [] (run_of body s)) near there (q.count, z.2)
-    (runs_one true near there there
-    (ap (λ l. step_on true l near) q.last ∙ ap (λ x. meant true x there) (two_found n z.0 q.end.work.entries q.end.work.dictionaries (codes "showpage") (Procedure []) z.3 (λ d. refl) q.showpage userdict))
-    (runs_none true there)) in
+    let z = all_steps_go n q.count (run_of body s) q.at (entries_before s) [] (begins s p) (subst (λ x. AllAgree n [] x) (sym p.saves) tt) q.run in
+    let near : State = up_state z.0 z.1 q.at in
+    let there : State = run_of q.after near in
+    let last : State = q.ends.placed in
+    let y = all_steps_go n q.ends.count (run_of q.after q.at) last z.0 z.1 z.3 z.4 q.ends.placed_run in
+    let end : State = up_state y.0 y.1 last in
+    let userdict : is_in 0 last.work.dictionaries ≡ true = ap (is_in 0) q.ends.dictionaries ∙ p.has_userdict in
+    let run : Runs true (up_state (entries_before s) [] (run_of body s)) end =
+    runs_join true (up_state (entries_before s) [] (run_of body s)) near end (q.count, z.2)
+    (runs_one true near there end
+    (ap (λ l. step_on true l near) q.last ∙ ap (λ x. meant true x there) (two_found n z.0 q.at.work.entries q.at.work.dictionaries (codes "showpage") (Procedure []) z.3 (λ d. refl) q.showpage q.has_userdict))
+    (q.ends.count, y.2)) in
     record {
-      end = there;
-      run = subst (λ x. Runs true x there) (same_start s body p) run;
+      end = end;
+      run = subst (λ x. Runs true x end) (same_start s body p) run;
       leaves = record {
-        nothing_left = refl;
-        operands = ap ups q.operands ∙ ups_same s.work.operands p.operands;
-        dictionaries = q.dictionaries;
-        saves = ap (up_shots z.1) q.saves ∙ no_shots z.1;
-        save_name = two_found n z.0 q.end.work.entries q.end.work.dictionaries (codes "ImposeSave") (Saved n) z.3 (λ d. refl) q.save_name userdict;
-        restore_name = meaning_agrees n z.0 q.end.work.entries q.end.work.dictionaries (codes "restore") z.3 refl ∙ ap (option_map up) q.restore_name ∙ system_same (codes "restore");
+        nothing_left = q.ends.placed_left;
+        operands = ap ups q.ends.operands ∙ ups_same s.work.operands p.operands;
+        dictionaries = q.ends.dictionaries;
+        saves = up_missing n y.1 last.saves q.ends.saves;
+        save_name = two_found n y.0 last.work.entries last.work.dictionaries (codes "ImposeSave") (Saved n) y.3 (λ d. refl) q.ends.save_name userdict;
+        restore_name = meaning_agrees n y.0 last.work.entries last.work.dictionaries (codes "restore") y.3 refl ∙ ap (option_map up) q.ends.restore_name ∙ system_same (codes "restore");
       };
-      picture_is = q.picture_is;
+      picture_is = q.ends.placed_nothing ∙ q.picture_is;
     }
+
+-- nothing stands behind the page's showpage
+pub nothing_behind :
+    (s at : State) → at.work.operands ≡ s.work.operands → at.work.dictionaries ≡ s.work.dictionaries → none_before s.level at.saves ≡ true
+    → absent at.work.dictionaries at.work.entries (codes "ImposeSave") ≡ true
+    → meaning at.work.dictionaries at.work.entries (codes "restore") ≡ system (codes "restore") → EndsThePage s at []
+nothing_behind s at operands dictionaries saves save_name restore_name = record {
+  printed = shipped (run_of [] at);
+  printed_run = runs_none false (shipped (run_of [] at));
+  printed_left = refl;
+  printed_nothing = refl;
+  printed_once = refl;
+  placed = run_of [] at;
+  count = 0;
+  placed_run = refl;
+  placed_left = refl;
+  placed_nothing = refl;
+  operands = operands;
+  dictionaries = dictionaries;
+  saves = saves;
+  save_name = save_name;
+  restore_name = restore_name;
+}
 
 pub own_picture : OwnPicture
 own_picture s body picture p q = (prints s body picture p q, paints s body picture p q)

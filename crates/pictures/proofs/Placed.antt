@@ -1,11 +1,11 @@
 -- A placed page paints its own picture, placed.
-use Rattle.std.specs.Prelude.{Some, None, if◌then◌else◌, codes, bytes_eq}
-use Rattle.std.proofs.Common.{◌≡◌, ℕ, refl, ap, ap₂, ◌∙◌, sym, subst, Bool, true, false, ◌&&◌, ◌||◌, List, ◌∷◌, ◌++◌, map, append_assoc, eq-eqb}
+use Rattle.std.specs.Prelude.{Option, Some, None, if◌then◌else◌, codes, bytes_eq}
+use Rattle.std.proofs.Common.{◌≡◌, ℕ, refl, ap, ap₂, ◌∙◌, sym, subst, Bool, true, false, ◌&&◌, ◌||◌, ◌==◌, List, [], ◌∷◌, ◌++◌, map, append_assoc, eq-eqb, true≢false, is_none}
 use Rattle.pictures.specs.Objects.{Token, Name, Object, Saved}
 use Rattle.pictures.specs.Dictionaries.{system}
 use Rattle.pictures.specs.Operators.{all_old, all_are_old}
-use Rattle.pictures.specs.Machine.{State, Painting, push, Runs, back, save_of}
-use Rattle.pictures.specs.Placing.{Around, state_at, snapshot_at, picture_at}
+use Rattle.pictures.specs.Machine.{State, Painting, Snapshot, push, Runs, back, save_of}
+use Rattle.pictures.specs.Placing.{Place, Around, state_at, snapshot_at, picture_at}
 use Rattle.pictures.specs.Sheets.{run_of, IsGround, Numbers, Placed, Shown, saving_tokens, placing_tokens, closing_tokens, placed_tokens, alone, LeavesAsItWas, page_picture, among, placing_names, place_in, border_in}
 use Rattle.pictures.specs.Pictures.{PageIsPlaced}
 use Rattle.pictures.proofs.Runs.{runs_one, runs_join, runs_none, name_step}
@@ -31,6 +31,17 @@ behind l n s picture = record s { left = l; painted = picture_at (place_in s.gra
 abbrev gone_back : List Token → Numbers → State → List Painting → List Object → List ℕ → State
 gone_back l n s picture os ds = record (behind l n s picture) { work = record s.work { operands = os; dictionaries = ds } }
 
+past : {A : Type 0} (b : Bool) (v w : A) (x y z : Option A) → (x ≡ None → y ≡ z) → (if b then Some w else x) ≡ None → (if b then Some v else y) ≡ z
+past true v w x y z f e = absurd (true≢false (sym (ap is_none e)))
+past false v w x y z f e = f e
+
+-- saves of other levels are passed over
+passed_over : (p : Place) (level : ℕ) (shots more : List Snapshot) → save_of level shots ≡ None → save_of level (map (snapshot_at p) shots ++ more) ≡ save_of level more
+passed_over p level [] more e = refl
+passed_over p level (shot ∷ shots) more e =
+    past (shot.level == level) (snapshot_at p shot, map (snapshot_at p) shots ++ more) (shot, shots) (save_of level shots) (save_of level (map (snapshot_at p) shots ++ more)) (save_of level more)
+    (passed_over p level shots more) e
+
 restoring : (s t : State) (n : Numbers) (rest more : List Token) → IsGround s → LeavesAsItWas s t
     → back t.work.operands (save_of s.level (state_at (around more n s) t).saves) (run_of rest (push (Saved s.level) (state_at (around more n s) t)))
     ≡ Some (behind rest n s t.painted)
@@ -38,7 +49,7 @@ restoring s t n rest more g l =
     let x : State = run_of rest (push (Saved s.level) (state_at (around more n s) t)) in
     let may : (all_are_old s.work.made s.level t.work.operands && all_old s.work.made t.work.dictionaries) ≡ true =
     ap₂ (λ os ds. all_are_old s.work.made s.level os && all_old s.work.made ds) l.operands l.dictionaries ∙ both_true _ _ g.operands g.dictionaries in
-    ap (λ shots. back t.work.operands (save_of s.level (map (snapshot_at (place_in s.graphics n)) shots ++ snapshot_of s ∷ s.saves)) x) l.saves
+    ap (λ found. back t.work.operands found x) (passed_over (place_in s.graphics n) s.level t.saves (snapshot_of s ∷ s.saves) l.saves)
     ∙ ap (λ b. back t.work.operands (if b then Some (snapshot_of s, s.saves) else save_of s.level s.saves) x) (eq-eqb s.level s.level refl)
     ∙ ap (λ b. if b then Some (gone_back rest n s t.painted t.work.operands t.work.dictionaries) else None) may
     ∙ ap₂ (λ os ds. Some (gone_back rest n s t.painted os ds)) l.operands l.dictionaries

@@ -8,7 +8,7 @@ use Rattle.pictures.specs.Objects.{Token, Name, Opens, Closes, Bound, Unknown, O
 use Rattle.pictures.specs.Objects.{Saved, Operator, Kind, Effect, Computes, Controls, Draws, PushesGraphics, PopsGraphics, Saves, Restores, Ships, Resets}
 use Rattle.pictures.specs.Dictionaries.{Entry, meaning, system}
 use Rattle.pictures.specs.Operators.{Work, taken, computed_on, controlled_on, all_old}
-use Rattle.pictures.specs.Machine.{State, Graphics, Snapshot, body_of, opened, drawn, worked, running, popped, save_of, back, restored, perform, done, meant, act, step_on, step, steps, and_then, may_go_back}
+use Rattle.pictures.specs.Machine.{State, Graphics, Snapshot, body_of, opened, drawn, worked, running, popped, save_of, back, returned, restored, perform, done, meant, act, step_on, step, steps, and_then, may_go_back}
 use Rattle.pictures.specs.Sheets.{among}
 use Rattle.pictures.specs.Unaware.{put_names, none_among, asked_by, asked_on, unaware_step, unaware_steps}
 use Rattle.pictures.proofs.Tests.{first, second}
@@ -152,13 +152,7 @@ back_goes : (n : ℕ) (os : List Object) (x y : Option (Snapshot × List Snapsho
     → Goes n (back os x s) (back (ups os) y (up_state es ess s))
 back_goes n os None y s es ess f = tt
 back_goes n os (Some (shot, rest)) y s es ess f =
-    let t : State = record s {
-      work = record s.work { operands = os; entries = shot.entries; made = shot.made };
-      level = shot.level;
-      graphics = shot.graphics;
-      stacked = shot.stacked;
-      saves = rest;
-    } in
+    let t : State = returned os shot rest s in
     subst (λ z. Goes n (back os (Some (shot, rest)) s) (back (ups os) z (up_state es ess s))) (sym f.2)
     (back_if n (may_go_back shot os s.work) (may_go_back (up_shot f.0 shot) (ups os) (up_work es s.work)) t (up_state f.0 f.1 t) f.0 f.1
     (ap (λ b. b && all_old shot.made s.work.dictionaries) (all_are_old_up shot.made shot.level os)) refl f.3 f.4)

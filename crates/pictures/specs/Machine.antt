@@ -146,16 +146,18 @@ abbrev pub may_go_back : Snapshot → List Object → Work → Bool
 may_go_back shot os w = all_are_old shot.made shot.level os && all_old shot.made w.dictionaries
 
 -- `restore` of 8.2: dictionaries and graphics are those of the save; saves after it are void
+abbrev pub returned : List Object → Snapshot → List Snapshot → State → State
+returned os shot shots s = record s {
+  work = record s.work { operands = os; entries = shot.entries; made = shot.made };
+  level = shot.level;
+  graphics = shot.graphics;
+  stacked = shot.stacked;
+  saves = shots;
+}
+
 abbrev pub back : List Object → Option (Snapshot × List Snapshot) → State → Option State
 back os None s = None
-back os (Some (shot, shots)) s =
-    if may_go_back shot os s.work then Some (record s {
-      work = record s.work { operands = os; entries = shot.entries; made = shot.made };
-      level = shot.level;
-      graphics = shot.graphics;
-      stacked = shot.stacked;
-      saves = shots;
-    }) else None
+back os (Some (shot, shots)) s = if may_go_back shot os s.work then Some (returned os shot shots s) else None
 
 abbrev pub restored : List Object → State → Option State
 restored (Saved level ∷ os) s = back os (save_of level s.saves) s

@@ -7,7 +7,7 @@ use Rattle.pictures.specs.Objects.{Token, Number, Name, Literal, Opens, Closes, 
 use Rattle.pictures.specs.Objects.{Call}
 use Rattle.pictures.specs.Dictionaries.{Entry, userdict, meaning, system}
 use Rattle.pictures.specs.Operators.{all_old, all_are_old}
-use Rattle.pictures.specs.Machine.{Segment, Graphics, Painting, State, initial, Runs}
+use Rattle.pictures.specs.Machine.{Segment, Graphics, Painting, State, save_of, initial, Runs}
 use Rattle.pictures.specs.Placing.{Place, picture_at}
 
 -- the texts of the numbers by which a page is placed: its matrix, the paper's width and height, the border's width if
@@ -132,12 +132,12 @@ alone s body = record {
   sheets = [];
 }
 
--- it has run, and left the stacks as they were; and its saves are gone
+-- it has run, and left the stacks as they were; a save that is still in force is none of the sheet's own level
 pub record LeavesAsItWas (s t : State) : Type 0 where
   pub nothing_left : t.left ≡ []
   pub operands : t.work.operands ≡ s.work.operands
   pub dictionaries : t.work.dictionaries ≡ s.work.dictionaries
-  pub saves : t.saves ≡ []
+  pub saves : save_of s.level t.saves ≡ None
   pub save_name : meaning t.work.dictionaries t.work.entries (codes "ImposeSave") ≡ Some (Saved s.level)
   pub restore_name : meaning t.work.dictionaries t.work.entries (codes "restore") ≡ system (codes "restore")
 

@@ -1,6 +1,6 @@
 -- A page that the document itself prints, and that asks for none of the names that the sheet's text puts.
 use Rattle.std.specs.Prelude.{◌≡◌, ℕ, zero, suc, List, [], ◌∷◌, Bool, true, false, not, ◌&&◌, ◌||◌, ◌==◌, if◌then◌else◌}
-use Rattle.std.specs.Prelude.{Option, Some, None, Ok, codes}
+use Rattle.std.specs.Prelude.{nat_lt, Option, Some, None, Ok, codes}
 use Rattle.profile.specs.Specification.{Spec}
 use Rattle.profile.specs.Parts.{NestedUnit, preamble, bytes_of}
 use Rattle.profile.specs.Run.{document_of}
@@ -12,7 +12,7 @@ use Rattle.pictures.specs.Kept.{page_comments_apart, preamble_comments_apart}
 use Rattle.pictures.specs.Objects.{Token, Name, Literal, Bound, Object, Plain, Procedure, Saved, Operator, Computes}
 use Rattle.pictures.specs.Objects.{Load, Known, Bind}
 use Rattle.pictures.specs.Dictionaries.{Entry, userdict, meaning, system, entry_of, has}
-use Rattle.pictures.specs.Machine.{State, Painting, step, and_then}
+use Rattle.pictures.specs.Machine.{State, Painting, Snapshot, shipped, step, and_then, Runs}
 use Rattle.pictures.specs.Sheets.{among, run_of, IsGround, PaintsAlone}
 
 -- the names that the sheet's text puts
@@ -85,19 +85,42 @@ pub record IsPlainGround (s : State) : Type 0 where
   pub no_showpage : entry_of userdict (codes "showpage") s.work.entries ≡ None
   pub no_save : entry_of userdict (codes "ImposeSave") s.work.entries ≡ None
 
--- behind the preamble the page runs up to its showpage, which is all that is left, and leaves the stacks as they were
-pub record PrintsItself (s : State) (body : List Token) (picture : List Painting) : Type 0 where
-  pub end : State
+-- each of these saves was made when so many were in force, or later
+abbrev pub none_before : ℕ → List Snapshot → Bool
+none_before level [] = true
+none_before level (shot ∷ shots) = not (nat_lt shot.level level) && none_before level shots
+
+-- What stands behind a page's showpage: `end`, `restore`, or nothing at all. Once the sheet is printed, it runs to its end,
+-- and paints and prints nothing. And if showpage does nothing, it paints nothing either, and then the stacks are as they
+-- were, and the page's own saves alone are in force
+pub record EndsThePage (s at : State) (after : List Token) : Type 0 where
+  pub printed : State
+  pub printed_run : Runs false (shipped (run_of after at)) printed
+  pub printed_left : printed.left ≡ []
+  pub printed_nothing : printed.painted ≡ []
+  pub printed_once : printed.sheets ≡ at.painted ∷ at.sheets
+  pub placed : State
   pub count : ℕ
-  pub run : unaware_steps count (run_of body s) ≡ Some end
-  pub last : end.left ≡ Name (codes "showpage") ∷ []
-  pub operands : end.work.operands ≡ s.work.operands
-  pub dictionaries : end.work.dictionaries ≡ s.work.dictionaries
-  pub saves : end.saves ≡ []
-  pub showpage : absent end.work.dictionaries end.work.entries (codes "showpage") ≡ true
-  pub save_name : absent end.work.dictionaries end.work.entries (codes "ImposeSave") ≡ true
-  pub restore_name : meaning end.work.dictionaries end.work.entries (codes "restore") ≡ system (codes "restore")
-  pub picture_is : end.painted ≡ picture
+  pub placed_run : unaware_steps count (run_of after at) ≡ Some placed
+  pub placed_left : placed.left ≡ []
+  pub placed_nothing : placed.painted ≡ at.painted
+  pub operands : placed.work.operands ≡ s.work.operands
+  pub dictionaries : placed.work.dictionaries ≡ s.work.dictionaries
+  pub saves : none_before s.level placed.saves ≡ true
+  pub save_name : absent placed.work.dictionaries placed.work.entries (codes "ImposeSave") ≡ true
+  pub restore_name : meaning placed.work.dictionaries placed.work.entries (codes "restore") ≡ system (codes "restore")
+
+-- behind the preamble the page runs up to its showpage, which is found by its name; what stands behind that ends the page
+pub record PrintsItself (s : State) (body : List Token) (picture : List Painting) : Type 0 where
+  pub at : State
+  pub count : ℕ
+  pub run : unaware_steps count (run_of body s) ≡ Some at
+  pub after : List Token
+  pub last : at.left ≡ Name (codes "showpage") ∷ after
+  pub has_userdict : is_in userdict at.work.dictionaries ≡ true
+  pub showpage : absent at.work.dictionaries at.work.entries (codes "showpage") ≡ true
+  pub picture_is : at.painted ≡ picture
+  pub ends : EndsThePage s at after
 
 -- What a page prints of itself, behind the preamble, is what it paints by itself: a law. So what a sheet has of it is
 -- what the document printed, placed

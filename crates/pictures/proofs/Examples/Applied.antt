@@ -1,5 +1,5 @@
 -- What an application of the laws to a document needs: its units, the state behind its preamble, its pages' own runs.
-use Rattle.std.proofs.Common.{◌≡◌, ℕ, List, [], ◌∷◌, refl, Some, None, true}
+use Rattle.std.proofs.Common.{◌≡◌, ℕ, List, [], ◌∷◌, refl, ap, Some, None, true}
 use Rattle.std.specs.Prelude.{codes, Result, Ok, Err}
 use Rattle.profile.specs.Parts.{NestedUnit}
 use Rattle.profile.specs.Run.{document_of, DocumentFault}
@@ -10,7 +10,8 @@ use Rattle.pictures.specs.Scanner.{tokens, IsComplete}
 use Rattle.pictures.specs.Kept.{page_comments_apart}
 use Rattle.pictures.specs.Sheets.{IsGround, run_of}
 use Rattle.pictures.specs.Documents.{started, page_of}
-use Rattle.pictures.specs.Unaware.{IsPlainGround, PagePrints, absent, no_saved_in, unaware_steps}
+use Rattle.pictures.specs.Unaware.{IsPlainGround, PagePrints, absent, none_before, no_saved_in, unaware_steps}
+use Rattle.pictures.proofs.Own.{nothing_behind}
 
 abbrev units_of : Result (List NestedUnit) DocumentFault → List NestedUnit
 units_of (Ok us) = us
@@ -56,16 +57,15 @@ page_prints us s p count graphics picture ground showpage save restore complete 
   complete,
   apart,
   record {
-    end = record s { left = Name (codes "showpage") ∷ []; graphics = graphics; painted = picture };
+    at = record s { left = Name (codes "showpage") ∷ []; graphics = graphics; painted = picture };
     count = count;
     run = run;
+    after = [];
     last = refl;
-    operands = refl;
-    dictionaries = refl;
-    saves = ground.saves;
+    has_userdict = ground.has_userdict;
     showpage = showpage;
-    save_name = save;
-    restore_name = restore;
     picture_is = refl;
+    ends = nothing_behind s (record s { left = Name (codes "showpage") ∷ []; graphics = graphics; painted = picture })
+        refl refl (ap (none_before s.level) ground.saves) save restore;
   },
 )

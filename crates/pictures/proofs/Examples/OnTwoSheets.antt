@@ -36,7 +36,7 @@ twice = settled (written 1 ((item false 0 [] ∷ []) ∷ (item false 0 [] ∷ []
 abbrev place : Call
 place = matrix (codes "1 0 0 1 0 0")
 
-abbrev line_in : List Call → List Clip → List Call → List ℕ → Painting
+abbrev pub line_in : List Call → List Clip → List Call → List ℕ → Painting
 line_in chain clip settings to = record {
   call = says (codes "stroke");
   graphics = record {

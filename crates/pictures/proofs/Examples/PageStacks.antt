@@ -64,7 +64,7 @@ unfolding digits
 restore_renamed = refl
 
 -- A save that is left does no harm if it is no operand: the sheet's own is older, and restoring that takes it back too.
--- Here the laws ask for more than is needed.
+-- (BehindShowpage has the law at such a page.)
 
 leaves_a_save : imposed [] ((codes "save pop " ++ stroke) ∷ []) ≡ Ok (Some ((placed ∷ []) ∷ []))
 unfolding digits

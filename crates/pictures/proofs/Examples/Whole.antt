@@ -15,7 +15,7 @@ use Rattle.pictures.specs.Documents.{IsPrinted, started, page_of, body_of_page, 
 use Rattle.pictures.proofs.Opening.{name_other, is_apart}
 use Rattle.pictures.specs.Sheets.{run_of}
 use Rattle.pictures.specs.Unaware.{IsPlainGround, PagePrints, unaware_step}
-use Rattle.pictures.proofs.Own.{sheets_show_the_pages}
+use Rattle.pictures.proofs.Own.{nothing_behind, sheets_show_the_pages}
 use Rattle.pictures.proofs.Output.{output_is_printed}
 use Rattle.pictures.proofs.Examples.TwoUp.{document, two_up, frame, first_line, second_text}
 
@@ -141,17 +141,15 @@ first_page_prints = (
   refl,
   refl,
   record {
-    end = unaware_at_most 12 (run_of (tokens (page_of us 0)) behind_preamble);
+    at = unaware_at_most 12 (run_of (tokens (page_of us 0)) behind_preamble);
     count = 12;
     run = refl;
+    after = [];
     last = refl;
-    operands = refl;
-    dictionaries = refl;
-    saves = refl;
+    has_userdict = refl;
     showpage = refl;
-    save_name = refl;
-    restore_name = refl;
     picture_is = refl;
+    ends = nothing_behind behind_preamble (unaware_at_most 12 (run_of (tokens (page_of us 0)) behind_preamble)) refl refl refl refl refl;
   },
 )
 
@@ -161,17 +159,15 @@ second_page_prints = (
   refl,
   refl,
   record {
-    end = unaware_at_most 16 (run_of (tokens (page_of us 1)) behind_preamble);
+    at = unaware_at_most 16 (run_of (tokens (page_of us 1)) behind_preamble);
     count = 16;
     run = refl;
+    after = [];
     last = refl;
-    operands = refl;
-    dictionaries = refl;
-    saves = refl;
+    has_userdict = refl;
     showpage = refl;
-    save_name = refl;
-    restore_name = refl;
     picture_is = refl;
+    ends = nothing_behind behind_preamble (unaware_at_most 16 (run_of (tokens (page_of us 1)) behind_preamble)) refl refl refl refl refl;
   },
 )
 
