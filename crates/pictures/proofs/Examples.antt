@@ -22,3 +22,4 @@ pub mod Setups
 pub mod PagesTogether
 pub mod Independence
 pub mod BehindShowpage
+pub mod Calculating

@@ -3,17 +3,19 @@ use Rattle.std.specs.Prelude.{Option, Some, None, if◌then◌else◌, codes, by
 use Rattle.std.specs.List.{list_all}
 use Rattle.std.specs.Char.{is_ascii_digit}
 use Rattle.std.proofs.lemmas.Slice.Eq.{bytes_eq-Decides}
-use Rattle.std.proofs.Common.{◌≡◌, ℕ, ◌+◌, refl, ap, ap₂, ◌∙◌, sym, subst, Bool, true, false, not, ◌&&◌, ◌||◌, ◌==◌, List, [], ◌∷◌, map, true≢false}
+use Rattle.std.proofs.Common.{◌≡◌, ℕ, zero, suc, ℤ, ◌+◌, refl, ap, ap₂, ◌∙◌, sym, subst, Bool, true, false, not, ◌&&◌, ◌||◌, ◌==◌, List, [], ◌∷◌, map, true≢false}
 use Rattle.profile.specs.Numbers.{number_of}
 use Rattle.pictures.specs.Objects.{Token, Number, Name, Literal, Object, Plain, Truth, Procedure, Dictionary}
 use Rattle.pictures.specs.Objects.{Saved, Font, Operator, Computation, Computes, Control, Execute, If, IfElse, Repeat}
 use Rattle.pictures.specs.Objects.{Pop, Duplicate, Exchange, OpenArray, CloseArray, Put, Define, Begin, End, MakeDictionary, Load, Bind, Known, Index, ClearToMark, FindFont, ScaleFont}
-use Rattle.pictures.specs.Dictionaries.{Entry, meaning, entry_of, or, has}
-use Rattle.pictures.specs.Operators.{Work, with_operands, collected, gathered, below_mark, cleared, nth, loaded, bound_to, bound, define, ended, computed_on, controlled_on, times}
+use Rattle.pictures.specs.Objects.{Calculate, Negate, Compare, And, Or, Not, Where, Get, Length, LoadArray, For, ForAll, Array}
+use Rattle.pictures.specs.Calculations.{whole_of, compared, names_compared, turns}
+use Rattle.pictures.specs.Dictionaries.{Entry, meaning, system, entry_of, or, has}
+use Rattle.pictures.specs.Operators.{Work, with_operands, collected, gathered, below_mark, cleared, nth, loaded, bound_to, bound, define, ended, computed_on, controlled_on, times, judged, located, holder, element, turned, counting}
 use Rattle.pictures.specs.Sheets.{among, in_userdict}
 use Rattle.pictures.specs.Unaware.{put_names, names_in, none_among, asked_by}
 use Rattle.pictures.proofs.Tests.{first, second, by_test}
-use Rattle.pictures.proofs.Shifted.{up, ups, up_collected, collected_up, below_mark_up, nth_up, system_same}
+use Rattle.pictures.proofs.Shifted.{up, ups, up_collected, collected_up, below_mark_up, nth_up, onto_up, system_same}
 
 abbrev pub two : ℕ → List Entry
 two level = in_userdict (codes "showpage") (Procedure []) ∷ in_userdict (codes "ImposeSave") (Saved level) ∷ []
@@ -119,6 +121,31 @@ known_goes n d name w es a e = ap has (a d name ∙ ap (or (option_map up (entry
 one_not : (name : List ℕ) → none_among (name ∷ []) put_names ≡ true → among name put_names ≡ false
 one_not name q = not_true (among name put_names) (first (not (among name put_names)) true q)
 
+judged_goes : (n : ℕ) (x : Option Bool) (w : Work) (es : List Entry) → Agree n es w.entries → WorkGoes n (judged x w) (judged x (up_work es w))
+judged_goes n None w es a = tt
+judged_goes n (Some test) w es a = (es, refl, a)
+
+located_goes : (n : ℕ) (x : Option ℕ) (b : Bool) (w : Work) (es : List Entry) → Agree n es w.entries → WorkGoes n (located x b w) (located x b (up_work es w))
+located_goes n (Some d) b w es a = (es, refl, a)
+located_goes n None true w es a = tt
+located_goes n None false w es a = (es, refl, a)
+
+holder_same : (n : ℕ) (ds : List ℕ) (k : List ℕ) (w : Work) (es : List Entry) → Agree n es w.entries → among k put_names ≡ false → holder ds es k ≡ holder ds w.entries k
+holder_same n [] k w es a e = refl
+holder_same n (d ∷ ds) k w es a e = ap₂ (λ b x. if b then Some d else x) (known_goes n d k w es a e) (holder_same n ds k w es a e)
+
+entry_goes : (n : ℕ) (d : ℕ) (k : List ℕ) (w : Work) (es : List Entry) → Agree n es w.entries → among k put_names ≡ false → entry_of d k es ≡ option_map up (entry_of d k w.entries)
+entry_goes n d k w es a e = a d k ∙ ap (or (option_map up (entry_of d k w.entries))) (not_two n d k e) ∙ or_none (option_map up (entry_of d k w.entries))
+  where
+    or_none : (x : Option Object) → or x None ≡ x
+    or_none None = refl
+    or_none (Some o) = refl
+
+element_goes : (n i : ℕ) (ts : List Token) (w : Work) (es : List Entry) → Agree n es w.entries → WorkGoes n (element i ts w) (element i ts (up_work es w))
+element_goes n i [] w es a = tt
+element_goes n zero (t ∷ ts) w es a = (es, refl, a)
+element_goes n (suc i) (t ∷ ts) w es a = element_goes n i ts w es a
+
 pub works_on : (n : ℕ) (name : List ℕ) (c : Computation) (os : List Object) (w : Work) (es : List Entry) → Agree n es w.entries
     → none_among (asked_by (Some (Operator name (Computes c))) os) put_names ≡ true → WorkGoes n (computed_on c os w) (computed_on c (ups os) (up_work es w))
 works_on n name Pop (o ∷ os) w es a q = (es, refl, a)
@@ -146,6 +173,24 @@ works_on n name ClearToMark os w es a q =
     subst (λ x. WorkGoes n (cleared (below_mark os) w) (cleared x (up_work es w))) (sym (below_mark_up os)) (cleared_goes n (below_mark os) w es a)
 works_on n name FindFont (Plain (Literal k) ∷ os) w es a q = (es, refl, a)
 works_on n name ScaleFont (Plain (Number text) ∷ Font ts ∷ os) w es a q = (es, refl, a)
+works_on n name (Calculate c) (Plain (Number y) ∷ Plain (Number x) ∷ os) w es a q = (es, refl, a)
+works_on n name Negate (Plain (Number x) ∷ os) w es a q = (es, refl, a)
+works_on n name (Compare c) (Plain (Number y) ∷ Plain (Number x) ∷ os) w es a q = judged_goes n (compared c x y) (with_operands w os) es a
+works_on n name (Compare c) (Plain (Literal y) ∷ Plain (Literal x) ∷ os) w es a q = judged_goes n (names_compared c x y) (with_operands w os) es a
+works_on n name And (Truth y ∷ Truth x ∷ os) w es a q = (es, refl, a)
+works_on n name Or (Truth y ∷ Truth x ∷ os) w es a q = (es, refl, a)
+works_on n name Not (Truth x ∷ os) w es a q = (es, refl, a)
+works_on n name Where (Plain (Literal k) ∷ os) w es a q =
+    subst (λ x. WorkGoes n (located (holder w.dictionaries w.entries k) (has (system k)) (with_operands w os)) (located x (has (system k)) (up_work es (with_operands w os)))) (sym (holder_same n w.dictionaries k w es a (one_not k q)))
+    (located_goes n (holder w.dictionaries w.entries k) (has (system k)) (with_operands w os) es a)
+works_on n name Get (Plain (Literal k) ∷ Dictionary d ∷ os) w es a q =
+    subst (λ x. WorkGoes n (loaded (entry_of d k w.entries) (with_operands w os)) (loaded x (up_work es (with_operands w os)))) (sym (entry_goes n d k w es a (one_not k q)))
+    (loaded_goes n (entry_of d k w.entries) (with_operands w os) es a)
+works_on n name Get (Plain (Number text) ∷ Array ts ∷ os) w es a q =
+    if_goes n (list_all is_ascii_digit text) (element (number_of text) ts (with_operands w os)) (element (number_of text) ts (up_work es (with_operands w os)))
+    (element_goes n (number_of text) ts (with_operands w os) es a)
+works_on n name Length (Array ts ∷ os) w es a q = (es, refl, a)
+works_on n name LoadArray (Array ts ∷ os) w es a q = (es, ap (λ x. Some (with_operands (up_work es w) (Array ts ∷ x))) (onto_up ts os), a)
 works_on n name c os w es a q = tt
 
 abbrev pub ControlGoes : ℕ → Option (List Token × Work) → Option (List Token × Work) → Type 0
@@ -156,10 +201,21 @@ if_control : (n : ℕ) (b : Bool) (x y : Option (List Token × Work)) → Contro
 if_control n true x y g = g
 if_control n false x y g = tt
 
+turned_goes : (n : ℕ) (x : Option ℕ) (first step : ℤ) (ts : List Token) (w : Work) (es : List Entry) → Agree n es w.entries → ControlGoes n (turned x first step ts w) (turned x first step ts (up_work es w))
+turned_goes n None first step ts w es a = tt
+turned_goes n (Some k) first step ts w es a = (es, refl, a)
+
+counting_goes : (n : ℕ) (x y z : Option ℤ) (ts : List Token) (w : Work) (es : List Entry) → Agree n es w.entries → ControlGoes n (counting x y z ts w) (counting x y z ts (up_work es w))
+counting_goes n (Some first) (Some step) (Some limit) ts w es a = turned_goes n (turns first step limit) first step ts w es a
+counting_goes n x y z ts w es a = tt
+
 pub controls_on : (n : ℕ) (c : Control) (os : List Object) (w : Work) (es : List Entry) → Agree n es w.entries → ControlGoes n (controlled_on c os w) (controlled_on c (ups os) (up_work es w))
 controls_on n Execute (Procedure ts ∷ os) w es a = (es, refl, a)
 controls_on n If (Procedure ts ∷ Truth test ∷ os) w es a = (es, refl, a)
 controls_on n IfElse (Procedure us ∷ Procedure ts ∷ Truth test ∷ os) w es a = (es, refl, a)
 controls_on n Repeat (Procedure ts ∷ Plain (Number text) ∷ os) w es a =
     if_control n (list_all is_ascii_digit text) (Some (times (number_of text) ts, with_operands w os)) (Some (times (number_of text) ts, up_work es (with_operands w os))) (es, refl, a)
+controls_on n For (Procedure ts ∷ Plain (Number limit) ∷ Plain (Number step) ∷ Plain (Number first) ∷ os) w es a =
+    counting_goes n (whole_of first) (whole_of step) (whole_of limit) ts (with_operands w os) es a
+controls_on n ForAll (Procedure ts ∷ Array us ∷ os) w es a = (es, refl, a)
 controls_on n c os w es a = tt

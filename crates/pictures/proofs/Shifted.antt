@@ -2,9 +2,9 @@
 use Rattle.std.specs.Prelude.{Option, Some, None, if◌then◌else◌, bytes_eq, option_map, nat_lt}
 use Rattle.std.proofs.Common.{◌≡◌, ℕ, zero, suc, ◌+◌, refl, ap, ap₂, ◌∙◌, sym, Bool, true, false, not, ◌&&◌, ◌==◌, List, [], ◌∷◌, map, true≢false, arith}
 use Rattle.pictures.specs.Objects.{Token, Text, Hexadecimal, Object, Plain, Mark}
-use Rattle.pictures.specs.Objects.{Saved, Want, ANumber, AText, AnArray, AMatrix, AFont, AName}
+use Rattle.pictures.specs.Objects.{Saved, Want, ANumber, AText, AnArray, AMatrix, AFont, AName, ATruth}
 use Rattle.pictures.specs.Dictionaries.{Entry, system, entry_of, has, systemdict}
-use Rattle.pictures.specs.Operators.{taken, fits, also, collected, below_mark, nth, all_are_old, is_old}
+use Rattle.pictures.specs.Operators.{taken, fits, also, collected, onto, below_mark, nth, all_are_old, is_old}
 use Rattle.pictures.specs.Unaware.{is_saved, no_saved, no_saved_in}
 use Rattle.std.proofs.lemmas.Bool.{lt-ltb, ltb-true, le-ltb, ltb-false}
 use Rattle.pictures.proofs.Tests.{first, second, by_test}
@@ -35,6 +35,7 @@ fits_no_save AnArray level = refl
 fits_no_save AMatrix level = refl
 fits_no_save AFont level = refl
 fits_no_save AName level = refl
+fits_no_save ATruth level = refl
 
 pub taken_up : (ws : List Want) (os : List Object) → taken ws (ups os) ≡ up_taken (taken ws os)
 taken_up [] os = refl
@@ -54,6 +55,10 @@ collected_up ts [] = refl
 collected_up ts (Mark ∷ os) = refl
 collected_up ts (Plain t ∷ os) = collected_up (t ∷ ts) os
 collected_up ts (o ∷ os) = refl
+
+pub onto_up : (ts : List Token) (os : List Object) → onto ts (ups os) ≡ ups (onto ts os)
+onto_up [] os = refl
+onto_up (t ∷ ts) os = onto_up ts (Plain t ∷ os)
 
 pub below_mark_up : (os : List Object) → below_mark (ups os) ≡ option_map ups (below_mark os)
 below_mark_up [] = refl

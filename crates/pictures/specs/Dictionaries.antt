@@ -8,8 +8,10 @@ use Rattle.pictures.specs.Objects.{PushesGraphics, PopsGraphics, Saves}
 use Rattle.pictures.specs.Objects.{Restores, Ships, Resets, Pop, Duplicate, Exchange, OpenArray, CloseArray, Put}
 use Rattle.pictures.specs.Objects.{Define, Begin, End}
 use Rattle.pictures.specs.Objects.{MakeDictionary, Load, Bind, Known, Index, ClearToMark, FindFont, ScaleFont, Execute}
-use Rattle.pictures.specs.Objects.{If, IfElse, Repeat, Want, ANumber, AText, AnArray}
-use Rattle.pictures.specs.Objects.{AMatrix, AFont, AName, Effect, Segments, Transforms, Sets, Paints, PaintsBeside}
+use Rattle.pictures.specs.Objects.{Calculate, Add, Subtract, Multiply, Divide, Negate, Compare, Equal, NotEqual, Less}
+use Rattle.pictures.specs.Objects.{LessOrEqual, Greater, GreaterOrEqual, And, Or, Not, Where, Get, Length, LoadArray}
+use Rattle.pictures.specs.Objects.{If, IfElse, Repeat, For, ForAll, Want, ANumber, AText, AnArray}
+use Rattle.pictures.specs.Objects.{AMatrix, AFont, AName, ATruth, Effect, Segments, Transforms, Sets, Paints, PaintsBeside}
 use Rattle.pictures.specs.Objects.{Shows, Clips, Forgets}
 
 -- what one dictionary has for one key; dictionaries are known by their numbers
@@ -48,7 +50,16 @@ systemdict =
     ∷ is (codes "mark") (Computes OpenArray) ∷ is (codes "cleartomark") (Computes ClearToMark)
     ∷ is (codes "findfont") (Computes FindFont) ∷ is (codes "scalefont") (Computes ScaleFont)
     ∷ is (codes "exec") (Controls Execute) ∷ is (codes "if") (Controls If) ∷ is (codes "ifelse") (Controls IfElse)
-    ∷ is (codes "repeat") (Controls Repeat)
+    ∷ is (codes "repeat") (Controls Repeat) ∷ is (codes "for") (Controls For) ∷ is (codes "forall") (Controls ForAll)
+    ∷ is (codes "add") (Computes (Calculate Add)) ∷ is (codes "sub") (Computes (Calculate Subtract))
+    ∷ is (codes "mul") (Computes (Calculate Multiply)) ∷ is (codes "div") (Computes (Calculate Divide))
+    ∷ is (codes "neg") (Computes Negate)
+    ∷ is (codes "eq") (Computes (Compare Equal)) ∷ is (codes "ne") (Computes (Compare NotEqual))
+    ∷ is (codes "lt") (Computes (Compare Less)) ∷ is (codes "le") (Computes (Compare LessOrEqual))
+    ∷ is (codes "gt") (Computes (Compare Greater)) ∷ is (codes "ge") (Computes (Compare GreaterOrEqual))
+    ∷ is (codes "and") (Computes And) ∷ is (codes "or") (Computes Or) ∷ is (codes "not") (Computes Not)
+    ∷ is (codes "where") (Computes Where) ∷ is (codes "get") (Computes Get) ∷ is (codes "length") (Computes Length)
+    ∷ is (codes "aload") (Computes LoadArray)
     ∷ draws (codes "newpath") [] Forgets
     ∷ draws (codes "moveto") (ANumber ∷ ANumber ∷ []) Segments
     ∷ draws (codes "rmoveto") (ANumber ∷ ANumber ∷ []) Segments
@@ -73,6 +84,8 @@ systemdict =
     ∷ draws (codes "show") (AText ∷ []) Shows ∷ draws (codes "ashow") (AText ∷ ANumber ∷ ANumber ∷ []) Shows
     ∷ draws (codes "widthshow") (AText ∷ ANumber ∷ ANumber ∷ ANumber ∷ []) Shows
     ∷ draws (codes "awidthshow") (AText ∷ ANumber ∷ ANumber ∷ ANumber ∷ ANumber ∷ ANumber ∷ []) Shows
+    ∷ draws (codes "image") (AText ∷ AMatrix ∷ ANumber ∷ ANumber ∷ ANumber ∷ []) PaintsBeside
+    ∷ draws (codes "imagemask") (AText ∷ AMatrix ∷ ATruth ∷ ANumber ∷ ANumber ∷ []) PaintsBeside
     ∷ draws (codes "clip") [] Clips ∷ draws (codes "eoclip") [] Clips
     ∷ is (codes "gsave") PushesGraphics ∷ is (codes "grestore") PopsGraphics
     ∷ is (codes "save") Saves ∷ is (codes "restore") Restores

@@ -1,5 +1,6 @@
 -- Tokens and objects of a small PostScript machine. What is cited is the PostScript Language Reference, third edition:
--- 3.2 has the syntax of tokens, 3.3 the types of objects. Numbers are their texts, and nothing is computed with them. An
+-- 3.2 has the syntax of tokens, 3.3 the types of objects. Numbers are their texts, and a
+-- number that was calculated is one too (Calculations). An
 -- array is its elements, which are tokens: it holds numbers, literal names and strings, and no array. Arrays, procedures
 -- and strings are values here (3.3.1 has them shared), since no operator of this machine changes one in place.
 use Rattle.std.specs.Prelude.{ℕ, List, Bool}
@@ -16,6 +17,21 @@ pub data Token : Type 0 where
   Closes : Token
   Bound : (name : List ℕ) → Token
   Unknown : Token
+
+-- what two numbers make, and how they are compared
+pub data Calculation : Type 0 where
+  Add : Calculation
+  Subtract : Calculation
+  Multiply : Calculation
+  Divide : Calculation
+
+pub data Comparison : Type 0 where
+  Equal : Comparison
+  NotEqual : Comparison
+  Less : Comparison
+  LessOrEqual : Comparison
+  Greater : Comparison
+  GreaterOrEqual : Comparison
 
 -- operators on operands and dictionaries, and those that say what is run next
 pub data Computation : Type 0 where
@@ -36,12 +52,24 @@ pub data Computation : Type 0 where
   ClearToMark : Computation
   FindFont : Computation
   ScaleFont : Computation
+  Calculate : Calculation → Computation
+  Negate : Computation
+  Compare : Comparison → Computation
+  And : Computation
+  Or : Computation
+  Not : Computation
+  Where : Computation
+  Get : Computation
+  Length : Computation
+  LoadArray : Computation
 
 pub data Control : Type 0 where
   Execute : Control
   If : Control
   IfElse : Control
   Repeat : Control
+  For : Control
+  ForAll : Control
 
 -- what an operand has to be
 pub data Want : Type 0 where
@@ -51,6 +79,7 @@ pub data Want : Type 0 where
   AMatrix : Want
   AFont : Want
   AName : Want
+  ATruth : Want
 
 -- what a graphics operator does with its operands: a segment of the path (4.4), a matrix of the chain (4.3), a setting
 -- (4.2), painting with the path, beside the path (4.5), at the current point (5.1), narrowing the clip (4.4.2), an empty

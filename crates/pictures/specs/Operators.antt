@@ -1,19 +1,21 @@
 -- What operators do with operands, dictionaries and procedures: all that paints nothing. Each is by its name in 8.2,
 -- 'Operator details', of the PostScript Language Reference, third edition; an operand that it doesn't take stops the
 -- machine.
-use Rattle.std.specs.List.{list_all}
+use Rattle.std.specs.List.{list_all, range_with_len}
 use Rattle.std.specs.Char.{is_ascii_digit}
 use Rattle.profile.specs.Numbers.{number_of}
-use Rattle.std.specs.Prelude.{ℕ, zero, suc, ◌+◌, List, [], ◌∷◌, ◌++◌, map, length, Bool, true, false, ◌&&◌, ◌==◌}
-use Rattle.std.specs.Prelude.{nat_lt, if◌then◌else◌, Option, Some, None}
+use Rattle.std.specs.Prelude.{ℕ, zero, suc, ◌+◌, List, [], ◌∷◌, ◌++◌, map, flat_map, length, Bool, true, false, not}
+use Rattle.std.specs.Prelude.{◌&&◌, ◌||◌, ◌==◌, nat_lt, if◌then◌else◌, Option, Some, None, ℤ, pos, ◌+ℤ◌, ◌*ℤ◌, decimal}
 use Rattle.pictures.specs.Objects.{Token, Number, Name, Literal, Text, Hexadecimal, Bound, Object, Plain, Truth, Mark, Array}
 use Rattle.pictures.specs.Objects.{Procedure, Dictionary, Saved}
 use Rattle.pictures.specs.Objects.{Font, Operator, Computation, Pop, Duplicate, Exchange, OpenArray, CloseArray, Put}
 use Rattle.pictures.specs.Objects.{Define, Begin, End}
 use Rattle.pictures.specs.Objects.{MakeDictionary, Load, Bind, Known, Index, ClearToMark, FindFont, ScaleFont, Control}
-use Rattle.pictures.specs.Objects.{Execute, If, IfElse, Repeat, Want, ANumber, AText, AnArray}
-use Rattle.pictures.specs.Objects.{AMatrix, AFont, AName}
-use Rattle.pictures.specs.Dictionaries.{Entry, meaning, entry_of, has}
+use Rattle.pictures.specs.Objects.{Calculate, Negate, Compare, And, Or, Not, Where, Get, Length, LoadArray}
+use Rattle.pictures.specs.Objects.{Execute, If, IfElse, Repeat, For, ForAll, Want, ANumber, AText, AnArray}
+use Rattle.pictures.specs.Objects.{AMatrix, AFont, AName, ATruth}
+use Rattle.pictures.specs.Calculations.{whole_of, whole_text, calculated, negated, compared, names_compared, turns}
+use Rattle.pictures.specs.Dictionaries.{Entry, meaning, system, entry_of, has}
 
 -- the operands and the dictionaries on their stacks, the topmost first (3.4); all entries; how many dictionaries have been
 -- made
@@ -40,6 +42,7 @@ fits AnArray (Array ts) = are_numbers ts
 fits AMatrix (Array ts) = are_numbers ts && (length ts == 6)
 fits AFont (Font ts) = true
 fits AName (Plain (Literal name)) = true
+fits ATruth (Truth test) = true
 fits w o = false
 
 abbrev pub also : Object → Option (List Object × List Object) → Option (List Object × List Object)
@@ -107,6 +110,33 @@ abbrev pub times : ℕ → List Token → List Token
 times zero ts = []
 times (suc n) ts = ts ++ times n ts
 
+-- the answer of a comparison
+abbrev pub judged : Option Bool → Work → Option Work
+judged None w = None
+judged (Some test) w = Some (with_operands w (Truth test ∷ w.operands))
+
+-- the topmost dictionary on the stack that has the key
+abbrev pub holder : List ℕ → List Entry → List ℕ → Option ℕ
+holder [] es key = None
+holder (d ∷ ds) es key = if has (entry_of d key es) then Some d else holder ds es key
+
+-- `where`: that dictionary and true, or false. systemdict is no value of this machine: there it stops
+abbrev pub located : Option ℕ → (in_system : Bool) → Work → Option Work
+located (Some d) in_system w = Some (with_operands w (Truth true ∷ Dictionary d ∷ w.operands))
+located None true w = None
+located None false w = Some (with_operands w (Truth false ∷ w.operands))
+
+-- an element of an array, counted from 0
+abbrev pub element : ℕ → List Token → Work → Option Work
+element n [] w = None
+element zero (t ∷ ts) w = Some (with_operands w (Plain t ∷ w.operands))
+element (suc n) (t ∷ ts) w = element n ts w
+
+-- the elements of an array, pushed in their order
+abbrev pub onto : List Token → List Object → List Object
+onto [] os = os
+onto (t ∷ ts) os = onto ts (Plain t ∷ os)
+
 -- by the operands, the topmost first
 abbrev pub computed_on : Computation → List Object → Work → Option Work
 computed_on Pop (o ∷ os) w = Some (with_operands w os)
@@ -130,10 +160,37 @@ computed_on Index (Plain (Number text) ∷ os) w =
 computed_on ClearToMark os w = cleared (below_mark os) w
 computed_on FindFont (Plain (Literal name) ∷ os) w = Some (with_operands w (Font (Literal name ∷ []) ∷ os))
 computed_on ScaleFont (Plain (Number text) ∷ Font ts ∷ os) w = Some (with_operands w (Font (Number text ∷ ts) ∷ os))
+computed_on (Calculate c) (Plain (Number b) ∷ Plain (Number a) ∷ os) w =
+    Some (with_operands w (Plain (Number (calculated c a b)) ∷ os))
+computed_on Negate (Plain (Number a) ∷ os) w = Some (with_operands w (Plain (Number (negated a)) ∷ os))
+computed_on (Compare c) (Plain (Number b) ∷ Plain (Number a) ∷ os) w = judged (compared c a b) (with_operands w os)
+computed_on (Compare c) (Plain (Literal b) ∷ Plain (Literal a) ∷ os) w =
+    judged (names_compared c a b) (with_operands w os)
+computed_on And (Truth b ∷ Truth a ∷ os) w = Some (with_operands w (Truth (a && b) ∷ os))
+computed_on Or (Truth b ∷ Truth a ∷ os) w = Some (with_operands w (Truth (a || b) ∷ os))
+computed_on Not (Truth a ∷ os) w = Some (with_operands w (Truth (not a) ∷ os))
+computed_on Where (Plain (Literal name) ∷ os) w =
+    located (holder w.dictionaries w.entries name) (has (system name)) (with_operands w os)
+computed_on Get (Plain (Literal name) ∷ Dictionary d ∷ os) w =
+    loaded (entry_of d name w.entries) (with_operands w os)
+computed_on Get (Plain (Number text) ∷ Array ts ∷ os) w =
+    if list_all is_ascii_digit text then element (number_of text) ts (with_operands w os) else None
+computed_on Length (Array ts ∷ os) w = Some (with_operands w (Plain (Number (decimal (length ts))) ∷ os))
+computed_on LoadArray (Array ts ∷ os) w = Some (with_operands w (Array ts ∷ onto ts os))
 computed_on c os w = None
 
 abbrev pub computed : Computation → Work → Option Work
 computed c w = computed_on c w.operands w
+
+-- `for`: in each turn its number, and the procedure
+abbrev pub turned : Option ℕ → (first step : ℤ) → List Token → Work → Option (List Token × Work)
+turned None first step ts w = None
+turned (Some n) first step ts w =
+    Some (flat_map (λ i. Number (whole_text (first +ℤ step *ℤ pos i)) ∷ ts) (range_with_len 0 n), w)
+
+abbrev pub counting : (first step limit : Option ℤ) → List Token → Work → Option (List Token × Work)
+counting (Some first) (Some step) (Some limit) ts w = turned (turns first step limit) first step ts w
+counting first step limit ts w = None
 
 -- what is run next
 abbrev pub controlled_on : Control → List Object → Work → Option (List Token × Work)
@@ -143,6 +200,9 @@ controlled_on IfElse (Procedure us ∷ Procedure ts ∷ Truth test ∷ os) w =
     Some (if test then ts else us, with_operands w os)
 controlled_on Repeat (Procedure ts ∷ Plain (Number text) ∷ os) w =
     if list_all is_ascii_digit text then Some (times (number_of text) ts, with_operands w os) else None
+controlled_on For (Procedure ts ∷ Plain (Number limit) ∷ Plain (Number step) ∷ Plain (Number first) ∷ os) w =
+    counting (whole_of first) (whole_of step) (whole_of limit) ts (with_operands w os)
+controlled_on ForAll (Procedure ts ∷ Array es ∷ os) w = Some (flat_map (λ e. e ∷ ts) es, with_operands w os)
 controlled_on c os w = None
 
 abbrev pub controlled : Control → Work → Option (List Token × Work)

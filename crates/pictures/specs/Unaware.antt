@@ -10,7 +10,7 @@ use Rattle.pictures.specs.Documents.{page_of, PreambleRuns, OnSheets, all_sheets
 use Rattle.pictures.specs.DocumentRun.{PrintsSheet, OnPages, PagesAreIndependent, DocumentPrints}
 use Rattle.pictures.specs.Kept.{page_comments_apart, preamble_comments_apart}
 use Rattle.pictures.specs.Objects.{Token, Name, Literal, Bound, Object, Plain, Procedure, Saved, Operator, Computes}
-use Rattle.pictures.specs.Objects.{Load, Known, Bind}
+use Rattle.pictures.specs.Objects.{Load, Known, Where, Get, Bind}
 use Rattle.pictures.specs.Dictionaries.{Entry, userdict, meaning, system, entry_of, has}
 use Rattle.pictures.specs.Machine.{State, Painting, Snapshot, shipped, step, and_then, Runs}
 use Rattle.pictures.specs.Sheets.{among, run_of, IsGround, PaintsAlone}
@@ -25,10 +25,12 @@ names_in [] = []
 names_in (Name name ∷ ts) = name ∷ names_in ts
 names_in (t ∷ ts) = names_in ts
 
--- the names that an operator looks up: `load`, `known`, `bind`
+-- the names that an operator looks up: `load`, `known`, `where`, `get`, `bind`
 abbrev pub asked_by : Option Object → List Object → List (List ℕ)
 asked_by (Some (Operator name (Computes Load))) (Plain (Literal k) ∷ os) = k ∷ []
 asked_by (Some (Operator name (Computes Known))) (Plain (Literal k) ∷ os) = k ∷ []
+asked_by (Some (Operator name (Computes Where))) (Plain (Literal k) ∷ os) = k ∷ []
+asked_by (Some (Operator name (Computes Get))) (Plain (Literal k) ∷ os) = k ∷ []
 asked_by (Some (Operator name (Computes Bind))) (Procedure ts ∷ os) = names_in ts
 asked_by o os = []
 
