@@ -1,6 +1,7 @@
 -- Pages that are independent of one another, and pages that aren't: what one page sets or defines, and the next one
 -- needs, is there when the document is run, and isn't when the page is placed.
-use Rattle.std.proofs.Common.{◌≡◌, ℕ, zero, suc, ◌<◌, List, [], ◌∷◌, refl, ap, subst, Some, None, Bool, true, false, ◌&&◌, true≢false, map, length, arith}
+use Rattle.std.proofs.Common.{◌≡◌, ℕ, zero, suc, ◌<◌, List, [], ◌∷◌, refl, ap, subst, Some, None, Bool, true, false}
+use Rattle.std.proofs.Common.{◌&&◌, true≢false, map, length, arith}
 use Rattle.std.specs.Prelude.{codes, Ok, Option, option_map, bytes_eq}
 use Rattle.std.specs.Fmt.{digits}
 use Rattle.profile.specs.Units.{◌>>=◌}
@@ -130,8 +131,12 @@ paint_alone : PrintsSheet ready (tokens (page_of defining 1)) (printed_from read
 paint_alone = (state_behind ready (tokens (page_of defining 1)), ((count 200 (run_of (tokens (page_of defining 1)) ready), refl), refl), refl, refl)
 
 paint_behind : PrintsSheet behind_first (tokens (page_of defining 1)) (printed_from behind_first (tokens (page_of defining 1)))
-paint_behind =
-    (state_behind behind_first (tokens (page_of defining 1)), ((count 200 (run_of (tokens (page_of defining 1)) behind_first), refl), refl), refl, refl)
+paint_behind = (
+  state_behind behind_first (tokens (page_of defining 1)),
+  ((count 200 (run_of (tokens (page_of defining 1)) behind_first), refl), refl),
+  refl,
+  refl,
+)
 
 -- the page strokes behind the preamble, and fills behind page 1. So it fills in the document, and strokes in the output:
 -- `painted_alike` and `painted_otherwise` of PagesTogether
@@ -166,12 +171,20 @@ abbrev fonts_of : List Painting → List (List (List ℕ))
 fonts_of ps = map (λ p. map (λ c. c.name) p.graphics.settings) ps
 
 show_alone : PrintsSheet (started []) (tokens (page_of selecting 1)) (printed_from (started []) (tokens (page_of selecting 1)))
-show_alone =
-    (state_behind (started []) (tokens (page_of selecting 1)), ((count 200 (run_of (tokens (page_of selecting 1)) (started [])), refl), refl), refl, refl)
+show_alone = (
+  state_behind (started []) (tokens (page_of selecting 1)),
+  ((count 200 (run_of (tokens (page_of selecting 1)) (started [])), refl), refl),
+  refl,
+  refl,
+)
 
 show_behind : PrintsSheet behind_font (tokens (page_of selecting 1)) (printed_from behind_font (tokens (page_of selecting 1)))
-show_behind =
-    (state_behind behind_font (tokens (page_of selecting 1)), ((count 200 (run_of (tokens (page_of selecting 1)) behind_font), refl), refl), refl, refl)
+show_behind = (
+  state_behind behind_font (tokens (page_of selecting 1)),
+  ((count 200 (run_of (tokens (page_of selecting 1)) behind_font), refl), refl),
+  refl,
+  refl,
+)
 
 abbrev none_is_set : List Painting → Bool
 none_is_set [] = true
