@@ -8,10 +8,10 @@ use Rattle.profile.specs.Numbers.{number_of}
 use Rattle.pictures.specs.Objects.{Token, Number, Name, Literal, Object, Plain, Truth, Procedure, Dictionary}
 use Rattle.pictures.specs.Objects.{Saved, Font, Operator, Computation, Computes, Control, Execute, If, IfElse, Repeat}
 use Rattle.pictures.specs.Objects.{Pop, Duplicate, Exchange, OpenArray, CloseArray, Put, Define, Begin, End, MakeDictionary, Load, Bind, Known, Index, ClearToMark, FindFont, ScaleFont}
-use Rattle.pictures.specs.Objects.{Calculate, Negate, Compare, And, Or, Not, Where, Get, Length, LoadArray, For, ForAll, Array}
+use Rattle.pictures.specs.Objects.{Calculate, Negate, Compare, And, Or, Not, Where, Get, Length, LoadArray, CloseDictionary, CloseDictionary, For, ForAll, Array, Mark}
 use Rattle.pictures.specs.Calculations.{whole_of, compared, names_compared, turns}
 use Rattle.pictures.specs.Dictionaries.{Entry, meaning, system, entry_of, or, has}
-use Rattle.pictures.specs.Operators.{Work, with_operands, collected, gathered, below_mark, cleared, nth, loaded, bound_to, bound, define, ended, computed_on, controlled_on, times, judged, located, holder, element, turned, counting}
+use Rattle.pictures.specs.Operators.{filled, with_entry, made_of, Work, with_operands, collected, gathered, below_mark, cleared, nth, loaded, bound_to, bound, define, ended, computed_on, controlled_on, times, judged, located, holder, element, turned, counting}
 use Rattle.pictures.specs.Sheets.{among, in_userdict}
 use Rattle.pictures.specs.Unaware.{put_names, names_in, none_among, asked_by}
 use Rattle.pictures.proofs.Tests.{first, second, by_test}
@@ -146,6 +146,25 @@ element_goes n i [] w es a = tt
 element_goes n zero (t ∷ ts) w es a = (es, refl, a)
 element_goes n (suc i) (t ∷ ts) w es a = element_goes n i ts w es a
 
+abbrev FilledGoes : ℕ → Option (List Entry × List Object) → Option (List Entry × List Object) → Type 0
+FilledGoes n None y = y ≡ None
+FilledGoes n (Some (fs, os)) y = (es : List Entry) × (y ≡ Some (es, ups os)) × Agree n es fs
+
+entry_filled : (n d : ℕ) (k : List ℕ) (o : Object) (x y : Option (List Entry × List Object)) → FilledGoes n x y
+    → FilledGoes n (with_entry (record { dictionary = d; key = k; value = o }) x) (with_entry (record { dictionary = d; key = k; value = up o }) y)
+entry_filled n d k o None y g = ap (with_entry (record { dictionary = d; key = k; value = up o })) g
+entry_filled n d k o (Some (fs, os)) y g =
+    (record { dictionary = d; key = k; value = up o } ∷ g.0, ap (with_entry (record { dictionary = d; key = k; value = up o })) g.1, agrees_put n g.0 fs d k o g.2)
+
+filled_goes : (n d : ℕ) (os : List Object) (fs es : List Entry) → Agree n es fs → FilledGoes n (filled d os fs) (filled d (ups os) es)
+filled_goes n d (Mark ∷ os) fs es a = (es, refl, a)
+filled_goes n d (o ∷ Plain (Literal k) ∷ os) fs es a = entry_filled n d k o (filled d os fs) (filled d (ups os) es) (filled_goes n d os fs es a)
+filled_goes n d os fs es a = refl
+
+made_goes : (n : ℕ) (x y : Option (List Entry × List Object)) (w : Work) (es : List Entry) → FilledGoes n x y → WorkGoes n (made_of x w) (made_of y (up_work es w))
+made_goes n None y w es g = tt
+made_goes n (Some (fs, os)) y w es g = (g.0, ap (λ z. made_of z (up_work es w)) g.1, g.2)
+
 pub works_on : (n : ℕ) (name : List ℕ) (c : Computation) (os : List Object) (w : Work) (es : List Entry) → Agree n es w.entries
     → none_among (asked_by (Some (Operator name (Computes c))) os) put_names ≡ true → WorkGoes n (computed_on c os w) (computed_on c (ups os) (up_work es w))
 works_on n name Pop (o ∷ os) w es a q = (es, refl, a)
@@ -191,6 +210,7 @@ works_on n name Get (Plain (Number text) ∷ Array ts ∷ os) w es a q =
     (element_goes n (number_of text) ts (with_operands w os) es a)
 works_on n name Length (Array ts ∷ os) w es a q = (es, refl, a)
 works_on n name LoadArray (Array ts ∷ os) w es a q = (es, ap (λ x. Some (with_operands (up_work es w) (Array ts ∷ x))) (onto_up ts os), a)
+works_on n name CloseDictionary os w es a q = made_goes n (filled (w.made + 1) os w.entries) (filled (w.made + 1) (ups os) es) w es (filled_goes n (w.made + 1) os w.entries es a)
 works_on n name c os w es a q = tt
 
 abbrev pub ControlGoes : ℕ → Option (List Token × Work) → Option (List Token × Work) → Type 0

@@ -10,6 +10,7 @@ use Rattle.pictures.specs.Objects.{Define, Begin, End}
 use Rattle.pictures.specs.Objects.{MakeDictionary, Load, Bind, Known, Index, ClearToMark, FindFont, ScaleFont, Execute}
 use Rattle.pictures.specs.Objects.{Calculate, Add, Subtract, Multiply, Divide, Negate, Compare, Equal, NotEqual, Less}
 use Rattle.pictures.specs.Objects.{LessOrEqual, Greater, GreaterOrEqual, And, Or, Not, Where, Get, Length, LoadArray}
+use Rattle.pictures.specs.Objects.{CloseDictionary}
 use Rattle.pictures.specs.Objects.{If, IfElse, Repeat, For, ForAll, Want, ANumber, AText, AnArray}
 use Rattle.pictures.specs.Objects.{AMatrix, AFont, AName, ATruth, Effect, Segments, Transforms, Sets, Paints, PaintsBeside}
 use Rattle.pictures.specs.Objects.{Shows, Clips, Forgets}
@@ -60,6 +61,7 @@ systemdict =
     ∷ is (codes "and") (Computes And) ∷ is (codes "or") (Computes Or) ∷ is (codes "not") (Computes Not)
     ∷ is (codes "where") (Computes Where) ∷ is (codes "get") (Computes Get) ∷ is (codes "length") (Computes Length)
     ∷ is (codes "aload") (Computes LoadArray)
+    ∷ is (codes "<<") (Computes OpenArray) ∷ is (codes ">>") (Computes CloseDictionary)
     ∷ draws (codes "newpath") [] Forgets
     ∷ draws (codes "moveto") (ANumber ∷ ANumber ∷ []) Segments
     ∷ draws (codes "rmoveto") (ANumber ∷ ANumber ∷ []) Segments

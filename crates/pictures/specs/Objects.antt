@@ -62,6 +62,7 @@ pub data Computation : Type 0 where
   Get : Computation
   Length : Computation
   LoadArray : Computation
+  CloseDictionary : Computation
 
 pub data Control : Type 0 where
   Execute : Control

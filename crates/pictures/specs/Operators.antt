@@ -12,6 +12,7 @@ use Rattle.pictures.specs.Objects.{Font, Operator, Computation, Pop, Duplicate, 
 use Rattle.pictures.specs.Objects.{Define, Begin, End}
 use Rattle.pictures.specs.Objects.{MakeDictionary, Load, Bind, Known, Index, ClearToMark, FindFont, ScaleFont, Control}
 use Rattle.pictures.specs.Objects.{Calculate, Negate, Compare, And, Or, Not, Where, Get, Length, LoadArray}
+use Rattle.pictures.specs.Objects.{CloseDictionary}
 use Rattle.pictures.specs.Objects.{Execute, If, IfElse, Repeat, For, ForAll, Want, ANumber, AText, AnArray}
 use Rattle.pictures.specs.Objects.{AMatrix, AFont, AName, ATruth}
 use Rattle.pictures.specs.Calculations.{whole_of, whole_text, calculated, negated, compared, names_compared, turns}
@@ -137,6 +138,22 @@ abbrev pub onto : List Token → List Object → List Object
 onto [] os = os
 onto (t ∷ ts) os = onto ts (Plain t ∷ os)
 
+abbrev pub with_entry : Entry → Option (List Entry × List Object) → Option (List Entry × List Object)
+with_entry e None = None
+with_entry e (Some (es, os)) = Some (e ∷ es, os)
+
+-- the keys and values down to the mark, put into a dictionary: of equal keys the last one counts
+abbrev pub filled : ℕ → List Object → List Entry → Option (List Entry × List Object)
+filled d (Mark ∷ os) es = Some (es, os)
+filled d (o ∷ Plain (Literal name) ∷ os) es =
+    with_entry (record { dictionary = d; key = name; value = o }) (filled d os es)
+filled d os es = None
+
+abbrev pub made_of : Option (List Entry × List Object) → Work → Option Work
+made_of None w = None
+made_of (Some (es, os)) w =
+    Some (record w { operands = Dictionary (w.made + 1) ∷ os; entries = es; made = w.made + 1 })
+
 -- by the operands, the topmost first
 abbrev pub computed_on : Computation → List Object → Work → Option Work
 computed_on Pop (o ∷ os) w = Some (with_operands w os)
@@ -177,6 +194,7 @@ computed_on Get (Plain (Number text) ∷ Array ts ∷ os) w =
     if list_all is_ascii_digit text then element (number_of text) ts (with_operands w os) else None
 computed_on Length (Array ts ∷ os) w = Some (with_operands w (Plain (Number (decimal (length ts))) ∷ os))
 computed_on LoadArray (Array ts ∷ os) w = Some (with_operands w (Array ts ∷ onto ts os))
+computed_on CloseDictionary os w = made_of (filled (w.made + 1) os w.entries) w
 computed_on c os w = None
 
 abbrev pub computed : Computation → Work → Option Work

@@ -1,6 +1,6 @@
 -- How bytes are cut into tokens (PostScript Language Reference, third edition, 3.2), by a reader that takes one byte at
--- a time. What this machine doesn't know, names with two slashes, dictionary brackets, strings in base 85, numbers with
--- a radix and binary tokens (3.14), is a token of its own, at which it stops; and so are errors of syntax.
+-- a time. What this machine doesn't know, names with two slashes, strings in base 85, numbers with a radix and binary
+-- tokens (3.14), is a token of its own, at which it stops; and so are errors of syntax.
 use Rattle.std.specs.Prelude.{◌≡◌, ℕ, zero, suc, List, [], ◌∷◌, ◌++◌, reverse, Bool, true, false, ◌&&◌, ◌||◌, ◌==◌}
 use Rattle.std.specs.Prelude.{if◌then◌else◌, nat_lt}
 use Rattle.std.specs.Char.{is_ascii_digit}
@@ -47,7 +47,8 @@ abbrev pub closing_brace : ℕ
 closing_brace = 125
 
 -- what the reader is in: nothing, a comment, a word, a literal name, a string so many parentheses deep, a string behind
--- a backslash, hexadecimal digits. What was read so far stands with it, the latest byte first
+-- a backslash, an angle bracket, hexadecimal digits, a closing angle bracket. What was read so far stands with it, the
+-- latest byte first
 pub data Reading : Type 0 where
   Between : Reading
   InComment : Reading
@@ -55,7 +56,9 @@ pub data Reading : Type 0 where
   InLiteral : List ℕ → Reading
   InText : ℕ → List ℕ → Reading
   Escaped : ℕ → List ℕ → Reading
+  InAngle : Reading
   InHexadecimal : List ℕ → Reading
+  InClosingAngle : Reading
 
 -- what a byte is outside strings and comments
 pub data Class : Type 0 where
@@ -63,7 +66,8 @@ pub data Class : Type 0 where
   Percent : Class
   Slash : Class
   OpensText : Class
-  OpensHexadecimal : Class
+  OpensAngle : Class
+  ClosesAngle : Class
   OpensBody : Class
   ClosesBody : Class
   Bracket : Class
@@ -88,11 +92,12 @@ class_of b =
     else if b == percent_sign then Percent
     else if b == slash then Slash
     else if b == opening_parenthesis then OpensText
-    else if b == less_than then OpensHexadecimal
+    else if b == less_than then OpensAngle
+    else if b == greater_than then ClosesAngle
     else if b == opening_brace then OpensBody
     else if b == closing_brace then ClosesBody
     else if (b == opening_bracket) || (b == closing_bracket) then Bracket
-    else if (b == closing_parenthesis) || (b == greater_than) || is_binary b then NotKnown
+    else if (b == closing_parenthesis) || is_binary b then NotKnown
     else Regular
 
 -- Numbers.
@@ -147,7 +152,9 @@ ended (InWord bs) = word (reverse bs) ∷ []
 ended (InLiteral bs) = Literal (reverse bs) ∷ []
 ended (InText depth bs) = Unknown ∷ []
 ended (Escaped depth bs) = Unknown ∷ []
+ended InAngle = Unknown ∷ []
 ended (InHexadecimal bs) = Unknown ∷ []
+ended InClosingAngle = Unknown ∷ []
 
 abbrev pub behind : List Token → List Token × Reading → List Token × Reading
 behind ts (us, r) = (ts ++ us, r)
@@ -158,7 +165,8 @@ begun White b = ([], Between)
 begun Percent b = ([], InComment)
 begun Slash b = ([], InLiteral [])
 begun OpensText b = ([], InText 0 [])
-begun OpensHexadecimal b = ([], InHexadecimal [])
+begun OpensAngle b = ([], InAngle)
+begun ClosesAngle b = ([], InClosingAngle)
 begun OpensBody b = (Opens ∷ [], Between)
 begun ClosesBody b = (Closes ∷ [], Between)
 begun Bracket b = (Name (b ∷ []) ∷ [], Between)
@@ -199,6 +207,16 @@ in_hexadecimal bs b =
     else if b == greater_than then (Hexadecimal (reverse bs) ∷ [], Between)
     else (Unknown ∷ [], Between)
 
+-- behind an angle bracket: a second one makes a name, `<<`; else it is a string
+abbrev pub in_angle : ℕ → List Token × Reading
+in_angle b = if b == less_than then (Name (less_than ∷ less_than ∷ []) ∷ [], Between) else in_hexadecimal [] b
+
+-- behind a closing one, which has no string to close: `>>`, or an error
+abbrev pub in_closing_angle : ℕ → List Token × Reading
+in_closing_angle b =
+    if b == greater_than then (Name (greater_than ∷ greater_than ∷ []) ∷ [], Between)
+    else behind (Unknown ∷ []) (begun (class_of b) b)
+
 -- the next byte: the tokens that it ends, and what the reader is in then
 abbrev pub next : Reading → ℕ → List Token × Reading
 next Between b = begun (class_of b) b
@@ -207,7 +225,9 @@ next (InWord bs) b = in_word (class_of b) bs b
 next (InLiteral bs) b = in_literal (class_of b) bs b
 next (InText depth bs) b = in_text depth bs b
 next (Escaped depth bs) b = ([], InText depth (b ∷ bs))
+next InAngle b = in_angle b
 next (InHexadecimal bs) b = in_hexadecimal bs b
+next InClosingAngle b = in_closing_angle b
 
 abbrev pub scan_from : Reading → List ℕ → List Token × Reading
 scan_from r [] = ([], r)

@@ -110,6 +110,17 @@ how_many = refl
 all_of_them : left_by (codes "[7 8] aload pop") ≡ Some (map number (codes "8" ∷ codes "7" ∷ []))
 all_of_them = refl
 
+-- dictionaries
+
+from_pairs : left_by (codes "<</a 1/b[2]>> begin b a") ≡ Some (number (codes "1") ∷ Array (Number (codes "2") ∷ []) ∷ [])
+from_pairs = refl
+
+the_last_counts : left_by (codes "<< /a 1 /a 2 >> /a get") ≡ only (number (codes "2"))
+the_last_counts = refl
+
+no_pair : left_by (codes "<< /a >>") ≡ None
+no_pair = refl
+
 -- names that are looked up
 
 found : left_by (codes "/x 5 def /x where {/x get} if") ≡ only (number (codes "5"))
