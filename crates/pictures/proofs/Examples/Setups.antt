@@ -44,3 +44,25 @@ has_the_name : imposed (codes "/ImposeSave 1 def") (stroke ∷ stroke ∷ [])
     ≡ Ok (Some ((placed ∷ []) ∷ (placed ∷ []) ∷ []))
 unfolding digits
 has_the_name = refl
+
+-- a setup that leaves a string on the operand stack: it is older than the page's save, but this machine doesn't know that
+-- of strings, and stops at `restore`, where the Reference has it pass
+leaves_a_string : own (codes "(left)") (stroke ∷ []) ≡ Some ((not_placed ∷ []) ∷ [])
+leaves_a_string = refl
+
+string_left : imposed (codes "(left)") (stroke ∷ []) ≡ Ok None
+unfolding digits
+string_left = refl
+
+-- a number does no harm
+number_left : imposed (codes "7") (stroke ∷ []) ≡ Ok (Some ((placed ∷ []) ∷ []))
+unfolding digits
+number_left = refl
+
+-- a setup with a showpage of its own: no sheet is printed, neither of the document nor of its output
+hides_showpage : own (codes "/showpage {} def") (stroke ∷ []) ≡ Some []
+hides_showpage = refl
+
+showpage_hidden : imposed (codes "/showpage {} def") (stroke ∷ []) ≡ Ok (Some [])
+unfolding digits
+showpage_hidden = refl
