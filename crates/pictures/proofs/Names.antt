@@ -8,10 +8,14 @@ use Rattle.profile.specs.Numbers.{number_of}
 use Rattle.pictures.specs.Objects.{Token, Number, Name, Literal, Object, Plain, Truth, Procedure, Dictionary}
 use Rattle.pictures.specs.Objects.{Saved, Font, Operator, Computation, Computes, Control, Execute, If, IfElse, Repeat}
 use Rattle.pictures.specs.Objects.{Pop, Duplicate, Exchange, OpenArray, CloseArray, Put, Define, Begin, End, MakeDictionary, Load, Bind, Known, Index, ClearToMark, FindFont, ScaleFont}
-use Rattle.pictures.specs.Objects.{Calculate, Negate, Compare, And, Or, Not, Where, Get, Length, LoadArray, CloseDictionary, CloseDictionary, For, ForAll, Array, Mark}
+use Rattle.pictures.specs.Objects.{Calculate, Negate, Compare, And, Or, Not, Where, Get, Length, LoadArray, CloseDictionary, CopyOperands, Roll, For, ForAll, Array, Mark}
 use Rattle.pictures.specs.Calculations.{whole_of, compared, names_compared, turns}
 use Rattle.pictures.specs.Dictionaries.{Entry, meaning, system, entry_of, or, has}
-use Rattle.pictures.specs.Operators.{filled, with_entry, made_of, Work, with_operands, collected, gathered, below_mark, cleared, nth, loaded, bound_to, bound, define, ended, computed_on, controlled_on, times, judged, located, holder, element, turned, counting}
+use Rattle.std.specs.Prelude.{nat_le}
+use Rattle.std.specs.List.{take-map, drop-map}
+use Rattle.std.proofs.lemmas.List.{map-append, length-map}
+use Rattle.std.proofs.Common.{◌++◌, take, drop}
+use Rattle.pictures.specs.Operators.{are_there, rolled, rolling, shift, filled, with_entry, made_of, Work, with_operands, collected, gathered, below_mark, cleared, nth, loaded, bound_to, bound, define, ended, computed_on, controlled_on, times, judged, located, holder, element, turned, counting}
 use Rattle.pictures.specs.Sheets.{among, in_userdict}
 use Rattle.pictures.specs.Unaware.{put_names, names_in, none_among, asked_by}
 use Rattle.pictures.proofs.Tests.{first, second, by_test}
@@ -165,6 +169,21 @@ made_goes : (n : ℕ) (x y : Option (List Entry × List Object)) (w : Work) (es 
 made_goes n None y w es g = tt
 made_goes n (Some (fs, os)) y w es g = (g.0, ap (λ z. made_of z (up_work es w)) g.1, g.2)
 
+there_up : (text : List ℕ) (os : List Object) → are_there text (ups os) ≡ are_there text os
+there_up text os = ap (λ m. list_all is_ascii_digit text && nat_le (number_of text) m) (length-map os up)
+
+rolled_up : (n k : ℕ) (os : List Object) → rolled n k (ups os) ≡ ups (rolled n k os)
+rolled_up n k os =
+    ap₂ (λ xs ys. drop k xs ++ take k xs ++ ys) (take-map up n os) (drop-map up n os)
+    ∙ ap₂ (λ xs ys. xs ++ ys ++ map up (drop n os)) (drop-map up k (take n os)) (take-map up k (take n os))
+    ∙ ap (λ xs. xs ++ map up (drop n os)) (sym (map-append up (drop k (take n os)) (take k (take n os))))
+    ∙ sym (map-append up (drop k (take n os) ++ take k (take n os)) (drop n os))
+
+rolling_goes : (n : ℕ) (x : Option ℤ) (m : ℕ) (b : Bool) (os : List Object) (w : Work) (es : List Entry) → Agree n es w.entries → WorkGoes n (rolling x m b os w) (rolling x m b (ups os) (up_work es w))
+rolling_goes n None m b os w es a = tt
+rolling_goes n (Some j) m false os w es a = tt
+rolling_goes n (Some j) m true os w es a = (es, ap (λ xs. Some (with_operands (up_work es w) xs)) (rolled_up m (shift m j) os), a)
+
 pub works_on : (n : ℕ) (name : List ℕ) (c : Computation) (os : List Object) (w : Work) (es : List Entry) → Agree n es w.entries
     → none_among (asked_by (Some (Operator name (Computes c))) os) put_names ≡ true → WorkGoes n (computed_on c os w) (computed_on c (ups os) (up_work es w))
 works_on n name Pop (o ∷ os) w es a q = (es, refl, a)
@@ -211,6 +230,13 @@ works_on n name Get (Plain (Number text) ∷ Array ts ∷ os) w es a q =
 works_on n name Length (Array ts ∷ os) w es a q = (es, refl, a)
 works_on n name LoadArray (Array ts ∷ os) w es a q = (es, ap (λ x. Some (with_operands (up_work es w) (Array ts ∷ x))) (onto_up ts os), a)
 works_on n name CloseDictionary os w es a q = made_goes n (filled (w.made + 1) os w.entries) (filled (w.made + 1) (ups os) es) w es (filled_goes n (w.made + 1) os w.entries es a)
+works_on n name CopyOperands (Plain (Number text) ∷ os) w es a q =
+    subst (λ b. WorkGoes n (if are_there text os then Some (with_operands w (take (number_of text) os ++ os)) else None) (if b then Some (with_operands (up_work es w) (take (number_of text) (ups os) ++ ups os)) else None)) (sym (there_up text os))
+    (if_goes n (are_there text os) (Some (with_operands w (take (number_of text) os ++ os))) (Some (with_operands (up_work es w) (take (number_of text) (ups os) ++ ups os)))
+    (es, ap (λ xs. Some (with_operands (up_work es w) xs)) (ap (λ xs. xs ++ ups os) (take-map up (number_of text) os) ∙ sym (map-append up (take (number_of text) os) os)), a))
+works_on n name Roll (Plain (Number j) ∷ Plain (Number text) ∷ os) w es a q =
+    subst (λ b. WorkGoes n (rolling (whole_of j) (number_of text) (are_there text os) os w) (rolling (whole_of j) (number_of text) b (ups os) (up_work es w))) (sym (there_up text os))
+    (rolling_goes n (whole_of j) (number_of text) (are_there text os) os w es a)
 works_on n name c os w es a q = tt
 
 abbrev pub ControlGoes : ℕ → Option (List Token × Work) → Option (List Token × Work) → Type 0

@@ -10,7 +10,7 @@ use Rattle.pictures.specs.Objects.{Define, Begin, End}
 use Rattle.pictures.specs.Objects.{MakeDictionary, Load, Bind, Known, Index, ClearToMark, FindFont, ScaleFont, Execute}
 use Rattle.pictures.specs.Objects.{Calculate, Add, Subtract, Multiply, Divide, Negate, Compare, Equal, NotEqual, Less}
 use Rattle.pictures.specs.Objects.{LessOrEqual, Greater, GreaterOrEqual, And, Or, Not, Where, Get, Length, LoadArray}
-use Rattle.pictures.specs.Objects.{CloseDictionary}
+use Rattle.pictures.specs.Objects.{CloseDictionary, CopyOperands, Roll}
 use Rattle.pictures.specs.Objects.{If, IfElse, Repeat, For, ForAll, Want, ANumber, AText, AnArray}
 use Rattle.pictures.specs.Objects.{AMatrix, AFont, AName, ATruth, Effect, Segments, Transforms, Sets, Paints, PaintsBeside}
 use Rattle.pictures.specs.Objects.{Shows, Clips, Forgets}
@@ -50,6 +50,7 @@ systemdict =
     ∷ is (codes "known") (Computes Known) ∷ is (codes "index") (Computes Index)
     ∷ is (codes "mark") (Computes OpenArray) ∷ is (codes "cleartomark") (Computes ClearToMark)
     ∷ is (codes "findfont") (Computes FindFont) ∷ is (codes "scalefont") (Computes ScaleFont)
+    ∷ is (codes "copy") (Computes CopyOperands) ∷ is (codes "roll") (Computes Roll)
     ∷ is (codes "exec") (Controls Execute) ∷ is (codes "if") (Controls If) ∷ is (codes "ifelse") (Controls IfElse)
     ∷ is (codes "repeat") (Controls Repeat) ∷ is (codes "for") (Controls For) ∷ is (codes "forall") (Controls ForAll)
     ∷ is (codes "add") (Computes (Calculate Add)) ∷ is (codes "sub") (Computes (Calculate Subtract))

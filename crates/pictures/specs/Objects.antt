@@ -63,6 +63,8 @@ pub data Computation : Type 0 where
   Length : Computation
   LoadArray : Computation
   CloseDictionary : Computation
+  CopyOperands : Computation
+  Roll : Computation
 
 pub data Control : Type 0 where
   Execute : Control

@@ -6,13 +6,14 @@ use Rattle.std.specs.Char.{is_ascii_digit}
 use Rattle.profile.specs.Numbers.{number_of}
 use Rattle.std.specs.Prelude.{ℕ, zero, suc, ◌+◌, List, [], ◌∷◌, ◌++◌, map, flat_map, length, Bool, true, false, not}
 use Rattle.std.specs.Prelude.{◌&&◌, ◌||◌, ◌==◌, nat_lt, if◌then◌else◌, Option, Some, None, ℤ, pos, ◌+ℤ◌, ◌*ℤ◌, decimal}
+use Rattle.std.specs.Prelude.{◌-◌, ◌%◌, negsuc, nat_le, take, drop}
 use Rattle.pictures.specs.Objects.{Token, Number, Name, Literal, Text, Hexadecimal, Bound, Object, Plain, Truth, Mark, Array}
 use Rattle.pictures.specs.Objects.{Procedure, Dictionary, Saved}
 use Rattle.pictures.specs.Objects.{Font, Operator, Computation, Pop, Duplicate, Exchange, OpenArray, CloseArray, Put}
 use Rattle.pictures.specs.Objects.{Define, Begin, End}
 use Rattle.pictures.specs.Objects.{MakeDictionary, Load, Bind, Known, Index, ClearToMark, FindFont, ScaleFont, Control}
 use Rattle.pictures.specs.Objects.{Calculate, Negate, Compare, And, Or, Not, Where, Get, Length, LoadArray}
-use Rattle.pictures.specs.Objects.{CloseDictionary}
+use Rattle.pictures.specs.Objects.{CloseDictionary, CopyOperands, Roll}
 use Rattle.pictures.specs.Objects.{Execute, If, IfElse, Repeat, For, ForAll, Want, ANumber, AText, AnArray}
 use Rattle.pictures.specs.Objects.{AMatrix, AFont, AName, ATruth}
 use Rattle.pictures.specs.Calculations.{whole_of, whole_text, calculated, negated, compared, names_compared, turns}
@@ -154,6 +155,23 @@ made_of None w = None
 made_of (Some (es, os)) w =
     Some (record w { operands = Dictionary (w.made + 1) ∷ os; entries = es; made = w.made + 1 })
 
+-- so many operands are there
+abbrev pub are_there : List ℕ → List Object → Bool
+are_there text os = list_all is_ascii_digit text && nat_le (number_of text) (length os)
+
+-- how many of n operands go from the top to the bottom, if they are rolled by j
+abbrev pub shift : ℕ → ℤ → ℕ
+shift zero j = 0
+shift (suc n) (pos j) = j % suc n
+shift (suc n) (negsuc j) = n - j % suc n
+
+abbrev pub rolled : (n k : ℕ) → List Object → List Object
+rolled n k os = drop k (take n os) ++ take k (take n os) ++ drop n os
+
+abbrev pub rolling : Option ℤ → ℕ → Bool → List Object → Work → Option Work
+rolling None n there os w = None
+rolling (Some j) n there os w = if there then Some (with_operands w (rolled n (shift n j) os)) else None
+
 -- by the operands, the topmost first
 abbrev pub computed_on : Computation → List Object → Work → Option Work
 computed_on Pop (o ∷ os) w = Some (with_operands w os)
@@ -195,6 +213,10 @@ computed_on Get (Plain (Number text) ∷ Array ts ∷ os) w =
 computed_on Length (Array ts ∷ os) w = Some (with_operands w (Plain (Number (decimal (length ts))) ∷ os))
 computed_on LoadArray (Array ts ∷ os) w = Some (with_operands w (Array ts ∷ onto ts os))
 computed_on CloseDictionary os w = made_of (filled (w.made + 1) os w.entries) w
+computed_on CopyOperands (Plain (Number text) ∷ os) w =
+    if are_there text os then Some (with_operands w (take (number_of text) os ++ os)) else None
+computed_on Roll (Plain (Number j) ∷ Plain (Number text) ∷ os) w =
+    rolling (whole_of j) (number_of text) (are_there text os) os w
 computed_on c os w = None
 
 abbrev pub computed : Computation → Work → Option Work

@@ -17,6 +17,9 @@ left_by text = option_map (λ s. s.work.operands) (to_the_end 1000 (started (tok
 abbrev number : List ℕ → Object
 number text = Plain (Number text)
 
+abbrev texts : List ℕ → Object
+texts text = Plain (Text text)
+
 abbrev only : Object → Option (List Object)
 only o = Some (o ∷ [])
 
@@ -120,6 +123,23 @@ the_last_counts = refl
 
 no_pair : left_by (codes "<< /a >>") ≡ None
 no_pair = refl
+
+-- operands: the examples of the Reference
+
+rolled_down : left_by (codes "(a)(b)(c) 3 -1 roll") ≡ Some (map texts (codes "a" ∷ codes "c" ∷ codes "b" ∷ []))
+rolled_down = refl
+
+rolled_up : left_by (codes "(a)(b)(c) 3 1 roll") ≡ Some (map texts (codes "b" ∷ codes "a" ∷ codes "c" ∷ []))
+rolled_up = refl
+
+rolled_none : left_by (codes "(a)(b)(c) 3 0 roll") ≡ Some (map texts (codes "c" ∷ codes "b" ∷ codes "a" ∷ []))
+rolled_none = refl
+
+copied : left_by (codes "(a)(b)(c) 2 copy") ≡ Some (map texts (codes "c" ∷ codes "b" ∷ codes "c" ∷ codes "b" ∷ codes "a" ∷ []))
+copied = refl
+
+too_few : left_by (codes "(a)(b) 3 copy") ≡ None
+too_few = refl
 
 -- names that are looked up
 
