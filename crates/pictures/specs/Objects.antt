@@ -1,8 +1,8 @@
 -- Tokens and objects of a small PostScript machine. What is cited is the PostScript Language Reference, third edition:
--- 3.2 has the syntax of tokens, 3.3 the types of objects. Numbers are their texts, and a
--- number that was calculated is one too (Calculations). An
--- array is its elements, which are tokens: it holds numbers, literal names and strings, and no array. Arrays, procedures
--- and strings are values here (3.3.1 has them shared), since no operator of this machine changes one in place.
+-- 3.2 has the syntax of tokens, 3.3 the types of objects. Numbers are their texts, and so is a number that was calculated
+-- (Calculations). An array is its elements, which are tokens: it holds numbers, literal names and strings, and no array.
+-- Arrays, procedures and strings are values here (3.3.1 has them shared), since no operator of this machine changes one in
+-- place.
 use Rattle.std.specs.Prelude.{ℕ, List, Bool}
 
 -- a number, an executable and a literal name, a string as it is written and one in hexadecimal digits, the braces of a
