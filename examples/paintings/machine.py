@@ -438,6 +438,7 @@ class Machine:
     journal: list = field(default_factory=list)
     frames: list = field(default_factory=list)
     steps: int = 0
+    now: object = None
     # the names that the step has asked the meaning of, and further names that have been used
     asked: set = field(default_factory=set)
     used: set = field(default_factory=set)
@@ -489,7 +490,7 @@ class Machine:
         items = []
         for frame in reversed(self.frames):
             items += frame.items[frame.at :] + ([Unknown(b"loop")] if frame.again else [])
-        scanner = Scanner(self.text, self.further)
+        scanner = Scanner(self.scanner.text, self.further)
         scanner.at = self.scanner.at
         while (token := scanner.token()) is not None:
             items.append(token)
@@ -508,6 +509,7 @@ class Machine:
         if item is None:
             return False
         self.steps += 1
+        self.now = item
         self.asked.clear()
         self.act(item)
         return True
