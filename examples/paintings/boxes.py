@@ -10,7 +10,7 @@ import subprocess
 from machine import Array, Literal, Name, Number, Stopped, String
 
 IDENTITY = (1.0, 0.0, 0.0, 1.0, 0.0, 0.0)
-PIECES = 48
+PIECES = 150
 
 
 def times(m, n):
@@ -127,7 +127,7 @@ class Path:
         else:
             while stop < start:
                 stop += 360
-        pieces = max(2, math.ceil(abs(stop - start) / 3))
+        pieces = max(2, math.ceil(abs(stop - start) * 2))
         angles = [math.radians(start + (stop - start) * i / pieces) for i in range(pieces + 1)]
         points = [at(m, x + radius * math.cos(angle), y + radius * math.sin(angle)) for angle in angles]
         if self.point is None:
@@ -198,7 +198,8 @@ def stroked(subpaths, m, settings):
 
 
 def without_repeats(points):
-    return [p for i, p in enumerate(points) if i == 0 or math.dist(p, points[i - 1]) > 1e-9]
+    """Points that are as good as the one before them have no direction from there."""
+    return [p for i, p in enumerate(points) if i == 0 or math.dist(p, points[i - 1]) > 1e-7]
 
 
 def circle(p, half):
@@ -268,7 +269,12 @@ def dashed(points, array, offset, closed):
         left -= length - done
         if line is not None:
             line.append(q)
-    return lines + [(line, False)] if line is not None and len(line) > 1 else lines
+    if line is not None and len(line) > 1:
+        # The Reference doesn't say whether the last dash of a closed path and the first one are joined. Ghostscript joins them.
+        if closed and lines and lines[0][0][0] == points[0] and math.dist(line[-1], points[0]) < 1e-9:
+            return [(line + lines[0][0][1:], False), *lines[1:]]
+        lines.append((line, False))
+    return lines
 
 
 # Convex pieces: clips, and paintings that a clip cuts.
@@ -343,7 +349,8 @@ def trapezoids(polygons, even_odd):
         for (_, left), (_, right) in zip(found, found[1:]):
             winding += 1 if left[1][1] > left[0][1] else -1
             if winding % 2 if even_odd else winding:
-                pieces.append([(x_at(left, low), low), (x_at(right, low), low), (x_at(right, high), high), (x_at(left, high), high)])
+                corners = [(x_at(left, low), low), (x_at(right, low), low), (x_at(right, high), high), (x_at(left, high), high)]
+                pieces.append(without_repeats(corners))
     return pieces
 
 
