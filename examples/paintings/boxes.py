@@ -7,7 +7,7 @@ Reference: 4.3 (matrices), 4.4 (paths, clips), 4.5 (painting), and 5 (text).
 """
 import math
 import subprocess
-from machine import Array, Literal, Name, Number, Stopped, String
+from machine import Literal, Number, Segment, Stopped
 
 IDENTITY = (1.0, 0.0, 0.0, 1.0, 0.0, 0.0)
 PIECES = 150
@@ -252,7 +252,7 @@ def dashed(points, array, offset, closed):
     at_dash, offset = 0, math.fmod(offset, sum(array))
     if offset < 0:
         offset += sum(array)
-    while offset >= array[at_dash]:
+    while offset >= array[at_dash] and offset > 0:
         offset -= array[at_dash]
         at_dash = (at_dash + 1) % len(array)
     left, lines = array[at_dash] - offset, []
@@ -369,6 +369,9 @@ def crossing(p, q, r, s):
 
 
 def convex_pieces(polygons, even_odd):
+    """A shape as convex polygons."""
+    if not polygons:
+        return []
     polygons = [without_repeats(p) for p in polygons]
     if len(polygons) == 1 and is_convex(polygons[0]):
         return polygons
@@ -405,7 +408,7 @@ def shown(segment, point, fonts):
     for code in text:
         advance, polygons = characters[code]
         glyph = times(scale, (m[0], m[1], m[2], m[3], *point))
-        outlines += [[at(glyph, *p) for p in polygon] for polygon in polygons]
+        outlines.append([[at(glyph, *p) for p in polygon] for polygon in polygons])
         end = at(glyph, *advance)
         dx, dy = every[0] + (wide[0] if code == special else 0), every[1] + (wide[1] if code == special else 0)
         point = (end[0] + m[0] * dx + m[2] * dy, end[1] + m[1] * dx + m[3] * dy)
@@ -482,61 +485,91 @@ class Reader:
             self.clips[clip] = [piece for piece in cuts if len(piece) > 2]
         return self.clips[clip]
 
-    def polygons(self, painting):
-        """The polygons of a painting, whether they are convex, and whether the even-odd rule holds."""
+    def groups(self, painting):
+        """The polygons of a painting, those together that make one shape, and whether each of them is convex."""
         name, g = painting.call.name, painting.graphics
         m = product(g.chain)
         if name in (b"fill", b"eofill"):
             subpaths = Path(g.path, self.fonts).subpaths if g.path else []
-            return [s.points for s in subpaths if len(s.points) > 1], False
+            return [[s.points for s in subpaths if len(s.points) > 1]], False
         if name == b"stroke":
-            return stroked(Path(g.path, self.fonts).subpaths if g.path else [], m, g.settings), True
+            return [[p] for p in stroked(Path(g.path, self.fonts).subpaths if g.path else [], m, g.settings)], True
         if name in (b"rectfill", b"rectstroke"):
-            v = values(painting.call)
-            subpaths = []
-            for x, y, w, h in zip(v[::4], v[1::4], v[2::4], v[3::4]):
-                subpath = Subpath(at(m, x, y))
-                subpath.points += [at(m, x + w, y), at(m, x + w, y + h), at(m, x, y + h)]
-                subpath.closed = True
-                subpaths.append(subpath)
-            return ([s.points for s in subpaths], False) if name == b"rectfill" else (stroked(subpaths, m, g.settings), True)
+            subpaths = rectangles(m, values(painting.call))
+            if name == b"rectfill":
+                return [[s.points] for s in subpaths], True
+            return [[p] for p in stroked(subpaths, m, g.settings)], True
         if name in (b"image", b"imagemask", b"colorimage"):
-            return [[at(m, 0, 0), at(m, 1, 0), at(m, 1, 1), at(m, 0, 1)]], True
+            return [[[at(m, 0, 0), at(m, 1, 0), at(m, 1, 1), at(m, 0, 1)]]], True
         point = Path(g.path, self.fonts).point
         if point is None:
             raise Stopped("a text, and no current point")
-        from machine import Segment
-
         return shown(Segment(painting.call, g.chain, g.settings), point, self.fonts)[0], False
 
-    def box(self, painting):
-        """What is seen of a painting: its box, None if nothing."""
+    def boxes(self, painting):
+        """What is seen of a painting: the box that it has to fill, and the box that it has to stay in; None is nothing.
+
+        Of most paintings they are the same. Of a text the first one is that of its outlines, and the second one that of its
+        characters' boxes, turned with them: Ghostscript's bbox device tells the second one of characters that it keeps as
+        bitmaps. So it is with strokes whose caps are squares: there it tells a box round the path, with its dashes and gaps."""
         if is_white(painting.graphics.settings) and painting.call.name not in (b"image", b"colorimage"):
-            return None
-        polygons, convex = self.polygons(painting)
-        pieces = self.clip(painting.graphics.clip)
-        if not polygons:
-            return None
-        whole = box_of([p for polygon in polygons for p in polygon])
-        if any(holds(piece, whole) for piece in pieces):
-            return whole
-        if not convex:
-            near = box_of([p for piece in pieces for p in piece]) if pieces else None
-            near = [] if near is None else [p for p in polygons if not apart(box_of(p), near)]
-            polygons = near if all(len(p) < 3 for p in near) else convex_pieces([p for p in near if len(p) > 2], painting.call.name == b"eofill")
+            return None, None
+        groups, convex = self.groups(painting)
+        inner = self.box(groups, convex, painting)
+        if painting.call.name.endswith(b"stroke") and setting(painting.graphics.settings, b"setlinecap")[0] == 2:
+            return inner, self.box(self.round_stroke(painting), True, painting)
+        if not painting.call.name.endswith(b"show"):
+            return inner, inner
+        return inner, self.box([self.character_box(painting, polygons) for polygons in groups], True, painting)
+
+    def round_stroke(self, painting):
+        g, m = painting.graphics, product(painting.graphics.chain)
+        subpaths = Path(g.path, self.fonts).subpaths if painting.call.name == b"stroke" else rectangles(m, values(painting.call))
+        left, low, right, high = box_of([p for s in subpaths for p in s.points])
+        most = setting(g.settings, b"setlinewidth")[0] * math.sqrt(0.5)
+        x, y = (abs(m[0]) + abs(m[2])) * most, (abs(m[1]) + abs(m[3])) * most
+        return [[[(left - x, low - y), (right + x, low - y), (right + x, high + y), (left - x, high + y)]]]
+
+    def character_box(self, painting, polygons):
+        points = [p for polygon in polygons for p in polygon]
+        if not points:
+            return []
+        m = times(font_of(painting.graphics.settings)[1], product(painting.graphics.chain))
+        left, low, right, high = box_of([at(inverse(m), *p) for p in points])
+        return [[at(m, *p) for p in ((left, low), (right, low), (right, high), (left, high))]]
+
+    def box(self, groups, convex, painting):
+        pieces = [(piece, box_of(piece)) for piece in self.clip(painting.graphics.clip)]
         found = []
-        for polygon in polygons:
-            box = box_of(polygon)
-            for piece in pieces:
-                if not apart(box, box_of(piece)):
-                    found += cut(polygon, piece)
+        for polygons in groups:
+            points = [p for polygon in polygons for p in polygon]
+            whole = box_of(points) if points else None
+            near = [] if whole is None else [piece for piece, box in pieces if not apart(whole, box)]
+            if any(holds(piece, whole) for piece in near):
+                found += points
+            elif near:
+                shape = polygons if convex else convex_pieces([p for p in polygons if len(p) > 2], painting.call.name == b"eofill")
+                found += [p for polygon in shape for piece in near for p in cut(polygon, piece)]
         return box_of(found) if found else None
+
+
+def rectangles(m, v):
+    subpaths = []
+    for x, y, w, h in zip(v[::4], v[1::4], v[2::4], v[3::4]):
+        subpath = Subpath(at(m, x, y))
+        subpath.points += [at(m, x + w, y), at(m, x + w, y + h), at(m, x, y + h)]
+        subpath.closed = True
+        subpaths.append(subpath)
+    return subpaths
 
 
 def holds(piece, box):
     """The box lies within the convex piece."""
     corners = [(box[0], box[1]), (box[2], box[1]), (box[2], box[3]), (box[0], box[3])]
-    return all(math.dist(p, q) < 1e-6 for p, q in zip(sorted(cut(corners, piece)), sorted(corners))) and len(cut(corners, piece)) == 4
+    if area(piece) < 0:
+        piece = piece[::-1]
+    return all((b[0] - a[0]) * (p[1] - a[1]) - (b[1] - a[1]) * (p[0] - a[0]) >= -1e-9
+               for a, b in zip(piece, piece[1:] + piece[:1]) for p in corners)
 
 
 def union(boxes):
