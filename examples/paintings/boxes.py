@@ -482,7 +482,7 @@ class Reader:
             pieces = convex_pieces(polygons, last.name == b"eoclip") if polygons else []
             outer = self.clip(clip[:-1])
             cuts = [cut(piece, other) for piece in pieces for other in outer if not apart(box_of(piece), box_of(other))]
-            self.clips[clip] = [piece for piece in cuts if len(piece) > 2]
+            self.clips[clip] = [piece for piece in cuts if len(piece) > 2 and abs(area(piece)) > 1e-6]
         return self.clips[clip]
 
     def groups(self, painting):
