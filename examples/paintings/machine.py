@@ -567,6 +567,11 @@ class Machine:
             self.operands.append(o)
 
     def perform(self, name):
+        if self.further:
+            from further import OVER, perform
+
+            if name in OVER:
+                return perform(self, name, OVER)
         if name in PROVED:
             try:
                 return PROVED[name](self)
@@ -574,8 +579,6 @@ class Machine:
                 if not self.further:
                     raise Stopped(f"operands of {name.decode()}") from None
         if self.further:
-            from further import perform
-
             return perform(self, name)
         raise Stopped(f"operands of {name.decode()}")
 
