@@ -51,9 +51,15 @@ def matrix_of(call):
 
 def product(chain, known={}):
     """What a list of matrices does: the innermost, which stands last, comes first."""
-    if chain not in known:
-        known[chain] = times(matrix_of(chain[-1]), product(chain[:-1])) if chain else IDENTITY
-    return known[chain]
+    if not chain:
+        return IDENTITY
+    # By identity, and the list is kept: states share their lists.
+    if id(chain) not in known:
+        done = IDENTITY
+        for call in reversed(chain):
+            done = times(done, matrix_of(call))
+        known[id(chain)] = chain, done
+    return known[id(chain)][1]
 
 
 # Paths.
@@ -91,7 +97,7 @@ class Path:
         elif name == b"rmoveto":
             self.move(self.moved(m, *v))
         else:
-            self.move(shown(segment, self.point, self.fonts)[1])
+            self.move(shown(segment, self.point, self.fonts, outlined=False)[1])
 
     def append(self, segment):
         """What further operators have computed: a path in default coordinates."""
@@ -396,7 +402,13 @@ def font_of(settings):
     raise Stopped("a text, and no font")
 
 
-def shown(segment, point, fonts):
+def point_of(path, fonts):
+    """The current point: what stands before the last `moveto` says nothing of it."""
+    start = max((i for i, segment in enumerate(path) if segment.call.name == b"moveto"), default=0)
+    return Path(path[start:], fonts).point
+
+
+def shown(segment, point, fonts, outlined=True):
     """The outlines of a text that begins here, and the point behind it (`show`, `ashow`, `widthshow`, `awidthshow`)."""
     name, m = segment.call.name, product(segment.chain)
     font, scale = font_of(segment.settings)
@@ -408,7 +420,8 @@ def shown(segment, point, fonts):
     for code in text:
         advance, polygons = characters[code]
         glyph = times(scale, (m[0], m[1], m[2], m[3], *point))
-        outlines.append([[at(glyph, *p) for p in polygon] for polygon in polygons])
+        if outlined:
+            outlines.append([[at(glyph, *p) for p in polygon] for polygon in polygons])
         end = at(glyph, *advance)
         dx, dy = every[0] + (wide[0] if code == special else 0), every[1] + (wide[1] if code == special else 0)
         point = (end[0] + m[0] * dx + m[2] * dy, end[1] + m[1] * dx + m[3] * dy)
@@ -417,7 +430,7 @@ def shown(segment, point, fonts):
 
 ASK = rb"""
 /s 1 string def /n { ( ) print 20 string cvs print } def
-/tell { /f exch def f 1000 scalefont setfont .25 setflat
+/tell { /f exch def f 1000 scalefont setfont 4 setflat
   0 1 255 { s 0 3 -1 roll put
     newpath 0 0 moveto (c) print { s stringwidth exch n n } stopped { clear ( 0 0) print } if (\n) print
     newpath 0 0 moveto { s false charpath flattenpath } stopped not {
@@ -475,15 +488,15 @@ class Reader:
     def clip(self, clip):
         if not clip:
             return self.paper
-        if clip not in self.clips:
+        if id(clip) not in self.clips:
             last, polygons = clip[-1], []
             if last.path:
                 polygons = [s.points for s in Path(last.path, self.fonts).subpaths if len(s.points) > 2]
             pieces = convex_pieces(polygons, last.name == b"eoclip") if polygons else []
             outer = self.clip(clip[:-1])
             cuts = [cut(piece, other) for piece in pieces for other in outer if not apart(box_of(piece), box_of(other))]
-            self.clips[clip] = [piece for piece in cuts if len(piece) > 2 and abs(area(piece)) > 1e-6]
-        return self.clips[clip]
+            self.clips[id(clip)] = clip, [piece for piece in cuts if len(piece) > 2 and abs(area(piece)) > 1e-6]
+        return self.clips[id(clip)][1]
 
     def groups(self, painting):
         """The polygons of a painting, those together that make one shape, and whether each of them is convex."""
@@ -501,7 +514,7 @@ class Reader:
             return [[p] for p in stroked(subpaths, m, g.settings)], True
         if name in (b"image", b"imagemask", b"colorimage"):
             return [[[at(m, 0, 0), at(m, 1, 0), at(m, 1, 1), at(m, 0, 1)]]], True
-        point = Path(g.path, self.fonts).point
+        point = point_of(g.path, self.fonts)
         if point is None:
             raise Stopped("a text, and no current point")
         return shown(Segment(painting.call, g.chain, g.settings), point, self.fonts)[0], False

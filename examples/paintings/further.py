@@ -5,7 +5,7 @@ What is looked up by `where` or `known` and is an operator of the Reference that
 machine, since it can't be said that there is none. An error of PostScript stops it too: `stopped` catches `stop` alone.
 """
 import math
-from boxes import IDENTITY, Path, at, inverse, product, times
+from boxes import IDENTITY, Path, at, inverse, point_of, product, times
 from machine import (ALWAYS, DRAWS, ERRORDICT, FONTDIRECTORY, GLOBALDICT, PROVED, SYSTEMDICT, USERDICT, Array, Bound, Call, Dictionary, File, Font,
                      Frame, Literal, Mark, Name, Null, Number, Operands, Operator, Painting, Procedure, String, Stopped, Truth, anything,
                      are_numbers, number, unescaped)
@@ -707,7 +707,7 @@ def rotate(m, o, angle):
 
 @operator("currentpoint")
 def current_point(m):
-    point = Path(m.graphics.path, FONTS_ASKED).point
+    point = point_of(m.graphics.path, FONTS_ASKED)
     if point is None:
         raise Stopped("no current point")
     return list(at(inverse(product(m.graphics.chain)), *point))
@@ -730,16 +730,32 @@ def flatten_path(m):
 
 @operator("grestoreall")
 def restore_all(m):
-    if m.stacked:
-        m.graphics = m.stacked[0]
-        m.stacked = []
-    elif m.saves:
+    if m.saves:
         m.graphics = m.saves[-1].graphics
+    elif m.stacked:
+        m.graphics = m.stacked[0]
+    m.stacked = []
 
 
 @operator("grestore")
 def restore_graphics(m):
     raise Stopped("grestore below all that was pushed")
+
+
+@operator("setpagedevice", Dictionary)
+def set_page_device(m, d):
+    """6.1.1: the graphics state is reset and the page erased. The paper stays what it is, as with Ghostscript's FIXEDMEDIA."""
+    if m.held:
+        raise Stopped("setpagedevice in a page that is held")
+    m.reset()
+    m.painted = []
+
+
+@operator("packedarray", is_count)
+def packed_array(m, n):
+    items = m.operands[len(m.operands) - n.value :]
+    del m.operands[len(m.operands) - n.value :]
+    return m.own(Array(items))
 
 
 @operator("erasepage")
@@ -750,6 +766,7 @@ def erase_page(m):
 @operator("copypage")
 def copy_page(m):
     m.sheets.append(list(m.painted))
+    m.events.append(None)
 
 
 def latest(m, name, default):

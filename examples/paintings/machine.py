@@ -361,6 +361,8 @@ class Snapshot:
 
 USERDICT, SYSTEMDICT, GLOBALDICT, STATUSDICT, ERRORDICT, FONTDIRECTORY = 0, -1, -2, -3, -4, -5
 MISSING = object()
+# Steps, after which a run is given up.
+MOST = 1_000_000
 ALWAYS = {b"userdict": Dictionary(USERDICT), b"true": Truth(True), b"false": Truth(False)}
 # What graphics operators want, the topmost first, and their effect: systemdict of specs/Dictionaries.
 N, TEXT, ARRAY, MATRIX, FONT, NAME = "number", "text", "array", "matrix", "font", "name"
@@ -435,6 +437,8 @@ class Machine:
     saves: list = field(default_factory=list)
     painted: list = field(default_factory=list)
     sheets: list = field(default_factory=list)
+    # all paintings one after another, and None for a sheet that is printed
+    events: list = field(default_factory=list)
     journal: list = field(default_factory=list)
     frames: list = field(default_factory=list)
     steps: int = 0
@@ -458,6 +462,9 @@ class Machine:
             if frame.at < len(frame.items):
                 frame.at += 1
                 return frame.items[frame.at - 1]
+            self.steps += 1
+            if self.steps > MOST:
+                raise Stopped("it runs too long")
             if frame.again is None or not frame.again(self):
                 self.frames.pop()
             else:
@@ -498,9 +505,9 @@ class Machine:
                 break
         return items
 
-    def run(self, most=2_000_000):
+    def run(self):
         while self.step():
-            if self.steps > most:
+            if self.steps > MOST:
                 raise Stopped("it runs too long")
         return self
 
@@ -621,6 +628,7 @@ class Machine:
         g = self.graphics
         if effect in ("paints", "beside", "shows"):
             self.painted.append(Painting(call, g))
+            self.events.append(self.painted[-1])
         if effect in PATH_TAKEN:
             self.set_to(path=())
         elif effect == "segments":
@@ -819,6 +827,7 @@ def showpage(m):
         raise Stopped("showpage in a page that is held")
     m.reset()
     m.sheets.append(m.painted)
+    m.events.append(None)
     m.painted = []
 
 
