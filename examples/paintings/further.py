@@ -731,9 +731,9 @@ def flatten_path(m):
 @operator("grestoreall")
 def restore_all(m):
     if m.saves:
-        m.graphics = m.saves[-1].graphics
+        m.back_to(m.saves[-1].graphics)
     elif m.stacked:
-        m.graphics = m.stacked[0]
+        m.back_to(m.stacked[0])
     m.stacked = []
 
 
@@ -749,6 +749,8 @@ def set_page_device(m, d):
         raise Stopped("setpagedevice in a page that is held")
     m.reset()
     m.painted = []
+    m.devices = getattr(m, "devices", 0) + 1
+    m.set_to(device=m.devices)
 
 
 @operator("packedarray", is_count)

@@ -342,6 +342,8 @@ class Graphics:
     path: tuple = ()
     clip: tuple = ()
     settings: tuple = ()
+    # which page device it is, counted: for further operators
+    device: int = 0
 
 
 @dataclass(frozen=True)
@@ -643,7 +645,14 @@ class Machine:
             self.set_to(clip=g.clip + (Clip(call.name, g.path),))
 
     def reset(self):
-        self.graphics = Graphics(settings=tuple(c for c in self.graphics.settings if c.name in FONTS))
+        fonts = tuple(c for c in self.graphics.settings if c.name in FONTS)
+        self.graphics = Graphics(settings=fonts, device=self.graphics.device)
+
+    def back_to(self, graphics):
+        """Another page device than before begins with an empty page (6.1.1)."""
+        if graphics.device != self.graphics.device:
+            self.painted = []
+        self.graphics = graphics
 
     def is_old(self, shot, o):
         if isinstance(o, Dictionary):
@@ -796,9 +805,9 @@ def gsave(m):
 
 def grestore(m):
     if m.stacked:
-        m.graphics = m.stacked.pop()
+        m.back_to(m.stacked.pop())
     elif m.saves:
-        m.graphics = m.saves[-1].graphics
+        m.back_to(m.saves[-1].graphics)
     else:
         raise Stopped("grestore below all that was pushed")
 
@@ -819,7 +828,8 @@ def restore(m):
     if not all(m.is_old(shot, o) for o in m.operands) or any(d > shot.made for d in m.dictionaries):
         raise Stopped("restore below what is newer on the stacks")
     m.go_back(shot.journal)
-    m.level, m.made, m.graphics, m.stacked = shot.level, shot.made, shot.graphics, shot.stacked
+    m.back_to(shot.graphics)
+    m.level, m.made, m.stacked = shot.level, shot.made, shot.stacked
 
 
 def showpage(m):
