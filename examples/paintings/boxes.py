@@ -66,6 +66,8 @@ def product(chain, known={}):
 
 
 class Subpath:
+    """A subpath in default coordinates."""
+
     def __init__(self, start):
         self.points, self.closed = [start], False
 
@@ -420,8 +422,8 @@ def shown(segment, point, fonts, outlined=True):
     for code in text:
         advance, polygons = characters[code]
         glyph = times(scale, (m[0], m[1], m[2], m[3], *point))
-        if outlined:
-            outlines.append([[at(glyph, *p) for p in polygon] for polygon in polygons])
+        if outlined and polygons:
+            outlines.append(Glyph(glyph, polygons, fonts.hull(font, code)))
         end = at(glyph, *advance)
         dx, dy = every[0] + (wide[0] if code == special else 0), every[1] + (wide[1] if code == special else 0)
         point = (end[0] + m[0] * dx + m[2] * dy, end[1] + m[1] * dx + m[3] * dy)
@@ -439,11 +441,42 @@ ASK = rb"""
 """
 
 
+class Glyph:
+    """A character: what its outlines are taken by, the outlines, and their convex hull, which has the same box however it is turned."""
+
+    def __init__(self, matrix, polygons, hull):
+        self.matrix, self.polygons, self.hull = matrix, polygons, [at(matrix, *p) for p in hull]
+
+    def outlines(self):
+        return [[at(self.matrix, *p) for p in polygon] for polygon in self.polygons]
+
+
+def hull_of(points):
+    points = sorted(set(points))
+    if len(points) < 3:
+        return points
+
+    def half(points):
+        out = []
+        for p in points:
+            while len(out) > 1 and (out[-1][0] - out[-2][0]) * (p[1] - out[-2][1]) - (out[-1][1] - out[-2][1]) * (p[0] - out[-2][0]) <= 0:
+                out.pop()
+            out.append(p)
+        return out[:-1]
+
+    return half(points) + half(points[::-1])
+
+
 class Fonts:
     """Outlines of characters, of fonts by their names, as Ghostscript has them. Fonts that the document brings aren't here."""
 
     def __init__(self):
-        self.known = {}
+        self.known, self.hulls = {}, {}
+
+    def hull(self, font, code):
+        if (font, code) not in self.hulls:
+            self.hulls[font, code] = hull_of([p for polygon in self.characters(font)[code][1] for p in polygon])
+        return self.hulls[font, code]
 
     def characters(self, font):
         if font not in self.known:
@@ -543,10 +576,8 @@ class Reader:
         x, y = (abs(m[0]) + abs(m[2])) * most, (abs(m[1]) + abs(m[3])) * most
         return [[[(left - x, low - y), (right + x, low - y), (right + x, high + y), (left - x, high + y)]]]
 
-    def character_box(self, painting, polygons):
-        points = [p for polygon in polygons for p in polygon]
-        if not points:
-            return []
+    def character_box(self, painting, glyph):
+        points = glyph.hull
         m = times(font_of(painting.graphics.settings)[1], product(painting.graphics.chain))
         left, low, right, high = box_of([at(inverse(m), *p) for p in points])
         return [[at(m, *p) for p in ((left, low), (right, low), (right, high), (left, high))]]
@@ -555,12 +586,13 @@ class Reader:
         pieces = [(piece, box_of(piece)) for piece in self.clip(painting.graphics.clip)]
         found = []
         for polygons in groups:
-            points = [p for polygon in polygons for p in polygon]
+            points = polygons.hull if isinstance(polygons, Glyph) else [p for polygon in polygons for p in polygon]
             whole = box_of(points) if points else None
             near = [] if whole is None else [piece for piece, box in pieces if not apart(whole, box)]
             if any(holds(piece, whole) for piece in near):
                 found += points
             elif near:
+                polygons = polygons.outlines() if isinstance(polygons, Glyph) else polygons
                 shape = polygons if convex else convex_pieces([p for p in polygons if len(p) > 2], painting.call.name == b"eofill")
                 found += [p for polygon in shape for piece in near for p in cut(polygon, piece)]
         return box_of(found) if found else None
