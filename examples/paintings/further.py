@@ -19,7 +19,7 @@ filter readline read write writestring print setobjectformat findresource define
 execform setcachedevice setcachedevice2 setcharwidth setsystemparams setuserparams vmreclaim gcheck currentpacking setpacking packedarray
 setglobal currentglobal globaldict cleardictstack nulldevice banddevice framedevice renderbands settrapparams a3 a4 a5 b5 letter legal note
 setdevparams internaldict superexec jobname realtime usertime clippath viewclip initviewclip rectviewclip arct execstack dictstack
-setsmoothness currentsmoothness setcolorrendering currentcolorrendering currentobjectformat selectcolor languageblah =  == stack pstack""".split())
+setsmoothness currentsmoothness setcolorrendering currentcolorrendering currentobjectformat selectcolor =  == stack pstack""".split())
 OVER = {}
 FURTHER = {}
 
@@ -92,7 +92,8 @@ def perform(m, name, table=FURTHER):
 
 CONSTANTS = {b"systemdict": Dictionary(SYSTEMDICT), b"languagelevel": number(3), b"null": Null(), b"FontDirectory": Dictionary(FONTDIRECTORY),
              b"StandardEncoding": None}
-STANDARD = (["/.notdef"] * 32 + """space exclam quotedbl numbersign dollar percent ampersand quoteright parenleft parenright asterisk plus comma hyphen
+STANDARD = (["/.notdef"] * 32 + """
+space exclam quotedbl numbersign dollar percent ampersand quoteright parenleft parenright asterisk plus comma hyphen
 period slash zero one two three four five six seven eight nine colon semicolon less equal greater question at A B C D E F G H I J K L M N O P Q R S T
 U V W X Y Z bracketleft backslash bracketright asciicircum underscore quoteleft a b c d e f g h i j k l m n o p q r s t u v w x y z braceleft bar
 braceright asciitilde""".split() + [".notdef"] * 34 + """exclamdown cent sterling fraction yen florin section currency quotesingle quotedblleft
@@ -562,7 +563,7 @@ def to_string(m, s, o):
     return m.own(String(b"", text))
 
 
-TYPES = {Number: b"", Literal: b"nametype", Name: b"nametype", String: b"stringtype", Truth: b"booleantype", Array: b"arraytype", Procedure: b"arraytype",
+TYPES = {Literal: b"nametype", Name: b"nametype", String: b"stringtype", Truth: b"booleantype", Array: b"arraytype", Procedure: b"arraytype",
          Dictionary: b"dicttype", Operator: b"operatortype", Null: b"nulltype", Mark: b"marktype", File: b"filetype", Font: b"dicttype"}
 
 
@@ -840,7 +841,8 @@ def find_font(m):
     d = Dictionary(min(m.entries) - 100)
     m.entries[d.number] = {}
     m.entries[d.number].update({
-        b"FontType": number(1), b"FontName": Literal(name), b"FontMatrix": Array([number(v) for v in UNIT]), b"Encoding": CONSTANTS[b"StandardEncoding"],
+        b"FontType": number(1), b"FontName": Literal(name),
+        b"FontMatrix": Array([number(v) for v in UNIT]), b"Encoding": CONSTANTS[b"StandardEncoding"],
         b"FontBBox": Procedure([number(v) for v in (-200, -300, 1200, 1000)]), b"PaintType": number(0), b"FID": Null(), MARKED: Literal(name)})
     m.entries[FONTDIRECTORY][name] = d
     m.operands.append(d)
@@ -912,12 +914,6 @@ def string_width(m, s):
 @operator("currentfile")
 def current_file(m):
     return File()
-
-
-def file_bytes(m, size):
-    found = m.scanner.text[m.scanner.at + 1 : m.scanner.at + 1 + size] if m.scanner.text[m.scanner.at : m.scanner.at + 1] in (b" ", b"\n", b"\r", b"\t") \
-        else m.scanner.text[m.scanner.at : m.scanner.at + size]
-    return found
 
 
 @operator("readhexstring", String, File)
