@@ -1,10 +1,13 @@
 //! Which sheets may be imposed now.
+ghost use Rattle.std.specs.Prelude.{◌≡◌, ◌<◌, ◌↔◌, IfSome, IfNone, OnOk, OnErr, IsTrue};
+ghost use Rattle.std.specs.FinSet as set;
+ghost use Rattle.sheet_set.specs.Numbers.{IsFirst, HasNoneBelow};
+
 use crate::options::Workers;
 use crossbeam_utils::{Backoff, CachePadded};
+use sheet_set::SheetSet;
 use sheet_text::Job;
-use std::alloc::{AllocFailed, Global};
-use std::cmp::Reverse;
-use std::collections::BinaryHeap;
+use std::alloc::{AllocError, Global};
 use std::sync::Wait;
 use std::sync::atomic::Ordering::SeqCst;
 use std::sync::atomic::{AtomicBool, AtomicU64};
@@ -153,40 +156,53 @@ pub(crate) fn bytes_of_pages(job: &Job<'_, '_>) -> usize {
 /// Sheets that were taken off the queue by an imposer, and lay behind the window then.
 #[derive(Drop)]
 pub(crate) struct Held {
-    sheets: BinaryHeap<Reverse<u32>>,
+    sheets: SheetSet,
     /// The end of the window when the last look found none of them in it.
     looked_to: u32,
 }
 
 impl Held {
-    pub(crate) fn new(alloc: Global) -> Self {
+    /// None is held.
+    pub(crate) fn new(alloc: Global) -> Self
+        ensures { result.sheets ≡ set.empty }
+    {
         Held {
-            sheets: BinaryHeap::new(alloc),
+            sheets: SheetSet::new(alloc),
             looked_to: 0,
         }
     }
 
-    pub(crate) fn is_empty(&self) -> bool {
+    pub(crate) fn is_empty(&self) -> bool
+        ensures { IsTrue result ↔ self.now.sheets ≡ set.empty }
+    {
         self.sheets.is_empty()
     }
 
-    pub(crate) fn push(&mut self, sheet: u32) -> Result<(), AllocFailed<Reverse<u32>>> {
-        self.sheets.push(Reverse(sheet))
+    /// Holds a sheet. If there is no memory for its number, the same sheets are held as before.
+    pub(crate) fn push(&mut self, sheet: u32) -> Result<(), AllocError>
+        ensures held { OnOk result (self.new.sheets ≡ set.insert self.old.sheets sheet) }
+        ensures refused { OnErr result (self.new.sheets ≡ self.old.sheets) }
+    {
+        self.sheets.insert(sheet)
     }
 
     /// Takes the first sheet, if it lies before this end.
-    pub(crate) fn pop_before(&mut self, end: u32) -> Option<u32> {
-        let Reverse(first) = *self.sheets.peek()?;
-        if first >= end {
-            return None;
-        }
-        let Reverse(sheet) = self.sheets.pop()?;
-        Some(sheet)
+    pub(crate) fn pop_before(&mut self, end: u32) -> Option<u32>
+        ensures first { IfSome result (IsFirst self.old.sheets) }
+        ensures before { IfSome result (λ sheet. sheet < end) }
+        ensures taken { IfSome result (λ sheet. self.new.sheets ≡ set.remove self.old.sheets sheet) }
+        ensures none { IfNone result (HasNoneBelow self.old.sheets end) }
+        ensures same { IfNone result (self.new.sheets ≡ self.old.sheets) }
+    {
+        self.sheets.take_first_before(end)
     }
 
     /// Whether some are held and the window has moved since this was last asked. Then it is better to wait for these
     /// than to take more off the queue, which other imposers may want.
-    pub(crate) fn come_nearer(&mut self, end: u32) -> bool {
+    pub(crate) fn come_nearer(&mut self, end: u32) -> bool
+        ensures same { self.new.sheets ≡ self.old.sheets }
+        ensures some { IsTrue result → ¬ (self.old.sheets ≡ set.empty) }
+    {
         let moved = self.looked_to != end;
         self.looked_to = end;
         moved && !self.is_empty()

@@ -1,0 +1,3 @@
+pub mod OneBit
+pub mod Passing
+pub mod Counted
