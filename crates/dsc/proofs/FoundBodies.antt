@@ -1,14 +1,14 @@
 -- A body that was found is the prepared body of its page.
 use Rattle.std.specs.Prelude.{Ok, map}
-use Rattle.std.proofs.Common.{◌≡◌, ℕ, zero, suc, ◌+◌, ◌-◌, ◌<◌, ◌≤◌, List, [], ◌∷◌, length, take, drop, get_or, refl, ap, arith, length-take, length-drop, sym, ◌∙◌, subst}
+use Rattle.std.proofs.Common.{Bool, true, false, if◌then◌else◌, ◌≡◌, ℕ, zero, suc, ◌+◌, ◌-◌, ◌<◌, ◌≤◌, List, [], ◌∷◌, length, take, drop, get_or, refl, ap, arith, length-take, length-drop, sym, ◌∙◌, subst}
 use Rattle.std.proofs.lemmas.List.{drop-drop, drop-take, length-map}
-use Rattle.profile.specs.Units.{cut, ◌>>=◌}
+use Rattle.profile.specs.Units.{is_end, cut, ◌>>=◌}
 use Rattle.profile.specs.Parts.{NestedUnit, nested, page_run, split_pages, bytes_of, pages}
 use Rattle.profile.specs.Filters.{kept, drops_in_page, ended, prepared}
 use Rattle.dsc.specs.Units.{or_none, units_of}
 use Rattle.dsc.specs.Laws.{StandAlone}
 use Rattle.dsc.specs.Marks.{starts_of}
-use Rattle.dsc.specs.BodyStarts.{IsBodyStart}
+use Rattle.dsc.specs.BodyStarts.{IsBodyStart, ends_line}
 use Rattle.dsc.specs.Documents.{HasItsParts}
 use Rattle.dsc.proofs.Alone.{pages-alone}
 use Rattle.dsc.proofs.Slices.{page_found}
@@ -16,6 +16,17 @@ use Rattle.dsc.proofs.Slices.{page_found}
 -- the prepared body of units that are cut anew alike
 pub alone_prepared : (us : List NestedUnit) → StandAlone us → prepared (bytes_of us) ≡ Ok (ended (bytes_of (kept drops_in_page us)))
 alone_prepared us h = ap (λ r. r >>= λ vs. Ok (ended (bytes_of (kept drops_in_page (nested vs))))) h.0 ∙ ap (λ vs. Ok (ended (bytes_of (kept drops_in_page vs)))) h.1
+
+-- bytes that end with a line end, and a rest of them, want none
+ends_stay : (xs : List ℕ) (was : Bool) → ends_line was xs ≡ true → ended xs ≡ xs
+ends_stay [] was e = refl
+ends_stay (b ∷ []) was e = ap (λ t. if t then b ∷ [] else b ∷ 10 ∷ []) e
+ends_stay (b ∷ c ∷ bs) was e = ap (λ t. b ∷ t) (ends_stay (c ∷ bs) (is_end b) e)
+
+rest_stays : (k : ℕ) (xs : List ℕ) (was : Bool) → ends_line was xs ≡ true → ended (drop k xs) ≡ drop k xs
+rest_stays zero xs was e = ends_stay xs was e
+rest_stays (suc k) [] was e = refl
+rest_stays (suc k) (x ∷ xs) was e = rest_stays k xs (is_end x) e
 
 mapped : (xs : List (List NestedUnit)) (p : ℕ) → get_or (map bytes_of xs) p [] ≡ bytes_of (get_or xs p [])
 mapped [] p = refl
@@ -37,7 +48,7 @@ not_0 (suc n) h = omega arith
 -- as the code finds it
 pub body_at : (text starts bodies row others : List ℕ) (stop p start end : ℕ) (us : List NestedUnit) → HasItsParts text starts bodies stop → units_of text ≡ us → p < length (pages us)
     → row ≡ bodies → others ≡ starts → start ≡ get_or row p 0 → end ≡ get_or others (p + 1) stop
-    → (p < length row) × (p < length others) × (0 < start → (start ≤ end) × (end ≤ length text) × (prepared (get_or (pages us) p []) ≡ Ok (ended (take (end - start) (drop start text)))))
+    → (p < length row) × (p < length others) × (0 < start → (start ≤ end) × (end ≤ length text) × (prepared (get_or (pages us) p []) ≡ Ok (take (end - start) (drop start text))))
 body_at text starts bodies row others stop p start end us i v h r o s e =
     let vs : List NestedUnit = units_of text in
     let parts : List (List NestedUnit) = split_pages (page_run vs) in
@@ -63,6 +74,7 @@ body_at text starts bodies row others stop p start end us i v h r o s e =
             within,
             omega (arith, found.2, last),
             ap (λ ws. prepared (get_or (pages ws) p [])) (sym v) ∙ ap prepared (mapped parts p) ∙ alone_prepared unit alone
-                ∙ ap (λ t. Ok (ended t)) (w.2 ∙ ap (drop (start - at)) (sym page) ∙ rest_of text at start end w.0 within),
+                ∙ ap (λ t. Ok (ended t)) w.2 ∙ ap Ok (rest_stays (start - at) (bytes_of unit) false w.3)
+                ∙ ap Ok (ap (drop (start - at)) (sym page) ∙ rest_of text at start end w.0 within),
           ),
     )

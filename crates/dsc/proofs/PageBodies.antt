@@ -12,12 +12,12 @@ use Rattle.profile.specs.Filters.{kept_after, drops_in_page, continues}
 use Rattle.dsc.specs.Filters.{is_dropped, of_units}
 use Rattle.dsc.specs.Units.{or_none, units_of}
 use Rattle.dsc.specs.Marks.{page_starts}
-use Rattle.dsc.specs.BodyStarts.{IsBodyStart, AreBodyStarts, Sought, none_sought, moved, starts_in, noted}
+use Rattle.dsc.specs.BodyStarts.{IsBodyStart, AreBodyStarts, Sought, none_sought, moved, starts_in, noted, ends_line, closed}
 use Rattle.dsc.specs.declared.filters.Drops.TheVariants.{PageSetup}
 use Rattle.dsc.proofs.Cases.{by_test}
 use Rattle.dsc.proofs.Filtering.{kept_step}
 use Rattle.dsc.proofs.PartMarks.{before-cons, head_len, body_from, head-more, body-more, head-none, body-all, page_key}
-use Rattle.dsc.proofs.BodyMarks.{sought_with, sought_on}
+use Rattle.dsc.proofs.BodyMarks.{sought_with, sought_on, line_further}
 
 -- where a body begins behind these units, the first of which begins at the byte `at`
 abbrev pub start_with : (start : ℕ) (was : Bool) (at : ℕ) → List NestedUnit → ℕ
@@ -116,7 +116,9 @@ goes (u ∷ us) front start was at h =
 abbrev pub body_starts : ℕ → List NestedUnit → List ℕ
 body_starts at [] = []
 body_starts at (u ∷ us) = let behind = at + length u.unit.bytes
-    in if begins_page u then start_with at false at (u ∷ up_to begins_page us) ∷ body_starts behind us else body_starts behind us
+    in if begins_page u
+    then closed (ends_line false (bytes_of (u ∷ up_to begins_page us))) (start_with at false at (u ∷ up_to begins_page us)) ∷ body_starts behind us
+    else body_starts behind us
 
 pub one_each : (at : ℕ) (us : List NestedUnit) → length (body_starts at us) ≡ length (split_pages us)
 one_each at [] = refl
@@ -128,8 +130,13 @@ one_each at (u ∷ us) = by_test (begins_page u)
 abbrev IsRight : (p at : ℕ) → List NestedUnit → Type 0
 IsRight p at us = p < length (split_pages us) → IsBodyStart (get_or (page_starts at us) p 0) (get_or (body_starts at us) p 0) (get_or (split_pages us) p [])
 
+-- a page that ends with a line end
+closed_right : (at n : ℕ) (us : List NestedUnit) (line : Bool) → ends_line false (bytes_of us) ≡ line → Goes [] at false at us n → IsBodyStart at (closed line n) us
+closed_right at n us true e g = λ some. let w = g some in (w.0, w.1, w.2, e)
+closed_right at n us false e g = λ some. absurd (omega (arith, some))
+
 first_right : (p at : ℕ) (u : NestedUnit) (us : List NestedUnit) (page : Bool) → begins_page u ≡ page → ((q : ℕ) → IsRight q (at + length u.unit.bytes) us) → IsRight p at (u ∷ us)
-first_right zero at u us true e later = rw e (λ _. goes (u ∷ up_to begins_page us) [] at false at (omega arith))
+first_right zero at u us true e later = rw e (λ _. closed_right at _ (u ∷ up_to begins_page us) _ refl (goes (u ∷ up_to begins_page us) [] at false at (omega arith)))
 first_right (suc q) at u us true e later = rw e (λ h. later q (omega (arith, h)))
 first_right p at u us false e later = rw e (later p)
 
@@ -145,98 +152,110 @@ page_dropped was u h =
     ∙ ap (λ k. (starts_with nat_eq k (codes "%%Page") || list_any (bytes_eq k) (codes "%%BeginPageSetup" ∷ codes "%%EndPageSetup" ∷ [])) || (was && continues u)) w.1
 
 first_body : (at : ℕ) (u : NestedUnit) (us : List NestedUnit) → begins_page u ≡ true
-    → body_starts at (u ∷ us) ≡ start_with (at + length u.unit.bytes) true (at + length u.unit.bytes) (up_to begins_page us) ∷ body_starts (at + length u.unit.bytes) us
+    → body_starts at (u ∷ us)
+    ≡ closed (ends_line (ends_line false u.unit.bytes) (bytes_of (up_to begins_page us))) (start_with (at + length u.unit.bytes) true (at + length u.unit.bytes) (up_to begins_page us))
+    ∷ body_starts (at + length u.unit.bytes) us
 first_body at u us h =
     let b : ℕ = at + length u.unit.bytes in
-    ap (λ t. if t then start_with at false at (u ∷ up_to begins_page us) ∷ body_starts b us else body_starts b us) h
-    ∙ ap (λ d. start_with (moved d at at b) d b (up_to begins_page us) ∷ body_starts b us) (page_dropped false u h)
-    ∙ ap (λ t. start_with (if t then b else 0) true b (up_to begins_page us) ∷ body_starts b us) (same_byte at)
+    let line : Bool = ends_line false (bytes_of (u ∷ up_to begins_page us)) in
+    ap (λ t. if t then closed line (start_with at false at (u ∷ up_to begins_page us)) ∷ body_starts b us else body_starts b us) h
+    ∙ ap (λ d. closed line (start_with (moved d at at b) d b (up_to begins_page us)) ∷ body_starts b us) (page_dropped false u h)
+    ∙ ap (λ t. closed line (start_with (if t then b else 0) true b (up_to begins_page us)) ∷ body_starts b us) (same_byte at)
+    ∙ ap (λ l. closed l (start_with b true b (up_to begins_page us)) ∷ body_starts b us) (sym (line_further false u.unit.bytes (bytes_of (up_to begins_page us))))
 
 -- What the pass notes, from a state on.
 
-abbrev in_page : List ℕ → ℕ → Bool → Sought
-in_page found current was = record { found = found; current = current; was = was; in_pages = true; ended = false }
+abbrev in_page : List ℕ → ℕ → Bool → Bool → Sought
+in_page found current line was = record { found = found; current = current; was = was; in_pages = true; ended = false; line = line }
 
-over : (found : List ℕ) (current : ℕ) (was : Bool) (at : ℕ) (us : List NestedUnit)
-    → starts_in (sought_with (record { found = found; current = current; was = was; in_pages = true; ended = true }) at us) ≡ found ++ current ∷ []
-over found current was at [] = refl
-over found current was at (u ∷ us) = over found current (is_dropped PageSetup was u) (at + length u.unit.bytes) us
+over : (found : List ℕ) (current : ℕ) (line was : Bool) (at : ℕ) (us : List NestedUnit)
+    → starts_in (sought_with (record { found = found; current = current; was = was; in_pages = true; ended = true; line = line }) at us) ≡ found ++ closed line current ∷ []
+over found current line was at [] = refl
+over found current line was at (u ∷ us) = over found current line (is_dropped PageSetup was u) (at + length u.unit.bytes) us
+
+-- where the body of a page begins that goes on with these units
+abbrev rest_with : (current : ℕ) (line was : Bool) (at : ℕ) → List NestedUnit → ℕ
+rest_with current line was at us = closed (ends_line line (bytes_of us)) (start_with current was at us)
 
 -- what is noted from a unit on, behind which this is noted
-abbrev Inside : List ℕ → ℕ → Bool → ℕ → List NestedUnit → Type 0
-Inside found current was at us = starts_in (sought_with (in_page found current was) at us)
-    ≡ found ++ start_with current was at (up_to begins_page (up_to begins_trailer us)) ∷ body_starts at (up_to begins_trailer us)
+abbrev Inside : List ℕ → ℕ → (line was : Bool) → ℕ → List NestedUnit → Type 0
+Inside found current line was at us = starts_in (sought_with (in_page found current line was) at us)
+    ≡ found ++ rest_with current line was at (up_to begins_page (up_to begins_trailer us)) ∷ body_starts at (up_to begins_trailer us)
 
-trailer_next : (u : NestedUnit) (us : List NestedUnit) (found : List ℕ) (current : ℕ) (was : Bool) (at : ℕ) → begins_trailer u ≡ true → Inside found current was at (u ∷ us)
-trailer_next u us found current was at is =
+trailer_next : (u : NestedUnit) (us : List NestedUnit) (found : List ℕ) (current : ℕ) (line was : Bool) (at : ℕ) → begins_trailer u ≡ true → Inside found current line was at (u ∷ us)
+trailer_next u us found current line was at is =
     let b : ℕ = at + length u.unit.bytes in
     let d : Bool = is_dropped PageSetup was u in
-    ap (λ t. starts_in (sought_with (noted (in_page found current was) at b (begins_page u) t d) b us)) is
-    ∙ over found current d b us
-    ∙ ap (λ vs. found ++ start_with current was at (up_to begins_page vs) ∷ body_starts at vs) (sym (before-cons begins_trailer u us ∙ ap (λ t. cond t [] (u ∷ up_to begins_trailer us)) is))
+    ap (λ t. starts_in (sought_with (noted (in_page found current line was) at b (begins_page u) t d u.unit.bytes) b us)) is
+    ∙ over found current line d b us
+    ∙ ap (λ vs. found ++ rest_with current line was at (up_to begins_page vs) ∷ body_starts at vs) (sym (before-cons begins_trailer u us ∙ ap (λ t. cond t [] (u ∷ up_to begins_trailer us)) is))
 
-page_next : (u : NestedUnit) (us : List NestedUnit) (found : List ℕ) (current : ℕ) (was : Bool) (at : ℕ) → begins_trailer u ≡ false → begins_page u ≡ true
-    → Inside (found ++ current ∷ []) (at + length u.unit.bytes) true (at + length u.unit.bytes) us → Inside found current was at (u ∷ us)
-page_next u us found current was at isnt page later =
+page_next : (u : NestedUnit) (us : List NestedUnit) (found : List ℕ) (current : ℕ) (line was : Bool) (at : ℕ) → begins_trailer u ≡ false → begins_page u ≡ true
+    → Inside (found ++ closed line current ∷ []) (at + length u.unit.bytes) (ends_line false u.unit.bytes) true (at + length u.unit.bytes) us → Inside found current line was at (u ∷ us)
+page_next u us found current line was at isnt page later =
+    let b : ℕ = at + length u.unit.bytes in
+    let d : Bool = is_dropped PageSetup was u in
+    let new : Bool = ends_line false u.unit.bytes in
+    let run : List NestedUnit = up_to begins_trailer us in
+    ap (λ t. starts_in (sought_with (noted (in_page found current line was) at b (begins_page u) t d u.unit.bytes) b us)) isnt
+    ∙ ap (λ t. starts_in (sought_with (noted (in_page found current line was) at b t false d u.unit.bytes) b us)) page
+    ∙ ap (λ t. starts_in (sought_with (in_page (found ++ closed line current ∷ []) b new t) b us)) (page_dropped was u page)
+    ∙ later
+    ∙ append_assoc found (closed line current ∷ []) (rest_with b new true b (up_to begins_page run) ∷ body_starts b run)
+    ∙ ap (λ t. found ++ closed line current ∷ t) (sym (first_body at u run page))
+    ∙ ap (λ vs. found ++ rest_with current line was at vs ∷ body_starts at (u ∷ run)) (sym (before-cons begins_page u run ∙ ap (λ t. cond t [] (u ∷ up_to begins_page run)) page))
+    ∙ ap (λ vs. found ++ rest_with current line was at (up_to begins_page vs) ∷ body_starts at vs) (sym (before-cons begins_trailer u us ∙ ap (λ t. cond t [] (u ∷ run)) isnt))
+
+other_next : (u : NestedUnit) (us : List NestedUnit) (found : List ℕ) (current : ℕ) (line was : Bool) (at : ℕ) → begins_trailer u ≡ false → begins_page u ≡ false
+    → Inside found (moved (is_dropped PageSetup was u) current at (at + length u.unit.bytes)) (ends_line line u.unit.bytes) (is_dropped PageSetup was u) (at + length u.unit.bytes) us
+    → Inside found current line was at (u ∷ us)
+other_next u us found current line was at isnt other later =
     let b : ℕ = at + length u.unit.bytes in
     let d : Bool = is_dropped PageSetup was u in
     let run : List NestedUnit = up_to begins_trailer us in
-    ap (λ t. starts_in (sought_with (noted (in_page found current was) at b (begins_page u) t d) b us)) isnt
-    ∙ ap (λ t. starts_in (sought_with (noted (in_page found current was) at b t false d) b us)) page
-    ∙ ap (λ t. starts_in (sought_with (in_page (found ++ current ∷ []) b t) b us)) (page_dropped was u page)
+    let page : List NestedUnit = up_to begins_page run in
+    ap (λ t. starts_in (sought_with (noted (in_page found current line was) at b (begins_page u) t d u.unit.bytes) b us)) isnt
+    ∙ ap (λ t. starts_in (sought_with (noted (in_page found current line was) at b t false d u.unit.bytes) b us)) other
     ∙ later
-    ∙ append_assoc found (current ∷ []) (start_with b true b (up_to begins_page run) ∷ body_starts b run)
-    ∙ ap (λ t. found ++ current ∷ t) (sym (first_body at u run page))
-    ∙ ap (λ vs. found ++ start_with current was at vs ∷ body_starts at (u ∷ run)) (sym (before-cons begins_page u run ∙ ap (λ t. cond t [] (u ∷ up_to begins_page run)) page))
-    ∙ ap (λ vs. found ++ start_with current was at (up_to begins_page vs) ∷ body_starts at vs) (sym (before-cons begins_trailer u us ∙ ap (λ t. cond t [] (u ∷ run)) isnt))
+    ∙ ap (λ l. found ++ closed l (start_with (moved d current at b) d b page) ∷ body_starts b run) (line_further line u.unit.bytes (bytes_of page))
+    ∙ ap (λ t. found ++ rest_with current line was at (u ∷ page) ∷ (if t then closed (ends_line false (bytes_of (u ∷ page))) (start_with at false at (u ∷ page)) ∷ body_starts b run else body_starts b run)) (sym other)
+    ∙ ap (λ vs. found ++ rest_with current line was at vs ∷ body_starts at (u ∷ run)) (sym (before-cons begins_page u run ∙ ap (λ t. cond t [] (u ∷ up_to begins_page run)) other))
+    ∙ ap (λ vs. found ++ rest_with current line was at (up_to begins_page vs) ∷ body_starts at vs) (sym (before-cons begins_trailer u us ∙ ap (λ t. cond t [] (u ∷ run)) isnt))
 
-other_next : (u : NestedUnit) (us : List NestedUnit) (found : List ℕ) (current : ℕ) (was : Bool) (at : ℕ) → begins_trailer u ≡ false → begins_page u ≡ false
-    → Inside found (moved (is_dropped PageSetup was u) current at (at + length u.unit.bytes)) (is_dropped PageSetup was u) (at + length u.unit.bytes) us → Inside found current was at (u ∷ us)
-other_next u us found current was at isnt other later =
-    let b : ℕ = at + length u.unit.bytes in
-    let d : Bool = is_dropped PageSetup was u in
-    let run : List NestedUnit = up_to begins_trailer us in
-    ap (λ t. starts_in (sought_with (noted (in_page found current was) at b (begins_page u) t d) b us)) isnt
-    ∙ ap (λ t. starts_in (sought_with (noted (in_page found current was) at b t false d) b us)) other
-    ∙ later
-    ∙ ap (λ t. found ++ start_with current was at (u ∷ up_to begins_page run) ∷ (if t then start_with at false at (u ∷ up_to begins_page run) ∷ body_starts b run else body_starts b run)) (sym other)
-    ∙ ap (λ vs. found ++ start_with current was at vs ∷ body_starts at (u ∷ run)) (sym (before-cons begins_page u run ∙ ap (λ t. cond t [] (u ∷ up_to begins_page run)) other))
-    ∙ ap (λ vs. found ++ start_with current was at (up_to begins_page vs) ∷ body_starts at vs) (sym (before-cons begins_trailer u us ∙ ap (λ t. cond t [] (u ∷ run)) isnt))
-
-inside : (us : List NestedUnit) (found : List ℕ) (current : ℕ) (was : Bool) (at : ℕ) → Inside found current was at us
-inside [] found current was at = refl
-inside (u ∷ us) found current was at =
+inside : (us : List NestedUnit) (found : List ℕ) (current : ℕ) (line was : Bool) (at : ℕ) → Inside found current line was at us
+inside [] found current line was at = refl
+inside (u ∷ us) found current line was at =
     let b : ℕ = at + length u.unit.bytes in
     let d : Bool = is_dropped PageSetup was u in
     by_test (begins_trailer u)
-    (λ is. trailer_next u us found current was at is)
+    (λ is. trailer_next u us found current line was at is)
     (λ isnt. by_test (begins_page u)
-    (λ page. page_next u us found current was at isnt page (inside us (found ++ current ∷ []) b true b))
-    (λ other. other_next u us found current was at isnt other (inside us found (moved d current at b) d b)))
+    (λ page. page_next u us found current line was at isnt page (inside us (found ++ closed line current ∷ []) b (ends_line false u.unit.bytes) true b))
+    (λ other. other_next u us found current line was at isnt other (inside us found (moved d current at b) (ends_line line u.unit.bytes) d b)))
 
-abbrev before : ℕ → Bool → Sought
-before current was = record { found = []; current = current; was = was; in_pages = false; ended = false }
+abbrev before : ℕ → (line was : Bool) → Sought
+before current line was = record { found = []; current = current; was = was; in_pages = false; ended = false; line = line }
 
-outside : (us : List NestedUnit) (current : ℕ) (was : Bool) (at : ℕ) → starts_in (sought_with (before current was) at us) ≡ body_starts (at + head_len us) (body_from us)
-outside [] current was at = refl
-outside (u ∷ us) current was at =
+outside : (us : List NestedUnit) (current : ℕ) (line was : Bool) (at : ℕ) → starts_in (sought_with (before current line was) at us) ≡ body_starts (at + head_len us) (body_from us)
+outside [] current line was at = refl
+outside (u ∷ us) current line was at =
     let b : ℕ = at + length u.unit.bytes in
     let d : Bool = is_dropped PageSetup was u in
     by_test (begins_page u)
     (λ is.
     let none = head-none u us is in
     let same : at ≡ at + head_len (u ∷ us) = omega (arith, none) in
-    ap (λ t. starts_in (sought_with (noted (before current was) at b t (begins_trailer u) d) b us)) is
-    ∙ ap (λ t. starts_in (sought_with (in_page [] b t) b us)) (page_dropped was u is)
-    ∙ inside us [] b true b
+    ap (λ t. starts_in (sought_with (noted (before current line was) at b t (begins_trailer u) d u.unit.bytes) b us)) is
+    ∙ ap (λ t. starts_in (sought_with (in_page [] b (ends_line false u.unit.bytes) t) b us)) (page_dropped was u is)
+    ∙ inside us [] b (ends_line false u.unit.bytes) true b
     ∙ sym (first_body at u (up_to begins_trailer us) is)
     ∙ ap (λ k. body_starts k (u ∷ up_to begins_trailer us)) same
     ∙ ap (body_starts (at + head_len (u ∷ us))) (sym (body-all u us is)))
     (λ isnt.
     let more = head-more u us isnt in
     let same : b + head_len us ≡ at + head_len (u ∷ us) = omega (arith, more) in
-    ap (λ t. starts_in (sought_with (noted (before current was) at b t (begins_trailer u) d) b us)) isnt
-    ∙ outside us (moved d current at b) d b
+    ap (λ t. starts_in (sought_with (noted (before current line was) at b t (begins_trailer u) d u.unit.bytes) b us)) isnt
+    ∙ outside us (moved d current at b) (ends_line line u.unit.bytes) d b
     ∙ ap (λ k. body_starts k (body_from us)) same
     ∙ ap (body_starts (at + head_len (u ∷ us))) (sym (body-more u us isnt)))
 
@@ -249,7 +268,7 @@ sought-as (Ok ps) s h = cc
 are_starts : (us : List NestedUnit) → AreBodyStarts us (starts_in (sought_with none_sought 0 us))
 are_starts us =
     let h : 0 + head_len us ≡ head_len us = omega arith in
-    let same : starts_in (sought_with none_sought 0 us) ≡ body_starts (head_len us) (page_run us) = outside us 0 false 0 ∙ ap (λ k. body_starts k (body_from us)) h in
+    let same : starts_in (sought_with none_sought 0 us) ≡ body_starts (head_len us) (page_run us) = outside us 0 false false 0 ∙ ap (λ k. body_starts k (body_from us)) h in
     subst (AreBodyStarts us) (sym same) (record {
       count = one_each (head_len us) (page_run us);
       each = λ p below. let n = one_each (head_len us) (page_run us) in each_right (page_run us) p (head_len us) (omega (arith, below, n));

@@ -1,14 +1,22 @@
 -- Where the bodies of pages begin in the text, if they are the rest of their page.
 use Rattle.std.specs.Prelude.{◌≡◌, ℕ, ◌+◌, ◌-◌, ◌<◌, ◌≤◌, Bool, true, false, ◌&&◌, ◌||◌, ◌==◌, if◌then◌else◌}
 use Rattle.std.specs.Prelude.{List, [], ◌∷◌, ◌++◌, length, drop, slice_index_or}
+use Rattle.profile.specs.Units.{is_end}
 use Rattle.profile.specs.Parts.{NestedUnit, page_run, split_pages, bytes_of}
 use Rattle.profile.specs.Filters.{kept, drops_in_page}
 use Rattle.dsc.specs.Marks.{starts_of}
 
--- what is kept of a page that begins at the byte `at` is what stands in it from the byte n on; at 0 nothing is said
+-- whether bytes end with a line end; of none this is as it was before
+abbrev pub ends_line : (was : Bool) → List ℕ → Bool
+ends_line was [] = was
+ends_line was (b ∷ bs) = ends_line (is_end b) bs
+
+-- what is kept of a page that begins at the byte `at` is what stands in it from the byte n on, and the page ends with a
+-- line end; at 0 nothing is said
 abbrev pub IsBodyStart : (at n : ℕ) → List NestedUnit → Type 0
 IsBodyStart at n us = 0 < n → (at ≤ n) × (n ≤ at + length (bytes_of us))
     × (bytes_of (kept drops_in_page us) ≡ drop (n - at) (bytes_of us))
+    × (ends_line false (bytes_of us) ≡ true)
 
 -- there is one for each page
 pub record AreBodyStarts (us : List NestedUnit) (starts : List ℕ) : Type 0 where
@@ -17,40 +25,60 @@ pub record AreBodyStarts (us : List NestedUnit) (starts : List ℕ) : Type 0 whe
       (slice_index_or (split_pages (page_run us)) p [])
 
 -- What a pass over the units has found: where the bodies begin of the pages before the current one, and where that of
--- the current one does; whether the unit before was dropped, whether a page has begun, and whether the pages have
--- ended.
+-- the current one does; whether the unit before was dropped, whether a page has begun, whether the pages have ended,
+-- and whether the current page ends with a line end as far as it goes.
 pub record Sought : Type 0 where
   pub found : List ℕ
   pub current : ℕ
   pub was : Bool
   pub in_pages : Bool
   pub ended : Bool
+  pub line : Bool
 
 abbrev pub none_sought : Sought
-none_sought = record { found = []; current = 0; was = false; in_pages = false; ended = false }
+none_sought = record { found = []; current = 0; was = false; in_pages = false; ended = false; line = false }
 
 -- where a body begins, behind a unit more: a dropped one puts it off if nothing was kept before, and else spoils it
 abbrev pub moved : (dropped : Bool) → (start at behind : ℕ) → ℕ
 moved dropped start at behind = if dropped then (if start == at then behind else 0) else start
 
+-- the start counts if the page ends with a line end
+abbrev pub closed : (line : Bool) → (start : ℕ) → ℕ
+closed line start = if line then start else 0
+
 abbrev pub starts_in : Sought → List ℕ
-starts_in s = if s.in_pages then s.found ++ s.current ∷ [] else s.found
+starts_in s = if s.in_pages then s.found ++ closed s.line s.current ∷ [] else s.found
 
--- a page more has begun, whose line ends before this byte
-abbrev pub with_page : Sought → (behind : ℕ) → Sought
-with_page s behind = record { found = starts_in s; current = behind; was = s.was; in_pages = true; ended = s.ended }
+-- a page more has begun, by these bytes, which end before this one
+abbrev pub with_page : Sought → (behind : ℕ) → List ℕ → Sought
+with_page s behind bytes = record {
+  found = starts_in s;
+  current = behind;
+  was = s.was;
+  in_pages = true;
+  ended = s.ended;
+  line = ends_line false bytes;
+}
 
--- what is found with a unit more, which begins at the byte `at`
-abbrev pub noted : Sought → (at behind : ℕ) → (page ends dropped : Bool) → Sought
-noted s at behind page ends dropped =
+-- what is found with a unit more, which has these bytes and begins at the byte `at`
+abbrev pub noted : Sought → (at behind : ℕ) → (page ends dropped : Bool) → List ℕ → Sought
+noted s at behind page ends dropped bytes =
     if s.ended || (s.in_pages && ends)
-    then record { found = s.found; current = s.current; was = dropped; in_pages = s.in_pages; ended = true }
+    then record { found = s.found; current = s.current; was = dropped; in_pages = s.in_pages; ended = true; line = s.line }
     else (if page
-    then record { found = starts_in s; current = behind; was = dropped; in_pages = true; ended = false }
+    then record {
+      found = starts_in s;
+      current = behind;
+      was = dropped;
+      in_pages = true;
+      ended = false;
+      line = ends_line false bytes;
+    }
     else record {
       found = s.found;
       current = moved dropped s.current at behind;
       was = dropped;
       in_pages = s.in_pages;
       ended = false;
+      line = ends_line s.line bytes;
     })

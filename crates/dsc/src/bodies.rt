@@ -50,16 +50,13 @@ impl<'d> Body<'d> {
         }
     }
 
-    /// A run of a page's bytes as its body, if no line end is wanted behind it.
-    pub(crate) fn of_run(run: &'d [u8]) -> Option<Body<'d>>
-        ensures { IfSome result (λ b. b ≡ ended run.now) }
+    /// A run of a page's bytes as its body.
+    pub(crate) fn of_run(run: &'d [u8]) -> Body<'d>
+        ensures { result ≡ run.now }
     {
-        if !wants_end(run) {
-            return Some(Body {
-                bytes: Bytes::Part(run),
-            });
+        Body {
+            bytes: Bytes::Part(run),
         }
-        None
     }
 
     /// Its bytes.

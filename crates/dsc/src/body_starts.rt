@@ -2,17 +2,18 @@
 ghost use Rattle.std.specs.Prelude.{◌≡◌, ◌+◌, ◌≤◌, length, OnOk, IfOk};
 ghost use Rattle.dsc.specs.Views.{unit_of, at_depth};
 ghost use Rattle.dsc.specs.Filters.{is_dropped};
-ghost use Rattle.dsc.specs.BodyStarts.{none_sought, noted, with_page, moved, starts_in};
+ghost use Rattle.dsc.specs.BodyStarts.{none_sought, noted, with_page, moved, starts_in, ends_line, closed};
 ghost use Rattle.dsc.specs.declared.filters.Drops.TheVariants.{PageSetup};
 
 use crate::filters::{Drops, drops_unit};
+use crate::lines::is_line_end;
 use crate::walk::Step;
 use std::alloc::{AllocError, Global};
 use std::marker::Model;
 
 /// For each page the byte at which its body begins, if what is kept of the page is all that stands from there on, so if
-/// lines are dropped at its start alone; else 0, where no body begins. A text has at most 2^30 bytes, so a `u32` counts
-/// them.
+/// lines are dropped at its start alone, and the page ends with a line end; else 0, where no body begins. A text has at
+/// most 2^30 bytes, so a `u32` counts them.
 #[derive(Drop)]
 pub struct BodyStarts {
     found: Vec<u32>,
@@ -21,6 +22,8 @@ pub struct BodyStarts {
     was_dropped: bool,
     in_pages: bool,
     ended: bool,
+    // Whether that page ends with a line end, as far as it was seen.
+    line_ended: bool,
 }
 
 impl Model for BodyStarts {
@@ -34,6 +37,7 @@ impl Model for BodyStarts {
       was = b.was_dropped;
       in_pages = b.in_pages;
       ended = b.ended;
+      line = b.line_ended;
     } };
 }
 
@@ -48,6 +52,7 @@ impl BodyStarts {
             was_dropped: false,
             in_pages: false,
             ended: false,
+            line_ended: false,
         }
     }
 
@@ -56,7 +61,7 @@ impl BodyStarts {
         requires { step.now.at + length step.now.unit.bytes.now ≤ 1_073_741_824 }
         ensures { OnOk result (self.new ≡ noted self.old step.now.at (step.now.at + length step.now.unit.bytes.now)
             step.now.meaning.is_page step.now.meaning.is_trailer
-            (is_dropped PageSetup self.old.was (at_depth step.now.depth (unit_of step.now.unit)))) }
+            (is_dropped PageSetup self.old.was (at_depth step.now.depth (unit_of step.now.unit))) step.now.unit.bytes.now) }
     {
         let at = step.at as u32;
         let behind = (step.at + step.unit.bytes.len()) as u32;
@@ -67,21 +72,23 @@ impl BodyStarts {
             return Ok(());
         }
         if step.meaning.is_page {
-            return self.begin_page(behind);
+            return self.begin_page(behind, step.unit.bytes);
         }
+        self.line_ended = ends_line(self.line_ended, step.unit.bytes);
         self.current = moved(dropped, self.current, at, behind);
         Ok(())
     }
 
-    /// Begins a page whose line ends before this byte.
-    fn begin_page(&mut self, behind: u32) -> Result<(), AllocError>
-        ensures { OnOk result (self.new ≡ with_page self.old behind) }
+    /// Begins a page by this line, which ends before the byte `behind`.
+    fn begin_page(&mut self, behind: u32, line: &[u8]) -> Result<(), AllocError>
+        ensures { OnOk result (self.new ≡ with_page self.old behind line.now) }
     {
         if self.in_pages {
-            self.found.push(self.current)?;
+            self.found.push(closed(self.line_ended, self.current))?;
         }
         self.in_pages = true;
         self.current = behind;
+        self.line_ended = ends_line(false, line);
         Ok(())
     }
 
@@ -95,9 +102,10 @@ impl BodyStarts {
             was_dropped: _,
             in_pages,
             ended: _,
+            line_ended,
         } = self;
         if in_pages {
-            found.push(current)?;
+            found.push(closed(line_ended, current))?;
         }
         Ok(found)
     }
@@ -113,5 +121,22 @@ fn moved(dropped: bool, current: u32, at: u32, behind: u32) -> u32
         behind
     } else {
         0
+    }
+}
+
+/// A start, if its page ends with a line end; else there is none.
+fn closed(line_ended: bool, start: u32) -> u32
+    ensures { result ≡ closed line_ended start }
+{
+    if line_ended { start } else { 0 }
+}
+
+/// Whether bytes end with a line end; of none this is as it was before.
+fn ends_line(was: bool, bytes: &[u8]) -> bool
+    ensures { result ≡ ends_line was bytes.now }
+{
+    match bytes.last() {
+        None => was,
+        Some(byte) => is_line_end(*byte),
     }
 }

@@ -120,7 +120,7 @@ impl<'d> Document<'d> {
         if start == 0 {
             return None;
         }
-        Body::of_run(part(self.text, start, end))
+        Some(Body::of_run(part(self.text, start, end)))
     }
 
     /// What is kept of the preamble, with `%%Pages: ` and the number of sheets on a line of its own behind the first

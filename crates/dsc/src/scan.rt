@@ -96,7 +96,7 @@ fn note(seen: &mut Seen, bodies: &mut BodyStarts, step: &Step<'_>) -> Result<(),
     ensures bodies { OnOk result (length seen.new.starts.items < MOST_STARTS → bodies.new
         ≡ noted bodies.old step.now.at (step.now.at + length step.now.unit.bytes.now)
         step.now.meaning.is_page step.now.meaning.is_trailer
-        (is_dropped PageSetup bodies.old.was (at_depth step.now.depth (unit_of step.now.unit)))) }
+        (is_dropped PageSetup bodies.old.was (at_depth step.now.depth (unit_of step.now.unit))) step.now.unit.bytes.now) }
 {
     seen.note(step.meaning, step.at)?;
     if seen.starts.len() < MOST_STARTS {

@@ -1,7 +1,5 @@
 use Rattle.std.specs.Prelude.{Ok}
 use Rattle.std.proofs.Common.{◌∙◌, refl, ap, sym}
-use Rattle.profile.specs.Filters.{ended}
-use Rattle.dsc.proofs.Cases.{if_some}
 use Rattle.dsc.proofs.FoundBodies.{body_at, not_0}
 use Rattle.dsc.proofs.document.Document.found_body.Goals as goal
 
@@ -27,4 +25,4 @@ returns c =
     let found =
     (body_at c.self.inside.text.now _ _ c.as_slice-bodies.result.now c.as_slice-starts.result.now _ c.args.p c.entry-start.result c.next_or-end.result _ c.self.invariant c.self.view_is c.requires
     c.as_slice-bodies.ensures.value c.as_slice-starts.ensures.value c.entry-start.ensures c.next_or-end.ensures).2 (not_0 c.entry-start.result c.if-start-eq0.false) in
-    if_some c.of_run.result (λ b e. found.2 ∙ ap (λ t. Ok (ended t)) (sym c.part.ensures) ∙ ap Ok (sym e)) c.of_run.ensures
+    found.2 ∙ ap Ok (sym c.part.ensures) ∙ ap Ok (sym c.of_run.ensures)
