@@ -11,11 +11,17 @@ use std::io::Read;
 /// The most bytes that are read: one more than an input may have, so that a longer input is seen to be too long.
 pub const MOST_BYTES: usize = 1_073_741_825;
 
-/// How much room the source is offered at least.
+/// How much room the source is offered first. Most documents are small, and memory that is touched costs time.
+const FIRST_PIECE: usize = 16_384;
+
+/// How much room the source is offered at least, behind the first piece.
 const LEAST_ROOM: usize = 65_536;
 
 /// How much is zeroed at once ahead of what was read: little enough to be still in the cache when it is read into.
 const PIECE: usize = 262_144;
+
+/// From this length on an input is large: room for the longest one is asked for at once, so that no byte is moved again.
+const LARGE: usize = 1_048_576;
 
 /// A source failed and gave nothing.
 #[derive(Clone, Copy, Debug, PartialEq, Eq)]
@@ -101,8 +107,9 @@ impl From<SourceFault> for ReadFault {
 
 /// The bytes of the source to its end, or the first [`MOST_BYTES`] of them if it has more.
 ///
-/// They are read straight into the vector, whose length grows by a piece at a time as it fills. After a fault the bytes
-/// that were read are lost.
+/// They are read straight into the vector, whose length grows by a piece at a time as it fills. From a megabyte on it has
+/// room for the longest input, if there is address space for it, until all is read. After a fault the bytes that were
+/// read are lost.
 pub fn read_input<S: Source>(alloc: Global, source: &mut S) -> Result<Vec<u8>, ReadFault>
     requires countable { S.failures source.old < u64.MAX }
     ensures within { IfOk result (λ bytes. vec_len bytes ≤ most_bytes) }
@@ -124,6 +131,7 @@ pub fn read_input<S: Source>(alloc: Global, source: &mut S) -> Result<Vec<u8>, R
         filled += count;
     }
     bytes.truncate(filled);
+    give_back_room(&mut bytes);
     Ok(bytes)
 }
 
@@ -161,10 +169,53 @@ fn make_room(bytes: &mut Vec<u8>, filled: usize) -> Result<(), AllocError>
     ensures room { OnOk result (filled < vec_len bytes.new) }
 {
     let len = bytes.len();
-    if len - filled < LEAST_ROOM && len < MOST_BYTES {
-        bytes.resize(len.saturating_add(PIECE).min(MOST_BYTES), 0)?;
+    if len - filled < least_room(len) && len < MOST_BYTES {
+        if len >= LARGE {
+            reserve_all(bytes);
+        }
+        bytes.resize(next_len(len), 0)?;
     }
     Ok(())
+}
+
+/// How much room is wanted in a buffer of this length. The first piece is filled to its end.
+fn least_room(len: usize) -> usize
+    ensures { 0 < result }
+{
+    if len <= FIRST_PIECE { 1 } else { LEAST_ROOM }
+}
+
+/// How long the buffer is next.
+fn next_len(len: usize) -> usize
+    requires { len < MOST_BYTES }
+    ensures more { len < result }
+    ensures most { result ≤ MOST_BYTES }
+{
+    if len == 0 {
+        FIRST_PIECE
+    } else {
+        (len + PIECE).min(MOST_BYTES)
+    }
+}
+
+/// Asks for room for as much as may be read, once. It is address space alone: memory that isn't filled isn't touched. If
+/// there is none, the vector grows as it fills.
+fn reserve_all(bytes: &mut Vec<u8>)
+    requires { vec_len bytes.old ≤ MOST_BYTES }
+    ensures same { bytes.new.items ≡ bytes.old.items }
+    ensures len { vec_len bytes.new ≡ vec_len bytes.old }
+{
+    let _ = bytes.reserve(MOST_BYTES - bytes.len());
+}
+
+/// Gives back the room behind a large input.
+fn give_back_room(bytes: &mut Vec<u8>)
+    ensures same { bytes.new.items ≡ bytes.old.items }
+    ensures len { vec_len bytes.new ≡ vec_len bytes.old }
+{
+    if bytes.len() >= LARGE {
+        bytes.shrink_to_fit();
+    }
 }
 
 /// Fills what stands behind the first `filled` bytes.

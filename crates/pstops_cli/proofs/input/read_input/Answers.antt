@@ -24,7 +24,7 @@ returns-clause-read g c =
     let before = c.loop-filled.invariant in
     let remaining = g.S.Source.remaining c.args.source.now in
     let within : c.loop-filled.filled ≤ length c.loop-filled.bytes.items = omega (arith, before.within, c.loop-filled.bytes.ok.0) in
-    subst (λ n. IsFirst n remaining c.truncate.new.self.items) most_is (subst (IsFirst MOST_BYTES remaining) (sym c.truncate.ensures.items) (elim c.loop-filled-test.branch [
+    subst (λ n. IsFirst n remaining c.give_back_room.new.bytes.items) most_is (subst (IsFirst MOST_BYTES remaining) (sym (c.give_back_room.ensures.same ∙ c.truncate.ensures.items)) (elim c.loop-filled-test.branch [
       | else-loop-filled-test w ↦
           let same = ap (λ b. take c.loop-filled.filled b.items) w.bytes-is in
           let long = length-take-le c.loop-filled.filled c.loop-filled.bytes.items within in
