@@ -1,7 +1,9 @@
 -- The texts that the code puts together.
 use Rattle.std.specs.Prelude.{flat_map, codes, Option}
-use Rattle.std.proofs.Common.{append_assoc, ◌≡◌, ℕ, zero, suc, ◌-◌, ◌<◌, ◌≤◌, List, [], ◌∷◌, ◌++◌, length, take, drop, refl, ap, ◌∙◌, sym, subst, arith}
+use Rattle.std.proofs.Common.{append_assoc, length-append, Bool, true, false, if◌then◌else◌, ◌+◌, ◌≡◌, ℕ, zero, suc, ◌-◌, ◌<◌, ◌≤◌, List, [], ◌∷◌, ◌++◌, length, take, drop, refl, ap, ◌∙◌, sym, subst, arith}
 use Rattle.std.proofs.lemmas.Grind.{flat_map-append}
+use Rattle.std.proofs.lemmas.List.{drop-drop}
+use Rattle.profile.specs.Units.{is_end}
 use Rattle.profile.specs.Bytes.{line}
 use Rattle.profile.specs.Filters.{ended}
 use Rattle.profile.specs.Numbers.{points_text}
@@ -87,3 +89,38 @@ put_between lines text n m none a b c put new is within before e f g h i j =
     ∙ sym (append_assoc (take m text) (ended (take (n - m) (drop m text))) rest)
     ∙ ap (λ x. x ++ rest) (ended_apart text n m (n - m) within before refl)
     ∙ ap (λ k. ended (take k text) ++ (flat_map line lines ++ drop k text)) is
+
+-- what stands behind as many bytes as were taken
+drop_taken : (n : ℕ) (xs ys : List ℕ) → n ≤ length xs → drop n (take n xs ++ ys) ≡ ys
+drop_taken zero xs ys h = refl
+drop_taken (suc n) [] ys h = absurd (omega (arith, h))
+drop_taken (suc n) (x ∷ xs) ys h = drop_taken n xs ys (omega (arith, h))
+
+-- a text that stands behind other bytes, with its header comments and the lines in the place of bytes before it
+pub put_before : (lines : List (List ℕ)) (bytes : List ℕ) (start n begin end : ℕ) (front new : List ℕ) → n ≡ header_len (drop start bytes)
+    → front ≡ ended (take n (drop start bytes)) ++ flat_map line lines → begin ≤ length bytes → end ≡ start + n → new ≡ take begin bytes ++ (front ++ drop end bytes)
+    → drop begin new ≡ put_in lines (drop start bytes)
+put_before lines bytes start n begin end front new is f within e h =
+    ap (drop begin) h ∙ drop_taken begin bytes (front ++ drop end bytes) within
+    ∙ ap (λ x. x ++ drop end bytes) f
+    ∙ append_assoc (ended (take n (drop start bytes))) (flat_map line lines) (drop end bytes)
+    ∙ ap (λ x. ended (take n (drop start bytes)) ++ (flat_map line lines ++ x)) (ap (λ k. drop k bytes) e ∙ sym (drop-drop n start bytes))
+    ∙ ap (λ k. ended (take k (drop start bytes)) ++ (flat_map line lines ++ drop k (drop start bytes))) is
+
+-- no byte is lost as a line end is put behind
+ended_grows : (xs : List ℕ) → length xs ≤ length (ended xs)
+ended_grows [] = omega arith
+ended_grows (b ∷ []) = by (is_end b)
+  where
+    by : (t : Bool) → 1 ≤ length (if t then b ∷ [] else b ∷ 10 ∷ [])
+    by true = omega arith
+    by false = omega arith
+ended_grows (b ∷ c ∷ bs) = let h = ended_grows (c ∷ bs) in omega (arith, h)
+
+-- so lines behind them make them no shorter
+pub front_grows : (header more front : List ℕ) → front ≡ ended header ++ more → length header ≤ length front
+front_grows header more front e =
+    let h = ended_grows header in
+    let l = length-append (ended header) more in
+    let same = ap length e in
+    omega (arith, h, l, same)

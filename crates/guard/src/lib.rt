@@ -7,4 +7,4 @@ pub mod laws;
 mod text;
 
 pub use header::header_len;
-pub use text::{guarded, put_guard};
+pub use text::{guarded, put_guard, put_guard_before};

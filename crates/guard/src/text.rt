@@ -1,6 +1,7 @@
 //! The guard's text, and where it is put in.
-ghost use Rattle.std.specs.Prelude.{◌≡◌, ◌++◌, flat_map, option_map, IfOk, OnErr, OnOk};
+ghost use Rattle.std.specs.Prelude.{◌≡◌, ◌+◌, ◌≤◌, ◌++◌, flat_map, length, option_map, take, drop, vec_len, IfOk, OnErr, OnOk};
 ghost use Rattle.profile.specs.Bytes.{line};
+ghost use Rattle.profile.specs.Filters.{ended};
 ghost use Rattle.guard.specs.Guard.{page_size_line, page_size_lines, guard_lines, guarded};
 
 use crate::header::header_len;
@@ -77,6 +78,61 @@ pub fn put_guard(text: &mut Vec<u8>, sheet: Option<&Paper>) -> Result<(), AllocE
     append_guard(sheet, &mut lines)?;
     text.splice(start..end, lines)?;
     Ok(())
+}
+
+/// Puts the guard into a text that stands in `bytes` behind the first `start` of them, and answers at which byte the text
+/// begins then. If there is room for the guard before the text, its header comments alone are moved, towards the front;
+/// else what stands behind them. Refused for memory alone; the bytes are as they were then.
+pub fn put_guard_before(
+    bytes: &mut Vec<u8>,
+    start: usize,
+    sheet: Option<&Paper>,
+) -> Result<usize, AllocError>
+    requires { start ≤ vec_len bytes.old }
+    ensures begin { IfOk result (λ begin. begin ≤ start) }
+    ensures within { IfOk result (λ begin. begin ≤ vec_len bytes.new) }
+    ensures put_in { IfOk result (λ begin. drop begin bytes.new.items
+        ≡ guarded (option_map (λ p. p.now) sheet.entry) (drop start bytes.old.items)) }
+    ensures unchanged { OnErr result (bytes.new.items ≡ bytes.old.items) }
+{
+    let (_, text) = bytes.as_slice().split_at(start);
+    let len = header_len(text);
+    let (header, _) = text.split_at(len);
+    let front = guarded_header(*bytes.allocator(), header, sheet)?;
+    let end = start + len;
+    if front.len() <= end {
+        let begin = end - front.len();
+        overwrite(bytes, begin, front.as_slice());
+        return Ok(begin);
+    }
+    bytes.splice(start..end, front)?;
+    Ok(start)
+}
+
+/// These header comments with the guard behind them.
+fn guarded_header(
+    alloc: Global,
+    header: &[u8],
+    sheet: Option<&Paper>,
+) -> Result<Vec<u8>, AllocError>
+    ensures { IfOk result (λ v. v.items
+        ≡ ended header.now ++ flat_map line (guard_lines (option_map (λ p. p.now) sheet.entry))) }
+{
+    let mut front = Vec::with_capacity(alloc, header.len().saturating_add(ROOM))?;
+    front.extend_from_slice(header)?;
+    end_line(&mut front)?;
+    append_guard(sheet, &mut front)?;
+    Ok(front)
+}
+
+/// Puts these in the place of as many bytes from `begin` on.
+fn overwrite(bytes: &mut Vec<u8>, begin: usize, front: &[u8])
+    requires { begin + length front.now ≤ vec_len bytes.old }
+    ensures put { bytes.new.items ≡ take begin bytes.old.items
+        ++ (front.now ++ drop (begin + length front.now) bytes.old.items) }
+    ensures len { vec_len bytes.new ≡ vec_len bytes.old }
+{
+    bytes[begin..begin + front.len()].copy_from_slice(front);
 }
 
 /// Appends the guard.
