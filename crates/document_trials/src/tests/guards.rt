@@ -1,6 +1,7 @@
 //! Documents with the guard put in, with memory to spare.
-use guard::{guarded, laws, put_guard};
+use guard::{guarded, laws, put_guard, put_guard_before};
 use lengths::paper_by_name;
+use std::alloc::{AllocError, Global};
 use std::test::Fail;
 
 const DOCUMENT: &[u8] =
@@ -57,6 +58,25 @@ fn any_text_is_taken(rt: HostRuntime) -> Result<(), Fail> {
         put_guard(&mut in_place, None)?;
         assert_eq!(rt; in_place, put_in);
     }
+    Ok(())
+}
+
+/// Puts the guard into the document behind so many bytes, and gives the text that comes of it.
+fn put_before(alloc: Global, start: usize) -> Result<Vec<u8>, AllocError> {
+    let mut bytes = vec![in alloc; 37u8; start]?;
+    bytes.extend_from_slice(DOCUMENT)?;
+    let begin = put_guard_before(&mut bytes, start, None)?;
+    Vec::from_slice(alloc, &bytes[begin..])
+}
+
+#[test]
+fn it_is_put_before_a_text_and_moves_what_follows_without_room(
+    rt: HostRuntime,
+) -> Result<(), Fail> {
+    let whole = guarded(rt.alloc(), DOCUMENT, None)?;
+    assert_eq!(rt; put_before(rt.alloc(), 2_048)?, whole);
+    assert_eq!(rt; put_before(rt.alloc(), 7)?, whole);
+    assert_eq!(rt; put_before(rt.alloc(), 0)?, whole);
     Ok(())
 }
 
