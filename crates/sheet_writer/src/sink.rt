@@ -73,6 +73,13 @@ impl<T: io::Write> WriteSink<T> {
             failures: 0,
         }
     }
+
+    /// The writer.
+    pub fn into_inner(self) -> T
+        ensures { T.contents result ≡ ⟦<WriteSink<T> as Sink>⟧.told self }
+    {
+        self.writer
+    }
 }
 
 impl<T: io::Write> Sink for WriteSink<T> {

@@ -1,0 +1,2 @@
+-- Read this: what an output tells.
+pub mod Outputs

@@ -1,0 +1,74 @@
+//! Where a run writes: an output behind a buffer.
+ghost use Rattle.std.specs.Prelude.{◌≡◌, [], true, option_map, option_and_then, Some, IfOk, IfErr};
+ghost use Rattle.std.specs.Io.KnownBytes.{Keeps};
+ghost use Rattle.world.specs.Outputs.{IsFrontOf, told_if};
+
+use crate::late::Late;
+use crate::opened::Opened;
+use crate::world::World;
+use sheet_writer::{Sink, WriteSink};
+use std::alloc::Global;
+use std::io::{BufWriter, Write};
+
+/// A writer behind a buffer, as a sink.
+pub type Buffered<T> = WriteSink<BufWriter<T>>;
+
+/// The output of this name behind a buffer of so many bytes. It is created when its first byte leaves the buffer. If
+/// there is no memory for the buffer the world comes back.
+pub fn created_late<'n, W: World>(
+    alloc: Global,
+    capacity: usize,
+    name: Option<&'n str>,
+    world: W,
+) -> Result<Buffered<Late<'n, W>>, W>
+    ensures told { IfOk result (λ sink. ⟦<WriteSink<BufWriter<Late<'n, W>>> as Sink>⟧.told sink
+        ≡ told_if (W.tells world) (option_map (λ n. n.now) name.entry) []) }
+    ensures fresh { IfOk result (λ sink. ⟦<WriteSink<BufWriter<Late<'n, W>>> as Sink>⟧.failures sink ≡ 0) }
+    ensures kept { IfErr result (λ back. back ≡ world) }
+{
+    match BufWriter::with_capacity(alloc, capacity, Late::new(name)) {
+        Ok(mut writer) => {
+            writer.get_mut().world = Some(world);
+            Ok(WriteSink::new(writer))
+        }
+        Err(_) => Err(world),
+    }
+}
+
+/// An output behind a buffer of so many bytes. If there is no memory for the buffer it comes back.
+pub fn buffered<O: Write + Drop>(
+    alloc: Global,
+    capacity: usize,
+    output: O,
+) -> Result<Buffered<Opened<O>>, O>
+    ensures told { IfOk result (λ sink. ⟦<WriteSink<BufWriter<Opened<O>>> as Sink>⟧.told sink ≡ O.contents output) }
+    ensures fresh { IfOk result (λ sink. ⟦<WriteSink<BufWriter<Opened<O>>> as Sink>⟧.failures sink ≡ 0) }
+    ensures kept { IfErr result (λ back. back ≡ output) }
+{
+    match BufWriter::with_capacity(alloc, capacity, Opened { output: None }) {
+        Ok(mut writer) => {
+            writer.get_mut().output = Some(output);
+            Ok(WriteSink::new(writer))
+        }
+        Err(_) => Err(output),
+    }
+}
+
+/// Writes out what the buffer holds, and gives the writer back: whether all was written.
+pub fn finish<T: Write + Drop>(sink: Buffered<T>) -> (bool, T)
+    ensures whole { result.0 ≡ true → Keeps (⟦<WriteSink<BufWriter<T>> as Sink>⟧.told sink) (T.contents result.1) }
+    ensures part { IsFrontOf (T.contents result.1) (⟦<WriteSink<BufWriter<T>> as Sink>⟧.told sink) }
+{
+    let mut writer = sink.into_inner();
+    let is_whole = writer.flush().is_ok();
+    let (inner, _) = writer.into_parts();
+    (is_whole, inner)
+}
+
+/// Gives the writer back, without what the buffer still holds.
+pub fn abandon<T: Write + Drop>(sink: Buffered<T>) -> T
+    ensures { IsFrontOf (T.contents result) (⟦<WriteSink<BufWriter<T>> as Sink>⟧.told sink) }
+{
+    let (inner, _) = sink.into_inner().into_parts();
+    inner
+}
