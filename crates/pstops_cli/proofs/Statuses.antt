@@ -42,7 +42,7 @@ plan_status-above plan.TooManySheets = lit< tt
 plan_status-above plan.TooManyPlaces = lit< tt
 plan_status-above plan.NoMemory = lit< tt
 
-run_status-above : (e : RunError) → 0 < run_status e
+pub run_status-above : (e : RunError) → 0 < run_status e
 run_status-above run.Options = lit< tt
 run_status-above (run.Spec e) = spec_status-above e
 run_status-above (run.Document e) = document_status-above e

@@ -34,7 +34,7 @@ use Rattle.imposer.specs.Workers.{AreWorkers}
 use Rattle.pstops_cli.specs.Command.{are_distinct, counted_rule, fits, pstops, ranged_rule, rules, sides_found, workers_found}
 use Rattle.pstops_cli.specs.Values.{AreInRange, count_named, letter_j, letter_k, letter_s, number_of, sides_named}
 use Rattle.pstops_cli.proofs.Chain.{distinct, each_fits}
-use Rattle.pstops_cli.proofs.Pstops.{each_rule_fits, pstops_has_rules, pstops_is_plain, rules_are_distinct}
+use Rattle.pstops_cli.proofs.SimpleCommand.{each_rule_fits, pstops_has_rules, pstops_is_plain, rules_are_distinct}
 
 -- ---- a text as a number
 

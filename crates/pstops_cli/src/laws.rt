@@ -11,7 +11,7 @@ pub fn lengths_are_numbers_and_units()
 {}
 
 /// What the command takes of words, and what it finds among them, is a function of the words: it is a simple command.
-#[tactic(auto, using(crate::proofs::Pstops::pstops_is_simple))]
+#[tactic(auto, using(crate::proofs::SimpleCommand::pstops_is_simple))]
 pub fn the_command_is_simple()
     ensures { is_simple pstops ≡ true }
 {}

@@ -6,10 +6,12 @@ mod command;
 mod input;
 pub mod laws;
 mod lines;
+mod program;
 mod requests;
 mod values;
 
 pub use command::{CommandFault, Request, read_command};
 pub use input::{MOST_BYTES, ReadFault, ReadSource, Source, SourceFault, read_input};
 pub use lines::{Fault, fault_line};
+pub use program::{Ended, pstops};
 pub use requests::run_request;

@@ -1,0 +1,102 @@
+-- The whole program: what its words ask for, what it reads, what it creates and writes, and what it says.
+use Rattle.std.specs.Prelude.{◌≡◌, ◌⊎◌, ℕ, List, [], Bool, true, false, Option, Result, IsOk, option_map}
+use Rattle.std.specs.Prelude.{string_bytes}
+use Rattle.std.specs.Io.KnownBytes.{Appends, Keeps}
+use Rattle.clap.specs.Words.{Text, matches_of}
+use Rattle.profile.specs.Output.{output}
+use Rattle.imposer.specs.Runs.{Accepted, frame_of}
+use Rattle.imposer.specs.declared.outcome.Report.{Report}
+use Rattle.imposer.specs.declared.outcome.RunError.{RunError}
+use Rattle.imposer.specs.declared.outcome.RunError.TheVariants as run
+use Rattle.world.specs.Outputs.{IsFrontOf, told_if}
+use Rattle.pstops_cli.specs.Command.{Reads, Refuses, Takes, pstops}
+use Rattle.pstops_cli.specs.Input.{IsFirst, most_bytes}
+use Rattle.pstops_cli.specs.Lines.{fault_status, fault_text, said}
+use Rattle.pstops_cli.specs.Requests.{Ends, IsTold, asked_by}
+use Rattle.pstops_cli.specs.declared.command.Request.{Request}
+use Rattle.pstops_cli.specs.declared.lines.Fault.{Fault}
+use Rattle.pstops_cli.specs.declared.lines.Fault.TheVariants as fault
+
+-- what files and standard input give, by the file's name
+abbrev pub Gives : Type 0
+Gives = Option (List ℕ) → Option (List ℕ)
+
+-- ---- before the run
+
+-- the words make this request
+abbrev pub Makes : (words : List Text) → Request → Type 0
+Makes words r = Takes words × Reads (matches_of pstops words) r
+
+-- the words make this request, and this is what its input gives
+abbrev pub HasRead : (words : List Text) → Gives → Request → (input : List ℕ) → Type 0
+HasRead words gives r input = Makes words r × IsFirst most_bytes (gives (option_map string_bytes r.infile)) input
+
+-- The faults before anything is created: the words are refused; or they make a request, whose input can't be read.
+abbrev pub StopsBefore : (words : List Text) → Fault → Type 0
+StopsBefore words (fault.Command f) = Refuses words f
+StopsBefore words (fault.Read f) = (r : Request) × Makes words r
+StopsBefore words fault.Create = ⊥
+StopsBefore words (fault.Run e) = ⊥
+
+-- ---- what is said
+
+-- the fault's status and line; or 3 and no line, if it found no memory
+abbrev pub IsSaid : Fault → (status : ℕ) → (line : List ℕ) → Type 0
+IsSaid f status line = ((status ≡ fault_status f) × (line ≡ said (fault_text f))) ⊎ ((status ≡ 3) × (line ≡ []))
+
+-- an output couldn't be created
+abbrev pub IsCreating : Fault → Type 0
+IsCreating f = (f ≡ fault.Create) ⊎ (f ≡ fault.Run (run.NoMemory 0))
+
+-- ---- the run
+
+-- The run of a request into an output that was just created, which now tells `written`: it ended in some way, with all
+-- that a run promises, and that way has this status and this line; or it finished and its last bytes couldn't be
+-- written, which is said. The output has a first part of what the run handed on, and at status 0 all of it.
+pub record Ran (r : Request) (input : List ℕ) (tells : Bool) (written : Option (List ℕ)) (status : ℕ)
+    (line : List ℕ) : Type 0 where
+  pub ended : Result Report RunError
+  pub handed : Option (List ℕ)
+  pub failures : ℕ
+  pub ends : Ends (asked_by r input) (told_if tells (option_map string_bytes r.outfile) []) handed 0 failures ended
+  pub part : IsFrontOf written handed
+  pub whole : status ≡ 0 → Keeps handed written
+  pub told : IsTold r.quiet ended status line
+      ⊎ (IsOk ended × IsSaid (fault.Run (run.Write 0)) status line)
+
+-- there was no memory for the output's buffer: the output is empty
+abbrev pub FindsNoBuffer : Request → (tells : Bool) → (written : Option (List ℕ)) → (status : ℕ) → (line : List ℕ) → Type 0
+FindsNoBuffer r tells written status line =
+    (written ≡ told_if tells (option_map string_bytes r.outfile) []) × IsSaid (fault.Run (run.NoMemory 0)) status line
+
+-- what comes of a request whose output was created
+abbrev pub RunsInto : Request → (input : List ℕ) → (tells : Bool) → (written : Option (List ℕ)) → (status : ℕ)
+    → (line : List ℕ) → Type 0
+RunsInto r input tells written status line =
+    FindsNoBuffer r tells written status line ⊎ Ran r input tells written status line
+
+-- the output couldn't be created; or it was, and the request was run
+abbrev pub CreatesAndRuns : Request → (input : List ℕ) → (tells has_world has_output : Bool)
+    → (written : Option (List ℕ)) → (status : ℕ) → (line : List ℕ) → Type 0
+CreatesAndRuns r input tells has_world has_output written status line =
+    ((f : Fault) × IsCreating f × IsSaid f status line × (has_world ≡ true) × (has_output ≡ false))
+    ⊎ ((has_world ≡ false) × RunsInto r input tells written status line)
+
+-- ---- all of it
+
+-- How the program ends. It stopped before anything was created, and what was left of the world came back; or it read a
+-- request and its input, and either its output couldn't be created, or one was and the request was run.
+abbrev pub EndsProgram : (words : List Text) → Gives → (tells has_world has_output : Bool) → (written : Option (List ℕ))
+    → (status : ℕ) → (line : List ℕ) → Type 0
+EndsProgram words gives tells has_world has_output written status line =
+    ((f : Fault) × StopsBefore words f × IsSaid f status line × (has_world ≡ true) × (has_output ≡ false))
+    ⊎ ((r : Request) × (input : List ℕ) × HasRead words gives r input
+    × CreatesAndRuns r input tells has_world has_output written status line)
+
+-- The request that the words make was carried out: the output tells its name and exactly the output defined for the
+-- input.
+abbrev pub CarriesOut : (words : List Text) → Gives → (tells : Bool) → (written : Option (List ℕ)) → Type 0
+CarriesOut words gives tells written =
+    (r : Request) × (input : List ℕ) × HasRead words gives r input
+    × Accepted (asked_by r input) (λ spec us. Appends (told_if tells (option_map string_bytes r.outfile) []) written
+    (output (frame_of r.options) r.options.sides spec us))

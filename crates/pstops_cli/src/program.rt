@@ -1,0 +1,190 @@
+//! The whole program, over the files and standard streams around it.
+ghost use Rattle.std.specs.Prelude.{◌≡◌, [], Bool, false, is_some, map, option_and_then, option_map, string_bytes, IfOk, IfErr};
+ghost use Rattle.world.specs.Outputs.{told_if};
+ghost use Rattle.pstops_cli.specs.Programs.{CarriesOut, CreatesAndRuns, EndsProgram, HasRead, IsCreating, IsSaid, RunsInto};
+ghost use Rattle.pstops_cli.specs.Programs.{StopsBefore};
+ghost use Rattle.pstops_cli.specs.Input.{IsFirst, most_bytes};
+
+use crate::command::{Request, read_command};
+use crate::input::{ReadFault, ReadSource, read_input};
+use crate::lines::{Fault, fault_line};
+use crate::requests::run_request;
+use imposer::RunError;
+use std::alloc::Global;
+use std::io;
+use std::io::ErrorKind;
+use std::sync::Wait;
+use std::thread::Threads;
+use world::{World, buffered, finish};
+
+/// How the program ended.
+#[derive(Drop)]
+pub struct Ended<W: World> {
+    /// The exit status.
+    pub status: u8,
+    /// The line for standard error, empty if there is none.
+    pub line: Vec<u8>,
+    /// What is left of the world, if no output was created in it.
+    pub world: Option<W>,
+    /// The output, if one was created.
+    pub output: Option<W::Output>,
+}
+
+/// The program: it reads the words after its name, then its input whole, creates its output, runs, and flushes.
+///
+/// The input is closed before the output is created, so both may be one file. A file that can't be opened can't be read.
+pub fn pstops<R: Threads + Wait + Sync, W: World>(
+    rt: &R,
+    alloc: Global,
+    words: &[String],
+    world: W,
+) -> Ended<W>
+    // It stopped before anything was created; or one output was created, and the request that the words make was run.
+    ensures ended { EndsProgram (map string_bytes words.now) (W.gives world) (W.tells world) (is_some result.world)
+        (is_some result.output) (option_and_then W.Output.contents result.output) result.status result.line.items }
+    // Status 0 comes only if exactly the output was written.
+    ensures finished { result.status ≡ 0 → CarriesOut (map string_bytes words.now) (W.gives world) (W.tells world)
+        (option_and_then W.Output.contents result.output) }
+{
+    match read(alloc, words, &world) {
+        Ok((request, input)) => run_in(rt, alloc, &request, input.as_slice(), world),
+        Err(fault) => stop(alloc, &fault, Some(world), None),
+    }
+}
+
+/// The request that the words make, and its input.
+fn read<W: World>(alloc: Global, words: &[String], world: &W) -> Result<(Request, Vec<u8>), Fault>
+    ensures read { IfOk result (λ read. HasRead (map string_bytes words.now) (W.gives world.now) read.0 read.1.items) }
+    ensures refused { IfErr result (StopsBefore (map string_bytes words.now)) }
+{
+    let request = match read_command(alloc, words) {
+        Ok(request) => request,
+        Err(fault) => return Err(Fault::Command(fault)),
+    };
+    match input_of(alloc, name_of(&request.infile), world) {
+        Ok(input) => Ok((request, input)),
+        Err(fault) => Err(Fault::Read(fault)),
+    }
+}
+
+/// All that the file of this name, or standard input, gives.
+fn input_of<W: World>(alloc: Global, name: Option<&str>, world: &W) -> Result<Vec<u8>, ReadFault>
+    ensures { IfOk result (λ input. IsFirst most_bytes (W.gives world.now (option_map (λ n. n.now) name.entry)) input.items) }
+{
+    match world.open(name) {
+        Ok(input) => {
+            let mut source = ReadSource::new(input);
+            read_input(alloc, &mut source)
+        }
+        Err(error) if error.kind() == ErrorKind::OutOfMemory => Err(ReadFault::NoMemory),
+        Err(_) => Err(ReadFault::Device),
+    }
+}
+
+fn name_of(name: &Option<String>) -> Option<&str>
+    ensures { option_map (λ n. n.now) result ≡ option_map string_bytes name.now }
+{
+    match name {
+        Some(name) => Some(name.as_str()),
+        None => None,
+    }
+}
+
+/// Ends with a fault.
+fn stop<W: World>(
+    alloc: Global,
+    fault: &Fault,
+    world: Option<W>,
+    output: Option<W::Output>,
+) -> Ended<W>
+    ensures said { IsSaid fault.now result.status result.line.items }
+    ensures world { result.world ≡ world }
+    ensures output { result.output ≡ output }
+{
+    let (status, line) = match fault_line(alloc, fault) {
+        Ok(told) => told,
+        // Not even the line found memory.
+        Err(_) => (3, Vec::new(alloc)),
+    };
+    Ended {
+        status,
+        line,
+        world,
+        output,
+    }
+}
+
+/// Creates the output and runs the request into it.
+fn run_in<R: Threads + Wait + Sync, W: World>(
+    rt: &R,
+    alloc: Global,
+    request: &Request,
+    input: &[u8],
+    world: W,
+) -> Ended<W>
+    ensures ended { CreatesAndRuns request.now input.now (W.tells world) (is_some result.world) (is_some result.output)
+        (option_and_then W.Output.contents result.output) result.status result.line.items }
+{
+    match world.create(name_of(&request.outfile)) {
+        Ok(output) => run_into(rt, alloc, request, input, output),
+        Err(refused) => {
+            let fault = fault_of_creating(&refused.cause);
+            stop(alloc, &fault, Some(refused.world), None)
+        }
+    }
+}
+
+/// Why an output couldn't be created.
+fn fault_of_creating(cause: &io::Error) -> Fault
+    ensures { IsCreating result }
+{
+    if cause.kind() == ErrorKind::OutOfMemory {
+        Fault::Run(RunError::NoMemory { written: 0 })
+    } else {
+        Fault::Create
+    }
+}
+
+/// How much of the output is written at once, in bytes, if sheets are smaller.
+const WRITTEN_AT_ONCE: usize = 16_384;
+
+/// A block of this many bytes is made and given back before the run. From then on the C library keeps blocks up to this
+/// size that are given back, in place of handing them to the system and asking for new ones, which must be cleared.
+const KEPT_BLOCK: usize = 4_194_304;
+
+/// Runs the request into an output that was just created, and flushes what it wrote.
+fn run_into<R: Threads + Wait + Sync, W: World>(
+    rt: &R,
+    alloc: Global,
+    request: &Request,
+    input: &[u8],
+    output: W::Output,
+) -> Ended<W>
+    ensures created { is_some result.world ≡ false }
+    ensures ran { (tells : Bool)
+        → W.Output.contents output ≡ told_if tells (option_map string_bytes request.now.outfile) []
+        → RunsInto request.now input.now tells (option_and_then W.Output.contents result.output) result.status result.line.items }
+{
+    // Without it the run is only slower.
+    drop(Vec::<u8>::with_capacity(alloc, KEPT_BLOCK));
+    let mut sink = match buffered(alloc, WRITTEN_AT_ONCE, output) {
+        Ok(sink) => sink,
+        Err(output) => {
+            let fault = Fault::Run(RunError::NoMemory { written: 0 });
+            return stop(alloc, &fault, None, Some(output));
+        }
+    };
+    let (status, line) = run_request(rt, alloc, request, input, &mut sink);
+    let (is_whole, opened) = finish(sink);
+    if status == 0 && !is_whole {
+        // A failed flush is a failed write, whose line doesn't say how much was written.
+        let fault = Fault::Run(RunError::Write { written: 0 });
+        return stop(alloc, &fault, None, opened.output);
+    }
+    Ended {
+        status,
+        line,
+        world: None,
+        output: opened.output,
+    }
+}
