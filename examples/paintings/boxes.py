@@ -11,6 +11,15 @@ from machine import Literal, Number, Segment, Stopped
 
 IDENTITY = (1.0, 0.0, 0.0, 1.0, 0.0, 0.0)
 PIECES = 150
+SECONDS = 300
+
+
+def weights(pieces):
+    return [((1 - t) ** 3, 3 * (1 - t) ** 2 * t, 3 * (1 - t) * t * t, t**3) for t in (i / pieces for i in range(1, pieces + 1))]
+
+
+# What the four points of a curve count for at each of its pieces' ends. One piece is enough for who asks where it ends.
+WEIGHTS = {pieces: weights(pieces) for pieces in (1, PIECES)}
 
 
 def times(m, n):
@@ -73,8 +82,8 @@ class Subpath:
 
 
 class Path:
-    def __init__(self, path, fonts):
-        self.subpaths, self.point, self.fonts = [], None, fonts
+    def __init__(self, path, fonts, point=None, pieces=PIECES):
+        self.subpaths, self.point, self.fonts, self.pieces = [], point, fonts, pieces
         for segment in path:
             self.add(segment)
 
@@ -124,7 +133,7 @@ class Path:
         if not self.subpaths or self.subpaths[-1].closed:
             self.subpaths.append(Subpath(self.point))
         if len(points) == 3:
-            points = curve(self.point, *points)
+            points = curve(self.pieces, self.point, *points)
         self.subpaths[-1].points += points
         self.point = points[-1]
 
@@ -144,14 +153,8 @@ class Path:
             self.draw([point])
 
 
-def curve(p, q, r, s):
-    out = []
-    for i in range(1, PIECES + 1):
-        t = i / PIECES
-        u = 1 - t
-        w = (u * u * u, 3 * u * u * t, 3 * u * t * t, t * t * t)
-        out.append((sum(a * b[0] for a, b in zip(w, (p, q, r, s))), sum(a * b[1] for a, b in zip(w, (p, q, r, s)))))
-    return out
+def curve(pieces, p, q, r, s):
+    return [(k * p[0] + l * q[0] + m * r[0] + n * s[0], k * p[1] + l * q[1] + m * r[1] + n * s[1]) for k, l, m, n in WEIGHTS[pieces]]
 
 
 # Settings: the latest of a kind counts.
@@ -405,9 +408,15 @@ def font_of(settings):
 
 
 def point_of(path, fonts):
-    """The current point: what stands before the last `moveto` says nothing of it."""
+    """The current point, from the last segment that says it by itself. Behind `closepath` it is where the subpath begins."""
+    for i in range(len(path) - 1, -1, -1):
+        call = path[i].call
+        if call.name in (b"closepath", b"append"):
+            break
+        if call.name in (b"moveto", b"lineto", b"curveto"):
+            return Path(path[i + 1 :], fonts, at(product(path[i].chain), *values(call)[-2:]), pieces=1).point
     start = max((i for i, segment in enumerate(path) if segment.call.name == b"moveto"), default=0)
-    return Path(path[start:], fonts).point
+    return Path(path[start:], fonts, pieces=1).point
 
 
 def shown(segment, point, fonts, outlined=True):
@@ -546,7 +555,7 @@ class Reader:
                 return [[s.points] for s in subpaths], True
             return [[p] for p in stroked(subpaths, m, g.settings)], True
         if name in (b"image", b"imagemask", b"colorimage"):
-            return [[[at(m, 0, 0), at(m, 1, 0), at(m, 1, 1), at(m, 0, 1)]]], True
+            return [[[at(m, *p) for p in image_corners(painting.call)]]], True
         point = point_of(g.path, self.fonts)
         if point is None:
             raise Stopped("a text, and no current point")
@@ -598,6 +607,15 @@ class Reader:
         return box_of(found) if found else None
 
 
+def image_corners(call):
+    """An image of so many samples, its matrix from user space to them (4.10.3). Without operands it fills the unit square."""
+    x, y, back = 1, 1, IDENTITY
+    if call.operands:
+        _, by, _, height, width = call.operands
+        x, y, back = width.value, height.value, inverse(tuple(float(o.value) for o in by.items))
+    return [at(back, 0, 0), at(back, x, 0), at(back, x, y), at(back, 0, y)]
+
+
 def rectangles(m, v):
     subpaths = []
     for x, y, w, h in zip(v[::4], v[1::4], v[2::4], v[3::4]):
@@ -635,7 +653,7 @@ def by_ghostscript(text, paper, each=False):
     """The boxes that Ghostscript's bbox device tells, one a page that is put out, and whether it ended without an error."""
     words = ["gs", "-q", "-dSAFER", "-dBATCH", "-dNOPAUSE", "-dFIXEDMEDIA", "-sDEVICE=bbox", f"-dDEVICEWIDTHPOINTS={paper[0]}",
              f"-dDEVICEHEIGHTPOINTS={paper[1]}", "-"]
-    ran = subprocess.run(words, input=(PREFACE if each else b"") + text, capture_output=True, timeout=300)
+    ran = subprocess.run(words, input=(PREFACE if each else b"") + text, capture_output=True, timeout=SECONDS)
     boxes = []
     for line in (ran.stderr + ran.stdout).splitlines():
         if line.startswith(b"%%HiResBoundingBox:"):

@@ -889,6 +889,8 @@ def select_font(m):
 
 
 OVER.update({b"findfont": find_font, b"scalefont": scale_font, b"makefont": make_font, b"setfont": set_font, b"selectfont": select_font})
+# Here systemdict is a dictionary, an array may be changed while it is run through, and a loop be left.
+OVER.update({name: FURTHER[name] for name in (b"where", b"known", b"get", b"put", b"for", b"forall")})
 
 
 @operator("definefont", Dictionary, is_key)

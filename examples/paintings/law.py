@@ -1,11 +1,26 @@
-"""The premises of `sheets_show_the_pages` of crates/pictures, by running the second machine; and what the law says, looked
-at in a run of an output. specs/Documents and specs/Unaware of the crate have the definitions."""
+"""The premises of `sheets_show_the_document` of crates/pictures, by running the second machine; and what the law says, looked
+at in a run of an output. specs/Sheets, Documents, Kept, Unaware and DocumentRun of the crate have the definitions.
+
+A premise has its words, and what is wrong, None if it is met. They are those of docs/PICTURES.md and of crates/pictures."""
 from dataclasses import replace
-from machine import FONTS, USERDICT, Graphics, Machine, Name, Saved, Scanner, Snapshot, Stopped, is_complete
+from machine import ALWAYS, FONTS, PROVED, USERDICT, Graphics, Literal, Machine, Name, Saved, Scanner, Snapshot, Stopped, is_complete
 from parts import Document, comments_apart, drops_in_header, drops_in_page, first_is_complete
 
+# `sheet_names` of specs/Sheets; `restore` is asked of each page, behind it.
 SHEET_NAMES = b"showpage userdict save put [ ] concat newpath moveto lineto closepath clip gsave setlinewidth stroke grestore".split()
 PUT_NAMES = {b"showpage", b"ImposeSave"}
+NAMES = f"uses the machine's {len(PROVED) + len(ALWAYS)} names alone"
+# The premises on each page.
+USES = f"each page {NAMES}"
+CALLS = "each page calls showpage by its name, when it runs"
+BEHIND = "what stands behind showpage paints and prints nothing"
+RESETS = "no page resets the graphics state"
+TAKES_BACK = "no page takes back what it didn't push or save"
+LEAVES = "each page leaves both stacks as they were"
+ASKS = "no page asks what showpage or ImposeSave means but by calling showpage, and each leaves ImposeSave and restore their meanings"
+ENDS = "each page ends between tokens"
+APART = "no comment that is dropped from a page stands within a string, or has a form feed in it"
+PAGE_PREMISES = (USES, CALLS, BEHIND, RESETS, TAKES_BACK, LEAVES, ASKS, ENDS, APART)
 
 
 def behind_preamble(document, further=False):
@@ -17,80 +32,163 @@ def text(names):
     return ", ".join(sorted(name.decode("latin-1") for name in names))
 
 
+def missing_names(document):
+    """Names that are called and that neither the machine has nor the document defines: by its tokens, run or not."""
+    called, literal = set(), set()
+    scanner = Scanner(document.preamble + b"".join(document.pages))
+    while (token := scanner.token()) is not None:
+        if isinstance(token, Name):
+            called.add(token.name)
+        elif isinstance(token, Literal):
+            literal.add(token.name)
+    return called - literal - set(PROVED) - set(ALWAYS)
+
+
 def ground(document, further=False):
-    """The premises on the preamble: each with what is wrong, None if it is met. And whether it runs."""
+    """The premises on the preamble (`preamble_comments_apart`, `PreambleRuns`, `IsPlainGround`). And whether it runs."""
+    apart = comments_apart(document.preamble, drops_in_header)
     found = [
         ("the preamble ends between tokens", None if is_complete(document.preamble) else "a string, comment or word is open at its end"),
-        ("no line that is dropped from it stands within a string, or has a form feed in it",
-         None if comments_apart(document.preamble, drops_in_header) and first_is_complete(document.preamble) else "one does"),
+        ("its first line ends between tokens", None if first_is_complete(document.preamble) else "a string is open there"),
+        ("no comment that is dropped from it stands within a string, or has a form feed in it", None if apart else "one does"),
     ]
     try:
         m = behind_preamble(document, further)
     except Stopped as stopped:
-        return [*found, ("it uses the machine's operators alone", f"it stops at {stopped}")], False
+        return [*found, (f"the preamble {NAMES}", f"it stops at {stopped}")], False
     others = [name for name in SHEET_NAMES if m.found(name) != m.system(name)]
-    shot = Snapshot(m.level, 0, m.made, m.graphics, [])
-    new = [o for o in m.operands if not m.is_old(shot, o)] + [d for d in m.dictionaries if d > m.made]
-    same = m.graphics == Graphics(settings=tuple(c for c in m.graphics.settings if c.name in FONTS))
-    saved = any(isinstance(o, Saved) for o in m.operands) or any(isinstance(o, Saved) for d in m.entries.values() for o in d.values())
-    here = USERDICT in m.dictionaries and not PUT_NAMES & set(m.entries[USERDICT])
+    put = PUT_NAMES & set(m.entries[USERDICT])
     return [
         *found,
-        ("it uses the machine's operators alone", None),
+        (f"the preamble {NAMES}", None),
         ("it paints and prints nothing", None if not m.painted and not m.sheets else "it does"),
         ("the names that a sheet's text uses mean the operators behind it", f"these don't: {text(others)}" if others else None),
-        ("nothing on the stacks is newer than a save would be", "arrays, procedures, strings or fonts are there" if new else None),
-        ("it leaves the graphics state as initgraphics makes it", None if same else "it sets a matrix, a clip, a path, a line or a colour"),
-        ("it leaves nothing saved or pushed", "it does" if m.stacked or m.saves or saved else None),
-        ("userdict is on the stack behind it, without showpage and ImposeSave", None if here else "it isn't so"),
+        ("it doesn't define the names of the save and of showpage in userdict", f"it defines {text(put)}" if put else None),
+        ("userdict is on the stack", None if USERDICT in m.dictionaries else "it isn't"),
+        ("it leaves the graphics state as initgraphics makes it", left_set(m.graphics)),
+        ("it leaves nothing saved or pushed", "it does" if is_saved(m) else None),
+        ("nothing that it leaves on the stacks is newer than a save would be", newer(m)),
     ], True
 
 
+def left_set(g):
+    parts = {"a matrix": g.chain, "a path": g.path, "a clip": g.clip, "a line or a colour": [c for c in g.settings if c.name not in FONTS]}
+    left = [words for words, part in parts.items() if part]
+    return f"it leaves {', '.join(left)}" if left else None
+
+
+def is_saved(m):
+    values = [o for entries in m.entries.values() for o in entries.values()]
+    return bool(m.stacked or m.saves or any(isinstance(o, Saved) for o in [*m.operands, *values]))
+
+
+def newer(m):
+    shot = Snapshot(m.level, 0, m.made, m.graphics, [])
+    if any(not m.is_old(shot, o) for o in m.operands):
+        return "it leaves an array, a procedure, a string or a font as an operand"
+    return "it leaves a dictionary on the stack that isn't there any more" if any(d > m.made for d in m.dictionaries) else None
+
+
+def stopped_at(m, stopped, where=""):
+    """Which premise of a page isn't met, if it stops so."""
+    why = f"{where}it stops at {stopped}"
+    if m.called == b"initgraphics":
+        return RESETS, why
+    if m.called in (b"grestore", b"restore"):
+        return TAKES_BACK, why
+    if m.called == b"showpage":
+        return BEHIND if where else CALLS, why
+    return USES, why
+
+
+def asked(m, where):
+    return ASKS, f"it asks what {text(m.asked & PUT_NAMES)} means {where} its showpage"
+
+
+def up_to_showpage(m):
+    """Runs a held page up to its showpage: what is wrong, None if it comes there (`PrintsItself`)."""
+    try:
+        while m.step():
+            if m.asked & PUT_NAMES:
+                return asked(m, "before")
+    except Stopped as stopped:
+        if m.now != Name(b"showpage") or m.found(b"showpage") != m.system(b"showpage"):
+            return stopped_at(m, stopped)
+        return None if USERDICT in m.dictionaries else (LEAVES, "userdict isn't on the stack at its showpage")
+    return CALLS, "it ends without"
+
+
+def behind_showpage(m, operands, dictionaries):
+    """Runs on from there as on a sheet, where showpage does nothing: what is wrong (`placed` of `EndsThePage`)."""
+    painted = list(m.painted)
+    try:
+        while m.step():
+            if m.asked & PUT_NAMES:
+                return asked(m, "behind")
+    except Stopped as stopped:
+        return stopped_at(m, stopped, "behind its showpage ")
+    if m.painted != painted:
+        return BEHIND, "it paints there"
+    if m.operands != operands or m.dictionaries != dictionaries:
+        return LEAVES, "it doesn't"
+    if m.found(b"ImposeSave") is not None or m.found(b"restore") != m.system(b"restore"):
+        return ASKS, "it leaves another meaning to ImposeSave or restore"
+    return None
+
+
+def prints_one(document, page, picture, further):
+    """The page behind the preamble, printed: what is wrong (`printed` of `EndsThePage`)."""
+    m = behind_preamble(document, further)
+    m.scanner, before = Scanner(document.pages[page], further), len(m.sheets)
+    try:
+        m.run()
+    except Stopped as stopped:
+        return stopped_at(m, stopped, "once the sheet is printed ")
+    return None if m.sheets[before:] == [picture] and not m.painted else (BEHIND, "it does, once the sheet is printed")
+
+
 def own_picture(document, page, further=False):
-    """What a page prints of itself behind the preamble, None if it doesn't; and why not (`PrintsItself`)."""
+    """What a page prints of itself behind the preamble, None if it doesn't; and the premise that isn't met, and why (`PrintsItself`)."""
     m = behind_preamble(document, further)
     operands, dictionaries = list(m.operands), list(m.dictionaries)
     # Nothing of before can be got back to, as in `alone`; and this isn't the preamble's own run any more.
     m.held, m.scanner = True, Scanner(document.pages[page], further)
-    try:
-        while m.step():
-            if m.asked & PUT_NAMES:
-                return None, f"it asks what {text(m.asked & PUT_NAMES)} means before its end"
-        return None, "it doesn't call showpage"
-    except Stopped as stopped:
-        if m.now != Name(b"showpage") or m.found(b"showpage") != m.system(b"showpage"):
-            return None, f"it stops at {stopped}"
-    if m.left():
-        return None, "showpage isn't the last thing that it runs"
-    if m.operands != operands or m.dictionaries != dictionaries or m.saves:
-        return None, "it doesn't leave the stacks, or the saves, as they were"
-    if m.found(b"ImposeSave") is not None or m.found(b"restore") != m.system(b"restore"):
-        return None, "it leaves another meaning to ImposeSave or restore"
-    return m.painted, None
+    wrong = up_to_showpage(m)
+    picture = list(m.painted)
+    wrong = wrong or behind_showpage(m, operands, dictionaries) or prints_one(document, page, picture, further)
+    return (None, wrong) if wrong else (picture, None)
 
 
 def pages(document, further=False):
-    """The premises on each page: what is wrong, or its picture."""
+    """The premises on each page (`PagePrints`): its picture, and the premise that isn't met, and why."""
     found = []
     for number, page in enumerate(document.pages):
         picture, wrong = own_picture(document, number, further)
         if not is_complete(page):
-            wrong = "it doesn't end between tokens"
+            wrong = ENDS, "it doesn't"
         elif not comments_apart(page, drops_in_page):
-            wrong = "a line that is dropped stands within a string, or has a form feed in it"
+            wrong = APART, "one does"
         found.append((picture, wrong))
     return found
 
 
 def together(document, pictures, further=False):
-    """The whole document's own run prints the same pictures, page after page: DSC's page independence."""
-    m = Machine(document.preamble + b"".join(document.pages), further=further)
-    try:
-        m.run()
-    except Stopped as stopped:
-        return f"run page after page it stops at {stopped}"
-    same = [list(map(seen, sheet)) for sheet in m.sheets] == [list(map(seen, picture)) for picture in pictures]
-    return None if same else "run page after page they print other pictures"
+    """Each page in the state in which the document has come to it prints its own picture: what is wrong (`PagesAreIndependent`).
+
+    A picture has all settings, those too that a later one of their kind covers: as in the definition."""
+    m = behind_preamble(document, further)
+    for number, (page, picture) in enumerate(zip(document.pages, pictures), 1):
+        before = len(m.sheets)
+        m.scanner = Scanner(page, further)
+        try:
+            m.run()
+        except Stopped as stopped:
+            return f"behind the pages before it page {number} stops at {stopped}"
+        if m.painted or m.sheets[before:] != [picture]:
+            seen_alike = not m.painted and [[seen(p) for p in sheet] for sheet in m.sheets[before:]] == [[seen(p) for p in picture]]
+            why = ", but only by a font that isn't used: one that a page before it selected" if seen_alike else ""
+            return f"behind the pages before it page {number} prints another picture{why}"
+    return None
 
 
 COLOURS = (b"setgray", b"setrgbcolor", b"setcmykcolor")

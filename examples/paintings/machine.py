@@ -5,9 +5,9 @@ As there, transformations are lists of matrices that nobody multiplies, a point 
 time, and a painting is its operator with its operands and the graphics state. All lists here have the latest last.
 
 PROVED are the names that the machine of the crate has, each by its definition. FURTHER are operators of the Reference
-that it lacks: `Machine(.., further=True)` has them too. A name that is in neither stops the machine.
+that it lacks, and freer forms of those that it has: `Machine(.., further=True)` has them too. A name that is in neither
+stops the machine.
 """
-import math
 from dataclasses import dataclass, field, replace
 
 # Tokens and objects: specs/Objects.
@@ -18,17 +18,39 @@ class Stopped(Exception):
 
 
 class Number:
-    """A number is its text; its value is asked for by a reader of pictures and by further operators alone."""
+    """A number is its text. Of one that was calculated and isn't whole the text is a term: the texts of its operands and
+    the operator's name behind them, `0.1 0.2 add`. Its value is asked for by readers of pictures and by further operators
+    alone."""
 
-    def __init__(self, text, value=None):
-        self.text = text
-        self.value = value if value is not None else value_of(text)
+    def __init__(self, text, value=None, parts=()):
+        self.known_text, self.parts = text, parts
+        self.whole = None if parts else whole_of(text)
+        self.known_value = value if value is not None or parts else value_of(text)
+
+    @property
+    def value(self):
+        if self.known_value is None:
+            raise Stopped(f"the number {self!r}, which has no value")
+        return self.known_value
+
+    @property
+    def text(self):
+        if self.known_text is None:
+            words, parts = [], [self]
+            while parts:
+                part = parts.pop()
+                if isinstance(part, Number) and part.known_text is None:
+                    parts += part.parts
+                else:
+                    words.append(part.known_text if isinstance(part, Number) else part)
+            self.known_text = b" ".join(reversed(words))
+        return self.known_text
 
     def __eq__(self, other):
-        return isinstance(other, Number) and self.text == other.text
+        return isinstance(other, Number) and self.known_value == other.known_value and self.text == other.text
 
     def __hash__(self):
-        return hash(self.text)
+        return hash(self.known_value)
 
     def __repr__(self):
         return self.text.decode("latin-1")
@@ -44,8 +66,41 @@ def value_of(text):
         return float(text)
 
 
+def whole_of(text):
+    """The value of a whole number: a sign or none, and digits. None of any other."""
+    return int(text) if is_whole(text) else None
+
+
+def whole(value):
+    return Number(b"%d" % value, value)
+
+
 def number(value):
     return Number(repr(value).encode(), value)
+
+
+# What `add`, `sub`, `mul`, `div` and `neg` make of values: specs/Calculations.
+VALUES = {
+    b"add": lambda a, b: a + b,
+    b"sub": lambda a, b: a - b,
+    b"mul": lambda a, b: a * b,
+    b"div": lambda a, b: a / b,
+    b"neg": lambda a: -a,
+}
+
+
+def term(name, *operands):
+    try:
+        value = VALUES[name](*(o.known_value for o in operands))
+    except (TypeError, ZeroDivisionError, OverflowError):
+        value = None
+    return Number(None, value, (*operands, name))
+
+
+def calculated(name, *operands):
+    """Whole numbers are calculated with as they are. `div` makes none, and of other numbers nothing is calculated."""
+    values = [o.whole for o in operands]
+    return term(name, *operands) if name == b"div" or None in values else whole(VALUES[name](*values))
 
 
 @dataclass(frozen=True)
@@ -253,9 +308,11 @@ class Scanner:
             return self.string()
         if byte == ord("<"):
             return self.hexadecimal()
-        if byte == ord(">") and self.further and self.text[self.at : self.at + 1] == b">":
+        if byte == ord(">") and self.text[self.at : self.at + 1] == b">":
             self.at += 1
             return Name(b">>")
+        if byte == ord(">"):
+            self.complete = self.at < len(self.text)
         return Unknown(bytes([byte]))
 
     def word(self):
@@ -270,7 +327,9 @@ class Scanner:
     def literal(self):
         if self.text[self.at : self.at + 1] == b"/":
             self.at += 1
-            return Unknown(b"//" + self.run_of(REGULAR))
+            name = self.run_of(REGULAR)
+            self.complete = self.at < len(self.text)
+            return Unknown(b"//" + name)
         name = self.run_of(REGULAR)
         self.complete = self.at < len(self.text)
         return Literal(name)
@@ -293,7 +352,7 @@ class Scanner:
         return Unknown(b"a string that doesn't end")
 
     def hexadecimal(self):
-        if self.text[self.at : self.at + 1] == b"<" and self.further:
+        if self.text[self.at : self.at + 1] == b"<":
             self.at += 1
             return Name(b"<<")
         digits = self.run_of(b"0123456789abcdefABCDEF" + WHITE)
@@ -363,11 +422,11 @@ class Snapshot:
 
 USERDICT, SYSTEMDICT, GLOBALDICT, STATUSDICT, ERRORDICT, FONTDIRECTORY = 0, -1, -2, -3, -4, -5
 MISSING = object()
-# Steps, after which a run is given up.
-MOST = 1_000_000
+# Steps after which a run is given up. The longest one, of a page whose fonts are procedures, takes 2 500 000.
+MOST = 5_000_000
 ALWAYS = {b"userdict": Dictionary(USERDICT), b"true": Truth(True), b"false": Truth(False)}
 # What graphics operators want, the topmost first, and their effect: systemdict of specs/Dictionaries.
-N, TEXT, ARRAY, MATRIX, FONT, NAME = "number", "text", "array", "matrix", "font", "name"
+N, TEXT, ARRAY, MATRIX, FONT, NAME, TRUTH = "number", "text", "array", "matrix", "font", "name", "truth"
 DRAWS = {
     b"newpath": ("", "forgets"), b"moveto": (2, "segments"), b"rmoveto": (2, "segments"), b"lineto": (2, "segments"),
     b"rlineto": (2, "segments"), b"curveto": (6, "segments"), b"rcurveto": (6, "segments"), b"arc": (5, "segments"),
@@ -377,8 +436,9 @@ DRAWS = {
     b"setrgbcolor": (3, "sets"), b"setcmykcolor": (4, "sets"), b"setfont": ([FONT], "sets"), b"selectfont": ([N, NAME], "sets"),
     b"fill": (0, "paints"), b"eofill": (0, "paints"), b"stroke": (0, "paints"), b"rectfill": (4, "beside"),
     b"rectstroke": (4, "beside"), b"show": ([TEXT], "shows"), b"ashow": ([TEXT, N, N], "shows"),
-    b"widthshow": ([TEXT, N, N, N], "shows"), b"awidthshow": ([TEXT, N, N, N, N, N], "shows"), b"clip": (0, "clips"),
-    b"eoclip": (0, "clips"),
+    b"widthshow": ([TEXT, N, N, N], "shows"), b"awidthshow": ([TEXT, N, N, N, N, N], "shows"), 
+    b"image": ([TEXT, MATRIX, N, N, N], "beside"), b"imagemask": ([TEXT, MATRIX, TRUTH, N, N], "beside"),
+    b"clip": (0, "clips"), b"eoclip": (0, "clips"),
 }
 PATH_TAKEN, FONTS = ("paints", "forgets"), (b"setfont", b"selectfont")
 
@@ -391,16 +451,16 @@ def are_numbers(items):
     return all(isinstance(item, Number) for item in items)
 
 
-def fits(want, o):
-    is_array = type(o) is Array
-    return {
-        N: isinstance(o, Number),
-        TEXT: isinstance(o, String),
-        ARRAY: is_array and are_numbers(o.items),
-        MATRIX: is_array and are_numbers(o.items) and len(o.items) == 6,
-        FONT: isinstance(o, Font),
-        NAME: isinstance(o, Literal),
-    }[want]
+def is_numbers(o):
+    return type(o) is Array and are_numbers(o.items)
+
+
+def is_six_numbers(o):
+    return is_numbers(o) and len(o.items) == 6
+
+
+# What an operand has to be: `fits` of specs/Operators.
+FITS = {N: Number, TEXT: String, ARRAY: is_numbers, MATRIX: is_six_numbers, FONT: Font, NAME: Literal, TRUTH: Truth}
 
 
 def frozen(o):
@@ -410,8 +470,13 @@ def frozen(o):
     return String(o.raw, o.data, o.hexadecimal) if isinstance(o, String) else o
 
 
+def is_whole_number(o):
+    return isinstance(o, Number) and o.whole is not None
+
+
 def is_count(o):
-    return isinstance(o, Number) and o.text.isdigit()
+    """It is written with digits alone."""
+    return is_whole_number(o) and o.text.isdigit()
 
 
 @dataclass
@@ -445,6 +510,7 @@ class Machine:
     frames: list = field(default_factory=list)
     steps: int = 0
     now: object = None
+    called: bytes = b""
     # the names that the step has asked the meaning of, and further names that have been used
     asked: set = field(default_factory=set)
     used: set = field(default_factory=set)
@@ -494,19 +560,6 @@ class Machine:
             o.level = self.level
         return o
 
-    def left(self):
-        """What is left to run, as tokens, so far as it isn't in loops of further operators."""
-        items = []
-        for frame in reversed(self.frames):
-            items += frame.items[frame.at :] + ([Unknown(b"loop")] if frame.again else [])
-        scanner = Scanner(self.scanner.text, self.further)
-        scanner.at = self.scanner.at
-        while (token := scanner.token()) is not None:
-            items.append(token)
-            if len(items) > 3:
-                break
-        return items
-
     def run(self):
         while self.step():
             if self.steps > MOST:
@@ -520,6 +573,7 @@ class Machine:
         self.steps += 1
         self.now = item
         self.asked.clear()
+        self.called = b""
         self.act(item)
         return True
 
@@ -576,6 +630,7 @@ class Machine:
             self.operands.append(o)
 
     def perform(self, name):
+        self.called = name
         if self.further:
             from further import OVER, perform
 
@@ -598,8 +653,9 @@ class Machine:
         if len(self.operands) < len(kinds):
             raise Operands
         found = self.operands[: -len(kinds) - 1 : -1] if kinds else []
-        if not all(kind(o) if not isinstance(kind, type) else type(o) is kind for kind, o in zip(kinds, found)):
-            raise Operands
+        for kind, o in zip(kinds, found):
+            if type(o) is not kind if isinstance(kind, type) else not kind(o):
+                raise Operands
         if kinds:
             del self.operands[-len(kinds) :]
         return found
@@ -623,7 +679,7 @@ class Machine:
         self.graphics = replace(self.graphics, **fields)
 
     def draw(self, name, wants, effect):
-        operands = self.taken(*[lambda o, want=want: fits(want, o) for want in wants])
+        operands = self.taken(*[FITS[want] for want in wants])
         self.drawn(Call(name, tuple(frozen(o) for o in operands)), effect)
 
     def drawn(self, call, effect):
@@ -670,6 +726,12 @@ class Operands(Exception):
 
 def anything(o):
     return True
+
+
+def refused(m, *operands):
+    """Operands, the topmost first, that are of the right kinds, and aren't taken: they are put back."""
+    m.operands += reversed(operands)
+    raise Operands
 
 
 # Operators: specs/Operators and specs/Machine, each as in 8.2 of the Reference.
@@ -749,12 +811,133 @@ def known(m):
     m.operands.append(Truth(key.name in m.entries[d.number]))
 
 
+def where(m):
+    """The topmost dictionary on the stack that has the name. It stops at a name that systemdict alone has."""
+    (key,) = m.taken(Literal)
+    m.asked.add(key.name)
+    for d in reversed(m.dictionaries):
+        if key.name in m.entries[d]:
+            m.operands += [Dictionary(d), Truth(True)]
+            return
+    if m.system(key.name) is not None:
+        refused(m, key)
+    m.operands.append(Truth(False))
+
+
+def is_token(o):
+    """What an array may have: a number, a literal name, a string."""
+    return isinstance(o, (Number, Literal, String))
+
+
+def get(m):
+    key, o = m.taken(lambda o: isinstance(o, Literal) or is_count(o), lambda o: type(o) in (Dictionary, Array))
+    if isinstance(o, Dictionary) and isinstance(key, Literal):
+        m.asked.add(key.name)
+        if key.name not in m.entries[o.number]:
+            refused(m, key, o)
+        m.operands.append(m.entries[o.number][key.name])
+    elif isinstance(o, Array) and is_count(key) and key.whole < len(o.items):
+        m.operands.append(o.items[key.whole])
+    else:
+        refused(m, key, o)
+
+
+def length(m):
+    (o,) = m.taken(Array)
+    m.operands.append(whole(len(o.items)))
+
+
+def load_array(m):
+    (o,) = m.taken(Array)
+    m.operands += [*o.items, o]
+
+
+def close_dictionary(m):
+    at, entries = len(m.operands) - 1, []
+    while at >= 0 and not isinstance(m.operands[at], Mark):
+        if at < 1 or not isinstance(m.operands[at - 1], Literal):
+            raise Operands
+        entries.append((m.operands[at - 1].name, m.operands[at]))
+        at -= 2
+    if at < 0:
+        raise Operands
+    del m.operands[at:]
+    m.made += 1
+    m.entries[m.made] = {}
+    for key, value in reversed(entries):
+        m.put(m.made, key, value)
+    m.operands.append(Dictionary(m.made))
+
+
 def index(m):
     (count,) = m.taken(is_count)
-    if count.value >= len(m.operands):
-        m.operands.append(count)
-        raise Operands
-    m.operands.append(m.operands[-1 - count.value])
+    if count.whole >= len(m.operands):
+        refused(m, count)
+    m.operands.append(m.operands[-1 - count.whole])
+
+
+def copy(m):
+    (count,) = m.taken(is_count)
+    if count.whole > len(m.operands):
+        refused(m, count)
+    m.operands += m.operands[len(m.operands) - count.whole :]
+
+
+def roll(m):
+    by, count = m.taken(is_whole_number, is_count)
+    if count.whole > len(m.operands):
+        refused(m, by, count)
+    if count.whole:
+        rolled = m.operands[-count.whole :]
+        at = count.whole - by.whole % count.whole
+        m.operands[-count.whole :] = rolled[at:] + rolled[:at]
+
+
+def calculates(name):
+    def perform(m):
+        m.operands.append(calculated(name, *reversed(m.taken(*[Number] * (1 if name == b"neg" else 2)))))
+
+    return perform
+
+
+COMPARED = {
+    b"eq": lambda a, b: a == b,
+    b"ne": lambda a, b: a != b,
+    b"lt": lambda a, b: a < b,
+    b"le": lambda a, b: a <= b,
+    b"gt": lambda a, b: a > b,
+    b"ge": lambda a, b: a >= b,
+}
+
+
+def compares(name):
+    """Whole numbers; and by `eq` and `ne` literal names."""
+
+    def perform(m):
+        b, a = m.taken(anything, anything)
+        if is_whole_number(a) and is_whole_number(b):
+            m.operands.append(Truth(COMPARED[name](a.whole, b.whole)))
+        elif isinstance(a, Literal) and isinstance(b, Literal) and name in (b"eq", b"ne"):
+            m.operands.append(Truth(COMPARED[name](a.name, b.name)))
+        else:
+            refused(m, b, a)
+
+    return perform
+
+
+def both(m):
+    b, a = m.taken(Truth, Truth)
+    m.operands.append(Truth(a.value and b.value))
+
+
+def either(m):
+    b, a = m.taken(Truth, Truth)
+    m.operands.append(Truth(a.value or b.value))
+
+
+def opposite(m):
+    (a,) = m.taken(Truth)
+    m.operands.append(Truth(not a.value))
 
 
 def clear_to_mark(m):
@@ -792,11 +975,32 @@ def if_else(m):
     m.done(procedure if test.value else otherwise)
 
 
+def run_all(m, turns, procedure):
+    """Before each turn of the procedure these items."""
+    if len(turns) * (1 + len(procedure.items)) > 2 * MOST:
+        raise Stopped("it runs too long")
+    m.frames.append(Frame([item for items in turns for item in (*items, *procedure.items)], kind="loop"))
+
+
 def repeat(m):
     procedure, count = m.taken(Procedure, is_count)
-    if count.value * len(procedure.items) > 10_000_000:
+    run_all(m, [()] * min(count.whole, 2 * MOST), procedure)
+
+
+def for_each_number(m):
+    """Up to the limit and with it, or down to it. A step of 0 stops the machine."""
+    procedure, limit, step, first = m.taken(Procedure, is_whole_number, is_whole_number, is_whole_number)
+    if not step.whole:
+        refused(m, procedure, limit, step, first)
+    turns = range(first.whole, limit.whole + (1 if step.whole > 0 else -1), step.whole)
+    if len(turns) > 2 * MOST:
         raise Stopped("it runs too long")
-    m.frames.append(Frame(procedure.items * count.value, kind="loop"))
+    run_all(m, [(whole(i),) for i in turns], procedure)
+
+
+def for_all(m):
+    procedure, o = m.taken(Procedure, Array)
+    run_all(m, [(item,) for item in o.items], procedure)
 
 
 def gsave(m):
@@ -847,12 +1051,19 @@ def initgraphics(m):
     m.reset()
 
 
+def mark(m):
+    m.operands.append(Mark())
+
+
 PROVED = {
-    b"pop": lambda m: m.taken(anything), b"dup": dup, b"exch": exch, b"[": lambda m: m.operands.append(Mark()), b"]": close_array,
-    b"put": put, b"def": define, b"begin": begin, b"end": end, b"dict": make_dictionary, b"load": load, b"bind": bind, b"known": known,
-    b"index": index, b"mark": lambda m: m.operands.append(Mark()), b"cleartomark": clear_to_mark, b"findfont": find_font,
-    b"scalefont": scale_font, b"exec": execute, b"if": if_true, b"ifelse": if_else, b"repeat": repeat, b"gsave": gsave,
-    b"grestore": grestore, b"save": save, b"restore": restore, b"showpage": showpage, b"initgraphics": initgraphics,
+    b"pop": lambda m: m.taken(anything), b"dup": dup, b"exch": exch, b"[": mark, b"]": close_array, b"put": put, b"def": define, b"begin": begin,
+    b"end": end, b"dict": make_dictionary, b"load": load, b"bind": bind, b"known": known, b"index": index, b"mark": mark,
+    b"cleartomark": clear_to_mark, b"findfont": find_font, b"scalefont": scale_font, b"copy": copy, b"roll": roll, b"exec": execute,
+    b"if": if_true, b"ifelse": if_else, b"repeat": repeat, b"for": for_each_number, b"forall": for_all,
+    **{name: calculates(name) for name in VALUES}, **{name: compares(name) for name in COMPARED},
+    b"and": both, b"or": either, b"not": opposite, b"where": where, b"get": get, b"length": length, b"aload": load_array, b"<<": mark,
+    b">>": close_dictionary, b"gsave": gsave, b"grestore": grestore, b"save": save, b"restore": restore, b"showpage": showpage,
+    b"initgraphics": initgraphics,
     **{name: (lambda m, name=name, wants=wants_of(wants), effect=effect: m.draw(name, wants, effect)) for name, (wants, effect) in DRAWS.items()},
 }
 PROVED_NAMES = sorted([*PROVED, *ALWAYS])
