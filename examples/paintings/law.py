@@ -17,7 +17,7 @@ BEHIND = "what stands behind showpage paints and prints nothing"
 RESETS = "no page resets the graphics state"
 TAKES_BACK = "no page takes back what it didn't push or save"
 LEAVES = "each page leaves both stacks as they were"
-ASKS = "no page asks what showpage or ImposeSave means but by calling showpage, and each leaves ImposeSave and restore their meanings"
+ASKS = "no page defines showpage or ImposeSave, or asks what they mean in another way; and restore means the operator behind it"
 ENDS = "each page ends between tokens"
 APART = "no comment that is dropped from a page stands within a string, or has a form feed in it"
 PAGE_PREMISES = (USES, CALLS, BEHIND, RESETS, TAKES_BACK, LEAVES, ASKS, ENDS, APART)
@@ -57,24 +57,23 @@ def ground(document, further=False):
     except Stopped as stopped:
         return [*found, (f"the preamble {NAMES}", f"it stops at {stopped}")], False
     others = [name for name in SHEET_NAMES if m.found(name) != m.system(name)]
-    put = PUT_NAMES & set(m.entries[USERDICT])
+    put, on_stack = PUT_NAMES & set(m.entries[USERDICT]), USERDICT in m.dictionaries
     return [
         *found,
         (f"the preamble {NAMES}", None),
         ("it paints and prints nothing", None if not m.painted and not m.sheets else "it does"),
         ("the names that a sheet's text uses mean the operators behind it", f"these don't: {text(others)}" if others else None),
-        ("it doesn't define the names of the save and of showpage in userdict", f"it defines {text(put)}" if put else None),
-        ("userdict is on the stack", None if USERDICT in m.dictionaries else "it isn't"),
-        ("it leaves the graphics state as initgraphics makes it", left_set(m.graphics)),
-        ("it leaves nothing saved or pushed", "it does" if is_saved(m) else None),
-        ("nothing that it leaves on the stacks is newer than a save would be", newer(m)),
+        ("userdict is on the dictionary stack, without showpage and ImposeSave", f"it has {text(put)}" if put else None if on_stack else "it isn't"),
+        ("the graphics state is as initgraphics makes it (a font may be set)", left_set(m.graphics)),
+        ("nothing is saved or pushed", "something is" if is_saved(m) else None),
+        ("no string, array, procedure or font lies on the operand stack", newer(m)),
     ], True
 
 
 def left_set(g):
     parts = {"a matrix": g.chain, "a path": g.path, "a clip": g.clip, "a line or a colour": [c for c in g.settings if c.name not in FONTS]}
     left = [words for words, part in parts.items() if part]
-    return f"it leaves {', '.join(left)}" if left else None
+    return f"{', '.join(left)} is left" if left else None
 
 
 def is_saved(m):
@@ -85,8 +84,8 @@ def is_saved(m):
 def newer(m):
     shot = Snapshot(m.level, 0, m.made, m.graphics, [])
     if any(not m.is_old(shot, o) for o in m.operands):
-        return "it leaves an array, a procedure, a string or a font as an operand"
-    return "it leaves a dictionary on the stack that isn't there any more" if any(d > m.made for d in m.dictionaries) else None
+        return "one does"
+    return "a dictionary lies on its stack that a restore took away" if any(d > m.made for d in m.dictionaries) else None
 
 
 def stopped_at(m, stopped, where=""):
@@ -132,7 +131,7 @@ def behind_showpage(m, operands, dictionaries):
     if m.operands != operands or m.dictionaries != dictionaries:
         return LEAVES, "it doesn't"
     if m.found(b"ImposeSave") is not None or m.found(b"restore") != m.system(b"restore"):
-        return ASKS, "it leaves another meaning to ImposeSave or restore"
+        return ASKS, "it has defined ImposeSave or restore"
     return None
 
 
