@@ -10,12 +10,12 @@ use Rattle.pictures.specs.Objects.{Saved, Font, Operator, Computation, Computes,
 use Rattle.pictures.specs.Objects.{Pop, Duplicate, Exchange, OpenArray, CloseArray, Put, Define, Begin, End, MakeDictionary, Load, Bind, Known, Index, ClearToMark, FindFont, ScaleFont}
 use Rattle.pictures.specs.Objects.{Calculate, Negate, Compare, And, Or, Not, Where, Get, Length, LoadArray, CloseDictionary, CopyOperands, Roll, For, ForAll, Array, Mark}
 use Rattle.pictures.specs.Calculations.{whole_of, compared, names_compared, turns}
-use Rattle.pictures.specs.Dictionaries.{Entry, meaning, system, entry_of, or, has}
+use Rattle.pictures.specs.Dictionaries.{Entry, meaning, system, entry_of, or, has, is_of_the_system}
 use Rattle.std.specs.Prelude.{nat_le}
 use Rattle.std.specs.List.{take-map, drop-map}
 use Rattle.std.proofs.lemmas.List.{map-append, length-map}
 use Rattle.std.proofs.Common.{◌++◌, take, drop}
-use Rattle.pictures.specs.Operators.{are_there, rolled, rolling, shift, filled, with_entry, made_of, Work, with_operands, collected, gathered, below_mark, cleared, nth, loaded, bound_to, bound, define, ended, computed_on, controlled_on, times, judged, located, holder, element, turned, counting}
+use Rattle.pictures.specs.Operators.{are_there, rolled, rolling, shift, filled, made_of, Work, with_operands, collected, gathered, below_mark, cleared, nth, loaded, bound_to, bound, define, ended, computed_on, controlled_on, times, judged, located, holder, element, turned, counting}
 use Rattle.pictures.specs.Sheets.{among, in_userdict}
 use Rattle.pictures.specs.Unaware.{put_names, names_in, none_among, asked_by}
 use Rattle.pictures.proofs.Tests.{first, second, by_test}
@@ -154,15 +154,10 @@ abbrev FilledGoes : ℕ → Option (List Entry × List Object) → Option (List 
 FilledGoes n None y = y ≡ None
 FilledGoes n (Some (fs, os)) y = (es : List Entry) × (y ≡ Some (es, ups os)) × Agree n es fs
 
-entry_filled : (n d : ℕ) (k : List ℕ) (o : Object) (x y : Option (List Entry × List Object)) → FilledGoes n x y
-    → FilledGoes n (with_entry (record { dictionary = d; key = k; value = o }) x) (with_entry (record { dictionary = d; key = k; value = up o }) y)
-entry_filled n d k o None y g = ap (with_entry (record { dictionary = d; key = k; value = up o })) g
-entry_filled n d k o (Some (fs, os)) y g =
-    (record { dictionary = d; key = k; value = up o } ∷ g.0, ap (with_entry (record { dictionary = d; key = k; value = up o })) g.1, agrees_put n g.0 fs d k o g.2)
-
 filled_goes : (n d : ℕ) (os : List Object) (fs es : List Entry) → Agree n es fs → FilledGoes n (filled d os fs) (filled d (ups os) es)
 filled_goes n d (Mark ∷ os) fs es a = (es, refl, a)
-filled_goes n d (o ∷ Plain (Literal k) ∷ os) fs es a = entry_filled n d k o (filled d os fs) (filled d (ups os) es) (filled_goes n d os fs es a)
+filled_goes n d (o ∷ Plain (Literal k) ∷ os) fs es a =
+    filled_goes n d os (record { dictionary = d; key = k; value = o } ∷ fs) (record { dictionary = d; key = k; value = up o } ∷ es) (agrees_put n es fs d k o a)
 filled_goes n d os fs es a = refl
 
 made_goes : (n : ℕ) (x y : Option (List Entry × List Object)) (w : Work) (es : List Entry) → FilledGoes n x y → WorkGoes n (made_of x w) (made_of y (up_work es w))
@@ -219,8 +214,8 @@ works_on n name And (Truth y ∷ Truth x ∷ os) w es a q = (es, refl, a)
 works_on n name Or (Truth y ∷ Truth x ∷ os) w es a q = (es, refl, a)
 works_on n name Not (Truth x ∷ os) w es a q = (es, refl, a)
 works_on n name Where (Plain (Literal k) ∷ os) w es a q =
-    subst (λ x. WorkGoes n (located (holder w.dictionaries w.entries k) (has (system k)) (with_operands w os)) (located x (has (system k)) (up_work es (with_operands w os)))) (sym (holder_same n w.dictionaries k w es a (one_not k q)))
-    (located_goes n (holder w.dictionaries w.entries k) (has (system k)) (with_operands w os) es a)
+    subst (λ x. WorkGoes n (located (holder w.dictionaries w.entries k) (is_of_the_system k) (with_operands w os)) (located x (is_of_the_system k) (up_work es (with_operands w os)))) (sym (holder_same n w.dictionaries k w es a (one_not k q)))
+    (located_goes n (holder w.dictionaries w.entries k) (is_of_the_system k) (with_operands w os) es a)
 works_on n name Get (Plain (Literal k) ∷ Dictionary d ∷ os) w es a q =
     subst (λ x. WorkGoes n (loaded (entry_of d k w.entries) (with_operands w os)) (loaded x (up_work es (with_operands w os)))) (sym (entry_goes n d k w es a (one_not k q)))
     (loaded_goes n (entry_of d k w.entries) (with_operands w os) es a)

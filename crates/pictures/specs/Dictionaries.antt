@@ -2,7 +2,8 @@
 -- of entries, the latest first. The topmost dictionary on the stack that has a name says what it means; below them all
 -- is systemdict, which never changes.
 use Rattle.std.specs.Prelude.{ℕ, List, [], ◌∷◌, Bool, true, false, ◌&&◌, ◌==◌, if◌then◌else◌, Option, Some, None, codes}
-use Rattle.std.specs.Prelude.{bytes_eq}
+use Rattle.std.specs.Prelude.{bytes_eq, ◌||◌}
+use Rattle.std.specs.List.{list_any}
 use Rattle.pictures.specs.Objects.{Object, Dictionary, Truth, Operator, Kind, Computes, Controls, Draws}
 use Rattle.pictures.specs.Objects.{PushesGraphics, PopsGraphics, Saves}
 use Rattle.pictures.specs.Objects.{Restores, Ships, Resets, Pop, Duplicate, Exchange, OpenArray, CloseArray, Put}
@@ -116,3 +117,64 @@ or (Some o) next = Some o
 abbrev pub meaning : List ℕ → List Entry → List ℕ → Option Object
 meaning [] es key = system key
 meaning (d ∷ ds) es key = or (entry_of d key es) (meaning ds es key)
+
+-- the names of all other operators and values in an interpreter's systemdict (8.1, 'Operator Summary', and 8.2), which this
+-- machine lacks
+abbrev pub lacked : List (List ℕ)
+lacked =
+    codes "clear" ∷ codes "count" ∷ codes "counttomark" ∷ codes "idiv" ∷ codes "mod" ∷ codes "abs" ∷ codes "ceiling"
+    ∷ codes "floor" ∷ codes "round" ∷ codes "truncate" ∷ codes "sqrt" ∷ codes "atan" ∷ codes "cos" ∷ codes "sin"
+    ∷ codes "exp" ∷ codes "ln" ∷ codes "log" ∷ codes "rand" ∷ codes "srand" ∷ codes "rrand" ∷ codes "array"
+    ∷ codes "getinterval" ∷ codes "putinterval" ∷ codes "astore" ∷ codes "packedarray" ∷ codes "setpacking"
+    ∷ codes "currentpacking" ∷ codes "maxlength" ∷ codes "store" ∷ codes "undef" ∷ codes "currentdict"
+    ∷ codes "errordict" ∷ codes "$error" ∷ codes "systemdict" ∷ codes "globaldict" ∷ codes "statusdict"
+    ∷ codes "countdictstack" ∷ codes "cleardictstack" ∷ codes "dictstack" ∷ codes "string" ∷ codes "anchorsearch"
+    ∷ codes "search" ∷ codes "token" ∷ codes "xor" ∷ codes "bitshift" ∷ codes "loop" ∷ codes "exit" ∷ codes "stop"
+    ∷ codes "stopped" ∷ codes "countexecstack" ∷ codes "execstack" ∷ codes "quit" ∷ codes "start" ∷ codes "type"
+    ∷ codes "cvlit" ∷ codes "cvx" ∷ codes "xcheck" ∷ codes "executeonly" ∷ codes "noaccess" ∷ codes "readonly"
+    ∷ codes "rcheck" ∷ codes "wcheck" ∷ codes "cvi" ∷ codes "cvn" ∷ codes "cvr" ∷ codes "cvrs" ∷ codes "cvs"
+    ∷ codes "file" ∷ codes "filter" ∷ codes "closefile" ∷ codes "read" ∷ codes "write" ∷ codes "readhexstring"
+    ∷ codes "writehexstring" ∷ codes "readstring" ∷ codes "writestring" ∷ codes "readline" ∷ codes "bytesavailable"
+    ∷ codes "flush" ∷ codes "flushfile" ∷ codes "resetfile" ∷ codes "status" ∷ codes "run" ∷ codes "currentfile"
+    ∷ codes "deletefile" ∷ codes "renamefile" ∷ codes "filenameforall" ∷ codes "setfileposition"
+    ∷ codes "fileposition" ∷ codes "print" ∷ codes "=" ∷ codes "==" ∷ codes "stack" ∷ codes "pstack"
+    ∷ codes "printobject" ∷ codes "writeobject" ∷ codes "setobjectformat" ∷ codes "currentobjectformat"
+    ∷ codes "defineresource" ∷ codes "undefineresource" ∷ codes "findresource" ∷ codes "findcolorrendering"
+    ∷ codes "resourcestatus" ∷ codes "resourceforall" ∷ codes "setglobal" ∷ codes "currentglobal" ∷ codes "gcheck"
+    ∷ codes "startjob" ∷ codes "defineuserobject" ∷ codes "execuserobject" ∷ codes "undefineuserobject" ∷ codes "null"
+    ∷ codes "version" ∷ codes "realtime" ∷ codes "usertime" ∷ codes "languagelevel" ∷ codes "product"
+    ∷ codes "revision" ∷ codes "serialnumber" ∷ codes "executive" ∷ codes "echo" ∷ codes "prompt" ∷ codes "clipsave"
+    ∷ codes "cliprestore" ∷ codes "grestoreall" ∷ codes "gstate" ∷ codes "setgstate" ∷ codes "currentgstate"
+    ∷ codes "currentlinewidth" ∷ codes "currentlinecap" ∷ codes "currentlinejoin" ∷ codes "currentmiterlimit"
+    ∷ codes "setstrokeadjust" ∷ codes "currentstrokeadjust" ∷ codes "currentdash" ∷ codes "setcolorspace"
+    ∷ codes "currentcolorspace" ∷ codes "setcolor" ∷ codes "currentcolor" ∷ codes "currentgray" ∷ codes "sethsbcolor"
+    ∷ codes "currenthsbcolor" ∷ codes "currentrgbcolor" ∷ codes "currentcmykcolor" ∷ codes "sethalftone"
+    ∷ codes "currenthalftone" ∷ codes "setscreen" ∷ codes "currentscreen" ∷ codes "setcolorscreen"
+    ∷ codes "currentcolorscreen" ∷ codes "settransfer" ∷ codes "currenttransfer" ∷ codes "setcolortransfer"
+    ∷ codes "currentcolortransfer" ∷ codes "setblackgeneration" ∷ codes "currentblackgeneration"
+    ∷ codes "setundercolorremoval" ∷ codes "currentundercolorremoval" ∷ codes "setcolorrendering"
+    ∷ codes "currentcolorrendering" ∷ codes "setflat" ∷ codes "currentflat" ∷ codes "setoverprint"
+    ∷ codes "currentoverprint" ∷ codes "setsmoothness" ∷ codes "currentsmoothness" ∷ codes "matrix"
+    ∷ codes "initmatrix" ∷ codes "identmatrix" ∷ codes "defaultmatrix" ∷ codes "currentmatrix" ∷ codes "setmatrix"
+    ∷ codes "concatmatrix" ∷ codes "transform" ∷ codes "dtransform" ∷ codes "itransform" ∷ codes "idtransform"
+    ∷ codes "invertmatrix" ∷ codes "currentpoint" ∷ codes "arct" ∷ codes "arcto" ∷ codes "flattenpath"
+    ∷ codes "reversepath" ∷ codes "strokepath" ∷ codes "ustrokepath" ∷ codes "charpath" ∷ codes "uappend"
+    ∷ codes "clippath" ∷ codes "setbbox" ∷ codes "pathbbox" ∷ codes "pathforall" ∷ codes "upath" ∷ codes "initclip"
+    ∷ codes "rectclip" ∷ codes "ucache" ∷ codes "erasepage" ∷ codes "ustroke" ∷ codes "ufill" ∷ codes "ueofill"
+    ∷ codes "shfill" ∷ codes "colorimage" ∷ codes "infill" ∷ codes "ineofill" ∷ codes "inufill" ∷ codes "inueofill"
+    ∷ codes "instroke" ∷ codes "inustroke" ∷ codes "makepattern" ∷ codes "setpattern" ∷ codes "execform"
+    ∷ codes "copypage" ∷ codes "setpagedevice" ∷ codes "currentpagedevice" ∷ codes "nulldevice" ∷ codes "definefont"
+    ∷ codes "composefont" ∷ codes "undefinefont" ∷ codes "makefont" ∷ codes "rootfont" ∷ codes "currentfont"
+    ∷ codes "xshow" ∷ codes "xyshow" ∷ codes "yshow" ∷ codes "glyphshow" ∷ codes "stringwidth" ∷ codes "cshow"
+    ∷ codes "kshow" ∷ codes "FontDirectory" ∷ codes "GlobalFontDirectory" ∷ codes "StandardEncoding"
+    ∷ codes "ISOLatin1Encoding" ∷ codes "findencoding" ∷ codes "setcachedevice" ∷ codes "setcachedevice2"
+    ∷ codes "setcharwidth" ∷ codes "eexec" ∷ codes "internaldict" ∷ codes "settrapparams" ∷ codes "currenttrapparams"
+    ∷ codes "settrapzone" ∷ codes "setsystemparams" ∷ codes "currentsystemparams" ∷ codes "setuserparams"
+    ∷ codes "currentuserparams" ∷ codes "setdevparams" ∷ codes "currentdevparams" ∷ codes "vmreclaim"
+    ∷ codes "setvmthreshold" ∷ codes "vmstatus" ∷ codes "cachestatus" ∷ codes "setcachelimit" ∷ codes "setcacheparams"
+    ∷ codes "currentcacheparams" ∷ codes "setucacheparams" ∷ codes "ucachestatus"
+    ∷ []
+
+-- an interpreter has the name in systemdict
+abbrev pub is_of_the_system : List ℕ → Bool
+is_of_the_system key = has (system key) || list_any (bytes_eq key) lacked

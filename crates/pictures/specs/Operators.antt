@@ -17,7 +17,7 @@ use Rattle.pictures.specs.Objects.{CloseDictionary, CopyOperands, Roll}
 use Rattle.pictures.specs.Objects.{Execute, If, IfElse, Repeat, For, ForAll, Want, ANumber, AText, AnArray}
 use Rattle.pictures.specs.Objects.{AMatrix, AFont, AName, ATruth}
 use Rattle.pictures.specs.Calculations.{whole_of, whole_text, calculated, negated, compared, names_compared, turns}
-use Rattle.pictures.specs.Dictionaries.{Entry, meaning, system, entry_of, has}
+use Rattle.pictures.specs.Dictionaries.{Entry, meaning, entry_of, has, is_of_the_system}
 
 -- the operands and the dictionaries on their stacks, the topmost first (3.4); all entries; how many dictionaries have been
 -- made
@@ -139,15 +139,12 @@ abbrev pub onto : List Token → List Object → List Object
 onto [] os = os
 onto (t ∷ ts) os = onto ts (Plain t ∷ os)
 
-abbrev pub with_entry : Entry → Option (List Entry × List Object) → Option (List Entry × List Object)
-with_entry e None = None
-with_entry e (Some (es, os)) = Some (e ∷ es, os)
-
--- the keys and values down to the mark, put into a dictionary: of equal keys the last one counts
+-- the keys and values down to the mark, put into a dictionary as by `def`, the topmost first: so of equal keys the first
+-- one that was written counts
 abbrev pub filled : ℕ → List Object → List Entry → Option (List Entry × List Object)
 filled d (Mark ∷ os) es = Some (es, os)
 filled d (o ∷ Plain (Literal name) ∷ os) es =
-    with_entry (record { dictionary = d; key = name; value = o }) (filled d os es)
+    filled d os (record { dictionary = d; key = name; value = o } ∷ es)
 filled d os es = None
 
 abbrev pub made_of : Option (List Entry × List Object) → Work → Option Work
@@ -205,7 +202,7 @@ computed_on And (Truth b ∷ Truth a ∷ os) w = Some (with_operands w (Truth (a
 computed_on Or (Truth b ∷ Truth a ∷ os) w = Some (with_operands w (Truth (a || b) ∷ os))
 computed_on Not (Truth a ∷ os) w = Some (with_operands w (Truth (not a) ∷ os))
 computed_on Where (Plain (Literal name) ∷ os) w =
-    located (holder w.dictionaries w.entries name) (has (system name)) (with_operands w os)
+    located (holder w.dictionaries w.entries name) (is_of_the_system name) (with_operands w os)
 computed_on Get (Plain (Literal name) ∷ Dictionary d ∷ os) w =
     loaded (entry_of d name w.entries) (with_operands w os)
 computed_on Get (Plain (Number text) ∷ Array ts ∷ os) w =

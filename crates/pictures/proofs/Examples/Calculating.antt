@@ -118,8 +118,8 @@ all_of_them = refl
 from_pairs : left_by (codes "<</a 1/b[2]>> begin b a") ≡ Some (number (codes "1") ∷ Array (Number (codes "2") ∷ []) ∷ [])
 from_pairs = refl
 
-the_last_counts : left_by (codes "<< /a 1 /a 2 >> /a get") ≡ only (number (codes "2"))
-the_last_counts = refl
+the_first_counts : left_by (codes "<< /a 1 /a 2 >> /a get") ≡ only (number (codes "1"))
+the_first_counts = refl
 
 no_pair : left_by (codes "<< /a >>") ≡ None
 no_pair = refl
@@ -152,6 +152,10 @@ not_found = refl
 -- `where` finds an operator in systemdict, which this machine doesn't hand out
 of_the_system : left_by (codes "/moveto where") ≡ None
 of_the_system = refl
+
+-- nor does it say that there is none, if an interpreter has one
+of_another_system : left_by (codes "/setpagedevice where {pop} if") ≡ None
+of_another_system = refl
 
 -- a page by itself may not ask for showpage so: the sheet's text has put it in userdict
 asks_where : imposed [] (codes "/showpage where {pop} if 0 0 moveto 9 9 lineto stroke" ∷ []) ≡ Ok (Some ((placed ∷ []) ∷ []))
