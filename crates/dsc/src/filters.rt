@@ -1,5 +1,5 @@
 //! What is kept of a text.
-ghost use Rattle.std.specs.Prelude.{◌≡◌, ◌+◌, ◌<◌, ◌≤◌, [], ◌∷◌, ◌++◌, length, take, drop, IfOk, IfErr, OnOk};
+ghost use Rattle.std.specs.Prelude.{◌≡◌, ◌+◌, ◌<◌, ◌≤◌, [], ◌++◌, length, take, drop, IfOk, IfErr, OnOk};
 ghost use Rattle.std.specs.Prelude.{if◌then◌else◌, false, Ok, codes, decimal};
 ghost use Rattle.profile.specs.Bytes.{line};
 ghost use Rattle.profile.specs.Units.{cut};
@@ -197,7 +197,7 @@ pub fn with_count(alloc: Global, first: &[u8], sheets: u32) -> Result<Vec<u8>, A
 
 /// Whether the bytes want a line end.
 pub fn wants_end(bytes: &[u8]) -> bool
-    ensures { ended bytes.now ≡ (if result then bytes.now ++ 10 ∷ [] else bytes.now) }
+    ensures { ended bytes.now ≡ (if result then line bytes.now else bytes.now) }
 {
     match bytes.last() {
         None => false,
