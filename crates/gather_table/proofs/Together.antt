@@ -3,19 +3,20 @@ use Rattle.std.proofs.Common.{◌≡◌, ℕ, zero, suc, ◌*◌, ◌+◌, ◌<�
 use Rattle.std.specs.Prelude.{if◌then◌else◌, slice_index}
 use mathlib.Core.Option.{some, some-ne-none, some-injective}
 use lib.ListN.{get_elem?}
+use Rattle.atomic_table.specs.Table.{State}
 use Rattle.profile.specs.Sheets.{Layout}
 use Rattle.histories.specs.Seats.{total}
 use Rattle.histories.specs.Own.{entries_at}
 use Rattle.histories.proofs.Together.{seats_stand_together}
 use Rattle.gather_table.specs.History.{Entry, IsLegal, after_history}
 use Rattle.gather_table.specs.Laws.{completes, completings}
-use Rattle.gather_table.specs.Rule.{Sight, SeatsStandTogether, Tells, WordsHold}
+use Rattle.gather_table.specs.Rule.{Sight, Kept, StandTogether, Tells, WordsHold}
 use Rattle.gather_table.specs.Table.{HasGroup, group_size, in_group}
 use Rattle.gather_table.specs.Words.{has_bit}
 use Rattle.gather_table.proofs.Groups.{closed_full}
 use Rattle.gather_table.proofs.Legal.{all_at, at_most_one}
 
-pub stand_together : SeatsStandTogether
+pub stand_together : (layout : Layout) (s : State Unit Sight) → Kept layout s → StandTogether layout s.views
 stand_together layout s kept =
     let all = seats_stand_together IsLegal layout kept.0 s.views kept.1.legal kept.1.seats in
     record {

@@ -27,7 +27,8 @@ abbrev pub Kept : List ℕ → List Sight → Type 0
 Kept items views = (capacity : ℕ) × (log : List Move) × IsKept items views capacity log
 
 -- all passes of a queue at one moment, whether they ever met or not: their moves stand in one history, whose content is
--- what the queue holds, and no move is an own move of two of them. So it is between any two steps: a law
-abbrev pub PassesStandTogether : Type 0
-PassesStandTogether = (items : List ℕ) (views : List Sight) → Kept items views
+-- what the queue holds, and no move is an own move of two of them. So it is between any two steps of a queue with this
+-- rule
+abbrev pub PassesStandTogether : (rule : List ℕ → List Sight → Type 0) → Type 0
+PassesStandTogether rule = (items : List ℕ) (views : List Sight) → rule items views
     → (capacity : ℕ) × (log : List Move) × (content log ≡ items) × StandTogether IsQueueHistory capacity log views

@@ -3,6 +3,9 @@ ghost use Rattle.handover.specs.Laws.{FirstPutIsFirstTaken, NeverOverfull, Whole
 ghost use Rattle.handover.specs.Laws.{OwnMovesAreKept, MovesStandInOneHistory, SplitMovesStandInOneHistory};
 ghost use Rattle.handover.specs.Rule.{PassesStandTogether};
 
+use crate::rule::{OneHistory, View};
+use crossbeam_queue::protocol::Protocol;
+
 /// Sheets are taken in the order in which they were put, and none is lost or doubled.
 pub fn first_put_is_first_taken()
     ensures { FirstPutIsFirstTaken }
@@ -43,5 +46,5 @@ pub fn split_moves_stand_in_one_history()
 /// The moves of all passes of a queue, whether they ever met or not, stand in one history at every moment, whose content is
 /// what the queue holds: no move is that of two passes.
 pub fn passes_stand_together()
-    ensures { PassesStandTogether }
+    ensures { PassesStandTogether ⟦<OneHistory as Protocol<u32, View>>⟧.holds }
 {}

@@ -1,5 +1,6 @@
+use Rattle.profile.specs.Sheets.{layout}
 use Rattle.gather_table.proofs.Together.{stand_together}
 use Rattle.gather_table.proofs.laws.seats_stand_together.Goals as goal
 
 pub returns : goal.returns
-returns c = stand_together
+returns c = λ plan s kept. stand_together (layout plan) s kept
