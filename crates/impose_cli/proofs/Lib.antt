@@ -5,3 +5,4 @@ pub mod Ending
 pub mod Again
 pub mod InTurn
 pub mod Examples
+pub mod Programs

@@ -1,5 +1,5 @@
 -- Read in this order: the command and its values, sizes among them; what the words ask for; what is refused; what a
--- request comes to with a document; what its run leaves and says, with which status.
+-- request comes to with a document; what its run leaves and says, with which status; the whole program.
 pub mod Command
 pub mod Sizes
 pub mod Words
@@ -12,3 +12,4 @@ pub mod Telling
 pub mod Unread
 pub mod Laws
 pub mod Statuses
+pub mod Programs

@@ -1,0 +1,104 @@
+-- What comes of a request that was run into an output.
+use Rattle.std.proofs.Common.{◌≡◌, ℕ, List, [], Bool, true, false, Option, Some, None, Result, Ok, Err, inl, inr, subst, sym}
+use Rattle.std.specs.Prelude.{◌⊎◌, if◌then◌else◌, is_some, option_map, string_bytes}
+use Rattle.std.specs.Io.KnownBytes.{Appends, Keeps}
+use Rattle.std.proofs.KnownBytes.{Appends-kept}
+use Rattle.world.specs.Outputs.{IsFrontOf, told_if}
+use Rattle.impose_cli.specs.Endings.{Ends}
+use Rattle.pstops_cli.specs.Input.{IsFirst, most_bytes}
+use Rattle.impose_cli.specs.Programs.{BreaksOff, CarriesOut, Gives, IsReading, IsToldAs, IsToldOf, Prints, RunsInto}
+use Rattle.impose_cli.specs.Programs.{TakesInput}
+use Rattle.impose_cli.specs.Unread.{IsPossible, RefusesUnread}
+use Rattle.impose_cli.specs.Tasks.{Finishes, IsTask}
+use Rattle.impose_cli.specs.declared.fault.Fault.{Fault}
+use Rattle.impose_cli.specs.declared.fault.Fault.TheVariants as fault
+use Rattle.impose_cli.specs.declared.program.Done.{Done}
+use Rattle.impose_cli.specs.declared.program.Done.TheVariants as done
+use Rattle.impose_cli.specs.declared.request.Request.{Request}
+use Rattle.impose_cli.specs.declared.task.Finished.{Finished}
+use Rattle.impose_cli.specs.declared.task.Task.{Task}
+
+-- what an output that is created late tells: nothing that is known if it is bare, and another thing before it is there
+abbrev late_tells : (is_there is_bare : Bool) → (written before : Option (List ℕ)) → Option (List ℕ)
+late_tells is_there is_bare written before = if is_there then (if is_bare then None else written) else before
+
+-- a first part of it is one of what the output has
+pub part_of : (is_there is_bare : Bool) (written before handed : Option (List ℕ))
+    → IsFrontOf (late_tells is_there is_bare written before) handed → is_there ≡ true → IsFrontOf written handed
+part_of true true written before None h there = tt
+part_of true true written before (Some all) h there = cc h.2
+part_of true false written before handed h there = h
+part_of false bare written before handed h there = cc there
+
+-- what is kept in it is kept in the output
+pub kept_in : (is_there is_bare : Bool) (written before handed : Option (List ℕ))
+    → Keeps handed (late_tells is_there is_bare written before) → is_there ≡ true → Keeps handed written
+kept_in true true written before None h there = tt
+kept_in true true written before (Some all) h there = absurd h
+kept_in true false written before handed h there = h
+kept_in false bare written before handed h there = cc there
+
+-- the run finished, and the output has all of what it handed on
+pub imposed : (r : Request) (input : List ℕ) (tells : Bool) (start handed : Option (List ℕ)) (finished : Finished)
+    (is_there is_bare : Bool) (written before : Option (List ℕ))
+    → start ≡ told_if tells (option_map string_bytes r.outfile) [] → Finishes r input start handed finished
+    → Keeps handed (late_tells is_there is_bare written before) → is_there ≡ true
+    → Finishes r input (told_if tells (option_map string_bytes r.outfile) []) written finished
+imposed r input tells start handed finished is_there is_bare written before began h kept there =
+    subst (λ s. Finishes r input s written finished) began (record {
+      page_count = h.page_count;
+      document = h.document;
+      page = h.page;
+      spec = h.spec;
+      sides = h.sides;
+      layout_is = h.layout_is;
+      units = h.units;
+      taken = h.taken;
+      valid = h.valid;
+      admissible = h.admissible;
+      plan = h.plan;
+      written = Appends-kept start handed written _ h.written (kept_in is_there is_bare written before handed kept there);
+      report = h.report;
+    })
+
+-- the run broke off
+pub broke_off : (r : Request) (input : List ℕ) (tells : Bool) (start handed : Option (List ℕ)) (old after : ℕ)
+    (ended : Result Finished Fault) (outcome : Result Done Fault) (is_there is_bare : Bool) (written before : Option (List ℕ))
+    → start ≡ told_if tells (option_map string_bytes r.outfile) [] → old ≡ 0 → Ends r input start handed old after ended
+    → IsFrontOf (late_tells is_there is_bare written before) handed → IsToldOf ended outcome is_there
+    → RunsInto r input tells outcome is_there written
+broke_off r input tells start handed old after (Ok finished) (Ok what) is_there is_bare written before began fresh ends part told = absurd told
+broke_off r input tells start handed old after (Err f) (Ok what) is_there is_bare written before began fresh ends part told = absurd told
+broke_off r input tells start handed old after ended (Err f) is_there is_bare written before began fresh ends part told =
+    inr (record {
+      ended = ended;
+      handed = handed;
+      failures = after;
+      ends = subst (λ b. Ends r input (told_if tells (option_map string_bytes r.outfile) []) handed b after ended) fresh
+          (subst (λ s. Ends r input s handed old after ended) began ends);
+      part = part_of is_there is_bare written before handed part;
+      told = told;
+    })
+
+-- nothing was created: the layout is refused, or the input can't be read
+pub stopped_before : (r : Request) (gives : Gives) (tells : Bool) (f : Fault) (outcome : Result Done Fault)
+    (has_output : Bool) (written : Option (List ℕ)) → outcome ≡ Err f → has_output ≡ false
+    → RefusesUnread r.layout r.page r.sheet f ⊎ (IsPossible r.layout r.page r.sheet × IsReading f)
+    → CarriesOut r gives tells outcome has_output written
+stopped_before r gives tells f outcome has_output written told none why = inl (f, told, none, why)
+
+-- the input was read, and is taken
+pub took : (r : Request) (gives : Gives) (tells : Bool) (input : List ℕ) (name : Option (List ℕ))
+    (outcome : Result Done Fault) (has_output : Bool) (written : Option (List ℕ))
+    → name ≡ option_map string_bytes r.infile → IsFirst most_bytes (gives name) input
+    → IsPossible r.layout r.page r.sheet → TakesInput r input tells outcome has_output written
+    → CarriesOut r gives tells outcome has_output written
+took r gives tells input name outcome has_output written named read possible taken =
+    inr (input, subst (λ n. IsFirst most_bytes (gives n) input) named read, possible, taken)
+
+-- the specification was printed to standard output
+pub printed : (r : Request) (input : List ℕ) (tells : Bool) (task : Task) (lines : List ℕ) (start written : Option (List ℕ))
+    (has_output : Bool) → IsTask r input task → start ≡ told_if tells None [] → Appends start written lines
+    → Prints r input tells (Ok done.Printed) has_output written
+printed r input tells task lines start written has_output is_task began wrote =
+    (task, lines, is_task, subst (λ s. Appends s written lines) began wrote)

@@ -1,0 +1,127 @@
+-- The whole program: what its words ask for, what it reads, what it creates and writes, and how it ends.
+use Rattle.std.specs.Prelude.{⊤, ◌≡◌, ◌⊎◌, ℕ, List, [], Bool, true, false, Option, Some, None, Result, Ok, Err, option_map}
+use Rattle.std.specs.Prelude.{string_bytes}
+use Rattle.std.specs.Io.KnownBytes.{Appends}
+use Rattle.clap.specs.Words.{Text}
+use Rattle.imposer.specs.declared.outcome.RunError.TheVariants as run
+use Rattle.world.specs.Outputs.{IsFrontOf, told_if}
+use Rattle.pstops_cli.specs.Input.{IsFirst, most_bytes}
+use Rattle.impose_cli.specs.Endings.{Ends}
+use Rattle.impose_cli.specs.Faults.{without_memory}
+use Rattle.impose_cli.specs.Refusals.{RefusesTask}
+use Rattle.impose_cli.specs.Statuses.{fault_status}
+use Rattle.impose_cli.specs.Tasks.{Finishes, IsTask}
+use Rattle.impose_cli.specs.Unread.{IsPossible, RefusesUnread}
+use Rattle.impose_cli.specs.Words.{Entered, Reads, Refuses}
+use Rattle.impose_cli.specs.declared.fault.Fault.{Fault}
+use Rattle.impose_cli.specs.declared.fault.Fault.TheVariants as fault
+use Rattle.impose_cli.specs.declared.program.Done.{Done}
+use Rattle.impose_cli.specs.declared.program.Done.TheVariants as done
+use Rattle.impose_cli.specs.declared.request.Request.{Request}
+use Rattle.impose_cli.specs.declared.task.Finished.{Finished}
+use Rattle.impose_cli.specs.declared.task.Task.{Task}
+
+-- the exit status: 0 if something was done
+abbrev pub status_of : Result Done Fault → ℕ
+status_of (Ok what) = 0
+status_of (Err f) = fault_status f
+
+-- what files and standard input give, by the file's name
+abbrev pub Gives : Type 0
+Gives = Option (List ℕ) → Option (List ℕ)
+
+-- ---- faults
+
+-- a write failed
+abbrev pub IsFailedWrite : Fault → Type 0
+IsFailedWrite (fault.Write written cause) = ⊤
+IsFailedWrite other = ⊥
+
+-- memory ran out behind so many bytes
+abbrev pub IsNoMemory : Fault → Type 0
+IsNoMemory f = (written : ℕ) × (f ≡ fault.Run (run.NoMemory written))
+
+-- the run says that a write failed
+abbrev pub IsRunWrite : Fault → Type 0
+IsRunWrite f = (written : ℕ) × (f ≡ fault.Run (run.Write written))
+
+-- the input couldn't be opened or read
+abbrev pub IsReading : Fault → Type 0
+IsReading (fault.Read cause) = ⊤
+IsReading (fault.Run e) = fault.Run e ≡ without_memory
+IsReading other = ⊥
+
+-- ---- the run
+
+-- How the fault of a run is told. As it is, and then nothing was created; out of memory, with how much was written; or
+-- as a failed write, if one failed: the run says so, or there is an output although the run refused.
+abbrev pub IsToldAs : Fault → Result Done Fault → (has_output : Bool) → Type 0
+IsToldAs f (Ok what) has_output = ⊥
+IsToldAs f (Err told) has_output =
+    ((told ≡ f) × (has_output ≡ false))
+    ⊎ ((IsNoMemory f × IsNoMemory told) ⊎ (IsFailedWrite told × (IsRunWrite f ⊎ (has_output ≡ true))))
+
+-- the same of a run that ended so: if it finished, its last bytes couldn't be written
+abbrev pub IsToldOf : Result Finished Fault → Result Done Fault → (has_output : Bool) → Type 0
+IsToldOf (Ok finished) (Ok what) has_output = ⊥
+IsToldOf (Ok finished) (Err told) has_output = IsFailedWrite told
+IsToldOf (Err f) outcome has_output = IsToldAs f outcome has_output
+
+-- The run of a request that didn't come to its end: it ended in some way, with all that a run promises, and that is
+-- told. The output has a first part of what the run handed on.
+pub record BreaksOff (r : Request) (input : List ℕ) (tells : Bool) (outcome : Result Done Fault) (has_output : Bool)
+    (written : Option (List ℕ)) : Type 0 where
+  pub ended : Result Finished Fault
+  pub handed : Option (List ℕ)
+  pub failures : ℕ
+  pub ends : Ends r input (told_if tells (option_map string_bytes r.outfile) []) handed 0 failures ended
+  pub part : has_output ≡ true → IsFrontOf written handed
+  pub told : IsToldOf ended outcome has_output
+
+-- What comes of a request to impose this input. If it was imposed, the output tells its name and exactly the output
+-- that is defined; else there was no memory for a buffer, and nothing was created; or the run broke off.
+abbrev pub RunsInto : Request → (input : List ℕ) → (tells : Bool) → Result Done Fault → (has_output : Bool)
+    → (written : Option (List ℕ)) → Type 0
+RunsInto r input tells (Ok (done.Imposed finished)) has_output written =
+    Finishes r input (told_if tells (option_map string_bytes r.outfile) []) written finished
+RunsInto r input tells (Ok done.Printed) has_output written = ⊥
+RunsInto r input tells (Err f) has_output written =
+    ((f ≡ without_memory) × (has_output ≡ false)) ⊎ BreaksOff r input tells (Err f) has_output written
+
+-- What comes of a request to print the specification for this input: there is a task, and standard output has what was
+-- printed of it; or there is none, or no memory, and nothing was created; or a write failed.
+abbrev pub Prints : Request → (input : List ℕ) → (tells : Bool) → Result Done Fault → (has_output : Bool)
+    → (written : Option (List ℕ)) → Type 0
+Prints r input tells (Ok (done.Imposed finished)) has_output written = ⊥
+Prints r input tells (Ok done.Printed) has_output written =
+    (task : Task) × (lines : List ℕ) × IsTask r input task × Appends (told_if tells None []) written lines
+Prints r input tells (Err f) has_output written =
+    ((RefusesTask r input f ⊎ (f ≡ without_memory)) × (has_output ≡ false)) ⊎ IsFailedWrite f
+
+-- ---- all of it
+
+-- what the input gives is printed for or imposed, as the request says
+abbrev pub TakesInput : Request → (input : List ℕ) → (tells : Bool) → Result Done Fault → (has_output : Bool)
+    → (written : Option (List ℕ)) → Type 0
+TakesInput r input tells outcome has_output written =
+    ((r.is_printed ≡ true) × Prints r input tells outcome has_output written)
+    ⊎ ((r.is_printed ≡ false) × RunsInto r input tells outcome has_output written)
+
+-- What comes of a request: its layout is refused unread; or the layout is possible, and its input can't be read, and
+-- nothing was created; or the input was read, and is taken.
+abbrev pub CarriesOut : Request → Gives → (tells : Bool) → Result Done Fault → (has_output : Bool)
+    → (written : Option (List ℕ)) → Type 0
+CarriesOut r gives tells outcome has_output written =
+    ((f : Fault) × (outcome ≡ Err f) × (has_output ≡ false)
+    × (RefusesUnread r.layout r.page r.sheet f ⊎ (IsPossible r.layout r.page r.sheet × IsReading f)))
+    ⊎ ((input : List ℕ) × IsFirst most_bytes (gives (option_map string_bytes r.infile)) input
+    × IsPossible r.layout r.page r.sheet × TakesInput r input tells outcome has_output written)
+
+-- How the program ends: the words are refused, and nothing was created; or they make a request, and this comes of it.
+abbrev pub EndsProgram : (words : List Text) → Gives → (tells : Bool) → Option Request → Result Done Fault
+    → (has_output : Bool) → (written : Option (List ℕ)) → Type 0
+EndsProgram words gives tells None (Ok what) has_output written = ⊥
+EndsProgram words gives tells None (Err (fault.Command f)) has_output written = Refuses words f × (has_output ≡ false)
+EndsProgram words gives tells None (Err other) has_output written = ⊥
+EndsProgram words gives tells (Some r) outcome has_output written =
+    Entered words (λ name found. Reads name found r) × CarriesOut r gives tells outcome has_output written

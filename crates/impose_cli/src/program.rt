@@ -1,0 +1,284 @@
+//! The whole program, over the files and standard streams around it.
+ghost use Rattle.std.specs.Prelude.{◌≡◌, false, is_some, map, option_and_then, option_map, string_bytes, Some, Err, IfOk, IfErr};
+ghost use Rattle.pstops_cli.specs.Input.{IsFirst, most_bytes};
+ghost use Rattle.impose_cli.specs.Programs.{CarriesOut, EndsProgram, IsFailedWrite, IsReading, IsToldAs, Prints};
+ghost use Rattle.impose_cli.specs.Programs.{RunsInto, status_of};
+ghost use Rattle.impose_cli.specs.declared.fault.Fault.TheVariants as faults;
+
+use crate::command::read_command;
+use crate::fault::Fault;
+use crate::heard::Heard;
+use crate::lines::fault_status;
+use crate::printed::printed_task;
+use crate::request::Request;
+use crate::task::{Finished, check_layout, prepare, run_request};
+use imposer::RunError;
+use pstops_cli::{ReadFault, ReadSource, read_input};
+use std::alloc::Global;
+use std::io;
+use std::io::{ErrorKind, Read, Write};
+use std::sync::Wait;
+use std::thread::Threads;
+use world::{Late, World, abandon, created_late, finish};
+
+/// What was done.
+#[derive(Clone, Copy, Debug, PartialEq, Eq)]
+pub enum Done {
+    /// The pages were imposed.
+    Imposed(Finished),
+    /// The specification was printed.
+    Printed,
+}
+
+/// How the program ended.
+#[derive(Drop)]
+pub struct Ended<W: World> {
+    /// What the words ask for, if they ask for something.
+    pub request: Option<Request>,
+    /// What was done, or why nothing, or not all.
+    pub outcome: Result<Done, Fault>,
+    /// What is left of the world, if no output was created in it.
+    pub world: Option<W>,
+    /// The output, if one was created.
+    pub output: Option<W::Output>,
+}
+
+impl<W: World> Ended<W> {
+    /// The exit status.
+    pub fn status(&self) -> u8
+        ensures { result ≡ status_of self.now.outcome }
+    {
+        match &self.outcome {
+            Ok(_) => 0,
+            Err(fault) => fault_status(fault),
+        }
+    }
+}
+
+/// What came of a request.
+#[derive(Drop)]
+struct Left<W: World> {
+    outcome: Result<Done, Fault>,
+    world: Option<W>,
+    output: Option<W::Output>,
+}
+
+/// The program: it reads the words, of which the first is its name, and checks the layout; then it reads its input whole
+/// and closes it; then it prints the specification, or imposes.
+///
+/// The output is created when its first byte is to be written, so that a request that is refused creates none, and
+/// input and output may be one file.
+pub fn impose<R: Threads + Wait + Sync, W: World>(
+    rt: &R,
+    alloc: Global,
+    words: &[String],
+    world: W,
+) -> Ended<W>
+    ensures ended { EndsProgram (map string_bytes words.now) (W.gives world) (W.tells world) result.request result.outcome
+        (is_some result.output) (option_and_then W.Output.contents result.output) }
+{
+    match read_command(alloc, words) {
+        Ok(request) => {
+            let left = carry_out(rt, alloc, &request, world);
+            Ended {
+                request: Some(request),
+                outcome: left.outcome,
+                world: left.world,
+                output: left.output,
+            }
+        }
+        Err(fault) => Ended {
+            request: None,
+            outcome: Err(Fault::Command(fault)),
+            world: Some(world),
+            output: None,
+        },
+    }
+}
+
+/// Checks the layout, reads the input, and then prints the specification or imposes.
+fn carry_out<R: Threads + Wait + Sync, W: World>(
+    rt: &R,
+    alloc: Global,
+    request: &Request,
+    world: W,
+) -> Left<W>
+    ensures { CarriesOut request.now (W.gives world) (W.tells world) result.outcome (is_some result.output)
+        (option_and_then W.Output.contents result.output) }
+{
+    match check_layout(alloc, request) {
+        Ok(()) => {}
+        Err(fault) => return stopped(fault, world),
+    }
+    match input_of(alloc, name_of(&request.infile), &world) {
+        Ok(input) if request.is_printed => print_input(alloc, request, input, world),
+        Ok(input) => run_into(rt, alloc, request, input, world),
+        Err(fault) => stopped(fault, world),
+    }
+}
+
+/// Nothing was created.
+fn stopped<W: World>(fault: Fault, world: W) -> Left<W>
+    ensures outcome { result.outcome ≡ Err fault }
+    ensures output { is_some result.output ≡ false }
+{
+    Left {
+        outcome: Err(fault),
+        world: Some(world),
+        output: None,
+    }
+}
+
+/// All that the file of this name, or standard input, gives.
+fn input_of<W: World>(alloc: Global, name: Option<&str>, world: &W) -> Result<Vec<u8>, Fault>
+    ensures read { IfOk result (λ input. IsFirst most_bytes (W.gives world.now (option_map (λ n. n.now) name.entry)) input.items) }
+    ensures refused { IfErr result IsReading }
+{
+    match world.open(name) {
+        Ok(input) => read_from(alloc, Heard::new(input)),
+        Err(error) if error.kind() == ErrorKind::OutOfMemory => Err(Fault::no_memory()),
+        Err(error) => Err(Fault::Read(Some(error))),
+    }
+}
+
+fn read_from<I: Read + Drop>(alloc: Global, input: I) -> Result<Vec<u8>, Fault>
+    ensures read { IfOk result (λ bytes. IsFirst most_bytes (I.remaining input) bytes.items) }
+    ensures refused { IfErr result IsReading }
+{
+    let mut heard = Heard::new(input);
+    let mut source = ReadSource::new(&mut heard);
+    let read = read_input(alloc, &mut source);
+    drop(source);
+    match read {
+        Ok(bytes) => Ok(bytes),
+        Err(ReadFault::NoMemory) => Err(Fault::no_memory()),
+        Err(ReadFault::Device) => Err(Fault::Read(heard.into_cause())),
+    }
+}
+
+fn name_of(name: &Option<String>) -> Option<&str>
+    ensures { option_map (λ n. n.now) result ≡ option_map string_bytes name.now }
+{
+    match name {
+        Some(name) => Some(name.as_str()),
+        None => None,
+    }
+}
+
+/// Prints the specification, with the line of pstops, to standard output.
+fn print_input<W: World>(alloc: Global, request: &Request, input: Vec<u8>, world: W) -> Left<W>
+    ensures { Prints request.now input.items (W.tells world) result.outcome (is_some result.output)
+        (option_and_then W.Output.contents result.output) }
+{
+    let task = match prepare(alloc, request, input) {
+        Ok(task) => task,
+        Err(fault) => return stopped(fault, world),
+    };
+    let lines = match printed_task(alloc, request, &task) {
+        Ok(lines) => lines,
+        Err(_) => return stopped(Fault::no_memory(), world),
+    };
+    let mut output = match world.create(None) {
+        Ok(output) => output,
+        Err(refused) => return stopped(unwritten(refused.cause), refused.world),
+    };
+    match output.write_all(lines.as_slice()) {
+        Ok(()) => wrote(Ok(Done::Printed), output),
+        Err(cause) => wrote(Err(unwritten(cause)), output),
+    }
+}
+
+fn wrote<W: World>(outcome: Result<Done, Fault>, output: W::Output) -> Left<W>
+    ensures outcome { result.outcome ≡ outcome }
+    ensures output { result.output ≡ Some output }
+{
+    Left {
+        outcome,
+        world: None,
+        output: Some(output),
+    }
+}
+
+fn unwritten(cause: io::Error) -> Fault
+    ensures { IsFailedWrite result }
+{
+    Fault::Write {
+        written: 0,
+        cause: Some(cause),
+    }
+}
+
+/// How much of the output is written at once, in bytes, if sheets are smaller.
+const WRITTEN_AT_ONCE: usize = 65_536;
+
+/// Imposes into the output that the request names, which is created at its first byte.
+fn run_into<R: Threads + Wait + Sync, W: World>(
+    rt: &R,
+    alloc: Global,
+    request: &Request,
+    input: Vec<u8>,
+    world: W,
+) -> Left<W>
+    ensures { RunsInto request.now input.items (W.tells world) result.outcome (is_some result.output)
+        (option_and_then W.Output.contents result.output) }
+{
+    let name = name_of(&request.outfile);
+    let mut sink = match created_late(alloc, WRITTEN_AT_ONCE, name, world) {
+        Ok(sink) => sink,
+        Err(world) => return stopped(Fault::no_memory(), world),
+    };
+    match run_request(rt, alloc, request, input, &mut sink) {
+        Ok(done) => {
+            let (is_whole, late) = finish(sink);
+            // What was written lies in an output.
+            if is_whole && late.output.is_some() {
+                close(Ok(Done::Imposed(done)), late)
+            } else {
+                failed_write(late)
+            }
+        }
+        Err(fault) => broken_off(fault, abandon(sink)),
+    }
+}
+
+/// How a run ended that didn't finish, by the fault and by how much of its output was written.
+fn broken_off<W: World>(fault: Fault, late: Late<'_, W>) -> Left<W>
+    ensures told { IsToldAs fault result.outcome (is_some result.output) }
+    ensures output { result.output ≡ late.entry.output }
+{
+    match fault {
+        Fault::Run(RunError::NoMemory { .. }) => {
+            let written = late.written;
+            close(Err(Fault::Run(RunError::NoMemory { written })), late)
+        }
+        Fault::Run(RunError::Write { .. }) => failed_write(late),
+        fault if late.output.is_none() => close(Err(fault), late),
+        // Nothing is refused once the first byte is to be written, so a write failed.
+        _ => failed_write(late),
+    }
+}
+
+fn failed_write<W: World>(late: Late<'_, W>) -> Left<W>
+    ensures outcome { result.outcome ≡ Err (faults.Write late.entry.written late.entry.cause) }
+    ensures output { result.output ≡ late.entry.output }
+{
+    Left {
+        outcome: Err(Fault::Write {
+            written: late.written,
+            cause: late.cause,
+        }),
+        world: late.world,
+        output: late.output,
+    }
+}
+
+fn close<W: World>(outcome: Result<Done, Fault>, late: Late<'_, W>) -> Left<W>
+    ensures outcome { result.outcome ≡ outcome }
+    ensures output { result.output ≡ late.entry.output }
+{
+    Left {
+        outcome,
+        world: late.world,
+        output: late.output,
+    }
+}
