@@ -1,6 +1,8 @@
-//! Commands, inputs, lines and requests.
+//! Commands, inputs, lines, requests and whole programs.
 mod examples;
 mod growth;
+mod in_memory;
+mod programs;
 
 use pstops_cli::{ReadFault, ReadSource, read_command, read_input};
 use std::alloc::{AllocError, Global};

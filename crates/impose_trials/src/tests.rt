@@ -1,21 +1,27 @@
-//! Words and documents, and what comes of them, with memory to spare.
+//! Words, documents and whole programs, and what comes of them, with memory to spare.
 mod carets;
 mod commands;
+mod in_memory;
 mod messages;
 mod other_messages;
+mod programs;
 mod tasks;
 
 use impose_cli::{CommandFault, Request, read_command};
-use std::alloc::Global;
+use std::alloc::{AllocError, Global};
 
-/// What is asked for by words with a space between them, behind the program's name.
-fn read(alloc: Global, line: &str) -> Result<Request, CommandFault> {
+/// Words with a space between them, behind the program's name.
+fn words_of(alloc: Global, line: &str) -> Result<Vec<String>, AllocError> {
     let mut words = Vec::new(alloc);
-    let program = String::from_str(alloc, "impose")?;
-    words.push(program).map_err(|_| CommandFault::NoMemory)?;
+    words.push(String::from_str(alloc, "impose")?)?;
     for word in line.split_whitespace() {
-        let word = String::from_str(alloc, word)?;
-        words.push(word).map_err(|_| CommandFault::NoMemory)?;
+        words.push(String::from_str(alloc, word)?)?;
     }
+    Ok(words)
+}
+
+/// What is asked for by words with a space between them.
+fn read(alloc: Global, line: &str) -> Result<Request, CommandFault> {
+    let words = words_of(alloc, line)?;
     read_command(alloc, words.as_slice())
 }

@@ -17,7 +17,7 @@ use std::process::Abort;
 use std::str;
 use std::test::Fail;
 
-const ONE_SHEET: &str = "%!PS-Adobe-3.0\n\
+pub const ONE_SHEET: &str = "%!PS-Adobe-3.0\n\
      %%Pages: 1\n\
      %%EndComments\n\
      %%Page: 1 1\n\
@@ -32,7 +32,7 @@ const ONE_SHEET: &str = "%!PS-Adobe-3.0\n\
      %%Trailer\n\
      %%EOF\n";
 
-const TWO_PAGES: &str = "%!PS-Adobe-3.0\n\
+pub const TWO_PAGES: &str = "%!PS-Adobe-3.0\n\
      %%Pages: 2\n\
      %%EndComments\n\
      %%Page: 1 1\n\
@@ -44,7 +44,7 @@ const TWO_PAGES: &str = "%!PS-Adobe-3.0\n\
      %%Trailer\n\
      %%EOF\n";
 
-const TWO_PAGES_ON_A_SHEET: &str = "%!PS-Adobe-3.0\n\
+pub const TWO_PAGES_ON_A_SHEET: &str = "%!PS-Adobe-3.0\n\
      %%Pages: 1\n\
      %%EndComments\n\
      %%Page: 1 1\n\
@@ -66,7 +66,7 @@ const TWO_PAGES_ON_A_SHEET: &str = "%!PS-Adobe-3.0\n\
      %%Trailer\n\
      %%EOF\n";
 
-const TWO_UP: &str = "2:0L@.7(21cm,0)+1L@.7(21cm,14.85cm)";
+pub const TWO_UP: &str = "2:0L@.7(21cm,0)+1L@.7(21cm,14.85cm)";
 
 const TWO_UP_BY_MANY_WORKERS: &str = "-j16 -k 16 2:0L@.7(21cm,0)+1L@.7(21cm,14.85cm)";
 

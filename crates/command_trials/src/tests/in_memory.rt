@@ -1,0 +1,115 @@
+//! A world of files that lies in memory, and tells what is written.
+ghost use Rattle.std.specs.Prelude.{option_map, string_bytes, true};
+ghost use Rattle.world.specs.Outputs.{told_if};
+
+use std::alloc::Global;
+use std::io;
+use std::io::{ErrorKind, Read, Write};
+use world::{Refused, World};
+
+/// What the outputs of a world take.
+#[derive(Clone, Copy)]
+pub enum Takes {
+    /// So many bytes; a write of more fails.
+    Bytes(usize),
+    /// Each byte, but flushing fails.
+    NoFlush,
+    /// Nothing: no output can be created.
+    Nothing,
+}
+
+/// A world of one file that can be read. Standard input is empty.
+#[derive(Drop)]
+pub struct InMemory<'a> {
+    pub alloc: Global,
+    pub name: &'a str,
+    pub text: &'a str,
+    pub takes: Takes,
+}
+
+/// A file that is read.
+#[derive(Drop)]
+pub struct Given<'a> {
+    rest: &'a [u8],
+}
+
+/// An output: the name that it was created under, and what was written to it.
+#[derive(Drop)]
+pub struct Written {
+    pub name: Option<String>,
+    pub bytes: Vec<u8>,
+    takes: Takes,
+}
+
+impl<'a> World for InMemory<'a> {
+    type Input = Given<'a>;
+
+    type Output = Written;
+
+    ghost tells = { λ _. true };
+
+    fn open(&self, name: Option<&str>) -> io::Result<Given<'a>> {
+        match name {
+            None => Ok(Given { rest: &[] }),
+            Some(name) if name == self.name => Ok(Given {
+                rest: self.text.as_bytes(),
+            }),
+            Some(_) => Err(io::Error::from(ErrorKind::NotFound)),
+        }
+    }
+
+    fn create(self, name: Option<&str>) -> Result<Written, Refused<InMemory<'a>>> {
+        if matches!(self.takes, Takes::Nothing) {
+            let cause = io::Error::from(ErrorKind::PermissionDenied);
+            return Err(Refused { world: self, cause });
+        }
+        let name = match name {
+            None => None,
+            Some(name) => match String::from_str(self.alloc, name) {
+                Ok(name) => Some(name),
+                Err(_) => {
+                    let cause = io::Error::from(ErrorKind::OutOfMemory);
+                    return Err(Refused { world: self, cause });
+                }
+            },
+        };
+        Ok(Written {
+            name,
+            bytes: Vec::new(self.alloc),
+            takes: self.takes,
+        })
+    }
+}
+
+impl<'a> Read for Given<'a> {
+    fn read(&mut self, buffer: &mut [u8]) -> io::Result<usize> {
+        self.rest.read(buffer)
+    }
+}
+
+impl Write for Written {
+    ghost contents = { λ output. told_if true (option_map string_bytes output.name) output.bytes.items };
+
+    fn write(&mut self, bytes: &[u8]) -> io::Result<usize> {
+        let room = match self.takes {
+            Takes::Bytes(most) => most.saturating_sub(self.bytes.len()),
+            _ => bytes.len(),
+        };
+        if room == 0 && !bytes.is_empty() {
+            return Err(io::Error::from(ErrorKind::StorageFull));
+        }
+        let count = room.min(bytes.len());
+        let (taken, _) = bytes.split_at(count);
+        match self.bytes.extend_from_slice(taken) {
+            Ok(()) => Ok(count),
+            Err(_) => Err(io::Error::from(ErrorKind::OutOfMemory)),
+        }
+    }
+
+    fn flush(&mut self) -> io::Result<()> {
+        match self.takes {
+            Takes::NoFlush => Err(io::Error::from(ErrorKind::Other)),
+            _ => Ok(()),
+        }
+    }
+}

@@ -1,0 +1,198 @@
+//! The whole program over a world in memory: what it reads, what it creates and writes, and how it ends.
+use super::examples::{ONE_SHEET, TWO_PAGES, TWO_PAGES_ON_A_SHEET, TWO_UP};
+use super::in_memory::{InMemory, Takes, Written};
+use super::{ONE_PAGE, words_of};
+use pstops_cli::{Ended, pstops};
+use std::alloc::{AllocError, Global};
+use std::process::Abort;
+use std::str;
+use std::sync::Wait;
+use std::test::Fail;
+use std::thread::Threads;
+
+/// Room for every output.
+const AMPLE: Takes = Takes::Bytes(100_000);
+
+/// The line of each output that can't be created, written or flushed.
+const CANNOT_WRITE: &str = "pstops: cannot write output\n";
+
+/// Runs the program over a world with this document as the file `in.ps`.
+fn ended<'a, R: Threads + Wait + Sync>(
+    rt: &R,
+    alloc: Global,
+    words: &[&str],
+    document: &'a str,
+    takes: Takes,
+) -> Result<Ended<InMemory<'a>>, AllocError> {
+    let words = words_of(alloc, words)?;
+    let world = InMemory {
+        alloc,
+        name: "in.ps",
+        text: document,
+        takes,
+    };
+    Ok(pstops(rt, alloc, words.as_slice(), world))
+}
+
+fn assert_told<R: Abort>(rt: &R, ended: &Ended<InMemory<'_>>, status: u8, line: &str) {
+    assert_eq!(rt; str::from_utf8(ended.line.as_slice()), Ok(line));
+    assert_eq!(rt; ended.status, status, "at {line}");
+}
+
+/// One output was created, under this name, and has this text.
+fn assert_created<R: Abort>(rt: &R, ended: &Ended<InMemory<'_>>, name: Option<&str>, text: &str) {
+    assert!(rt; ended.world.is_none());
+    match &ended.output {
+        None => panic!(rt; "no output"),
+        Some(output) => {
+            assert_eq!(rt; name_of(output), name);
+            assert_eq!(rt; str::from_utf8(output.bytes.as_slice()), Ok(text));
+        }
+    }
+}
+
+/// No output was created.
+fn assert_none_created<R: Abort>(rt: &R, ended: &Ended<InMemory<'_>>) {
+    assert!(rt; ended.world.is_some());
+    assert!(rt; ended.output.is_none());
+}
+
+fn name_of(output: &Written) -> Option<&str> {
+    match &output.name {
+        Some(name) => Some(name.as_str()),
+        None => None,
+    }
+}
+
+#[test]
+fn sheets_stand_under_the_name_that_is_asked_for(rt: HostRuntime) -> Result<(), Fail> {
+    let words = ["-q", "0", "in.ps", "out.ps"];
+    let end = ended(&rt, rt.alloc(), &words, ONE_PAGE, AMPLE)?;
+    assert_told(&rt, &end, 0, "");
+    assert_created(&rt, &end, Some("out.ps"), ONE_SHEET);
+    let words = [TWO_UP, "in.ps"];
+    let end = ended(&rt, rt.alloc(), &words, TWO_PAGES, AMPLE)?;
+    assert_told(&rt, &end, 0, "pstops: pages 2, sheets 1, bytes 503\n");
+    assert_created(&rt, &end, None, TWO_PAGES_ON_A_SHEET);
+    // Both may be one file.
+    let words = ["-q", "0", "in.ps", "in.ps"];
+    let end = ended(&rt, rt.alloc(), &words, ONE_PAGE, AMPLE)?;
+    assert_told(&rt, &end, 0, "");
+    assert_created(&rt, &end, Some("in.ps"), ONE_SHEET);
+    Ok(())
+}
+
+#[test]
+fn nothing_is_created_before_the_input_is_read(rt: HostRuntime) -> Result<(), Fail> {
+    let rows: [(&[&str], u8, &str); 3] = [
+        (
+            &["-j", "17", "0", "in.ps", "out.ps"],
+            2,
+            "pstops: bad command line\n",
+        ),
+        (
+            &["-p", "a99", "0", "in.ps", "out.ps"],
+            2,
+            "pstops: unknown paper\n",
+        ),
+        (
+            &["0", "other.ps", "out.ps"],
+            3,
+            "pstops: cannot read input\n",
+        ),
+    ];
+    for (words, status, line) in rows {
+        let end = ended(&rt, rt.alloc(), words, ONE_PAGE, AMPLE)?;
+        assert_told(&rt, &end, status, line);
+        assert_none_created(&rt, &end);
+    }
+    Ok(())
+}
+
+#[test]
+fn a_run_that_is_refused_leaves_an_empty_output(rt: HostRuntime) -> Result<(), Fail> {
+    let words = ["2:2", "in.ps", "out.ps"];
+    let end = ended(&rt, rt.alloc(), &words, ONE_PAGE, AMPLE)?;
+    let line = "pstops: specification: item 0: page number not below modulo\n";
+    assert_told(&rt, &end, 1, line);
+    assert_created(&rt, &end, Some("out.ps"), "");
+    // Standard input is empty.
+    let end = ended(&rt, rt.alloc(), &["0"], ONE_PAGE, AMPLE)?;
+    assert_told(&rt, &end, 1, "pstops: input is not PostScript\n");
+    assert_created(&rt, &end, None, "");
+    Ok(())
+}
+
+#[test]
+fn an_output_that_cannot_be_created_or_flushed(rt: HostRuntime) -> Result<(), Fail> {
+    let words = ["0", "in.ps", "out.ps"];
+    let end = ended(&rt, rt.alloc(), &words, ONE_PAGE, Takes::Nothing)?;
+    assert_told(&rt, &end, 3, CANNOT_WRITE);
+    assert_none_created(&rt, &end);
+    let end = ended(&rt, rt.alloc(), &words, ONE_PAGE, Takes::NoFlush)?;
+    assert_told(&rt, &end, 3, CANNOT_WRITE);
+    assert_created(&rt, &end, Some("out.ps"), ONE_SHEET);
+    Ok(())
+}
+
+/// Runs the program into outputs that take so many bytes: those are a first part of the sheets.
+fn assert_cut_off<R: Threads + Wait + Abort + Sync>(
+    rt: &R,
+    alloc: Global,
+    document: &str,
+    sheets: &str,
+    most: usize,
+) -> Result<(), Fail> {
+    let words = ["-q", "0", "in.ps", "out.ps"];
+    let end = ended(rt, alloc, &words, document, Takes::Bytes(most))?;
+    if most < sheets.len() {
+        assert_told(rt, &end, 3, CANNOT_WRITE);
+    } else {
+        assert_told(rt, &end, 0, "");
+    }
+    let (first, _) = sheets.split_at(most.min(sheets.len()));
+    assert_created(rt, &end, Some("out.ps"), first);
+    Ok(())
+}
+
+#[test]
+fn a_writer_that_fails_at_any_byte(rt: HostRuntime) -> Result<(), Fail> {
+    for most in 0..=274usize {
+        assert_cut_off(&rt, rt.alloc(), ONE_PAGE, ONE_SHEET, most)?;
+    }
+    Ok(())
+}
+
+/// A document of one page, or its sheet, with so many lines in the page.
+fn with_lines(alloc: Global, text: &str, lines: usize) -> Result<String, AllocError> {
+    let mut long = String::new(alloc);
+    let (before, behind) = match text.split_once("(0) pop\n") {
+        Some(parts) => parts,
+        None => (text, ""),
+    };
+    long.push_str(before)?;
+    for _ in 0..lines {
+        long.push_str("(0) pop\n")?;
+    }
+    long.push_str(behind)?;
+    Ok(long)
+}
+
+// More than what is written at once, so that a write fails before the run is over.
+#[test]
+fn a_writer_that_fails_within_a_long_sheet(rt: HostRuntime) -> Result<(), Fail> {
+    let document = with_lines(rt.alloc(), ONE_PAGE, 5_000)?;
+    let sheet = with_lines(rt.alloc(), ONE_SHEET, 5_000)?;
+    assert_eq!(rt; sheet.len(), 273 + 4_999 * 8);
+    for most in [
+        0,
+        1,
+        16_384,
+        20_000,
+        sheet.len().saturating_sub(1),
+        sheet.len(),
+    ] {
+        assert_cut_off(&rt, rt.alloc(), &document, &sheet, most)?;
+    }
+    Ok(())
+}
