@@ -811,15 +811,45 @@ def known(m):
     m.operands.append(Truth(key.name in m.entries[d.number]))
 
 
+# What an interpreter's systemdict has, and this machine lacks.
+LACKED = frozenset(b"""
+clear count counttomark idiv mod abs ceiling floor round truncate sqrt atan cos sin exp ln log rand srand rrand array
+getinterval putinterval astore packedarray setpacking currentpacking maxlength store undef currentdict errordict
+$error systemdict globaldict statusdict countdictstack cleardictstack dictstack string anchorsearch search token xor
+bitshift loop exit stop stopped countexecstack execstack quit start type cvlit cvx xcheck executeonly noaccess
+readonly rcheck wcheck cvi cvn cvr cvrs cvs file filter closefile read write readhexstring writehexstring readstring
+writestring readline bytesavailable flush flushfile resetfile status run currentfile deletefile renamefile
+filenameforall setfileposition fileposition print = == stack pstack printobject writeobject setobjectformat
+currentobjectformat defineresource undefineresource findresource findcolorrendering resourcestatus resourceforall
+setglobal currentglobal gcheck startjob defineuserobject execuserobject undefineuserobject null version realtime
+usertime languagelevel product revision serialnumber executive echo prompt clipsave cliprestore grestoreall gstate
+setgstate currentgstate currentlinewidth currentlinecap currentlinejoin currentmiterlimit setstrokeadjust
+currentstrokeadjust currentdash setcolorspace currentcolorspace setcolor currentcolor currentgray sethsbcolor
+currenthsbcolor currentrgbcolor currentcmykcolor sethalftone currenthalftone setscreen currentscreen setcolorscreen
+currentcolorscreen settransfer currenttransfer setcolortransfer currentcolortransfer setblackgeneration
+currentblackgeneration setundercolorremoval currentundercolorremoval setcolorrendering currentcolorrendering setflat
+currentflat setoverprint currentoverprint setsmoothness currentsmoothness matrix initmatrix identmatrix defaultmatrix
+currentmatrix setmatrix concatmatrix transform dtransform itransform idtransform invertmatrix currentpoint arct arcto
+flattenpath reversepath strokepath ustrokepath charpath uappend clippath setbbox pathbbox pathforall upath initclip
+rectclip ucache erasepage ustroke ufill ueofill shfill colorimage infill ineofill inufill inueofill instroke inustroke
+makepattern setpattern execform copypage setpagedevice currentpagedevice nulldevice definefont composefont
+undefinefont makefont rootfont currentfont xshow xyshow yshow glyphshow stringwidth cshow kshow FontDirectory
+GlobalFontDirectory StandardEncoding ISOLatin1Encoding findencoding setcachedevice setcachedevice2 setcharwidth eexec
+internaldict settrapparams currenttrapparams settrapzone setsystemparams currentsystemparams setuserparams
+currentuserparams setdevparams currentdevparams vmreclaim setvmthreshold vmstatus cachestatus setcachelimit
+setcacheparams currentcacheparams setucacheparams ucachestatus
+""".split())
+
+
 def where(m):
-    """The topmost dictionary on the stack that has the name. It stops at a name that systemdict alone has."""
+    """The topmost dictionary on the stack that has the name. It stops at a name that an interpreter's systemdict alone has."""
     (key,) = m.taken(Literal)
     m.asked.add(key.name)
     for d in reversed(m.dictionaries):
         if key.name in m.entries[d]:
             m.operands += [Dictionary(d), Truth(True)]
             return
-    if m.system(key.name) is not None:
+    if m.system(key.name) is not None or key.name in LACKED:
         refused(m, key)
     m.operands.append(Truth(False))
 
@@ -864,7 +894,7 @@ def close_dictionary(m):
     del m.operands[at:]
     m.made += 1
     m.entries[m.made] = {}
-    for key, value in reversed(entries):
+    for key, value in entries:
         m.put(m.made, key, value)
     m.operands.append(Dictionary(m.made))
 
