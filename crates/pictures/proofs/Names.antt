@@ -10,7 +10,7 @@ use Rattle.pictures.specs.Objects.{Saved, Font, Operator, Computation, Computes,
 use Rattle.pictures.specs.Objects.{Pop, Duplicate, Exchange, OpenArray, CloseArray, Put, Define, Begin, End, MakeDictionary, Load, Bind, Known, Index, ClearToMark, FindFont, ScaleFont}
 use Rattle.pictures.specs.Objects.{Calculate, Negate, Compare, And, Or, Not, Where, Get, Length, LoadArray, CloseDictionary, CopyOperands, Roll, For, ForAll, Array, Mark}
 use Rattle.pictures.specs.Calculations.{whole_of, compared, names_compared, turns}
-use Rattle.pictures.specs.Dictionaries.{Entry, meaning, system, entry_of, or, has, is_of_the_system}
+use Rattle.pictures.specs.Dictionaries.{Entry, meaning, entry_of, or, has, is_of_the_system}
 use Rattle.std.specs.Prelude.{nat_le}
 use Rattle.std.specs.List.{take-map, drop-map}
 use Rattle.std.proofs.lemmas.List.{map-append, length-map}

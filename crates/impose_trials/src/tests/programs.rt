@@ -199,8 +199,11 @@ fn assert_cut_off<R: Threads + Wait + Abort + Sync>(
     } else {
         assert_imposed(rt, &end, 1);
     }
-    let (first, _) = sheets.split_at(most.min(sheets.len()));
-    assert_created(rt, &end, Some("out.ps"), first);
+    let (first, _) = sheets.as_bytes().split_at(most.min(sheets.len()));
+    match str::from_utf8(first) {
+        Ok(first) => assert_created(rt, &end, Some("out.ps"), first),
+        Err(_) => panic!(rt; "no text"),
+    }
     Ok(())
 }
 
