@@ -1,2 +1,3 @@
--- The only file: what is to be imposed, and the texts that come of it.
+-- Jobs says what is to be imposed, and the texts that come of it; Ropes which bytes a text in pieces has.
 pub mod Jobs
+pub mod Ropes

@@ -3,8 +3,10 @@
 
 mod job;
 mod openings;
+mod rope;
 mod sheet;
 
 pub use job::Job;
 pub use openings::Openings;
+pub use rope::{Pieces, Rope};
 pub use sheet::{append_placed, begin_sheet, end_sheet, sheet_text};

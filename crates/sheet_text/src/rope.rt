@@ -1,0 +1,171 @@
+//! A text in pieces.
+ghost use Rattle.std.specs.Prelude.{◌≡◌, ◌+◌, ◌<◌, ◌≤◌, ◌++◌, [], length, IfOk, IfSome, IsNone, OnOk, OnErr};
+
+use std::alloc::{AllocError, Global};
+use std::marker::Model;
+
+/// A slice of at least this many bytes stays where it is. A shorter one costs less to copy than to keep apart.
+const LEAST_BORROWED: usize = 4_096;
+
+/// A text in pieces: bytes of its own, and between them slices of bytes that live longer and aren't copied. A contract
+/// sees it as the list of all its bytes.
+#[derive(Drop)]
+pub struct Rope<'r> {
+    own: Vec<u8>,
+    slices: Vec<Placed<'r>>,
+}
+
+/// A slice that stands before the byte `at` of a rope's own bytes, or behind all of them.
+#[derive(Clone, Copy)]
+struct Placed<'r> {
+    at: usize,
+    bytes: &'r [u8],
+}
+
+impl<'r> Model for Rope<'r> {
+    ghost use Rattle.std.specs.Prelude.{ℕ, List, length};
+    ghost use Rattle.sheet_text.specs.Ropes.{woven, AreInPlace};
+
+    ghost Value = { List ℕ };
+
+    ghost view = { λ r. woven 0 r.own.items r.slices.items };
+
+    ghost invariant = { λ r. AreInPlace 0 (length r.own.items) r.slices.items };
+}
+
+impl<'r> Rope<'r> {
+    /// An empty text. It takes no memory.
+    pub fn new(alloc: Global) -> Rope<'r>
+        ensures { result ≡ [] }
+    {
+        Rope {
+            own: Vec::new(alloc),
+            slices: Vec::new(alloc),
+        }
+    }
+
+    /// Makes the text empty. It keeps its memory.
+    pub fn clear(&mut self)
+        ensures { self.new ≡ [] }
+    {
+        self.own.clear();
+        self.slices.clear();
+    }
+
+    /// Makes room for so many more bytes of its own.
+    pub fn reserve(&mut self, count: usize) -> Result<(), AllocError>
+        ensures { self.new ≡ self.old }
+    {
+        self.own.reserve(count)
+    }
+
+    /// Appends a copy of these bytes. If memory is refused, nothing is appended.
+    pub fn append(&mut self, bytes: &[u8]) -> Result<(), AllocError>
+        ensures appended { OnOk result (self.new ≡ self.old ++ bytes.now) }
+        ensures unchanged { OnErr result (self.new ≡ self.old) }
+    {
+        self.own.extend_from_slice(bytes)
+    }
+
+    /// Appends bytes that live as long as the text: without a copy if they are 4,096 or more. If memory is refused,
+    /// nothing is appended.
+    pub fn append_borrowed(&mut self, bytes: &'r [u8]) -> Result<(), AllocError>
+        ensures appended { OnOk result (self.new ≡ self.old ++ bytes.now) }
+        ensures unchanged { OnErr result (self.new ≡ self.old) }
+    {
+        if bytes.len() < LEAST_BORROWED {
+            return self.append(bytes);
+        }
+        let placed = Placed {
+            at: self.own.len(),
+            bytes,
+        };
+        self.slices.push(placed)?;
+        Ok(())
+    }
+
+    /// How many bytes the text has. None if there are more than a number can count: one slice may stand in it often.
+    pub fn len(&self) -> Option<usize>
+        ensures counted { IfSome result (λ count. count ≡ length self.now) }
+        ensures uncounted { IsNone result → 18_446_744_073_709_551_615 < length self.now }
+    {
+        let mut count = self.own.len();
+        for placed in self.slices.as_slice() {
+            count = count.checked_add(placed.bytes.len())?;
+        }
+        Some(count)
+    }
+
+    /// Its pieces from the first on.
+    pub fn pieces(&self) -> Pieces<'_, 'r>
+        ensures { result ≡ self.now }
+    {
+        Pieces {
+            from: 0,
+            own: self.own.as_slice(),
+            slices: self.slices.as_slice(),
+            next: 0,
+        }
+    }
+
+    /// A copy of the text in one piece.
+    pub fn to_vec(&self, alloc: Global) -> Result<Vec<u8>, AllocError>
+        ensures { IfOk result (λ copy. copy.items ≡ self.now) }
+    {
+        let mut copy = Vec::new(alloc);
+        let mut pieces = self.pieces();
+        while let Some(piece) = pieces.take_next() {
+            copy.extend_from_slice(piece)?;
+        }
+        Ok(copy)
+    }
+}
+
+/// The pieces of a text that haven't been taken yet. A contract sees them as the bytes of all of them.
+#[derive(Drop)]
+pub struct Pieces<'p, 'r> {
+    /// The place of the first of its own bytes that are left.
+    from: usize,
+    own: &'p [u8],
+    slices: &'p [Placed<'r>],
+    /// The index of the first slice that is left.
+    next: usize,
+}
+
+impl<'p, 'r> Model for Pieces<'p, 'r> {
+    ghost use Rattle.std.specs.Prelude.{ℕ, ◌+◌, List, length, drop};
+    ghost use Rattle.sheet_text.specs.Ropes.{woven, AreInPlace};
+
+    ghost Value = { List ℕ };
+
+    ghost view = { λ p. woven p.from p.own.now (drop p.next p.slices.now) };
+
+    ghost invariant = { λ p. AreInPlace p.from (p.from + length p.own.now) (drop p.next p.slices.now) };
+}
+
+impl<'p, 'r> Pieces<'p, 'r> {
+    /// Takes the next piece, which has a byte at least. None if none is left.
+    pub fn take_next(&mut self) -> Option<&'p [u8]>
+        ensures taken { IfSome result (λ piece. self.old ≡ piece.now ++ self.new) }
+        ensures some { IfSome result (λ piece. 0 < length piece.now) }
+        ensures all { IsNone result → (self.old ≡ []) × (self.new ≡ []) }
+    {
+        let own = self.own;
+        if self.next >= self.slices.len() {
+            if own.is_empty() {
+                return None;
+            }
+            self.own = &[];
+            return Some(own);
+        }
+        let placed = self.slices[self.next];
+        if placed.at > self.from {
+            let (front, rest) = own.split_at(placed.at - self.from);
+            self.from = placed.at;
+            self.own = rest;
+            return Some(front);
+        }
+        self.next += 1;
+        Some(placed.bytes)
+    }
+}
