@@ -22,17 +22,17 @@ pub(crate) struct SheetRule<T: Texts> {
     of: PhantomData<T>,
 }
 
-impl<T: Texts> Protocol<Imposed, ()> for SheetRule<T> {
-    ghost holds = { λ items views. All (λ m. m.text.items ≡ T.text m.sheet) items };
+impl<'r, T: Texts> Protocol<Imposed<'r>, ()> for SheetRule<T> {
+    ghost holds = { λ items views. All (λ m. m.text ≡ T.text m.sheet) items };
 
     ghost first = { tt };
 }
 
-impl<T: Texts> Outcome<Imposed, ()> for SheetRule<T> {
-    ghost then = { λ v m w. m.text.items ≡ T.text m.sheet };
+impl<'r, T: Texts> Outcome<Imposed<'r>, ()> for SheetRule<T> {
+    ghost then = { λ v m w. m.text ≡ T.text m.sheet };
 }
 
-impl<T: Texts> Lesson<Imposed, ()> for SheetRule<T> {
+impl<'r, T: Texts> Lesson<Imposed<'r>, ()> for SheetRule<T> {
     ghost fact = { λ v items. ⊤ };
 }
 
@@ -51,8 +51,8 @@ pub(crate) struct RuledJob<'s, 'j, 'd, T: Texts> {
 }
 
 /// What a thread needs to send or to receive.
-pub(crate) type Ticket = Pass<Imposed, ()>;
+pub(crate) type Ticket<'r> = Pass<Imposed<'r>, ()>;
 
-pub(crate) type SheetSender<T> = RuledSender<Imposed, (), SheetRule<T>>;
+pub(crate) type SheetSender<'r, T> = RuledSender<Imposed<'r>, (), SheetRule<T>>;
 
-pub(crate) type SheetReceiver<T> = RuledReceiver<Imposed, (), SheetRule<T>>;
+pub(crate) type SheetReceiver<'r, T> = RuledReceiver<Imposed<'r>, (), SheetRule<T>>;

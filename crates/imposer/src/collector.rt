@@ -10,7 +10,7 @@ use crate::gate::{Gate, Look};
 use crate::spent::Returns;
 use crate::window::{Idling, Window};
 use crossbeam_queue::ArrayQueue;
-use sheet_text::Job;
+use sheet_text::{Job, Rope};
 use sheet_writer::{Early, Progress, Sink, write_early, write_text};
 use std::sync::Wait;
 use std::sync::atomic::AtomicU32;
@@ -19,16 +19,16 @@ use workers::Collector;
 
 /// What the collector needs of the run.
 #[derive(Drop)]
-pub(crate) struct CollectorInput<'s, 'j, 'd, T: Texts, G> {
+pub(crate) struct CollectorInput<'s, 'r, 'j, 'd, T: Texts, G> {
     pub(crate) gate: &'s G,
     pub(crate) job: &'s Job<'j, 'd>,
     /// The same job, with the texts of the channel's rule.
     pub(crate) ruled: &'s RuledJob<'s, 'j, 'd, T>,
     /// How many imposers haven't ended.
     pub(crate) imposers_left: &'s AtomicU32,
-    pub(crate) receiver: &'s SheetReceiver<T>,
+    pub(crate) receiver: &'s SheetReceiver<'r, T>,
     /// Where texts go that were written.
-    pub(crate) spent: &'s ArrayQueue<Vec<u8>>,
+    pub(crate) spent: &'s ArrayQueue<Rope<'r>>,
     /// It moves as sheets are written.
     pub(crate) window: &'s Window,
     ghost same_job: { ruled.now.job.now ≡ job.now },
@@ -37,16 +37,16 @@ pub(crate) struct CollectorInput<'s, 'j, 'd, T: Texts, G> {
 /// What the collector writes to, and the sheets that came before their turn. It owns no memory, so that what becomes
 /// of the sink is known to whom it belongs.
 #[derive(Drop)]
-pub(crate) struct CollectorState<'a, S> {
+pub(crate) struct CollectorState<'a, 'r, S> {
     pub(crate) sink: &'a mut S,
-    pub(crate) early: &'a mut Early,
+    pub(crate) early: &'a mut Early<'r>,
     pub(crate) header: &'a [u8],
-    pub(crate) ticket: &'a mut Ticket,
+    pub(crate) ticket: &'a mut Ticket<'r>,
     pub(crate) progress: Progress,
 }
 
-impl<'s, 'j, 'd, 'a, T: Texts, G: Gate, S: Sink> Collector<CollectorState<'a, S>>
-    for CollectorInput<'s, 'j, 'd, T, G> {
+impl<'s, 'r, 'j, 'd, 'a, T: Texts, G: Gate, S: Sink> Collector<CollectorState<'a, 'r, S>>
+    for CollectorInput<'s, 'r, 'j, 'd, T, G> {
     ghost reference = { λ input state. state.sink.ghost_name };
 
     ghost is_ready_to_collect = { λ input state. IsSeatAt (receives_on input.receiver.now) state.ticket.now
@@ -59,7 +59,7 @@ impl<'s, 'j, 'd, 'a, T: Texts, G: Gate, S: Sink> Collector<CollectorState<'a, S>
         StandsSince S.told S.failures input.job.now old.sink.now new.sink.now new.progress
         × AreEarly input.job.now new.early.now.places.items };
 
-    fn collect<R: Wait>(&self, rt: &R, state: &mut CollectorState<'a, S>) {
+    fn collect<R: Wait>(&self, rt: &R, state: &mut CollectorState<'a, 'r, S>) {
         state.progress = write_text(state.sink, state.progress, state.header);
         if state.progress.halted.is_none() {
             take_all(rt, self, state);
@@ -68,10 +68,10 @@ impl<'s, 'j, 'd, 'a, T: Texts, G: Gate, S: Sink> Collector<CollectorState<'a, S>
 }
 
 /// Takes finished sheets until all imposers have ended, or nothing more is to be written.
-fn take_all<R: Wait, T: Texts, G: Gate, S: Sink>(
+fn take_all<'r, R: Wait, T: Texts, G: Gate, S: Sink>(
     rt: &R,
-    input: &CollectorInput<'_, '_, '_, T, G>,
-    state: &mut CollectorState<'_, S>,
+    input: &CollectorInput<'_, 'r, '_, '_, T, G>,
+    state: &mut CollectorState<'_, 'r, S>,
 )
     requires countable { S.failures state.old.sink.now < u64.MAX }
     requires ticket { IsSeatAt (receives_on input.now.receiver.now) state.old.ticket.now }
@@ -92,11 +92,11 @@ fn take_all<R: Wait, T: Texts, G: Gate, S: Sink>(
 
 /// Takes a sheet if one was finished, and sleeps a little if none was. False if nothing is to come, or nothing more
 /// is to be written.
-fn take_turn<R: Wait, T: Texts, G: Gate, S: Sink>(
+fn take_turn<'r, R: Wait, T: Texts, G: Gate, S: Sink>(
     rt: &R,
-    input: &CollectorInput<'_, '_, '_, T, G>,
+    input: &CollectorInput<'_, 'r, '_, '_, T, G>,
     idling: &mut Idling,
-    state: &mut CollectorState<'_, S>,
+    state: &mut CollectorState<'_, 'r, S>,
 ) -> bool
     requires countable { S.failures state.old.sink.now < u64.MAX }
     requires ticket { IsSeatAt (receives_on input.now.receiver.now) state.old.ticket.now }
@@ -126,10 +126,10 @@ fn take_turn<R: Wait, T: Texts, G: Gate, S: Sink>(
 }
 
 /// Takes a finished sheet, and writes those whose turn it is now. False if no sheet was there.
-fn take_one<R: Wait, T: Texts, G: Gate, S: Sink>(
+fn take_one<'r, R: Wait, T: Texts, G: Gate, S: Sink>(
     rt: &R,
-    input: &CollectorInput<'_, '_, '_, T, G>,
-    state: &mut CollectorState<'_, S>,
+    input: &CollectorInput<'_, 'r, '_, '_, T, G>,
+    state: &mut CollectorState<'_, 'r, S>,
 ) -> bool
     requires countable { S.failures state.old.sink.now < u64.MAX }
     requires ticket { IsSeatAt (receives_on input.now.receiver.now) state.old.ticket.now }

@@ -123,9 +123,9 @@ pub fn gather<'j, 'd, R: Threads + Wait + Sync, G: Gate + Sync, S: Sink>(
 }
 
 /// `gather`, with the texts of the channel's rule chosen.
-fn gather_as<'d, T: Texts + Send + Sync, R: Threads + Wait + Sync, G: Gate + Sync, S: Sink>(
+fn gather_as<'r, 'd, T: Texts + Send + Sync, R: Threads + Wait + Sync, G: Gate + Sync, S: Sink>(
     rt: &R,
-    shared: &Shared<'_, '_, 'd, G>,
+    shared: &Shared<'_, 'r, '_, 'd, G>,
     tokens: Tokens,
     workers: Workers,
     sink: &mut S,
@@ -145,7 +145,7 @@ fn gather_as<'d, T: Texts + Send + Sync, R: Threads + Wait + Sync, G: Gate + Syn
     let job = shared.job;
     let mut tokens = tokens;
     put_blank_sheets(rt, shared, job.plan().born_complete(), &mut tokens.pass);
-    let Ok(setup) = Setup::<T>::new(alloc, job, shared.window.len()) else {
+    let Ok(setup) = Setup::<'r, T>::new(alloc, job, shared.window.len()) else {
         return out_of_memory(0);
     };
     let Setup {
@@ -219,7 +219,7 @@ fn gather_as<'d, T: Texts + Send + Sync, R: Threads + Wait + Sync, G: Gate + Syn
 /// Puts the sheets without pages on the queue: no preparer completes them.
 fn put_blank_sheets<R: Wait, G: Gate>(
     rt: &R,
-    shared: &Shared<'_, '_, '_, G>,
+    shared: &Shared<'_, '_, '_, '_, G>,
     sheets: &[u32],
     pass: &mut Pass,
 )
@@ -250,7 +250,7 @@ fn out_of_memory<'d>(written: u64) -> Gathered<'d>
 fn finish<'d, S: Sink>(
     alloc: Global,
     job: &Job<'_, 'd>,
-    state: &mut CollectorState<'_, S>,
+    state: &mut CollectorState<'_, '_, S>,
     trailer: &[u8],
     ended: Option<Holding<'d>>,
 ) -> Gathered<'d>
@@ -275,7 +275,7 @@ fn finish<'d, S: Sink>(
 fn conclude<'d, S: Sink>(
     alloc: Global,
     job: &Job<'_, 'd>,
-    state: &mut CollectorState<'_, S>,
+    state: &mut CollectorState<'_, '_, S>,
     trailer: &[u8],
     ended: Holding<'d>,
 ) -> Gathered<'d>

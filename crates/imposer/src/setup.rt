@@ -8,26 +8,26 @@ ghost use Rattle.sheet_writer.specs.Writing.{AreEarly};
 use crate::channel::{SheetReceiver, SheetRule, SheetSender, Texts, Ticket};
 use crossbeam_channel::bounded_with;
 use crossbeam_queue::ArrayQueue;
-use sheet_text::Job;
+use sheet_text::{Job, Rope};
 use sheet_writer::Early;
 use std::alloc::{AllocError, Global};
 
 /// The texts round the sheets, places for sheets that come before their turn, and the channel of finished sheets,
 /// with a ticket for the collector and one for the imposers.
 #[derive(Drop)]
-pub(crate) struct Setup<T: Texts> {
+pub(crate) struct Setup<'r, T: Texts> {
     pub(crate) header: Vec<u8>,
     pub(crate) trailer: Vec<u8>,
-    pub(crate) early: Early,
-    pub(crate) sender: SheetSender<T>,
-    pub(crate) receiver: SheetReceiver<T>,
-    pub(crate) receiving: Ticket,
-    pub(crate) sending: Ticket,
+    pub(crate) early: Early<'r>,
+    pub(crate) sender: SheetSender<'r, T>,
+    pub(crate) receiver: SheetReceiver<'r, T>,
+    pub(crate) receiving: Ticket<'r>,
+    pub(crate) sending: Ticket<'r>,
     /// For texts that were written.
-    pub(crate) spent: ArrayQueue<Vec<u8>>,
+    pub(crate) spent: ArrayQueue<Rope<'r>>,
 }
 
-impl<T: Texts> Setup<T> {
+impl<'r, T: Texts> Setup<'r, T> {
     /// Places, channel and the queue of written texts have room for all sheets of a window of this many, so that no
     /// imposer waits.
     pub(crate) fn new(alloc: Global, job: &Job<'_, '_>, window: u32) -> Result<Self, AllocError>

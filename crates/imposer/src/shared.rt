@@ -8,18 +8,18 @@ use crate::window::Window;
 use crossbeam_queue::ArrayQueue;
 use gather_table::GatherTable;
 use handover::{Ready, Shelf};
-use sheet_text::Job;
+use sheet_text::{Job, Rope};
 use std::alloc::Global;
 use std::sync::atomic::AtomicU32;
 
 /// What all threads of one run share. The table is one of the job's plan.
 #[derive(Drop)]
-pub(crate) struct Shared<'s, 'j, 'd, G> {
+pub(crate) struct Shared<'s, 'r, 'j, 'd, G> {
     pub(crate) alloc: Global,
     pub(crate) gate: &'s G,
     pub(crate) job: &'s Job<'j, 'd>,
     pub(crate) table: &'s GatherTable<'j>,
-    pub(crate) shelf: &'s Shelf<'d>,
+    pub(crate) shelf: &'r Shelf<'d>,
     pub(crate) ready: &'s Ready,
     /// How many preparers haven't ended.
     pub(crate) preparers_left: AtomicU32,
@@ -35,11 +35,11 @@ pub(crate) struct Shared<'s, 'j, 'd, G> {
 
 /// What the workers need of the run: what all threads share, and where finished sheets are sent.
 #[derive(Drop)]
-pub(crate) struct WorkerInput<'s, 'j, 'd, T: Texts, G> {
-    pub(crate) shared: &'s Shared<'s, 'j, 'd, G>,
-    pub(crate) sender: &'s SheetSender<T>,
+pub(crate) struct WorkerInput<'s, 'r, 'j, 'd, T: Texts, G> {
+    pub(crate) shared: &'s Shared<'s, 'r, 'j, 'd, G>,
+    pub(crate) sender: &'s SheetSender<'r, T>,
     /// Texts that were written, whose memory is used again.
-    pub(crate) spent: &'s ArrayQueue<Vec<u8>>,
+    pub(crate) spent: &'s ArrayQueue<Rope<'r>>,
     /// The same job, with the texts of the channel's rule.
     pub(crate) ruled: &'s RuledJob<'s, 'j, 'd, T>,
     ghost same_job: { ruled.now.job.now ≡ shared.now.job.now },

@@ -14,7 +14,7 @@ ghost use Rattle.run_steps.specs.LookUps.{pages_of, LooksUp, LooksUpUntil, Looks
 
 use gather_table::{GatherTable, Seat};
 use handover::{Prepared, Shelf};
-use sheet_text::{Job, Openings, append_placed, begin_sheet, end_sheet};
+use sheet_text::{Job, Openings, Rope, append_placed, begin_sheet, end_sheet};
 use sheet_writer::Imposed;
 use std::alloc::Global;
 use thiserror::Error;
@@ -33,19 +33,19 @@ pub enum ImposeError {
 /// `sheet_text`. The table is one for the job's plan, and the seat has seen the sheet complete: a look that was
 /// answered 0 shows it. Each page of the sheet is looked up in slot order. After a refusal some of the first were, and
 /// at `NotShown` one at least.
-pub fn impose<'d>(
+pub fn impose<'r, 'd>(
     alloc: Global,
     seat: &mut Seat,
     job: &Job<'_, 'd>,
     table: &GatherTable<'_>,
-    shelf: &Shelf<'d>,
+    shelf: &'r Shelf<'d>,
     sheet: u32,
-) -> Result<Imposed, ImposeError>
+) -> Result<Imposed<'r>, ImposeError>
     requires seat { IsSeatOf table.now seat.old }
     requires table { table.now.layout ≡ layout job.now.plan }
     requires sheet { sheet < length job.now.plan.sheets }
     requires complete { IsComplete table.now.layout seat.old.front sheet }
-    ensures text { IfOk result (λ m. (m.sheet ≡ sheet) × (m.text.items ≡ text_of job.now sheet)) }
+    ensures text { IfOk result (λ m. (m.sheet ≡ sheet) × (m.text ≡ text_of job.now sheet)) }
     ensures looked_up { MatchResult result
         (λ m. LooksUp (pages_of table.now.layout sheet) (length (pages_of table.now.layout sheet)) seat.old seat.new)
         (λ e. LooksUpUntil (pages_of table.now.layout sheet) e seat.old seat.new) }
@@ -53,34 +53,35 @@ pub fn impose<'d>(
     let imposition = Imposition {
         job: &*job,
         table: &*table,
-        shelf: &*shelf,
+        shelf,
     };
-    imposition.impose(Vec::new(alloc), &mut Openings::new(alloc), seat, sheet)
+    imposition.impose(Rope::new(alloc), &mut Openings::new(alloc), seat, sheet)
 }
 
-/// What sheets are imposed of: a job, the table of its plan, and the shelf on which the pages stand.
+/// What sheets are imposed of: a job, the table of its plan, and the shelf on which the pages stand. The texts of the
+/// sheets have long bodies in them that stay on the shelf.
 #[derive(Drop)]
-pub struct Imposition<'s, 'j, 't, 'd> {
+pub struct Imposition<'s, 'r, 'j, 't, 'd> {
     pub job: &'s Job<'j, 'd>,
     pub table: &'s GatherTable<'t>,
-    pub shelf: &'s Shelf<'d>,
+    pub shelf: &'r Shelf<'d>,
     ghost same_plan: { table.now.layout ≡ layout job.now.plan },
 }
 
-impl<'s, 'j, 't, 'd> Imposition<'s, 'j, 't, 'd> {
+impl<'s, 'r, 'j, 't, 'd> Imposition<'s, 'r, 'j, 't, 'd> {
     /// Does what `impose` does, with texts before placed pages that were kept from other sheets, and in the memory of
     /// `spent`, a text that nobody needs any more or an empty one.
     pub fn impose(
         &self,
-        spent: Vec<u8>,
+        spent: Rope<'r>,
         openings: &mut Openings,
         seat: &mut Seat,
         sheet: u32,
-    ) -> Result<Imposed, ImposeError>
+    ) -> Result<Imposed<'r>, ImposeError>
         requires seat { IsSeatOf self.now.table.now seat.old }
         requires sheet { sheet < length self.now.job.now.plan.sheets }
         requires complete { IsComplete self.now.table.now.layout seat.old.front sheet }
-        ensures text { IfOk result (λ m. (m.sheet ≡ sheet) × (m.text.items ≡ text_of self.now.job.now sheet)) }
+        ensures text { IfOk result (λ m. (m.sheet ≡ sheet) × (m.text ≡ text_of self.now.job.now sheet)) }
         ensures looked_up { MatchResult result
             (λ m. LooksUp (pages_of self.now.table.now.layout sheet) (length (pages_of self.now.table.now.layout sheet))
             seat.old seat.new)
@@ -103,7 +104,7 @@ impl<'s, 'j, 't, 'd> Imposition<'s, 'j, 't, 'd> {
     /// Looks up the pages of all slots of a sheet, in order, and appends the slots' texts.
     fn append_shelved_slots(
         &self,
-        text: &mut Vec<u8>,
+        text: &mut Rope<'r>,
         openings: &mut Openings,
         seat: &mut Seat,
         sheet: u32,
@@ -111,7 +112,7 @@ impl<'s, 'j, 't, 'd> Imposition<'s, 'j, 't, 'd> {
         requires seat { IsSeatOf self.now.table.now seat.old }
         requires sheet { sheet < length self.now.job.now.plan.sheets }
         requires complete { IsComplete self.now.table.now.layout seat.old.front sheet }
-        ensures text { OnOk result (text.new.items ≡ text.old.items
+        ensures text { OnOk result (text.new ≡ text.old
             ++ slots_text self.now.job.now (slots_of self.now.job.now sheet)) }
         ensures looked_up { MatchResult result
             (λ m. LooksUp (pages_of self.now.table.now.layout sheet) (length (pages_of self.now.table.now.layout sheet))
@@ -132,7 +133,7 @@ impl<'s, 'j, 't, 'd> Imposition<'s, 'j, 't, 'd> {
     /// Looks up the page of a slot and appends the slot's text; nothing if it is blank.
     fn append_shelved(
         &self,
-        text: &mut Vec<u8>,
+        text: &mut Rope<'r>,
         openings: &mut Openings,
         seat: &mut Seat,
         sheet: u32,
@@ -143,7 +144,7 @@ impl<'s, 'j, 't, 'd> Imposition<'s, 'j, 't, 'd> {
         requires slot { slot < length (pages_on self.now.job.now.plan sheet) }
         requires complete { IsComplete self.now.table.now.layout seat.old.front sheet }
         ensures text { OnOk result ((it : Slot) → slice_get (slots_of self.now.job.now sheet) slot ≡ Some it →
-            text.new.items ≡ text.old.items
+            text.new ≡ text.old
             ++ slot_text self.now.job.now.frame (pages self.now.job.now.units) it.page it.item) }
         ensures looked_up { LooksAt (slice_get (pages_on self.now.job.now.plan sheet) slot) seat.old seat.new }
         ensures has_page { OnErr result ((page : ℕ)
@@ -167,7 +168,7 @@ impl<'s, 'j, 't, 'd> Imposition<'s, 'j, 't, 'd> {
     }
 
     /// Looks up a page that has an index, and finds it on the shelf.
-    fn find_shelved(&self, seat: &mut Seat, page: u32) -> Result<&'s Prepared<'d>, ImposeError>
+    fn find_shelved(&self, seat: &mut Seat, page: u32) -> Result<&'r Prepared<'d>, ImposeError>
         requires seat { IsSeatOf self.now.table.now seat.old }
         requires in_table { page < self.now.table.now.layout.pages }
         requires in_document { page < length (pages self.now.job.now.units) }

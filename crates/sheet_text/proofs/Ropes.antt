@@ -1,6 +1,6 @@
 -- Texts in pieces: what appending does to their bytes.
 use Rattle.std.proofs.Common.{if◌then◌else◌, Bool, true, false, ℕ, suc, List, [], ◌∷◌, ◌+◌, ◌-◌, ◌<◌, ◌≤◌, ◌++◌, ◌≡◌, ap, sym, subst, refl, ◌∙◌, length, take, drop, arith, append_assoc, length-append, length-drop}
-use Rattle.std.specs.Prelude.{sum_by, slice_index_or, Result, Ok, Err, OnOk, is_ok}
+use Rattle.std.specs.Prelude.{sum_by, slice_index_or, Result, Ok, Err, OnOk, OnErr, is_ok}
 use Rattle.std.proofs.lemmas.List.{take-append-le, drop-append-le, take-append-drop, append-nil}
 use Rattle.std.proofs.Math.Seq.{take-length, drop-cons}
 use Rattle.std.proofs.lemmas.List.Sums.{sum_by-append}
@@ -110,3 +110,13 @@ pub counted_all : (own : List ℕ) (ss : List Placed) (items : List Placed) (val
     → count + bytes_of items ≡ length value
 counted_all own ss items value view is count_is =
     ap (λ n. n + bytes_of items) count_is ∙ ap (λ x. length own + bytes_of x) is ∙ sym (length_woven 0 own ss) ∙ ap (λ x. length x) view
+
+-- the same of an append whose clauses speak of success and refusal apart
+pub kept_or_more : {E : Type 0} (r : Result (Unit {0}) E) (own new more : List ℕ) → OnOk r (new ≡ own ++ more) → OnErr r (new ≡ own) → length own ≤ length new
+kept_or_more (Ok u) own new more is same = grown true new own more is
+kept_or_more (Err e) own new more is same = grown false new own more same
+
+pub closed : {E : Type 0} (r : Result (Unit {0}) E) (own : List ℕ) (ss : List Placed) (value new more : List ℕ) → woven 0 own ss ≡ value
+    → OnOk r (new ≡ own ++ more) → AreInPlace 0 (length own) ss → OnOk r (woven 0 new ss ≡ value ++ more)
+closed (Ok u) own ss value new more view is placed = woven_grown own ss value new more view is placed
+closed (Err e) own ss value new more view is placed = tt

@@ -4,6 +4,7 @@ ghost use Rattle.profile.specs.Output.{Frame, opening_text as opening};
 ghost use Rattle.pagespec.specs.Items.{item_of};
 
 use crate::job::Job;
+use crate::rope::Rope;
 use lengths::{Grains, Paper};
 use pagespec::{Item, Measure};
 use placement::opening_text;
@@ -45,16 +46,16 @@ impl Openings {
         &mut self,
         job: &Job<'_, '_>,
         item: &Item,
-        out: &mut Vec<u8>,
+        out: &mut Rope<'_>,
     ) -> Result<(), AllocError>
-        ensures { OnOk result (out.new.items ≡ out.old.items ++ opening job.now.frame (item_of item.now)) }
+        ensures { OnOk result (out.new ≡ out.old ++ opening job.now.frame (item_of item.now)) }
     {
         if self.append_kept(job, item, out)? {
             return Ok(());
         }
-        let start = out.as_slice().len();
-        opening_text(item, &job.paper, job.border, out)?;
-        let (_, text) = out.as_slice().split_at(start);
+        let mut text = Vec::new(self.alloc);
+        opening_text(item, &job.paper, job.border, &mut text)?;
+        out.append(text.as_slice())?;
         self.keep(job, item, text)?;
         Ok(())
     }
@@ -64,15 +65,15 @@ impl Openings {
         &self,
         job: &Job<'_, '_>,
         item: &Item,
-        out: &mut Vec<u8>,
+        out: &mut Rope<'_>,
     ) -> Result<bool, AllocError>
         ensures kept { IfOk result (λ is_kept. is_kept ≡ true →
-            out.new.items ≡ out.old.items ++ opening job.now.frame (item_of item.now)) }
-        ensures missing { IfOk result (λ is_kept. is_kept ≡ false → out.new.items ≡ out.old.items) }
+            out.new ≡ out.old ++ opening job.now.frame (item_of item.now)) }
+        ensures missing { IfOk result (λ is_kept. is_kept ≡ false → out.new ≡ out.old) }
     {
         for opening in self.kept.as_slice() {
             if let Some(text) = opening.text_for(job, item) {
-                out.extend_from_slice(text)?;
+                out.append(text)?;
                 return Ok(true);
             }
         }
@@ -80,18 +81,17 @@ impl Openings {
     }
 
     /// Keeps a text, if few are kept.
-    fn keep(&mut self, job: &Job<'_, '_>, item: &Item, text: &[u8]) -> Result<(), AllocError>
-        requires { text.now ≡ opening job.now.frame (item_of item.now) }
+    fn keep(&mut self, job: &Job<'_, '_>, item: &Item, text: Vec<u8>) -> Result<(), AllocError>
+        requires { text.items ≡ opening job.now.frame (item_of item.now) }
     {
         if self.kept.len() >= MOST_KEPT {
             return Ok(());
         }
-        let copy = Vec::from_slice(self.alloc, text)?;
         let opening = Opening {
             item: *item,
             paper: job.paper,
             border: job.border,
-            text: copy,
+            text,
         };
         self.kept.push(opening)?;
         Ok(())

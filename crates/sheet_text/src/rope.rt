@@ -1,11 +1,13 @@
 //! A text in pieces.
 ghost use Rattle.std.specs.Prelude.{◌≡◌, ◌+◌, ◌<◌, ◌≤◌, ◌++◌, [], length, IfOk, IfSome, IsNone, OnOk, OnErr};
+ghost use Rattle.profile.specs.Output.{closing_text as closing};
 
+use placement::closing_text;
 use std::alloc::{AllocError, Global};
 use std::marker::Model;
 
 /// A slice of at least this many bytes stays where it is. A shorter one costs less to copy than to keep apart.
-const LEAST_BORROWED: usize = 4_096;
+pub(crate) const LEAST_BORROWED: usize = 4_096;
 
 /// A text in pieces: bytes of its own, and between them slices of bytes that live longer and aren't copied. A contract
 /// sees it as the list of all its bytes.
@@ -82,6 +84,18 @@ impl<'r> Rope<'r> {
         };
         self.slices.push(placed)?;
         Ok(())
+    }
+
+    /// Appends what stands behind a placed page. If memory is refused, nothing is appended.
+    pub(crate) fn append_closing(&mut self) -> Result<(), AllocError>
+        ensures { OnOk result (self.new ≡ self.old ++ closing) }
+    {
+        closing_text(&mut self.own)
+    }
+
+    /// For how many bytes of its own it has memory.
+    pub fn capacity(&self) -> usize {
+        self.own.capacity()
     }
 
     /// How many bytes the text has. None if there are more than a number can count: one slice may stand in it often.

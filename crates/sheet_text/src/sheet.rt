@@ -10,27 +10,35 @@ ghost use Rattle.sheet_text.specs.Jobs.{page_line, slots_of, slots_text, text_of
 
 use crate::job::Job;
 use crate::openings::Openings;
+use crate::rope::{LEAST_BORROWED, Rope};
 use itoa::Buffer;
-use placement::closing_text;
 use std::alloc::{AllocError, Global};
 
 /// The text of a sheet, counted from 0: its page line, each slot's page in order, placed on the sheet, and one
 /// `showpage`. The bodies are prepared anew from the document.
-pub fn sheet_text(alloc: Global, job: &Job<'_, '_>, sheet: u32) -> Result<Vec<u8>, AllocError>
+pub fn sheet_text<'r>(
+    alloc: Global,
+    job: &Job<'_, '_>,
+    sheet: u32,
+) -> Result<Rope<'r>, AllocError>
     requires { sheet < length job.now.plan.sheets }
-    ensures { IfOk result (λ text. text.items ≡ text_of job.now sheet) }
+    ensures { IfOk result (λ text. text ≡ text_of job.now sheet) }
 {
-    let mut text = begin_sheet(Vec::new(alloc), job, sheet)?;
+    let mut text = begin_sheet(Rope::new(alloc), job, sheet)?;
     append_slots(alloc, &mut text, job, sheet)?;
     end_sheet(&mut text)?;
     Ok(text)
 }
 
-/// The page line of a sheet, with room for about the whole text of the sheet. The memory of `spent`, a text that
-/// nobody needs any more or an empty one, is used again.
-pub fn begin_sheet(spent: Vec<u8>, job: &Job<'_, '_>, sheet: u32) -> Result<Vec<u8>, AllocError>
+/// The page line of a sheet, with room for about all that is copied into the text of the sheet. The memory of `spent`,
+/// a text that nobody needs any more or an empty one, is used again.
+pub fn begin_sheet<'r>(
+    spent: Rope<'r>,
+    job: &Job<'_, '_>,
+    sheet: u32,
+) -> Result<Rope<'r>, AllocError>
     requires { sheet < length job.now.plan.sheets }
-    ensures { IfOk result (λ text. text.items ≡ page_line sheet) }
+    ensures { IfOk result (λ text. text ≡ page_line sheet) }
 {
     let mut text = spent;
     text.clear();
@@ -40,52 +48,52 @@ pub fn begin_sheet(spent: Vec<u8>, job: &Job<'_, '_>, sheet: u32) -> Result<Vec<
 }
 
 /// Appends the line that ends a sheet and prints it.
-pub fn end_sheet(text: &mut Vec<u8>) -> Result<(), AllocError>
-    ensures { OnOk result (text.new.items ≡ text.old.items ++ line (codes "showpage")) }
+pub fn end_sheet(text: &mut Rope<'_>) -> Result<(), AllocError>
+    ensures { OnOk result (text.new ≡ text.old ++ line (codes "showpage")) }
 {
-    text.extend_from_slice(b"showpage\n")?;
-    Ok(())
+    text.append(b"showpage\n")
 }
 
-/// About how many bytes the text of a sheet has, and seldom fewer than that, so that it isn't moved while it is made.
+/// About how many bytes are copied into the text of a sheet, and seldom fewer than that, so that they aren't moved while
+/// it is made.
 fn likely_len(job: &Job<'_, '_>, sheet: u32) -> usize
     requires { sheet < length job.now.plan.sheets }
 {
     let mut len = 64usize;
     for slot in 0..job.plan.slots(sheet) {
         if let Some(page) = job.plan.page_of(sheet, slot) {
+            let body = job.document.page(page).len();
+            let copied = if body < LEAST_BORROWED { body } else { 0 };
             // The texts round a placed page have a few hundred bytes.
-            len = len
-                .saturating_add(job.document.page(page).len())
-                .saturating_add(512);
+            len = len.saturating_add(copied).saturating_add(512);
         }
     }
     len
 }
 
 /// Appends the line that begins a sheet. Sheets are counted from 0, and from 1 in the text.
-fn append_page_line(text: &mut Vec<u8>, sheet: u32) -> Result<(), AllocError>
-    ensures { OnOk result (text.new.items ≡ text.old.items ++ page_line sheet) }
+fn append_page_line(text: &mut Rope<'_>, sheet: u32) -> Result<(), AllocError>
+    ensures { OnOk result (text.new ≡ text.old ++ page_line sheet) }
 {
     let mut buffer = Buffer::new();
     let number = buffer.format(u64::from(sheet) + 1).as_bytes();
-    text.extend_from_slice(b"%%Page: ")?;
-    text.extend_from_slice(number)?;
-    text.extend_from_slice(b" ")?;
-    text.extend_from_slice(number)?;
-    text.extend_from_slice(b"\n")?;
+    text.append(b"%%Page: ")?;
+    text.append(number)?;
+    text.append(b" ")?;
+    text.append(number)?;
+    text.append(b"\n")?;
     Ok(())
 }
 
 /// Appends the texts of all slots of a sheet, in order.
 fn append_slots(
     alloc: Global,
-    text: &mut Vec<u8>,
+    text: &mut Rope<'_>,
     job: &Job<'_, '_>,
     sheet: u32,
 ) -> Result<(), AllocError>
     requires { sheet < length job.now.plan.sheets }
-    ensures { OnOk result (text.new.items ≡ text.old.items ++ slots_text job.now (slots_of job.now sheet)) }
+    ensures { OnOk result (text.new ≡ text.old ++ slots_text job.now (slots_of job.now sheet)) }
 {
     let mut openings = Openings::new(alloc);
     for slot in 0..job.plan.slots(sheet) {
@@ -97,7 +105,7 @@ fn append_slots(
 /// Appends a slot: its page, or nothing if it is blank.
 fn append_slot(
     alloc: Global,
-    text: &mut Vec<u8>,
+    text: &mut Rope<'_>,
     openings: &mut Openings,
     job: &Job<'_, '_>,
     sheet: u32,
@@ -106,32 +114,35 @@ fn append_slot(
     requires sheet { sheet < length job.now.plan.sheets }
     requires slot { slot < length (pages_on job.now.plan sheet) }
     ensures { OnOk result ((it : Slot) → slice_get (slots_of job.now sheet) slot ≡ Some it →
-        text.new.items ≡ text.old.items ++ slot_text job.now.frame (pages job.now.units) it.page it.item) }
+        text.new ≡ text.old ++ slot_text job.now.frame (pages job.now.units) it.page it.item) }
 {
     let Some(page) = job.plan.page_of(sheet, slot) else {
         return Ok(());
     };
     let body = job.document.body(alloc, page)?;
-    append_placed(text, openings, job, sheet, slot, body.as_slice())?;
+    openings.append(job, job.plan.item_of(sheet, slot), text)?;
+    text.append(body.as_slice())?;
+    text.append_closing()?;
     Ok(())
 }
 
-/// Appends a prepared body as it is placed in a slot: the texts that open and close it round it.
-pub fn append_placed(
-    text: &mut Vec<u8>,
+/// Appends a prepared body as it is placed in a slot: the texts that open and close it round it. The body itself isn't
+/// copied if it has 4,096 bytes or more.
+pub fn append_placed<'r>(
+    text: &mut Rope<'r>,
     openings: &mut Openings,
     job: &Job<'_, '_>,
     sheet: u32,
     slot: u16,
-    body: &[u8],
+    body: &'r [u8],
 ) -> Result<(), AllocError>
     requires sheet { sheet < length job.now.plan.sheets }
     requires slot { slot < length (pages_on job.now.plan sheet) }
     ensures { OnOk result ((it : Slot) → slice_get (slots_of job.now sheet) slot ≡ Some it →
-        text.new.items ≡ text.old.items ++ (opening job.now.frame it.item ++ body.now ++ closing)) }
+        text.new ≡ text.old ++ (opening job.now.frame it.item ++ body.now ++ closing)) }
 {
     openings.append(job, job.plan.item_of(sheet, slot), text)?;
-    text.extend_from_slice(body)?;
-    closing_text(text)?;
+    text.append_borrowed(body)?;
+    text.append_closing()?;
     Ok(())
 }

@@ -120,9 +120,9 @@ early_taken job places j x none early k m at =
     ⊎_elim (λ p. absurd (cc (none, p.1))) (λ p. early k m p) (found_after places j k x (Some m) at)
 
 -- a sheet's place was filled
-pub early_filled : (job : JobView) (places : List (Option Imposed)) (j : ℕ) (new : Imposed) → new.text.items ≡ text_of job new.sheet → AreEarly job places → AreEarly job (slice_set places j (Some new))
+pub early_filled : (job : JobView) (places : List (Option Imposed)) (j : ℕ) (new : Imposed) → new.text ≡ text_of job new.sheet → AreEarly job places → AreEarly job (slice_set places j (Some new))
 early_filled job places j new is early k m at = ⊎_elim
-    (λ p. let same : new ≡ m = some_inside new m (some_inside (Some new) (Some m) p.1) in subst (λ t. t.text.items ≡ text_of job t.sheet) same is)
+    (λ p. let same : new ≡ m = some_inside new m (some_inside (Some new) (Some m) p.1) in subst (λ t. t.text ≡ text_of job t.sheet) same is)
     (λ p. early k m p)
     (found_after places j k (Some new) (Some m) at)
 

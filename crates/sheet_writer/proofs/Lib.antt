@@ -1,3 +1,4 @@
 pub mod Appending
 pub mod Sheets
 pub mod Fronts
+pub mod Places

@@ -80,4 +80,4 @@ Handed told failures text old new written written' halt =
 
 -- each sheet that came before its turn has its text
 abbrev pub AreEarly : JobView → List (Option Imposed) → Type 0
-AreEarly job places = (k : ℕ) (m : Imposed) → slice_get places k ≡ Some (Some m) → m.text.items ≡ text_of job m.sheet
+AreEarly job places = (k : ℕ) (m : Imposed) → slice_get places k ≡ Some (Some m) → m.text ≡ text_of job m.sheet

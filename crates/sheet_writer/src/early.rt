@@ -5,29 +5,30 @@ ghost use Rattle.sheet_writer.specs.Writing.{AreEarly};
 ghost use Rattle.sheet_writer.specs.declared.early.Imposed.{Imposed};
 ghost use Rattle.sheet_writer.specs.Places.{place_of, in_place};
 
+use sheet_text::Rope;
 use std::alloc::{AllocError, Global};
 
 /// A finished sheet, counted from 0, with its text.
 #[derive(Drop)]
-pub struct Imposed {
+pub struct Imposed<'r> {
     pub sheet: u32,
-    pub text: Vec<u8>,
+    pub text: Rope<'r>,
 }
 
 /// Takes the texts that were written, whose memory may be used again.
-pub trait Spent {
+pub trait Spent<'r> {
     /// Takes a text that nobody needs any more.
-    fn give_back(&self, text: Vec<u8>);
+    fn give_back(&self, text: Rope<'r>);
 }
 
 /// Places for sheets that wait for their turn. A sheet has the place that its number leaves when it is divided by
 /// their count, so the sheets of one window have places of their own.
 #[derive(Drop)]
-pub struct Early {
-    pub places: Vec<Option<Imposed>>,
+pub struct Early<'r> {
+    pub places: Vec<Option<Imposed<'r>>>,
 }
 
-impl Early {
+impl<'r> Early<'r> {
     /// So many places, and no sheet yet.
     pub fn new(alloc: Global, count: u32) -> Result<Self, AllocError>
         ensures early { IfOk result (λ early. (job : JobView) → AreEarly job early.places.items) }
@@ -42,15 +43,15 @@ impl Early {
 
     /// Puts a sheet in its place. If another sheet is there, the new one is dropped: a sheet that never came is made
     /// anew.
-    pub fn put(&mut self, imposed: Imposed)
-        ensures early { (job : JobView) → imposed.text.items ≡ text_of job imposed.sheet
+    pub fn put(&mut self, imposed: Imposed<'r>)
+        ensures early { (job : JobView) → imposed.entry.text ≡ text_of job imposed.entry.sheet
             → AreEarly job self.old.places.items → AreEarly job self.new.places.items }
         ensures count { length self.new.places.items ≡ length self.old.places.items }
-        ensures placed { in_place self.old.places.items imposed.sheet ≡ Some None
-            → in_place self.new.places.items imposed.sheet ≡ Some (Some imposed) }
-        ensures others { (k : ℕ) → k ≢ place_of self.old.places.items imposed.sheet
+        ensures placed { in_place self.old.places.items imposed.entry.sheet ≡ Some None
+            → in_place self.new.places.items imposed.entry.sheet ≡ Some (Some imposed.entry) }
+        ensures others { (k : ℕ) → k ≢ place_of self.old.places.items imposed.entry.sheet
             → slice_get self.new.places.items k ≡ slice_get self.old.places.items k }
-        ensures dropped { (other : Imposed) → in_place self.old.places.items imposed.sheet ≡ Some (Some other)
+        ensures dropped { (other : Imposed) → in_place self.old.places.items imposed.entry.sheet ≡ Some (Some other)
             → self.new.places.items ≡ self.old.places.items }
     {
         let place = imposed.sheet as usize % self.places.len().max(1);
@@ -60,9 +61,9 @@ impl Early {
     }
 
     /// Takes the text of a sheet, if it came.
-    pub fn take(&mut self, sheet: u32) -> Option<Vec<u8>>
+    pub fn take(&mut self, sheet: u32) -> Option<Rope<'r>>
         ensures text { (job : JobView) → AreEarly job self.old.places.items
-            → IfSome result (λ text. text.items ≡ text_of job sheet) }
+            → IfSome result (λ text. text ≡ text_of job sheet) }
         ensures left { (job : JobView) → AreEarly job self.old.places.items → AreEarly job self.new.places.items }
         ensures found { (imposed : Imposed) → in_place self.old.places.items sheet ≡ Some (Some imposed)
             → imposed.sheet ≡ sheet → result ≡ Some imposed.text }

@@ -4,6 +4,7 @@ ghost use Rattle.std.specs.Prelude.{IfErr, OnOk, OnErr, [], vec_len, vec_capacit
 ghost use Rattle.std.specs.Io.KnownBytes.{Appends, Keeps};
 ghost use Rattle.sheet_writer.specs.Memory.{MemoryState, acceptable, IsSpent, after_taking};
 
+use sheet_text::Rope;
 use std::alloc::{AllocError, Global};
 use std::io;
 use std::marker::Model;
@@ -51,6 +52,31 @@ pub(crate) fn write_all<S: Sink>(sink: &mut S, bytes: &[u8]) -> Result<(), Stopp
         match sink.accept(&bytes[written..]) {
             Ok(count) => written += count,
             Err(_) => return Err(Stopped { written }),
+        }
+    }
+    Ok(())
+}
+
+/// Hands the sink all pieces of a text, in order.
+pub(crate) fn write_pieces<S: Sink>(sink: &mut S, text: &Rope<'_>) -> Result<(), Stopped>
+    requires countable { S.failures sink.old < u64.MAX }
+    requires counted { length text.now ≤ u64.MAX }
+    ensures whole { OnOk result (Appends (S.told sink.old) (S.told sink.new) text.now) }
+    ensures steady { OnOk result (S.failures sink.new ≡ S.failures sink.old) }
+    ensures within { IfErr result (λ e. e.written < length text.now) }
+    ensures part { IfErr result (λ e. Appends (S.told sink.old) (S.told sink.new) (take e.written text.now)) }
+    ensures raised { OnErr result (S.failures sink.new ≡ S.failures sink.old + 1) }
+{
+    let mut written = 0;
+    let mut pieces = text.pieces();
+    while let Some(piece) = pieces.take_next() {
+        match write_all(sink, piece) {
+            Ok(()) => written += piece.len(),
+            Err(stopped) => {
+                return Err(Stopped {
+                    written: written + stopped.written,
+                });
+            }
         }
     }
     Ok(())

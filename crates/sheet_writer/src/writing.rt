@@ -1,12 +1,13 @@
 //! Writes the output of a job: each sheet when its turn has come, and at the end what is left.
-ghost use Rattle.std.specs.Prelude.{◌≡◌, ℕ, ◌+◌, ◌<◌, ◌≤◌, None, Some, IfOk, IfErr, length};
+ghost use Rattle.std.specs.Prelude.{◌≡◌, ℕ, ◌+◌, ◌<◌, ◌≤◌, None, Some, IfOk, IfErr, OnOk, length};
 ghost use Rattle.sheet_text.specs.Jobs.{text_of};
 ghost use Rattle.profile.specs.Filters.{trailer_text};
+ghost use Rattle.sheet_writer.specs.declared.writing.Halt.TheVariants.{Failed};
 ghost use Rattle.sheet_writer.specs.Writing.{Handed, GoesOn, AreEarly, EndsAfter};
 
 use crate::early::{Early, Spent};
-use crate::sink::{Sink, write_all};
-use sheet_text::{Job, sheet_text};
+use crate::sink::{Sink, Stopped, write_all, write_pieces};
+use sheet_text::{Job, Rope, sheet_text};
 use std::alloc::{AllocError, Global};
 
 /// Why nothing more is written.
@@ -35,7 +36,35 @@ pub fn write_text<S: Sink>(sink: &mut S, progress: Progress, text: &[u8]) -> Pro
     let Some(total) = progress.written.checked_add(text.len() as u64) else {
         return halted(progress, progress.written, Halt::NoMemory);
     };
-    match write_all(sink, text) {
+    counted(progress, total, write_all(sink, text))
+}
+
+/// Hands the sink a text in pieces, and counts its bytes.
+pub fn write_rope<S: Sink>(sink: &mut S, progress: Progress, text: &Rope<'_>) -> Progress
+    requires countable { S.failures sink.old < u64.MAX }
+    ensures handed { Handed S.told S.failures text.now sink.old sink.new progress.written result.written result.halted }
+    ensures next { result.next ≡ progress.next }
+{
+    let total = text
+        .len()
+        .and_then(|len| progress.written.checked_add(len as u64));
+    match total {
+        Some(total) => counted(progress, total, write_pieces(sink, text)),
+        None => halted(progress, progress.written, Halt::NoMemory),
+    }
+}
+
+/// How far the output was written when a text was handed to the sink with which it would come to so many bytes.
+fn counted(progress: Progress, total: u64, handed: Result<(), Stopped>) -> Progress
+    requires { IfErr handed (λ e. progress.written + e.written ≤ total) }
+    ensures written { OnOk handed (result ≡ record { next = progress.next; written = total; halted = None }) }
+    ensures stopped { IfErr handed (λ e. result ≡ record {
+      next = progress.next;
+      written = progress.written + e.written;
+      halted = Some Failed;
+    }) }
+{
+    match handed {
         Ok(()) => Progress {
             next: progress.next,
             written: total,
@@ -64,7 +93,7 @@ fn write_sheet<S: Sink>(
     job: &Job<'_, '_>,
     sink: &mut S,
     progress: Progress,
-    text: &[u8],
+    text: &Rope<'_>,
 ) -> Progress
     requires countable { S.failures sink.old < u64.MAX }
     requires going { (progress.halted ≡ None) × (progress.next < length job.now.plan.sheets)
@@ -74,7 +103,7 @@ fn write_sheet<S: Sink>(
     ensures next { result.next ≡ progress.next + 1 }
     ensures steady { result.halted ≡ None → S.failures sink.new ≡ S.failures sink.old }
 {
-    let progress = write_text(sink, progress, text);
+    let progress = write_rope(sink, progress, text);
     Progress {
         next: progress.next + 1,
         ..progress
@@ -82,11 +111,11 @@ fn write_sheet<S: Sink>(
 }
 
 /// Writes the sheets that came before their turn and whose turn it is now, and gives back their texts.
-pub fn write_early<S: Sink, B: Spent>(
+pub fn write_early<'r, S: Sink, B: Spent<'r>>(
     job: &Job<'_, '_>,
     sink: &mut S,
     progress: Progress,
-    early: &mut Early,
+    early: &mut Early<'r>,
     spent: &B,
 ) -> Progress
     requires countable { S.failures sink.old < u64.MAX }
@@ -101,7 +130,7 @@ pub fn write_early<S: Sink, B: Spent>(
         let Some(text) = early.take(sheet) else {
             break;
         };
-        progress = write_sheet(job, sink, progress, text.as_slice());
+        progress = write_sheet(job, sink, progress, &text);
         spent.give_back(text);
         if progress.halted.is_some() {
             break;
@@ -124,7 +153,7 @@ pub fn write_rest<S: Sink>(
     job: &Job<'_, '_>,
     sink: &mut S,
     progress: Progress,
-    early: &mut Early,
+    early: &mut Early<'_>,
     trailer: &[u8],
 ) -> Rest
     requires countable { progress.halted ≡ None → S.failures sink.old < u64.MAX }
@@ -146,7 +175,7 @@ pub fn write_rest<S: Sink>(
                 swept,
             };
         };
-        progress = write_sheet(job, sink, progress, text.as_slice());
+        progress = write_sheet(job, sink, progress, &text);
         if progress.halted.is_some() {
             return Rest { progress, swept };
         }
@@ -158,17 +187,17 @@ pub fn write_rest<S: Sink>(
 }
 
 /// The text of a sheet whose turn it is. One that never came is made anew, and counted.
-fn next_text(
+fn next_text<'r>(
     alloc: Global,
     job: &Job<'_, '_>,
-    early: &mut Early,
+    early: &mut Early<'r>,
     sheet: u32,
     swept: &mut u32,
-) -> Result<Vec<u8>, AllocError>
+) -> Result<Rope<'r>, AllocError>
     requires sheet { sheet < length job.now.plan.sheets }
     requires early { AreEarly job.now early.old.places.items }
     requires few { swept.old < 4_294_967_295 }
-    ensures text { IfOk result (λ text. text.items ≡ text_of job.now sheet) }
+    ensures text { IfOk result (λ text. text ≡ text_of job.now sheet) }
     ensures early { AreEarly job.now early.new.places.items }
     ensures swept { swept.new ≤ swept.old + 1 }
 {

@@ -181,7 +181,11 @@ impl<'s, 'j, 't, 'd> Caller<'s, 'j, 't, 'd> {
     }
 
     /// Imposes a sheet. None for one that isn't complete or that the job doesn't have.
-    pub(super) fn impose(self, alloc: Global, sheet: u32) -> Option<Result<Imposed, ImposeError>> {
+    pub(super) fn impose(
+        self,
+        alloc: Global,
+        sheet: u32,
+    ) -> Option<Result<Imposed<'s>, ImposeError>> {
         let Caller {
             job,
             table,
@@ -223,6 +227,7 @@ pub(super) fn assert_imposed<R: Abort>(
         panic!(rt; "sheet {sheet} isn't imposed");
     };
     let text = sheet_text(alloc, job, sheet)?;
-    assert!(rt; imposed.text.as_slice() == text.as_slice());
+    let imposed = imposed.text.to_vec(alloc)?;
+    assert!(rt; imposed.as_slice() == text.to_vec(alloc)?.as_slice());
     Ok(())
 }

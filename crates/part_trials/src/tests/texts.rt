@@ -6,7 +6,7 @@ use dsc::Document;
 use lengths::{Grains, Paper, paper_by_name};
 use pagespec::read_spec;
 use sheet_plan::Plan;
-use sheet_text::{Job, sheet_text};
+use sheet_text::{Job, Rope, sheet_text};
 use std::alloc::Global;
 use std::process::Abort;
 use std::test::Fail;
@@ -44,7 +44,7 @@ fn text_of_one<R: Abort>(
     alloc: Global,
     paper: Paper,
     border: Option<Grains>,
-) -> Result<Vec<u8>, Fail>
+) -> Result<Rope<'static>, Fail>
     requires border { IsTrue (is_border border) }
 {
     let spec = read_spec(alloc, "0")?;
@@ -61,7 +61,7 @@ fn text_of_one<R: Abort>(
 fn a_sheet_of_one_page(rt: HostRuntime) -> Result<(), Fail> {
     let a4 = paper_by_name("a4").expect(&rt, "a4 is a paper");
     let text = text_of_one(&rt, rt.alloc(), a4, None)?;
-    assert_eq!(rt; text.as_slice(), ONE_SHEET.as_bytes());
+    assert_eq!(rt; text.to_vec(rt.alloc())?.as_slice(), ONE_SHEET.as_bytes());
     Ok(())
 }
 
@@ -73,7 +73,7 @@ fn a_sheet_with_a_border(rt: HostRuntime) -> Result<(), Fail> {
         panic!(rt; "a point is no width");
     }
     let text = text_of_one(&rt, rt.alloc(), a4, Some(border))?;
-    assert_eq!(rt; text.as_slice(), BORDERED_SHEET.as_bytes());
+    assert_eq!(rt; text.to_vec(rt.alloc())?.as_slice(), BORDERED_SHEET.as_bytes());
     Ok(())
 }
 
@@ -84,11 +84,29 @@ fn a_sheet_asks_for_little_more_room_than_its_text(rt: HostRuntime) -> Result<()
     // 64 bytes, those of the document, of which the page is a part, and 512 round it.
     let room = 64 + ONE_PAGE.len() + 512;
     if text.capacity() > room {
-        panic!(rt;
-            "{} bytes of room for a text of {}",
-            text.capacity(),
-            text.len()
-        );
+        panic!(rt; "{} bytes of room", text.capacity());
     }
+    Ok(())
+}
+
+#[test]
+fn a_text_in_pieces_copies_short_slices_alone(rt: HostRuntime) -> Result<(), Fail> {
+    let long = [b'x'; 4_096];
+    let mut text = Rope::new(rt.alloc());
+    text.append(b"ab")?;
+    text.append_borrowed(b"cd")?;
+    text.append_borrowed(&long)?;
+    text.append_borrowed(&long)?;
+    text.append(b"ef")?;
+    assert_eq!(rt; text.len(), Some(8_198));
+    let mut pieces = text.pieces();
+    assert!(rt; pieces.take_next() == Some(b"abcd".as_slice()));
+    assert!(rt; pieces.take_next() == Some(long.as_slice()));
+    assert!(rt; pieces.take_next() == Some(long.as_slice()));
+    assert!(rt; pieces.take_next() == Some(b"ef".as_slice()));
+    assert!(rt; pieces.take_next().is_none());
+    text.clear();
+    assert_eq!(rt; text.len(), Some(0));
+    assert!(rt; text.pieces().take_next().is_none());
     Ok(())
 }

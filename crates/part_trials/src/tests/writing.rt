@@ -6,7 +6,7 @@ use dsc::Document;
 use lengths::paper_by_name;
 use pagespec::read_spec;
 use sheet_plan::Plan;
-use sheet_text::{Job, sheet_text};
+use sheet_text::{Job, Rope, sheet_text};
 use sheet_writer::{
     Early, Imposed, MemorySink, Progress, Rest, Sink, SinkFault, Spent, WriteSink, write_early,
     write_rest,
@@ -155,21 +155,28 @@ fn what_never_came_is_made_and_counted(rt: HostRuntime) -> Result<(), Fail> {
     Ok(())
 }
 
+/// A text of these bytes.
+fn rope_of<'r>(alloc: Global, bytes: &[u8]) -> Result<Rope<'r>, AllocError> {
+    let mut text = Rope::new(alloc);
+    text.append(bytes)?;
+    Ok(text)
+}
+
 #[test]
 fn a_sheet_waits_in_its_place(rt: HostRuntime) -> Result<(), Fail> {
     let mut early = Early::new(rt.alloc(), 2)?;
     assert_eq!(rt; early.places.len(), 2);
-    let text = Vec::from_slice(rt.alloc(), b"a")?;
+    let text = rope_of(rt.alloc(), b"a")?;
     early.put(Imposed { sheet: 1, text });
     // Another sheet has the same place: it is dropped, and asking for it leaves the first one there.
-    let text = Vec::from_slice(rt.alloc(), b"b")?;
+    let text = rope_of(rt.alloc(), b"b")?;
     early.put(Imposed { sheet: 3, text });
     assert!(rt; early.take(3).is_none());
     assert!(rt; early.take(0).is_none());
     let Some(text) = early.take(1) else {
         return Err(AllocError)?;
     };
-    assert_eq!(rt; text.as_slice(), b"a".as_slice());
+    assert_eq!(rt; text.to_vec(rt.alloc())?.as_slice(), b"a".as_slice());
     assert!(rt; early.take(1).is_none());
     Ok(())
 }
@@ -180,9 +187,9 @@ struct Counter {
     bytes: AtomicUsize,
 }
 
-impl Spent for Counter {
-    fn give_back(&self, text: Vec<u8>) {
-        self.bytes.fetch_add(text.len(), SeqCst);
+impl<'r> Spent<'r> for Counter {
+    fn give_back(&self, text: Rope<'r>) {
+        self.bytes.fetch_add(text.len().unwrap_or(0), SeqCst);
     }
 }
 
@@ -190,7 +197,7 @@ impl Spent for Counter {
 fn put_sheet(
     alloc: Global,
     job: &Job<'_, '_>,
-    early: &mut Early,
+    early: &mut Early<'_>,
     sheet: u32,
 ) -> Result<(), AllocError>
     requires sheet { sheet < length job.now.plan.sheets }

@@ -5,6 +5,3 @@ use Rattle.imposer.proofs.collector.take_one.Goals as goal
 pub try_recv_as-received-requires-clause-rule : goal.try_recv_as-received-requires-clause-rule
 try_recv_as-received-requires-clause-rule g c = ((λ x items views h at. (tt, (λ k d below. h (suc k) d (omega arith)), h 0 x (omega arith))), λ items views h at. tt)
 
-pub write_early-state-requires-clause-early : goal.write_early-state-requires-clause-early
-write_early-state-requires-clause-early g c =
-    c.put.ensures.early c.args.input.now.job.now (c.in-Ok.ensures.rule ∙ c.args.input.now.ruled.now.texts c.in-Ok.done.sheet ∙ ap (λ j. text_of j c.in-Ok.done.sheet) c.args.input.now.same_job) c.requires.early

@@ -11,8 +11,8 @@ find_shelved-requires-clause-index c =
 pub returns-in-Ok-append_placed-clause-text : goal.returns-in-Ok-append_placed-clause-text
 returns-in-Ok-append_placed-clause-text c = λ it at.
     c.in-Ok-append_placed.ensures it at
-    ∙ ap (λ b. c.args.text.now.items ++ (opening_text c.args.self.now.job.now.frame it.item ++ b ++ closing_text)) c.body.ensures.body
-    ∙ ap (λ t. c.args.text.now.items ++ t) (slot_placed _ _ c.args.sheet c.args.slot _ _ it _ _ (same_job c.args.self.now.job.now c.plan.result.now c.plan.ensures.value) c.page_of.ensures.value c.in-Some.is c.in-Ok.ensures.raw c.in-Ok.ensures.prepared at)
+    ∙ ap (λ b. c.args.text.now ++ (opening_text c.args.self.now.job.now.frame it.item ++ b ++ closing_text)) c.body.ensures.body
+    ∙ ap (λ t. c.args.text.now ++ t) (slot_placed _ _ c.args.sheet c.args.slot _ _ it _ _ (same_job c.args.self.now.job.now c.plan.result.now c.plan.ensures.value) c.page_of.ensures.value c.in-Some.is c.in-Ok.ensures.raw c.in-Ok.ensures.prepared at)
 
 pub returns-in-Err-clause-has_page : goal.returns-in-Err-clause-has_page
 returns-in-Err-clause-has_page c = (c.in-Some.page, page_in _ _ c.args.sheet c.args.slot _ _ (same_job c.args.self.now.job.now c.plan.result.now c.plan.ensures.value) c.page_of.ensures.value c.in-Some.is)

@@ -6,6 +6,6 @@ use Rattle.run_steps.proofs.imposition.Imposition.append_shelved_slots.Given as 
 
 abbrev pub invariant-loop-slot : goal.invariant-loop-slot
 invariant-loop-slot l = record {
-  text : l.text.items ≡ l.fn.text.items ++ slots_text l.self.job.now (take l.slot (slots_of l.self.job.now l.sheet));
+  text : l.text ≡ l.fn.text ++ slots_text l.self.job.now (take l.slot (slots_of l.self.job.now l.sheet));
   looked_up : LooksUp (pages_of l.self.table.now.layout l.sheet) (length (needed (take l.slot (slots l.self.table.now.layout l.sheet)))) l.fn.seat l.seat;
 }

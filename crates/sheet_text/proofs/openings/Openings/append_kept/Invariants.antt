@@ -2,4 +2,4 @@ use Rattle.std.proofs.Common.{◌≡◌}
 use Rattle.sheet_text.proofs.openings.Openings.append_kept.Given as goal
 
 abbrev pub invariant-loop-opening : goal.invariant-loop-opening
-invariant-loop-opening l = l.out.items ≡ l.fn.out.items
+invariant-loop-opening l = l.out ≡ l.fn.out

@@ -5,5 +5,5 @@ use Rattle.sheet_text.proofs.openings.Openings.keep.Goals as goal
 
 pub invariant_of-opening : goal.invariant_of-opening
 invariant_of-opening c = record {
-  opens = c.in_ok-copy.ensures.items ∙ c.requires ∙ ap (λ j. opening_text j.frame (item_of c.args.item.now)) (sym c.job.view_is);
+  opens = c.requires ∙ ap (λ j. opening_text j.frame (item_of c.args.item.now)) (sym c.job.view_is);
 }

@@ -1,0 +1,15 @@
+use Rattle.std.proofs.Common.{ℕ, List, length, ◌≡◌, ◌++◌}
+use Rattle.std.specs.Io.KnownBytes.{Appends}
+use Rattle.sheet_writer.proofs.sink.write_pieces.Given as goal
+
+abbrev pub invariant-loop-piece : goal.invariant-loop-piece
+invariant-loop-piece g l = record {
+  gone : List ℕ;
+  all : gone ++ l.pieces ≡ l.text;
+  count : length gone ≡ l.written;
+  taken : Appends (g.S.Sink.told l.initial.sink) (g.S.Sink.told l.sink) gone;
+  steady : g.S.Sink.failures l.sink ≡ g.S.Sink.failures l.initial.sink;
+}
+
+abbrev pub decreases-loop-piece : goal.decreases-loop-piece
+decreases-loop-piece g l = length l.pieces
