@@ -16,11 +16,7 @@ use std::alloc::{AllocError, Global};
 
 /// The text of a sheet, counted from 0: its page line, each slot's page in order, placed on the sheet, and one
 /// `showpage`. The bodies are prepared anew from the document.
-pub fn sheet_text<'r>(
-    alloc: Global,
-    job: &Job<'_, '_>,
-    sheet: u32,
-) -> Result<Rope<'r>, AllocError>
+pub fn sheet_text<'r>(alloc: Global, job: &Job<'_, '_>, sheet: u32) -> Result<Rope<'r>, AllocError>
     requires { sheet < length job.now.plan.sheets }
     ensures { IfOk result (λ text. text ≡ text_of job.now sheet) }
 {

@@ -73,7 +73,10 @@ fn a_sheet_with_a_border(rt: HostRuntime) -> Result<(), Fail> {
         panic!(rt; "a point is no width");
     }
     let text = text_of_one(&rt, rt.alloc(), a4, Some(border))?;
-    assert_eq!(rt; text.to_vec(rt.alloc())?.as_slice(), BORDERED_SHEET.as_bytes());
+    assert_eq!(rt;
+        text.to_vec(rt.alloc())?.as_slice(),
+        BORDERED_SHEET.as_bytes()
+    );
     Ok(())
 }
 

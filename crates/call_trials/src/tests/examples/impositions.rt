@@ -54,7 +54,7 @@ struct Copied {
 }
 
 // Copies what was imposed, which has slices of the shelf.
-fn copied(
+fn copy_of(
     alloc: Global,
     answer: Result<Imposed<'_>, ImposeError>,
 ) -> Result<Result<Copied, ImposeError>, AllocError> {
@@ -87,7 +87,7 @@ fn impose_beside<'d, R: Abort + Wait>(
         panic!(rt; "the sheet is not complete")
     };
     assert_eq!(rt; answers, (Published::Stored, Reply::Completing));
-    copied(alloc, impose(alloc, &mut seat, job, &table, &shelf, 0))
+    copy_of(alloc, impose(alloc, &mut seat, job, &table, &shelf, 0))
 }
 
 // The same if the page has this number; and the sheet's text.
@@ -152,7 +152,7 @@ fn impose_untouched(
         return Ok(None);
     }
     let answer = impose(alloc, &mut seat, job, &table, &shelf, 0);
-    Ok(Some(copied(alloc, answer)?))
+    Ok(Some(copy_of(alloc, answer)?))
 }
 
 #[test]
