@@ -1,5 +1,5 @@
 -- What lies in a sheet's place.
-use Rattle.std.proofs.Common.{ℕ, ◌<◌, ◌%◌, ◌≡◌, ◌∙◌, sym, ap, subst, List, Option, Some, None, length, max, arith}
+use Rattle.std.proofs.Common.{ℕ, ◌<◌, ◌%◌, ◌≡◌, ◌∙◌, sym, ap, List, Option, Some, length, max, arith}
 use Rattle.std.specs.Prelude.{slice_get}
 use Rattle.std.proofs.Math.ListN.{get_or}
 use Rattle.std.proofs.lemmas.Option.{get_or_from_slice_get}

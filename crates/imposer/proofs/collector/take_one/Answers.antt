@@ -1,5 +1,4 @@
-use Rattle.std.proofs.Common.{arith, suc, ap, ◌∙◌}
-use Rattle.sheet_text.specs.Jobs.{text_of}
+use Rattle.std.proofs.Common.{arith, suc}
 use Rattle.imposer.proofs.collector.take_one.Goals as goal
 
 pub try_recv_as-received-requires-clause-rule : goal.try_recv_as-received-requires-clause-rule

@@ -1,7 +1,7 @@
-use Rattle.std.proofs.Common.{rules, List, ℕ, ap, ◌≡◌, ◌∙◌, ◌+◌, ◌++◌, length, arith, length-append}
+use Rattle.std.proofs.Common.{ap, ◌∙◌, ◌+◌, ◌++◌, length, arith, length-append}
 use Rattle.std.proofs.KnownBytes.{Appends-trans}
 use Rattle.sheet_writer.proofs.sink.write_pieces.Goals as goal
-use Rattle.sheet_writer.proofs.Appending.{piece_all, piece_part, no_piece}
+use Rattle.sheet_writer.proofs.Appending.{piece_all, piece_part}
 
 pub loop-piece-preserved : goal.loop-piece-preserved
 loop-piece-preserved g c =
