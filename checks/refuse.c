@@ -1,5 +1,5 @@
 /* Refuses calls of the C library that a program makes. It is loaded before the program by LD_PRELOAD;
- * examples/refusals builds and uses it.
+ * checks/refusals builds and uses it.
  *
  * REFUSE is "KIND FIRST COUNT": of the calls of this kind, counted from 1, those from FIRST on are refused, COUNT of
  * them, or all if COUNT is 0. Each refusal writes a byte to the file that REFUSE_TOLD names. Only calls by the program
