@@ -5,7 +5,7 @@ use Rattle.std.specs.Ordering.{int_eq}
 use Rattle.profile.specs.Papers.{Paper, Pt, grains, is_paper, points}
 use Rattle.profile.specs.Numbers.{is_large}
 use Rattle.profile.specs.Units.{content_of, line_len, is_comment, fields}
-use Rattle.guard.specs.Header.{header_len}
+use Rattle.dsc.specs.Header.{header_len}
 use Rattle.lengths.specs.Reading.{is_empty, number_at}
 use Rattle.document_paper.specs.declared.media.Comment.{Comment}
 use Rattle.document_paper.specs.declared.media.Comment.TheVariants.{DocumentMedia, BoundingBox}

@@ -6,8 +6,7 @@ ghost use Rattle.dsc.specs.Fields.{fields_in};
 ghost use Rattle.document_paper.specs.Media as meaning;
 
 use crate::fields::{is_zero, points_of};
-use dsc::{content_end, key_of, line_end_after, next_field};
-use guard::header_len;
+use dsc::{first_content, header_len, key_of, line_end_after, next_field};
 use lengths::{Grains, Paper};
 
 /// The comment that tells the paper.
@@ -64,14 +63,6 @@ fn value_of<'t>(header: &'t [u8], key: &[u8], with_colon: &[u8]) -> Option<&'t [
         rest = others;
     }
     None
-}
-
-/// The content of the first line.
-fn first_content(text: &[u8]) -> &[u8]
-    ensures { result.now ≡ content_of text.now }
-{
-    let (content, _) = text.split_at(content_end(text));
-    content
 }
 
 /// Whether it is a comment with this key and a colon behind it.

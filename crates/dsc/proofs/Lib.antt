@@ -23,3 +23,5 @@ pub mod Trailers
 pub mod Preambles
 pub mod Letters
 pub mod LineBlocks
+pub mod HeaderRun
+pub mod Examples

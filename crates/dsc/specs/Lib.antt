@@ -13,3 +13,4 @@ pub mod Faults
 pub mod Units
 pub mod Documents
 pub mod Filters
+pub mod Header

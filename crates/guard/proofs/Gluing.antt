@@ -8,7 +8,8 @@ use Rattle.profile.specs.Bytes.{line}
 use Rattle.profile.specs.Filters.{ended}
 use Rattle.profile.specs.Numbers.{points_text}
 use Rattle.profile.specs.Papers.{Paper}
-use Rattle.guard.specs.Header.{header_len, put_in}
+use Rattle.dsc.specs.Header.{header_len}
+use Rattle.guard.specs.PutIn.{put_in}
 use Rattle.guard.specs.Guard.{first_lines, other_lines, page_size_line, page_size_lines, guard_lines}
 
 -- the line of a page size, piece by piece

@@ -16,7 +16,8 @@ use Rattle.dsc.proofs.Cases.{by_test, and_false}
 use Rattle.dsc.proofs.LineLengths.{line_len-within, end_len-pos}
 use Rattle.dsc.proofs.Reading.{accepted_cut, accepted_opening}
 use Rattle.seams.specs.Seams.{joined, passes, line_unit, ends}
-use Rattle.guard.specs.Header.{is_header, ends_header, is_last, run_len, header_run, header_len, put_in}
+use Rattle.dsc.specs.Header.{is_header, ends_header, is_last, run_len, header_run, header_len}
+use Rattle.guard.specs.PutIn.{put_in}
 use Rattle.guard.specs.Laws.{CanBePutIn, ChangesPreambleAlone, LinesStay}
 use Rattle.seams.proofs.LinesMeet.{clash, stop_line, go_line}
 use Rattle.seams.proofs.UnitsMeet.{unit_content, unit_line}

@@ -1,4 +1,3 @@
-pub mod HeaderRun
 pub mod Guarding
 pub mod Gluing
 pub mod TheGuard

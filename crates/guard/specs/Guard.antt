@@ -3,7 +3,7 @@
 use Rattle.std.specs.Prelude.{ℕ, List, [], ◌∷◌, ◌++◌, codes, Option, Some, None}
 use Rattle.profile.specs.Numbers.{points_text}
 use Rattle.profile.specs.Papers.{Paper}
-use Rattle.guard.specs.Header.{put_in}
+use Rattle.guard.specs.PutIn.{put_in}
 
 -- the line that sets the device's page size to a paper, if the interpreter has `setpagedevice`
 abbrev pub page_size_line : Paper → List ℕ

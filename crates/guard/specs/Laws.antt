@@ -7,7 +7,8 @@ use Rattle.profile.specs.Papers.{Paper, is_paper}
 use Rattle.profile.specs.Run.{document_of, most_input_bytes}
 use Rattle.dsc.specs.Units.{units_of}
 use Rattle.seams.specs.Seams.{joined, passes, AreLines, line_unit}
-use Rattle.guard.specs.Header.{header_len, put_in}
+use Rattle.dsc.specs.Header.{header_len}
+use Rattle.guard.specs.PutIn.{put_in}
 use Rattle.guard.specs.Guard.{guard_lines, guarded}
 
 -- lines that can be put in: the first isn't empty, none begins a page or data, and the depth is 0 behind them

@@ -1,4 +1,4 @@
 -- Read in this order: what is put in, and where; what stays.
-pub mod Header
+pub mod PutIn
 pub mod Guard
 pub mod Laws

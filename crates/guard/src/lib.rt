@@ -2,9 +2,7 @@
 //! pages, sets its page device or its matrix by itself stays in its place on the sheet.
 #![tactic(auto)]
 
-mod header;
 pub mod laws;
 mod text;
 
-pub use header::header_len;
 pub use text::{guarded, put_guard, put_guard_before};

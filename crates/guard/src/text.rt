@@ -4,8 +4,7 @@ ghost use Rattle.profile.specs.Bytes.{line};
 ghost use Rattle.profile.specs.Filters.{ended};
 ghost use Rattle.guard.specs.Guard.{page_size_line, page_size_lines, guard_lines, guarded};
 
-use crate::header::header_len;
-use dsc::end_line;
+use dsc::{end_line, header_len};
 use lengths::{Paper, print_points};
 use std::alloc::{AllocError, Global};
 

@@ -2,7 +2,7 @@ use Rattle.std.proofs.Common.{rules, ◌≡◌, ◌∙◌, ap, sym, map-id, take
 use Rattle.std.specs.Prelude.{option_map}
 use Rattle.std.proofs.lemmas.Iterator.{items_from_drains}
 use Rattle.std.proofs.lemmas.Iterator.Adapters.{YieldsList-from_vec}
-use Rattle.guard.specs.Header.{header_len}
+use Rattle.dsc.specs.Header.{header_len}
 use Rattle.guard.specs.Guard.{guard_lines}
 use Rattle.guard.proofs.Gluing.{put_between}
 use Rattle.guard.proofs.text.put_guard.Goals as goal

@@ -4,7 +4,7 @@ use Rattle.std.proofs.lemmas.Iterator.{items_from_drains}
 use Rattle.std.proofs.lemmas.Iterator.Adapters.{YieldsList-from_vec}
 use Rattle.profile.specs.Bytes.{line}
 use Rattle.profile.specs.Filters.{ended}
-use Rattle.guard.specs.Header.{header_len}
+use Rattle.dsc.specs.Header.{header_len}
 use Rattle.guard.specs.Guard.{guard_lines}
 use Rattle.guard.proofs.Gluing.{put_before, front_grows}
 use Rattle.guard.proofs.text.put_guard_before.Goals as goal

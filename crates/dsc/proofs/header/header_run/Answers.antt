@@ -1,8 +1,8 @@
 use Rattle.std.proofs.Common.{rules, arith, ◌≡◌, ◌<◌, length, drop, ap, sym, ◌∙◌, true, false}
 use Rattle.profile.specs.Units.{content_of, line_len}
-use Rattle.guard.specs.Header.{stays, is_last, header_run}
-use Rattle.guard.proofs.HeaderRun.{run_none, run_last, run_more}
-use Rattle.guard.proofs.header.header_run.Goals as goal
+use Rattle.dsc.specs.Header.{stays, is_last, header_run}
+use Rattle.dsc.proofs.HeaderRun.{run_none, run_last, run_more}
+use Rattle.dsc.proofs.header.header_run.Goals as goal
 
 pub returns-then-not-stays-clause-value : goal.returns-then-not-stays-clause-value
 returns-then-not-stays-clause-value c =

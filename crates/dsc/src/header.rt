@@ -1,9 +1,10 @@
 //! Where the header comments of a document end.
 ghost use Rattle.std.specs.Prelude.{◌≡◌, ◌<◌, ◌≤◌, length};
 ghost use Rattle.profile.specs.Units.{content_of, line_len};
-ghost use Rattle.guard.specs.Header.{is_header, ends_header, stays, is_last, header_run, header_len};
+ghost use Rattle.dsc.specs.Header.{is_header, ends_header, stays, is_last, header_run, header_len};
 
-use dsc::{content_end, key_of, line_end_after};
+use crate::keys::key_of;
+use crate::lines::{content_end, line_end_after};
 
 /// How long the header comments are: the first line, and the run of comments behind it.
 pub fn header_len(text: &[u8]) -> usize
@@ -76,7 +77,7 @@ fn is_last(content: &[u8]) -> bool
 }
 
 /// The content of the first line.
-fn first_content(text: &[u8]) -> &[u8]
+pub fn first_content(text: &[u8]) -> &[u8]
     ensures { result.now ≡ content_of text.now }
 {
     let (content, _) = text.split_at(content_end(text));

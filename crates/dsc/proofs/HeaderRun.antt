@@ -3,7 +3,7 @@ use Rattle.std.specs.Prelude.{not, if◌then◌else◌}
 use Rattle.std.proofs.Common.{◌&&◌, true, false, ◌≡◌, ℕ, zero, suc, ◌+◌, ◌<◌, ◌≤◌, List, [], ◌∷◌, length, drop, refl, ap, arith, length-drop, ◌∙◌}
 use Rattle.profile.specs.Units.{content_of, line_len}
 use Rattle.dsc.proofs.LineLengths.{line_len-pos}
-use Rattle.guard.specs.Header.{is_header, ends_header, stays, is_last, run_len, header_run}
+use Rattle.dsc.specs.Header.{is_header, ends_header, stays, is_last, run_len, header_run}
 
 pub run_enough : (k m : ℕ) (text : List ℕ) → length text ≤ k → length text ≤ m → run_len k text ≡ run_len m text
 run_enough zero zero text h g = refl

@@ -1,11 +1,9 @@
 -- The header comments of a document: its first line and the comments behind it. The rule is this project's own; what
 -- comments of the header look like, and that %%EndComments ends them, is of DSC, General Header Comments.
 use Rattle.std.specs.Prelude.{ℕ, zero, suc, ◌+◌, Bool, false, not, ◌&&◌, ◌||◌, ◌==◌, nat_eq, nat_le, if◌then◌else◌}
-use Rattle.std.specs.Prelude.{List, [], ◌∷◌, ◌++◌, length, take, drop, flat_map, codes}
+use Rattle.std.specs.Prelude.{List, [], ◌∷◌, length, drop, codes}
 use Rattle.std.specs.List.{starts_with}
-use Rattle.profile.specs.Bytes.{line}
 use Rattle.profile.specs.Units.{content_of, line_len, key, has_key, is_comment}
-use Rattle.profile.specs.Filters.{ended}
 
 -- a percent sign and a byte that prints
 abbrev pub is_header : List ℕ → Bool
@@ -42,7 +40,3 @@ header_run text = run_len (length text) text
 -- how long the header comments are: the first line, and the run behind it
 abbrev pub header_len : List ℕ → ℕ
 header_len text = let n = line_len text in n + header_run (drop n text)
-
--- the text with lines put in behind its header comments, whose last line gets an end if it has none
-abbrev pub put_in : List (List ℕ) → List ℕ → List ℕ
-put_in lines text = let n = header_len text in ended (take n text) ++ (flat_map line lines ++ drop n text)

@@ -1,6 +1,6 @@
 use Rattle.std.proofs.Common.{◌≡◌, ◌+◌, length}
-use Rattle.guard.specs.Header.{header_run}
-use Rattle.guard.proofs.header.header_run.Given as goal
+use Rattle.dsc.specs.Header.{header_run}
+use Rattle.dsc.proofs.header.header_run.Given as goal
 
 abbrev pub invariant-loop-rest : goal.invariant-loop-rest
 invariant-loop-rest l = record {
