@@ -13,7 +13,7 @@ use Rattle.clap.specs.declared.builder.action.ArgAction.TheVariants.{Set}
 use Rattle.clap.proofs.SimpleLemmas.{is_false, is_nil}
 use Rattle.clap.specs.declared.builder.arg.Arg.{Arg}
 use Rattle.clap.specs.declared.builder.command.Command.{Command}
-use Rattle.pstops_cli.specs.Command.{are_distinct, fits, is_met, is_own_id}
+use Rattle.command_words.specs.Arguments.{are_distinct, fits, is_met, is_own_id}
 
 both : (a b : Bool) → (a && b) ≡ true → (a ≡ true) × (b ≡ true)
 both true b e = (refl, e)

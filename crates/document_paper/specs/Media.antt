@@ -2,18 +2,16 @@
 use Rattle.std.specs.Prelude.{ℕ, zero, suc, ℤ, pos, ◌+◌, ◌≡◌, Bool, false, if◌then◌else◌, option_map, option_and_then}
 use Rattle.std.specs.Prelude.{List, [], ◌∷◌, length, take, drop, codes, Option, Some, None}
 use Rattle.std.specs.Ordering.{int_eq}
-use Rattle.profile.specs.Papers.{Paper, Pt, grains, is_paper, points}
+use Rattle.profile.specs.Papers.{Paper, Pt, grains, is_paper}
 use Rattle.profile.specs.Numbers.{is_large}
 use Rattle.profile.specs.Units.{content_of, line_len, is_comment, fields}
 use Rattle.dsc.specs.Header.{header_len}
+use Rattle.lengths.specs.Lengths.{a4}
 use Rattle.lengths.specs.Reading.{is_empty, number_at}
 use Rattle.document_paper.specs.declared.media.Comment.{Comment}
 use Rattle.document_paper.specs.declared.media.Comment.TheVariants.{DocumentMedia, BoundingBox}
 
 -- ---- fields
-
-abbrev pub a4 : Paper
-a4 = points 595 842
 
 -- all of the field is a number, which is in points
 abbrev pub points_at : Option (ℤ × List ℕ) → Option ℤ

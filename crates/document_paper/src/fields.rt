@@ -2,7 +2,7 @@
 ghost use Rattle.std.specs.Prelude.{◌≡◌};
 ghost use Rattle.document_paper.specs.Media as meaning;
 
-use lengths::{Grains, Paper, Unit, paper_by_name, read_number, to_grains};
+use lengths::{Grains, Unit, a4, read_number, to_grains};
 
 /// The length that a field names, in points.
 pub(crate) fn points_of(field: &[u8]) -> Option<Grains>
@@ -12,14 +12,8 @@ pub(crate) fn points_of(field: &[u8]) -> Option<Grains>
     if len < field.len() {
         return None;
     }
+    // Points don't ask for the paper.
     Some(to_grains(number, Unit::Pt, &a4()))
-}
-
-/// Some paper, for points don't ask for it.
-fn a4() -> Paper
-    ensures { result ≡ meaning.a4 }
-{
-    paper_by_name("a4").unwrap()
 }
 
 /// Whether there is a length, which is 0.

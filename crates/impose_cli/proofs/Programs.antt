@@ -5,7 +5,7 @@ use Rattle.std.specs.Io.KnownBytes.{Appends, Keeps}
 use Rattle.std.proofs.KnownBytes.{Appends-kept}
 use Rattle.world.specs.Outputs.{IsFrontOf, told_if}
 use Rattle.impose_cli.specs.Endings.{Ends}
-use Rattle.pstops_cli.specs.Input.{IsFirst, most_bytes}
+use Rattle.input.specs.Input.{IsFirst, most_bytes}
 use Rattle.impose_cli.specs.Programs.{BreaksOff, CarriesOut, Gives, IsReading, IsToldAs, IsToldOf, Prints, RunsInto}
 use Rattle.impose_cli.specs.Programs.{TakesInput}
 use Rattle.impose_cli.specs.Unread.{IsPossible, RefusesUnread}

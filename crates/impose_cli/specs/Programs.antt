@@ -5,7 +5,7 @@ use Rattle.std.specs.Io.KnownBytes.{Appends}
 use Rattle.clap.specs.Words.{Text}
 use Rattle.imposer.specs.declared.outcome.RunError.TheVariants as run
 use Rattle.world.specs.Outputs.{IsFrontOf, told_if}
-use Rattle.pstops_cli.specs.Input.{IsFirst, most_bytes}
+use Rattle.input.specs.Input.{IsFirst, most_bytes}
 use Rattle.impose_cli.specs.Endings.{Ends}
 use Rattle.impose_cli.specs.Faults.{without_memory}
 use Rattle.impose_cli.specs.Refusals.{RefusesTask}

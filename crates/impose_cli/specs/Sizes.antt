@@ -3,13 +3,14 @@ use Rattle.std.specs.Prelude.{ℕ, ℤ, ◌+◌, ◌==◌, if◌then◌else◌, 
 use Rattle.std.specs.Prelude.{None}
 use Rattle.std.specs.List.{prefix_len}
 use Rattle.profile.specs.Papers.{Paper, paper_named}
-use Rattle.document_paper.specs.Media.{a4, paper_of}
-use Rattle.pstops_cli.specs.Values as values
+use Rattle.lengths.specs.Lengths.{a4}
+use Rattle.lengths.specs.Lengths as lengths
+use Rattle.document_paper.specs.Media.{paper_of}
 
 -- a number up to 99,999.999999999 and its unit, pt, cm, mm or in, or points without one; none of these asks for the
 -- paper
 abbrev pub length_named : List ℕ → Option ℤ
-length_named text = values.length_named a4 text
+length_named text = lengths.length_named a4 text
 
 abbrev pub letter_x : ℕ
 letter_x = 120

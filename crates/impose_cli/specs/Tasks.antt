@@ -16,7 +16,8 @@ use Rattle.std.specs.Io.KnownBytes.{Appends}
 use Rattle.profile.specs.Output.{Frame, output}
 use Rattle.imposer.specs.Runs.{Reports}
 use Rattle.imposer.specs.Runs as runs
-use Rattle.document_paper.specs.Media.{a4, document_paper}
+use Rattle.lengths.specs.Lengths.{a4}
+use Rattle.document_paper.specs.Media.{document_paper}
 use Rattle.document_paper.specs.declared.media.Comment.{Comment}
 use Rattle.impose_cli.specs.declared.task.PaperOrigin.{PaperOrigin}
 use Rattle.impose_cli.specs.declared.task.PaperOrigin.TheVariants.{Named, ByComment, Assumed}

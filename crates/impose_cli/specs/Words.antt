@@ -4,9 +4,9 @@ use Rattle.std.specs.Prelude.{option_map, List, Option, Some, None, codes, strin
 use Rattle.std.specs.Str.{bytes_eq}
 use Rattle.clap.specs.Words.{IsAmong, Row, Text, fault_of, first_of, kind_of, one_of, subcommand_of}
 use Rattle.profile.specs.Papers.{Paper}
-use Rattle.pstops_cli.specs.Command.{has_true}
-use Rattle.pstops_cli.specs.Values as values
-use Rattle.document_paper.specs.Media.{a4}
+use Rattle.lengths.specs.Lengths.{a4}
+use Rattle.command_words.specs.Borders.{border_named}
+use Rattle.command_words.specs.Matches.{has_true, number_named}
 use Rattle.layouts.specs.declared.select.Which.{Which}
 use Rattle.layouts.specs.declared.select.Which.TheVariants.{All, Odd, Even}
 use Rattle.impose_cli.specs.Command.{impose}
@@ -27,7 +27,7 @@ has_flag id found = has_true (first_of id found)
 
 -- the whole number of an argument, if it is there
 abbrev pub number_found : (id : Text) → (found : List Row) → Option ℕ
-number_found id found = values.sides_named (one_of id found)
+number_found id found = number_named (one_of id found)
 
 abbrev pub paper_id : PaperOption → Text
 paper_id OfPages = codes "paper"
@@ -43,7 +43,7 @@ size_found option found = size_asked (first_of (paper_id option) found)
 
 -- no border if none is asked for, or one of the width 0; and nothing if the text names no length, or one below 0
 abbrev pub border_found : (found : List Row) → Option (Option ℤ)
-border_found found = values.border_named a4 (first_of (codes "border") found)
+border_found found = border_named a4 (first_of (codes "border") found)
 
 -- a signature of leaves that are folded has a multiple of four sides
 abbrev pub is_folded : (signature : Option ℕ) → Bool

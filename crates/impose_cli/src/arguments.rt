@@ -2,7 +2,7 @@
 ghost use Rattle.std.specs.Prelude.{◌≡◌, IfOk, codes, map, true};
 ghost use Rattle.std.specs.List.{fold, list_all};
 ghost use Rattle.clap.specs.Words.{app_of, new_app, rule_of, with_rule};
-ghost use Rattle.pstops_cli.specs.Command.{fits};
+ghost use Rattle.command_words.specs.Arguments.{fits};
 ghost use Rattle.impose_cli.specs.Command.{apps, booklet_app, common_rules, flag_rule, impose, nup_app, option_rule};
 ghost use Rattle.impose_cli.specs.Command.{positional_rule, required_rule, select_app, spec_app};
 

@@ -1,24 +1,22 @@
 //! What the words ask for.
 ghost use Rattle.std.specs.Prelude.{◌≡◌, [], IfOk, IfErr, Some, codes, map, option_map, string_bytes, true};
-ghost use Rattle.clap.specs.Words.{fault_of, first_of, found_of, is_simple, rows_of, subcommand_of, subcommand_rows_of};
-ghost use Rattle.pstops_cli.specs.Command.{has_true};
-ghost use Rattle.pstops_cli.specs.Values as values;
-ghost use Rattle.document_paper.specs.Media.{a4};
+ghost use Rattle.clap.specs.Words.{fault_of, found_of, is_simple, rows_of, subcommand_of, subcommand_rows_of};
 ghost use Rattle.impose_cli.specs.Command.{impose};
 ghost use Rattle.impose_cli.specs.Words.{AsksFor, Entered, ParseRefuses, Reads, Refuses, RefusesFound};
-ghost use Rattle.impose_cli.specs.Words.{RefusesArguments, border_found, file_asked, has_flag, number_found, paper_id};
+ghost use Rattle.impose_cli.specs.Words.{RefusesArguments, border_found, file_asked, paper_id};
 ghost use Rattle.impose_cli.specs.Words.{size_found, which_found, which_of as of_both};
 ghost use Rattle.impose_cli.specs.Sizing.{ReadsSizes, RefusesBorder, RefusesSize, RefusesSizes};
 
 use crate::arguments::command;
 use crate::fault::{CommandFault, PaperOption};
 use crate::request::{Layout, Request};
-use crate::sizes::{length_named, size_named};
+use crate::sizes::size_named;
 use clap::ArgMatches;
 use clap::error::ErrorKind;
+use command_words::{border_named, is_set, number_of, owned, text_of};
 use layouts::Which;
-use lengths::{Grains, Paper};
-use std::alloc::{AllocError, Global};
+use lengths::{Grains, Paper, a4};
+use std::alloc::Global;
 
 /// The request that the words make, of which the first is the program's name.
 ///
@@ -158,23 +156,10 @@ fn border_of(alloc: Global, found: &ArgMatches<'_>) -> Result<Option<Grains>, Co
 {
     match text_of(found, "border") {
         None => Ok(None),
-        Some(text) => match border_named(text) {
+        Some(text) => match border_named(&a4(), Some(text)) {
             Some(border) => Ok(border),
             None => Err(CommandFault::BadBorder(String::from_str(alloc, text)?)),
         },
-    }
-}
-
-fn border_named(text: &str) -> Option<Option<Grains>>
-    ensures { result ≡ values.border_named a4 (Some text.now) }
-{
-    let width = length_named(text)?;
-    if width.get() >= 1 {
-        Some(Some(width))
-    } else if width.get() >= 0 {
-        Some(None)
-    } else {
-        None
     }
 }
 
@@ -266,45 +251,5 @@ fn file_named(name: Option<&str>) -> Option<&str>
     match name {
         None => None,
         Some(name) => { if name == "-" { None } else { Some(name) } }
-    }
-}
-
-/// The value of an argument as text.
-fn text_of<'a>(found: &ArgMatches<'a>, id: &str) -> Option<&'a str>
-    ensures { option_map (λ s. s.now) result ≡ first_of id.now (rows_of (found_of found.now)) }
-{
-    found.get_str(id)
-}
-
-/// The whole number of an argument.
-fn number_of(found: &ArgMatches<'_>, id: &str) -> Option<u32>
-    ensures { result ≡ number_found id.now (rows_of (found_of found.now)) }
-{
-    found.get_one::<u32>(id)
-}
-
-/// Whether a flag stands among the words: its text is then `true`.
-fn is_set(found: &ArgMatches<'_>, id: &str) -> bool
-    ensures { result ≡ has_flag id.now (rows_of (found_of found.now)) }
-{
-    is_true(text_of(found, id))
-}
-
-fn is_true(text: Option<&str>) -> bool
-    ensures { result ≡ has_true (option_map (λ s. s.now) text.entry) }
-{
-    match text {
-        Some(text) => text == "true",
-        None => false,
-    }
-}
-
-/// The text as one of the request's own.
-fn owned(alloc: Global, text: Option<&str>) -> Result<Option<String>, AllocError>
-    ensures { IfOk result (λ own. option_map string_bytes own ≡ option_map (λ s. s.now) text.entry) }
-{
-    match text {
-        None => Ok(None),
-        Some(text) => Ok(Some(String::from_str(alloc, text)?)),
     }
 }

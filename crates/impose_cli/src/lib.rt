@@ -20,5 +20,5 @@ pub use lines::{fault_status, fault_text, report_text};
 pub use printed::printed_task;
 pub use program::{Done, Ended, impose};
 pub use request::{Layout, Request};
-pub use sizes::{length_named, size_named};
+pub use sizes::size_named;
 pub use task::{Finished, PaperOrigin, Task, check_layout, prepare, run_request};

@@ -1,6 +1,5 @@
 //! What is said of a fault or a finished run, and with which exit status the program ends.
 ghost use Rattle.std.specs.Prelude.{◌≡◌};
-ghost use Rattle.pstops_cli.specs.Lines.{run_status as status_of_run};
 ghost use Rattle.impose_cli.specs.Statuses.{fault_status as status_of_fault, words_status as status_of_words};
 
 use crate::caret::{caret_below, group_place, item_place, large_place};
@@ -8,6 +7,7 @@ use crate::fault::{CommandFault, Fault, PaperOption};
 use crate::request::{Layout, Request};
 use crate::task::{Finished, PaperOrigin};
 use clap::error::ErrorKind;
+use command_words::run_status;
 use document_paper::Comment;
 use dsc::DscError;
 use imposer::RunError;
@@ -41,19 +41,6 @@ fn words_status(kind: ErrorKind) -> u8
     match kind {
         ErrorKind::DisplayHelp | ErrorKind::DisplayVersion => 0,
         _ => 2,
-    }
-}
-
-fn run_status(error: &RunError) -> u8
-    ensures { result ≡ status_of_run error.now }
-{
-    match error {
-        RunError::Options => 2,
-        RunError::Spec(SpecError::NoMemory) => 3,
-        RunError::Document(DscError::NoMemory) => 3,
-        RunError::Plan(PlanError::NoMemory) => 3,
-        RunError::Spec(_) | RunError::Document(_) | RunError::Plan(_) => 1,
-        RunError::NoMemory { .. } | RunError::Write { .. } => 3,
     }
 }
 

@@ -1,6 +1,6 @@
 //! The whole program, over the files and standard streams around it.
 ghost use Rattle.std.specs.Prelude.{◌≡◌, false, is_some, map, option_and_then, option_map, string_bytes, Some, Err, IfOk, IfErr};
-ghost use Rattle.pstops_cli.specs.Input.{IsFirst, most_bytes};
+ghost use Rattle.input.specs.Input.{IsFirst, most_bytes};
 ghost use Rattle.impose_cli.specs.Programs.{CarriesOut, EndsProgram, IsFailedWrite, IsReading, IsToldAs, Prints};
 ghost use Rattle.impose_cli.specs.Programs.{RunsInto, status_of};
 ghost use Rattle.impose_cli.specs.declared.fault.Fault.TheVariants as faults;
@@ -12,8 +12,9 @@ use crate::lines::fault_status;
 use crate::printed::printed_task;
 use crate::request::Request;
 use crate::task::{Finished, check_layout, prepare, run_request};
+use command_words::name_of;
 use imposer::RunError;
-use pstops_cli::{ReadFault, ReadSource, read_input};
+use input::{ReadFault, ReadSource, read_input};
 use std::alloc::Global;
 use std::io;
 use std::io::{ErrorKind, Read, Write};
@@ -153,15 +154,6 @@ fn read_from<I: Read + Drop>(alloc: Global, input: I) -> Result<Vec<u8>, Fault>
         Ok(bytes) => Ok(bytes),
         Err(ReadFault::NoMemory) => Err(Fault::no_memory()),
         Err(ReadFault::Device) => Err(Fault::Read(heard.into_cause())),
-    }
-}
-
-fn name_of(name: &Option<String>) -> Option<&str>
-    ensures { option_map (λ n. n.now) result ≡ option_map string_bytes name.now }
-{
-    match name {
-        Some(name) => Some(name.as_str()),
-        None => None,
     }
 }
 

@@ -20,13 +20,12 @@ ghost use Rattle.impose_cli.specs.declared.request.Layout.TheVariants as layout;
 
 use crate::fault::Fault;
 use crate::request::{Layout, Request};
-use crate::sizes::a4;
 use document_paper::{Comment, document_paper};
 use dsc::{Document, DscError};
 use guard::put_guard;
 use imposer::{Open, Options, Report, RunError, Sink, Workers, run};
 use layouts::{LayoutError, Which, booklet, nup, selection};
-use lengths::Paper;
+use lengths::{Paper, a4};
 use pagespec::{Spec, read_spec, write_spec};
 use std::alloc::{AllocError, Global};
 use std::sync::Wait;

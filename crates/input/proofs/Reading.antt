@@ -4,7 +4,7 @@ use Rattle.std.specs.Io.KnownBytes.{Consumes, IsAtEnd}
 use Rattle.std.proofs.KnownBytes.{Consumes-trans}
 use Rattle.std.proofs.Math.Seq.{take-add}
 use Rattle.std.proofs.lemmas.List.{take_at}
-use Rattle.pstops_cli.specs.Input.{IsFirst}
+use Rattle.input.specs.Input.{IsFirst}
 
 -- the buffer was filled up to f, and the new one keeps that front and has k bytes more
 pub filled_more : (a b c : Option (List ℕ)) (old new : List ℕ) (f k : ℕ)

@@ -2,8 +2,8 @@
 use Rattle.std.specs.Prelude.{◌≡◌, ◌+◌, ◌≤◌, length, ℕ, List, Option, Result, MatchResult, take, IfSome}
 use Rattle.std.specs.Io.KnownBytes.{Consumes, IsAtEnd, Keeps}
 use Rattle.profile.specs.Run.{most_input_bytes}
-use Rattle.pstops_cli.specs.declared.input.ReadFault.{ReadFault}
-use Rattle.pstops_cli.specs.declared.input.ReadFault.TheVariants.{Device, NoMemory}
+use Rattle.input.specs.declared.read.ReadFault.{ReadFault}
+use Rattle.input.specs.declared.read.ReadFault.TheVariants.{Device, NoMemory}
 
 -- as many bytes as are read at most: one more than a document may have, so that a longer one is seen to be too long
 abbrev pub most_bytes : ℕ

@@ -6,3 +6,5 @@ pub mod LastZeros
 pub mod WholeNumbers
 pub mod Table
 pub mod ReadAgain
+pub mod NumbersAndUnits
+pub mod Examples

@@ -7,7 +7,7 @@ use Rattle.profile.specs.Numbers.{is_large}
 use Rattle.profile.specs.Papers.{LengthUnit, Pt, Cm, Mm, In, Paper, grains}
 use Rattle.lengths.specs.Reading.{Ends, number_at}
 use Rattle.lengths.proofs.Numbers.{number_found, number_read}
-use Rattle.pstops_cli.specs.Values.{IsLength, length_named, length_of, unit_named}
+use Rattle.lengths.specs.Lengths.{IsLength, length_named, length_of, unit_named}
 
 -- ---- what is read has these parts
 

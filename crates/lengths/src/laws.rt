@@ -1,5 +1,6 @@
 //! Laws of reading and printing. The functions do nothing.
 ghost use Rattle.profile.specs.Numbers.{scale_text, number_text};
+ghost use Rattle.lengths.specs.Lengths.{LengthsAreNumbers};
 ghost use Rattle.lengths.specs.Printed.{IsReadAgain};
 
 /// Reading a number that `print_scale` wrote gives it again.
@@ -10,4 +11,10 @@ pub fn printed_scale_is_read()
 /// Reading a number that `print_number` wrote gives it again.
 pub fn printed_number_is_read()
     ensures { IsReadAgain number_text }
+{}
+
+/// The texts that are taken for lengths are those of a number up to 99,999.999999999 with `pt`, `cm`, `mm`, `in` or
+/// nothing behind it.
+pub fn lengths_are_numbers_and_units()
+    ensures { LengthsAreNumbers }
 {}

@@ -4,6 +4,7 @@
 mod convert;
 mod grains;
 pub mod laws;
+mod length;
 mod named;
 mod number;
 mod paper;
@@ -13,9 +14,10 @@ mod unit;
 
 pub use convert::to_grains;
 pub use grains::Grains;
-pub use named::paper_by_name;
+pub use length::length_named;
+pub use named::{a4, paper_by_name};
 pub use number::Number;
 pub use paper::Paper;
 pub use print::{print_number, print_points, print_scale};
 pub use read::{NumberError, read_digits, read_number};
-pub use unit::Unit;
+pub use unit::{Unit, unit_by_name};

@@ -2,6 +2,7 @@
 ghost use Rattle.std.specs.Prelude.{◌≡◌, ◌<◌, ◌≤◌, map, IsTrue, ◌↔◌};
 ghost use Rattle.std.specs.Str.{bytes_eq};
 ghost use Rattle.profile.specs.Papers.{paper_named, points, small};
+ghost use Rattle.lengths.specs.Lengths.{a4};
 
 use super::paper::Paper;
 
@@ -27,4 +28,11 @@ pub fn paper_by_name(name: &str) -> Option<Paper>
         }
     }
     None
+}
+
+/// The paper that is taken if nothing tells one.
+pub fn a4() -> Paper
+    ensures { result ≡ a4 }
+{
+    Paper::of_points(595, 842)
 }

@@ -1,4 +1,7 @@
 //! The units that a length is written in.
+ghost use Rattle.std.specs.Prelude.{◌≡◌, option_map};
+ghost use Rattle.lengths.specs.Lengths.{unit_named};
+ghost use Rattle.lengths.specs.Units.{length_unit};
 
 /// A unit of length, as a page specification names it. An inch is 72 points, or 2.54 cm, or 25.4 mm.
 #[derive(Clone, Copy, Debug, PartialEq, Eq, Hash)]
@@ -15,4 +18,21 @@ pub enum Unit {
     W,
     /// Heights of the paper.
     H,
+}
+
+/// The unit of this name: `pt`, `cm`, `mm` or `in`, or points if there is no name.
+pub fn unit_by_name(name: &[u8]) -> Option<Unit>
+    ensures { option_map length_unit result ≡ unit_named name.now }
+{
+    if name.is_empty() || name == b"pt".as_slice() {
+        Some(Unit::Pt)
+    } else if name == b"cm".as_slice() {
+        Some(Unit::Cm)
+    } else if name == b"mm".as_slice() {
+        Some(Unit::Mm)
+    } else if name == b"in".as_slice() {
+        Some(Unit::In)
+    } else {
+        None
+    }
 }

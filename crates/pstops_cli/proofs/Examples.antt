@@ -1,15 +1,13 @@
 -- Command lines whose words are written out, with what comes of them.
-use Rattle.std.proofs.Common.{◌≡◌, ℕ, ◌+◌, refl, map, [], ◌∷◌, List, Option, Some, None, Err}
-use Rattle.std.specs.Prelude.{codes, pos}
+use Rattle.std.proofs.Common.{◌≡◌, ℕ, refl, [], ◌∷◌, List, Option, Some, None, Err}
+use Rattle.std.specs.Prelude.{codes}
 use Rattle.clap.specs.Words.{fault_of, first_of, matches_of}
 use Rattle.clap.specs.declared.error.kind.ErrorKind.TheVariants.{ArgumentConflict, InvalidValue, MissingRequiredArgument, UnknownArgument, ValueValidation}
 use Rattle.lengths.specs.Reading.{number_at}
-use Rattle.profile.specs.Papers.{Pt, Cm, Mm, In, points}
-use Rattle.profile.specs.Run.{most_input_bytes}
+use Rattle.profile.specs.Papers.{points}
 use Rattle.clap.proofs.OnLiterals.{clap_on_literals}
 use Rattle.pstops_cli.specs.Command.{Takes, options_found, pstops, sides_found, workers_found}
-use Rattle.pstops_cli.specs.Input.{most_bytes}
-use Rattle.pstops_cli.specs.Values.{border_named, border_of, letter_d, letter_h, letter_w, options_named, paper_or_a4, unit_named}
+use Rattle.pstops_cli.specs.Values.{letter_d, letter_h, letter_w, options_named, paper_or_a4}
 use Rattle.pstops_cli.specs.declared.command.CommandFault.TheVariants.{BadLength, UnknownPaper}
 
 pub no_words : fault_of pstops [] ≡ MissingRequiredArgument ∷ []
@@ -156,28 +154,8 @@ million_and_one = refl
 
 -- ---- the values of options
 
-pub units : map unit_named ([] ∷ codes "pt" ∷ codes "cm" ∷ codes "mm" ∷ codes "in" ∷ []) ≡ Some Pt ∷ Some Pt ∷ Some Cm ∷ Some Mm ∷ Some In ∷ []
-units = refl
-
-pub no_units : map unit_named (codes "p" ∷ codes "ptx" ∷ codes "PT" ∷ codes " pt" ∷ codes "inch" ∷ []) ≡ None ∷ None ∷ None ∷ None ∷ None ∷ []
-no_units = refl
-
 pub a4_if_none_is_named : paper_or_a4 None ≡ Some (points 595 842)
 a4_if_none_is_named = refl
-
-pub no_border_asked_for : border_named (points 1 1) None ≡ Some None
-no_border_asked_for = refl
-
--- a border of the width 0 is none, and one grain is the thinnest there is
-pub border_of_zero : border_of (pos 0) ≡ Some None
-border_of_zero = refl
-
-pub thinnest_border : border_of (pos 1) ≡ Some (Some (pos 1))
-thinnest_border = refl
-
-pub border_below_zero : border_named (points 1 1) (Some (codes "-1")) ≡ None
-unfolding number_at
-border_below_zero = refl
 
 abbrev bad : Option (List ℕ)
 bad = Some (codes "x")
@@ -198,12 +176,3 @@ height_third = refl
 pub border_last : options_named None None None bad None (record { preparers = 2; imposers = 2 }) ≡ Err (BadLength letter_d)
 unfolding options_named number_at
 border_last = refl
-
--- ---- reading
-
--- one byte more is read than an input may have, so that a longer one is seen to be too long
-pub one_byte_more : most_bytes ≡ most_input_bytes + 1
-one_byte_more = refl
-
-pub most_bytes_in_digits : most_bytes ≡ 1_073_741_825
-most_bytes_in_digits = refl

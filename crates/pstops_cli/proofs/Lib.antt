@@ -1,8 +1,5 @@
-pub mod Chain
 pub mod SimpleCommand
 pub mod WorkerNumbers
-pub mod Reading
-pub mod Lengths
 pub mod ValueFaults
 pub mod Statuses
 pub mod Programs

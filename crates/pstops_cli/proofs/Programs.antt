@@ -15,7 +15,8 @@ use Rattle.pstops_cli.specs.Programs.{CreatesAndRuns, IsCreating, IsSaid, Ran, R
 use Rattle.pstops_cli.specs.declared.command.Request.{Request}
 use Rattle.pstops_cli.specs.declared.lines.Fault.{Fault}
 use Rattle.pstops_cli.specs.declared.lines.Fault.TheVariants as fault
-use Rattle.pstops_cli.proofs.Statuses.{finished_at_zero, run_status-above}
+use Rattle.command_words.proofs.RunStatuses.{run_status-above}
+use Rattle.pstops_cli.proofs.Statuses.{finished_at_zero}
 
 not_zero : (n : ℕ) → n ≡ 3 → n ≡ 0 → ⊥
 not_zero n three zero = omega (arith, three, zero)

@@ -5,7 +5,8 @@ use Rattle.std.specs.List.{fold, list_all}
 use Rattle.clap.specs.Words.{is_simple, new_app, with_rule}
 use Rattle.clap.specs.Simple.{on_top}
 use Rattle.clap.specs.Faults.{is_simple_and_free}
-use Rattle.pstops_cli.specs.Command.{are_distinct, bare, fits, pstops, rules}
+use Rattle.command_words.specs.Arguments.{are_distinct, fits}
+use Rattle.pstops_cli.specs.Command.{bare, pstops, rules}
 
 pub pstops_is_simple : is_simple pstops ≡ true
 unfolding pstops

@@ -1,22 +1,20 @@
 -- The numbers of workers that are found lie from 1 to 16, and that of sides from 4 to 1,000,000: clap took no other values for
 -- them.
-use Rattle.std.proofs.Common.{◌≡◌, ◌∙◌, ◌<◌, ◌≤◌, ◌&&◌, ◌^◌, ap, refl, sym, subst, true, false, Bool, map, List, [], ◌∷◌, ℕ, zero, suc, length, arith, get_or, inl, inr, Option, Some, None, nat_lt, lt-ltb, ltb-true, unwrap_or}
+use Rattle.std.proofs.Common.{◌≡◌, ◌∙◌, ◌<◌, ◌≤◌, ◌^◌, ap, refl, sym, subst, true, map, List, [], ◌∷◌, ℕ, zero, suc, length, arith, get_or, inl, inr, Option, Some, None, unwrap_or}
 use Rattle.std.specs.Prelude.{codes, pos, ⊤, option_map, slice_get}
 use Rattle.std.specs.Borrow.{Bor}
 use Rattle.std.specs.List.{All, list_all}
-use Rattle.std.specs.Char.{digit_value}
 use Rattle.std.specs.Str.{bytes_eq}
-use Rattle.std.specs.Str.Parse.{AllDigits, ParsesUnsigned, digits_value, without_leading_plus}
+use Rattle.std.specs.Str.Parse.{ParsesUnsigned}
 use Rattle.std.proofs.lemmas.List.{length-map}
 use Rattle.std.proofs.lemmas.List.Elements.{All-get_or}
 use Rattle.std.proofs.lemmas.Slice.Eq.{bytes_eq-Decides}
 use Rattle.clap.specs.Facts.{Entry, EntryPasses, HasReading, PassesArg, ValuesPass, args_of, groups_of, parser_of_value}
 use Rattle.clap.specs.Built.{FitsChain, HasDistinctIds, IsParsedFrom, IsPlainArg}
-use Rattle.clap.specs.Matches.{ReadsOne, found_of, matched_of, one_text}
+use Rattle.clap.specs.Matches.{found_of, matched_of, one_text}
 use Rattle.clap.specs.Lexer.{without_minus}
 use Rattle.clap.specs.Simple.{app_of}
 use Rattle.clap.specs.Values.{Accepts, IsSignedIn, read_as, reading_of}
-use Rattle.clap.specs.ValueTests.{is_numeral}
 use Rattle.clap.specs.Words.{Rule, Text, one_of, rows_of, rule_of}
 use Rattle.clap.specs.declared.builder.arg.Arg.{Arg}
 use Rattle.clap.specs.declared.builder.command.Command.{Command}
@@ -29,44 +27,17 @@ use Rattle.clap.specs.declared.parser.matches.MatchedArg.{MatchedArg}
 use Rattle.clap.proofs.CallerLemmas.{entry_by_id, same_rules_by_id}
 use Rattle.clap.proofs.CallerReads.{signed_reads}
 use Rattle.clap.proofs.SimpleLemmas.{plain_fields}
-use Rattle.clap.proofs.WalkLemmas.{both, one_text-rows}
+use Rattle.clap.proofs.WalkLemmas.{one_text-rows}
 use Rattle.imposer.specs.Workers.{AreWorkers}
-use Rattle.pstops_cli.specs.Command.{are_distinct, counted_rule, fits, pstops, ranged_rule, rules, sides_found, workers_found}
-use Rattle.pstops_cli.specs.Values.{AreInRange, count_named, letter_j, letter_k, letter_s, number_of, sides_named}
-use Rattle.pstops_cli.proofs.Chain.{distinct, each_fits}
+use Rattle.command_words.specs.Arguments.{are_distinct, fits}
+use Rattle.command_words.specs.Matches.{number_named, number_of}
+use Rattle.command_words.proofs.Chain.{distinct, each_fits}
+use Rattle.command_words.proofs.Numerals.{reads_number}
+use Rattle.pstops_cli.specs.Command.{counted_rule, pstops, ranged_rule, rules, sides_found, workers_found}
+use Rattle.pstops_cli.specs.Values.{AreInRange, count_named, letter_j, letter_k, letter_s}
 use Rattle.pstops_cli.proofs.SimpleCommand.{each_rule_fits, pstops_has_rules, pstops_is_plain, rules_are_distinct}
 
 -- ---- a text as a number
-
-pub digits_pass : (ds : List ℕ) → AllDigits 10 ds → list_all (λ d. nat_lt (digit_value d) 10) ds ≡ true
-digits_pass [] h = refl
-digits_pass (d ∷ ds) h = rw (lt-ltb (digit_value d) 10 h.0) (digits_pass ds h.1)
-
-pub digits_from : (ds : List ℕ) → list_all (λ d. nat_lt (digit_value d) 10) ds ≡ true → AllDigits 10 ds
-digits_from [] e = tt
-digits_from (d ∷ ds) e =
-    let parts = both _ _ e in
-    (ltb-true _ _ parts.0, digits_from ds parts.1)
-
-abbrev pub is_number : List ℕ → Bool
-is_number ds = is_numeral ds && nat_lt (digits_value 10 ds) 4294967296
-
--- `number_of` reads a text as `u32` does
-reads_number : (t : List ℕ) → ReadsOne {T = ℕ} {E = ⊤} (λ bs r. ParsesUnsigned 32 10 bs r) t (number_of t)
-reads_number t = go (is_number (without_leading_plus t)) refl
-  where
-    go : (b : Bool) → is_number (without_leading_plus t) ≡ b → ReadsOne {T = ℕ} {E = ⊤} (λ bs r. ParsesUnsigned 32 10 bs r) t (number_of t)
-    go true e =
-        let outer = both (is_numeral (without_leading_plus t)) _ e in
-        let inner = both _ _ outer.0 in
-        rw e (((ltb-true _ _ inner.0, digits_from (without_leading_plus t) inner.1), ltb-true _ _ outer.1), refl)
-    go false e =
-        rw e (
-          tt,
-          λ h.
-              let bad : true ≡ false = rw (lt-ltb 0 (length (without_leading_plus t)) h.0.0, digits_pass (without_leading_plus t) h.0.1, lt-ltb (digits_value 10 (without_leading_plus t)) 4294967296 h.1) at e in
-              cc,
-        )
 
 in_range : (low high : ℕ) (text : List ℕ) → high < 2 ^ 32 → IsSignedIn (pos low) (pos high) text → (n : ℕ) × (number_of (without_minus text) ≡ Some n) × (low ≤ n) × (n ≤ high)
 in_range low high text fits passed =
@@ -217,7 +188,7 @@ workers_in_range c m is p =
 pub sides_in_range : (c : Command) (m : ArgMatches) → app_of c ≡ pstops → IsParsedFrom c m → AreInRange (sides_found (rows_of (found_of m)))
 sides_in_range c m is p = go (one_of (codes "sides") (rows_of (found_of m))) refl
   where
-    go : (o : Option (List ℕ)) → one_of (codes "sides") (rows_of (found_of m)) ≡ o → AreInRange (sides_named o)
+    go : (o : Option (List ℕ)) → one_of (codes "sides") (rows_of (found_of m)) ≡ o → AreInRange (number_named o)
     go None e = tt
     go (Some t) e =
         let n = ranged c m is p 10 4 1_000_000 letter_s (codes "sides") (omega arith) (omega arith) refl t e in

@@ -1,9 +1,7 @@
 -- The command line:
 -- pstops [-q] [-s sides] [-p paper] [-w W] [-h H] [-d width] [-j preparers] [-k imposers] SPECS [INFILE [OUTFILE]].
-use Rattle.std.specs.Prelude.{◌≡◌, ◌≢◌, ◌∷◌, ◌&&◌, Bool, true, false, not, List, [], Some, None, Option, Result, Ok}
+use Rattle.std.specs.Prelude.{◌≡◌, ◌≢◌, ◌∷◌, true, false, List, [], Some, Option, Result, Ok}
 use Rattle.std.specs.Prelude.{Err, codes, string_bytes, ℕ, ⊤, is_some, map, option_map, pos}
-use Rattle.std.specs.List.{list_any}
-use Rattle.std.specs.Str.{bytes_eq}
 use Rattle.clap.specs.Words.{AddsArg, AddsInTurn, App, Row, Rule, Text, app_of, args_of, fault_of, first_of}
 use Rattle.clap.specs.Words.{first_value, found_of, groups_of, matches_of, new_app, new_rule, one_of, rows_of, rule_of}
 use Rattle.clap.specs.Simple.{Shape, on_top}
@@ -17,11 +15,12 @@ use Rattle.profile.specs.Signatures.{most_sides}
 use Rattle.imposer.specs.declared.options.Options.{Options}
 use Rattle.imposer.specs.declared.options.Workers.{Workers}
 use Rattle.imposer.specs.Workers.{AreWorkers}
+use Rattle.command_words.specs.Matches.{has_true, number_named}
 use Rattle.pstops_cli.specs.declared.command.Request.{Request}
 use Rattle.pstops_cli.specs.declared.command.CommandFault.{CommandFault}
 use Rattle.pstops_cli.specs.declared.command.CommandFault.TheVariants.{BadLength, BadWords, NoMemory, UnknownPaper}
 use Rattle.pstops_cli.specs.Values.{AreInRange, letter_d, letter_h, letter_j, letter_k, letter_p, letter_s, letter_w}
-use Rattle.pstops_cli.specs.Values.{options_named, sides_named, workers_named}
+use Rattle.pstops_cli.specs.Values.{options_named, workers_named}
 
 -- ---- the command
 
@@ -76,18 +75,13 @@ Takes words = fault_of pstops words ≡ []
 
 -- ---- the request
 
--- a flag stands among the words
-abbrev pub has_true : Option Text → Bool
-has_true None = false
-has_true (Some text) = bytes_eq text (codes "true")
-
 -- as many workers as the numbers found of -j and -k say
 abbrev pub workers_found : (found : List Row) → Workers
 workers_found found = workers_named (one_of (codes "preparers") found) (one_of (codes "imposers") found)
 
 -- as many sides as the number found of -s says, if it is there
 abbrev pub sides_found : (found : List Row) → Option ℕ
-sides_found found = sides_named (one_of (codes "sides") found)
+sides_found found = number_named (one_of (codes "sides") found)
 
 -- what the values found name, or the fault of the first of -p, -w, -h and -d, in this order, that names nothing
 abbrev pub options_found : (found : List Row) → Result Options CommandFault
@@ -134,23 +128,6 @@ pub record Finds (words : List Text) (m : ArgMatches) : Type 0 where
   pub specs : is_some (first_value (found_of m) (codes "specs")) ≡ true
   pub workers : AreWorkers (workers_found (rows_of (found_of m)))
   pub sides : AreInRange (sides_found (rows_of (found_of m)))
-
--- the id is neither empty nor one that clap adds
-abbrev pub is_own_id : Text → Bool
-is_own_id id = not (bytes_eq id []) && (not (bytes_eq id (codes "help")) && not (bytes_eq id (codes "version")))
-
--- an argument that stands for itself alone, whatever stands beside it
-abbrev pub fits : Rule → Bool
-fits r = r.is_simple && (r.is_free && is_own_id r.id)
-
--- one of the rules has the id
-abbrev pub is_met : Text → List Rule → Bool
-is_met id = list_any (λ r. bytes_eq r.id id)
-
--- no two rules have one id
-abbrev pub are_distinct : List Rule → Bool
-are_distinct [] = true
-are_distinct (r ∷ rest) = not (is_met r.id rest) && are_distinct rest
 
 -- a bare command to which arguments with these rules were added in turn
 pub record IsChain (c : Command) : Type 0 where

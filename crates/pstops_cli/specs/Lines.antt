@@ -10,10 +10,11 @@ use Rattle.sheet_plan.specs.declared.error.PlanError.TheVariants as plan
 use Rattle.imposer.specs.declared.outcome.RunError.{RunError}
 use Rattle.imposer.specs.declared.outcome.RunError.TheVariants as run
 use Rattle.imposer.specs.declared.outcome.Report.{Report}
+use Rattle.input.specs.declared.read.ReadFault.{ReadFault}
+use Rattle.input.specs.declared.read.ReadFault.TheVariants as read
+use Rattle.command_words.specs.Statuses.{run_status}
 use Rattle.pstops_cli.specs.declared.command.CommandFault.{CommandFault}
 use Rattle.pstops_cli.specs.declared.command.CommandFault.TheVariants as command
-use Rattle.pstops_cli.specs.declared.input.ReadFault.{ReadFault}
-use Rattle.pstops_cli.specs.declared.input.ReadFault.TheVariants as read
 use Rattle.pstops_cli.specs.declared.lines.Fault.{Fault}
 use Rattle.pstops_cli.specs.declared.lines.Fault.TheVariants as fault
 
@@ -91,26 +92,6 @@ report_text r = codes "pages "
 abbrev pub command_status : CommandFault → ℕ
 command_status command.NoMemory = 3
 command_status _ = 2
-
-abbrev pub spec_status : SpecError → ℕ
-spec_status spec.NoMemory = 3
-spec_status _ = 1
-
-abbrev pub document_status : DscError → ℕ
-document_status document.NoMemory = 3
-document_status _ = 1
-
-abbrev pub plan_status : PlanError → ℕ
-plan_status plan.NoMemory = 3
-plan_status _ = 1
-
-abbrev pub run_status : RunError → ℕ
-run_status run.Options = 2
-run_status (run.Spec e) = spec_status e
-run_status (run.Document e) = document_status e
-run_status (run.Plan e) = plan_status e
-run_status (run.NoMemory written) = 3
-run_status (run.Write written) = 3
 
 abbrev pub fault_status : Fault → ℕ
 fault_status (fault.Command f) = command_status f

@@ -9,8 +9,8 @@ use Rattle.imposer.specs.declared.outcome.Report.{Report}
 use Rattle.imposer.specs.declared.outcome.RunError.{RunError}
 use Rattle.imposer.specs.declared.outcome.RunError.TheVariants as run
 use Rattle.world.specs.Outputs.{IsFrontOf, told_if}
+use Rattle.input.specs.Input.{IsFirst, most_bytes}
 use Rattle.pstops_cli.specs.Command.{Reads, Refuses, Takes, pstops}
-use Rattle.pstops_cli.specs.Input.{IsFirst, most_bytes}
 use Rattle.pstops_cli.specs.Lines.{fault_status, fault_text, said}
 use Rattle.pstops_cli.specs.Requests.{Ends, IsTold, asked_by}
 use Rattle.pstops_cli.specs.declared.command.Request.{Request}

@@ -7,8 +7,9 @@ use Rattle.imposer.specs.Runs.{Accepted, FailedIn, HasWritten, IsRefusal, Report
 use Rattle.imposer.specs.Runs as runs
 use Rattle.imposer.specs.declared.outcome.Report.{Report}
 use Rattle.imposer.specs.declared.outcome.RunError.{RunError}
+use Rattle.command_words.specs.Statuses.{run_status}
 use Rattle.pstops_cli.specs.declared.command.Request.{Request}
-use Rattle.pstops_cli.specs.Lines.{report_text, run_status, run_text, said}
+use Rattle.pstops_cli.specs.Lines.{report_text, run_text, said}
 
 -- what a request asks of a run
 abbrev pub asked_by : Request → (input : List ℕ) → runs.Request

@@ -1,10 +1,10 @@
 //! What the words after the program's name ask for.
-ghost use Rattle.std.specs.Prelude.{◌≡◌, IfOk, IfErr, codes, is_some, map, option_map, true, string_bytes};
-ghost use Rattle.clap.specs.Words.{first_of, first_value, found_of, matches_of, one_of, rows_of, rule_of};
+ghost use Rattle.std.specs.Prelude.{◌≡◌, IfOk, IfErr, codes, is_some, map, true, string_bytes};
+ghost use Rattle.clap.specs.Words.{first_value, found_of, matches_of, one_of, rows_of, rule_of};
 ghost use Rattle.imposer.specs.Workers.{AreWorkers};
 ghost use Rattle.profile.specs.Signatures.{most_sides};
 ghost use Rattle.pstops_cli.specs.Command.{Finds, IsChain, ParseRefuses, Reads, RefusesFound, Refuses, Takes};
-ghost use Rattle.pstops_cli.specs.Command.{counted_rule, flag_rule, has_true, options_found, positional_rule, pstops};
+ghost use Rattle.pstops_cli.specs.Command.{counted_rule, flag_rule, options_found, positional_rule, pstops};
 ghost use Rattle.pstops_cli.specs.Command.{ranged_rule, rules, sides_found, valued_rule, workers_found};
 ghost use Rattle.pstops_cli.specs.Values.{AreInRange};
 ghost use Rattle.pstops_cli.specs.Values as meaning;
@@ -13,6 +13,7 @@ ghost use Rattle.pstops_cli.specs.declared.command.CommandFault.TheVariants.{NoM
 use crate::values::options_named;
 use clap::error::ErrorKind;
 use clap::{Arg, ArgAction, ArgMatches, Command, value_parser};
+use command_words::{is_set, number_of, owned, text_of};
 use imposer::{Options, Workers};
 use std::alloc::{AllocError, Global};
 
@@ -106,7 +107,7 @@ fn request_of(alloc: Global, matches: &ArgMatches<'_>) -> Result<Request, Comman
     ensures refused { IfErr result (RefusesFound (rows_of (found_of matches.now))) }
 {
     let options = options_of(matches)?;
-    let quiet = is_set(text_of(matches, "quiet"));
+    let quiet = is_set(matches, "quiet");
     let spec = String::from_str(alloc, text_of(matches, "specs").unwrap())?;
     let infile = owned(alloc, text_of(matches, "infile"))?;
     let outfile = owned(alloc, text_of(matches, "outfile"))?;
@@ -147,21 +148,14 @@ fn workers_of(matches: &ArgMatches<'_>) -> Workers
 fn sides_of(matches: &ArgMatches<'_>) -> Option<u32>
     ensures { result ≡ sides_found (rows_of (found_of matches.now)) }
 {
-    number_at(matches, "sides")
+    number_of(matches, "sides")
 }
 
 /// The number of workers that an argument names, 2 if it isn't there.
 fn count_of(matches: &ArgMatches<'_>, id: &str) -> u32
     ensures { result ≡ meaning.count_named (one_of id.now (rows_of (found_of matches.now))) }
 {
-    number_at(matches, id).unwrap_or(2)
-}
-
-/// The whole number that an argument names.
-fn number_at(matches: &ArgMatches<'_>, id: &str) -> Option<u32>
-    ensures { result ≡ meaning.sides_named (one_of id.now (rows_of (found_of matches.now))) }
-{
-    matches.get_one::<u32>(id)
+    number_of(matches, id).unwrap_or(2)
 }
 
 /// The command. Its own help and version options are switched off, so that their letters are free.
@@ -226,32 +220,4 @@ fn sided<'a>(alloc: Global, id: &'a str, short: char) -> Arg<'a>
     ensures { rule_of result ≡ ranged_rule 4 most_sides id.entry.now short }
 {
     valued(alloc, id, short).value_parser(value_parser!(u32).range(4..=1_000_000))
-}
-
-/// The value of an argument as text.
-fn text_of<'a>(matches: &ArgMatches<'a>, id: &str) -> Option<&'a str>
-    ensures text { option_map (λ s. s.now) result ≡ first_of id.now (rows_of (found_of matches.now)) }
-    ensures given { is_some result ≡ is_some (first_value (found_of matches.now) id.now) }
-{
-    matches.get_str(id)
-}
-
-/// Whether a flag stands among the words: its text is then `true`.
-fn is_set(text: Option<&str>) -> bool
-    ensures { result ≡ has_true (option_map (λ s. s.now) text.entry) }
-{
-    match text {
-        Some(text) => text == "true",
-        None => false,
-    }
-}
-
-/// The text as one of the request's own.
-fn owned(alloc: Global, text: Option<&str>) -> Result<Option<String>, AllocError>
-    ensures { IfOk result (λ own. option_map string_bytes own ≡ option_map (λ s. s.now) text.entry) }
-{
-    match text {
-        None => Ok(None),
-        Some(text) => Ok(Some(String::from_str(alloc, text)?)),
-    }
 }

@@ -1,9 +1,7 @@
-//! The command of pstops: what its words ask for, how an input is read, and which line and exit status each outcome
-//! has.
+//! The command of pstops: what its words ask for, and which line and exit status each outcome has.
 #![tactic(auto)]
 
 mod command;
-mod input;
 pub mod laws;
 mod lines;
 mod program;

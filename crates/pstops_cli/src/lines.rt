@@ -3,13 +3,14 @@ ghost use Rattle.std.specs.Prelude.{◌≡◌, IfOk, string_bytes};
 ghost use Rattle.pstops_cli.specs.Lines.{command_text as text_of_command, document_text as text_of_document};
 ghost use Rattle.pstops_cli.specs.Lines.{fault_status as status_of_fault, fault_text as text_of_fault};
 ghost use Rattle.pstops_cli.specs.Lines.{plan_text as text_of_plan, read_text as text_of_read};
-ghost use Rattle.pstops_cli.specs.Lines.{report_text as text_of_report, run_status as status_of_run};
+ghost use Rattle.pstops_cli.specs.Lines.{report_text as text_of_report};
 ghost use Rattle.pstops_cli.specs.Lines.{run_text as text_of_run, said, spec_text as text_of_spec};
 
 use crate::command::CommandFault;
-use crate::input::ReadFault;
+use command_words::run_status;
 use dsc::DscError;
 use imposer::{Report, RunError};
+use input::ReadFault;
 use pagespec::SpecError;
 use sheet_plan::PlanError;
 use std::alloc::{AllocError, Global};
@@ -65,19 +66,6 @@ fn fault_status(fault: &Fault) -> u8
         Fault::Command(_) => 2,
         Fault::Read(_) | Fault::Create => 3,
         Fault::Run(error) => run_status(error),
-    }
-}
-
-fn run_status(error: &RunError) -> u8
-    ensures { result ≡ status_of_run error.now }
-{
-    match error {
-        RunError::Options => 2,
-        RunError::Spec(SpecError::NoMemory) => 3,
-        RunError::Document(DscError::NoMemory) => 3,
-        RunError::Plan(PlanError::NoMemory) => 3,
-        RunError::Spec(_) | RunError::Document(_) | RunError::Plan(_) => 1,
-        RunError::NoMemory { .. } | RunError::Write { .. } => 3,
     }
 }
 

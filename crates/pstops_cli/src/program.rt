@@ -3,13 +3,14 @@ ghost use Rattle.std.specs.Prelude.{◌≡◌, [], Bool, false, is_some, map, op
 ghost use Rattle.world.specs.Outputs.{told_if};
 ghost use Rattle.pstops_cli.specs.Programs.{CarriesOut, CreatesAndRuns, EndsProgram, HasRead, IsCreating, IsSaid, RunsInto};
 ghost use Rattle.pstops_cli.specs.Programs.{StopsBefore};
-ghost use Rattle.pstops_cli.specs.Input.{IsFirst, most_bytes};
+ghost use Rattle.input.specs.Input.{IsFirst, most_bytes};
 
 use crate::command::{Request, read_command};
-use crate::input::{ReadFault, ReadSource, read_input};
 use crate::lines::{Fault, fault_line};
 use crate::requests::run_request;
+use command_words::name_of;
 use imposer::RunError;
+use input::{ReadFault, ReadSource, read_input};
 use std::alloc::Global;
 use std::io;
 use std::io::ErrorKind;
@@ -78,15 +79,6 @@ fn input_of<W: World>(alloc: Global, name: Option<&str>, world: &W) -> Result<Ve
         }
         Err(error) if error.kind() == ErrorKind::OutOfMemory => Err(ReadFault::NoMemory),
         Err(_) => Err(ReadFault::Device),
-    }
-}
-
-fn name_of(name: &Option<String>) -> Option<&str>
-    ensures { option_map (λ n. n.now) result ≡ option_map string_bytes name.now }
-{
-    match name {
-        Some(name) => Some(name.as_str()),
-        None => None,
     }
 }
 

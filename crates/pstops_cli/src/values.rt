@@ -1,11 +1,11 @@
 //! What the values of the options stand for.
 ghost use Rattle.std.specs.Prelude.{◌≡◌, option_map};
-ghost use Rattle.lengths.specs.Units.{length_unit};
 ghost use Rattle.pstops_cli.specs.Values as meaning;
 
 use crate::command::CommandFault;
+use command_words::border_named;
 use imposer::{Options, Workers};
-use lengths::{Grains, Paper, Unit, paper_by_name, read_number, to_grains};
+use lengths::{Paper, length_named, paper_by_name};
 
 /// The options that the values of `-p`, `-w`, `-h` and `-d` name, beside these sides of a signature and workers. The
 /// first in this order that names none is the fault.
@@ -43,7 +43,7 @@ fn with_width(paper: Paper, width: Option<&str>) -> Option<Paper>
 {
     match width {
         None => Some(paper),
-        Some(width) => Paper::new(length_named(&paper, width)?, paper.height()),
+        Some(width) => Paper::new(length_named(&paper, width.as_bytes())?, paper.height()),
     }
 }
 
@@ -52,54 +52,6 @@ fn with_height(paper: Paper, height: Option<&str>) -> Option<Paper>
 {
     match height {
         None => Some(paper),
-        Some(height) => Paper::new(paper.width(), length_named(&paper, height)?),
-    }
-}
-
-/// The width of a border, if there is to be one.
-fn border_named(paper: &Paper, width: Option<&str>) -> Option<Option<Grains>>
-    ensures { result ≡ meaning.border_named paper.now (option_map (λ s. s.now) width.entry) }
-{
-    match width {
-        None => Some(None),
-        Some(width) => border_of(length_named(paper, width)?),
-    }
-}
-
-fn border_of(width: Grains) -> Option<Option<Grains>>
-    ensures { result ≡ meaning.border_of width }
-{
-    if width.get() >= 1 {
-        Some(Some(width))
-    } else if width.get() >= 0 {
-        Some(None)
-    } else {
-        None
-    }
-}
-
-/// The length that the text names.
-fn length_named(paper: &Paper, text: &str) -> Option<Grains>
-    ensures { result ≡ meaning.length_named paper.now text.now }
-{
-    let bytes = text.as_bytes();
-    let (number, len) = read_number(bytes).ok()?;
-    let unit = unit_named(&bytes[len..])?;
-    Some(to_grains(number, unit, paper))
-}
-
-fn unit_named(text: &[u8]) -> Option<Unit>
-    ensures { option_map length_unit result ≡ meaning.unit_named text.now }
-{
-    if text.is_empty() || text == "pt".as_bytes() {
-        Some(Unit::Pt)
-    } else if text == "cm".as_bytes() {
-        Some(Unit::Cm)
-    } else if text == "mm".as_bytes() {
-        Some(Unit::Mm)
-    } else if text == "in".as_bytes() {
-        Some(Unit::In)
-    } else {
-        None
+        Some(height) => Paper::new(paper.width(), length_named(&paper, height.as_bytes())?),
     }
 }

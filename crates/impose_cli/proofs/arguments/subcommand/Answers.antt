@@ -3,8 +3,8 @@ use Rattle.std.proofs.lemmas.Result.{IfOk-weaker}
 use Rattle.std.specs.List.{fold, list_all}
 use Rattle.clap.specs.Words.{app_of, new_app, rule_of, with_rule}
 use Rattle.clap.specs.Simple.{app_of_fields}
-use Rattle.pstops_cli.specs.Command.{fits}
-use Rattle.pstops_cli.proofs.Chain.{chain_app}
+use Rattle.command_words.specs.Arguments.{fits}
+use Rattle.command_words.proofs.Chain.{chain_app}
 use Rattle.impose_cli.specs.Command.{common_rules}
 use Rattle.impose_cli.proofs.arguments.subcommand.Goals as goal
 

@@ -1,9 +1,9 @@
 use Rattle.std.proofs.Common.{◌≡◌, ◌≤◌, ◌∙◌, ap, refl, sym, subst, take, length, arith, length-take-le}
-use Rattle.pstops_cli.specs.Input.{IsFirst, most_bytes}
-use Rattle.pstops_cli.specs.declared.input.TheConstants.{MOST_BYTES}
-use Rattle.pstops_cli.proofs.Reading.{filled_more, none_more, all_first, most_first}
-use Rattle.pstops_cli.proofs.input.read_input.Goals as goal
-use Rattle.pstops_cli.proofs.input.read_input.Goals.{else-loop-filled-test, then-loop-filled-test+in_ok-count+then-count-eq0}
+use Rattle.input.specs.Input.{IsFirst, most_bytes}
+use Rattle.input.specs.declared.read.TheConstants.{MOST_BYTES}
+use Rattle.input.proofs.Reading.{filled_more, none_more, all_first, most_first}
+use Rattle.input.proofs.read.read_input.Goals as goal
+use Rattle.input.proofs.read.read_input.Goals.{else-loop-filled-test, then-loop-filled-test+in_ok-count+then-count-eq0}
 
 pub loop-filled-preserved : goal.loop-filled-preserved
 loop-filled-preserved g c =

@@ -1,8 +1,8 @@
 -- What was filled is what the source gave, and each turn fills a byte more or ends.
 use Rattle.std.proofs.Common.{◌≡◌, ◌≤◌, ◌-◌, vec_len, vec_items, take}
 use Rattle.std.specs.Io.KnownBytes.{Consumes}
-use Rattle.pstops_cli.specs.declared.input.TheConstants.{MOST_BYTES}
-use Rattle.pstops_cli.proofs.input.read_input.Given as goal
+use Rattle.input.specs.declared.read.TheConstants.{MOST_BYTES}
+use Rattle.input.proofs.read.read_input.Given as goal
 
 abbrev pub invariant-loop-filled : goal.invariant-loop-filled
 invariant-loop-filled g l = record {

@@ -9,8 +9,9 @@ use Rattle.clap.specs.declared.builder.arg.Arg.{Arg}
 use Rattle.clap.specs.declared.builder.command.Command.{Command}
 use Rattle.clap.specs.declared.error.kind.ErrorKind.{ErrorKind}
 use Rattle.clap.specs.declared.parser.matches.ArgMatches.{ArgMatches}
-use Rattle.pstops_cli.specs.Command.{IsChain, are_distinct, fits, positional_rule, pstops, rules}
-use Rattle.pstops_cli.proofs.Chain.{chain_app, distinct, each_fits, takes_a_value}
+use Rattle.command_words.specs.Arguments.{are_distinct, fits}
+use Rattle.command_words.proofs.Chain.{chain_app, distinct, each_fits, takes_a_value}
+use Rattle.pstops_cli.specs.Command.{IsChain, positional_rule, pstops, rules}
 use Rattle.pstops_cli.proofs.SimpleCommand.{each_rule_fits, pstops_is_free, pstops_is_made, pstops_is_simple, rules_are_distinct}
 use Rattle.pstops_cli.proofs.WorkerNumbers.{sides_in_range, some_arg, workers_in_range}
 use Rattle.pstops_cli.proofs.command.parse.Goals as goal

@@ -1,0 +1,4 @@
+pub mod Chain
+pub mod Numerals
+pub mod RunStatuses
+pub mod Examples

@@ -1,0 +1,12 @@
+-- What the width of a border stands for.
+use Rattle.std.specs.Prelude.{ℕ, ℤ, pos, int_le, option_and_then, if◌then◌else◌, List, Option, Some, None}
+use Rattle.profile.specs.Papers.{Paper}
+use Rattle.lengths.specs.Lengths.{length_named}
+
+-- the border of this width: there is none of the width 0, and no width is below 0
+abbrev pub border_of : (width : ℤ) → Option (Option ℤ)
+border_of width = if int_le (pos 1) width then Some (Some width) else (if int_le (pos 0) width then Some None else None)
+
+abbrev pub border_named : Paper → Option (List ℕ) → Option (Option ℤ)
+border_named paper None = Some None
+border_named paper (Some text) = option_and_then border_of (length_named paper text)

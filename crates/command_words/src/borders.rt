@@ -1,0 +1,27 @@
+//! What the width of a border stands for.
+ghost use Rattle.std.specs.Prelude.{◌≡◌, option_map};
+ghost use Rattle.command_words.specs.Borders as meaning;
+
+use lengths::{Grains, Paper, length_named};
+
+/// The width of a border, if there is to be one: a width of 0 asks for none. None if the text is no length, or below 0.
+pub fn border_named(paper: &Paper, width: Option<&str>) -> Option<Option<Grains>>
+    ensures { result ≡ meaning.border_named paper.now (option_map (λ s. s.now) width.entry) }
+{
+    match width {
+        None => Some(None),
+        Some(width) => border_of(length_named(paper, width.as_bytes())?),
+    }
+}
+
+fn border_of(width: Grains) -> Option<Option<Grains>>
+    ensures { result ≡ meaning.border_of width }
+{
+    if width.get() >= 1 {
+        Some(Some(width))
+    } else if width.get() >= 0 {
+        Some(None)
+    } else {
+        None
+    }
+}

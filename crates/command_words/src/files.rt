@@ -1,0 +1,12 @@
+//! The files that a request names.
+ghost use Rattle.std.specs.Prelude.{◌≡◌, option_map, string_bytes};
+
+/// The name of a file, if there is one.
+pub fn name_of(name: &Option<String>) -> Option<&str>
+    ensures { option_map (λ n. n.now) result ≡ option_map string_bytes name.now }
+{
+    match name {
+        Some(name) => Some(name.as_str()),
+        None => None,
+    }
+}

@@ -1,0 +1,48 @@
+//! Values out of what clap finds among the words.
+ghost use Rattle.std.specs.Prelude.{◌≡◌, IfOk, is_some, option_map, string_bytes};
+ghost use Rattle.clap.specs.Words.{first_of, first_value, found_of, one_of, rows_of};
+ghost use Rattle.command_words.specs.Matches.{has_true, number_named};
+
+use clap::ArgMatches;
+use std::alloc::{AllocError, Global};
+
+/// The value of an argument as text.
+pub fn text_of<'a>(matches: &ArgMatches<'a>, id: &str) -> Option<&'a str>
+    ensures text { option_map (λ s. s.now) result ≡ first_of id.now (rows_of (found_of matches.now)) }
+    ensures given { is_some result ≡ is_some (first_value (found_of matches.now) id.now) }
+{
+    matches.get_str(id)
+}
+
+/// The whole number of an argument.
+pub fn number_of(matches: &ArgMatches<'_>, id: &str) -> Option<u32>
+    ensures { result ≡ number_named (one_of id.now (rows_of (found_of matches.now))) }
+{
+    matches.get_one::<u32>(id)
+}
+
+/// Whether a flag stands among the words: its text is then `true`.
+pub fn is_set(matches: &ArgMatches<'_>, id: &str) -> bool
+    ensures { result ≡ has_true (first_of id.now (rows_of (found_of matches.now))) }
+{
+    is_true(text_of(matches, id))
+}
+
+fn is_true(text: Option<&str>) -> bool
+    ensures { result ≡ has_true (option_map (λ s. s.now) text.entry) }
+{
+    match text {
+        Some(text) => text == "true",
+        None => false,
+    }
+}
+
+/// The text as one of the request's own.
+pub fn owned(alloc: Global, text: Option<&str>) -> Result<Option<String>, AllocError>
+    ensures { IfOk result (λ own. option_map string_bytes own ≡ option_map (λ s. s.now) text.entry) }
+{
+    match text {
+        None => Ok(None),
+        Some(text) => Ok(Some(String::from_str(alloc, text)?)),
+    }
+}
