@@ -16,7 +16,7 @@ use std::thread::Threads;
 /// More trials than a call has growths.
 const MOST: u32 = 5_000;
 
-/// What asks for so many bytes speaks to the library of `examples/refuse.c`, if it is there. No machine has them.
+/// What asks for so many bytes speaks to the library of `checks/refuse.c`, if it is there. No machine has them.
 const ASKED: usize = 1 << 62;
 
 /// From now on the growth with this number is refused, counted from 1.

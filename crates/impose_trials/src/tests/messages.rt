@@ -1,4 +1,4 @@
-//! Each message, as the README has it.
+//! Each message, as docs/USING.md has it.
 use super::read;
 use dsc::DscError;
 use impose_cli::{CommandFault, Fault, PaperOption, Request, fault_status, fault_text};

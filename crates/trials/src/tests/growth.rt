@@ -2,7 +2,7 @@
 //! stays as it was, and the same call with memory gives what it gives.
 //!
 //! Run as they are, these trials find that nothing is refused, and compare each call's answer once.
-//! `examples/refused-calls` runs them beside a library that refuses.
+//! `checks/refused-calls` runs them beside a library that refuses.
 mod documents;
 mod tables;
 mod texts;
@@ -12,7 +12,7 @@ use std::alloc::Global;
 /// More trials than a call has growths.
 const MOST: u32 = 5_000;
 
-/// A size that no machine has. Who asks for so many bytes speaks to the library of `examples/refuse.c`: it grants this
+/// A size that no machine has. Who asks for so many bytes speaks to the library of `checks/refuse.c`: it grants this
 /// size if a growth was refused since a larger one was asked for. Without that library there is no such memory.
 const ASKED: usize = 1 << 62;
 
