@@ -1,34 +1,19 @@
 -- The comments of a header, a line at a time.
 use Rattle.std.specs.Prelude.{if◌then◌else◌, Option, Some}
-use Rattle.std.proofs.Common.{Bool, true, false, ◌&&◌, ◌||◌, ◌≡◌, ℕ, zero, suc, ◌+◌, ◌<◌, ◌≤◌, List, [], ◌∷◌, length, drop, refl, ap, sym, arith, length-drop, ◌∙◌}
+use Rattle.std.proofs.Common.{Bool, true, false, ◌&&◌, ◌||◌, ◌≡◌, ℕ, zero, suc, ◌+◌, ◌<◌, List, [], ◌∷◌, length, drop, refl, ap, arith, ◌∙◌}
 use Rattle.std.specs.Str.{bytes_eq}
 use Rattle.std.proofs.lemmas.Slice.Eq.{bytes_eq-Decides}
 use Rattle.profile.specs.Units.{content_of, fields, has_key, is_comment, key, line_len}
-use Rattle.dsc.proofs.LineLengths.{line_len-pos}
+use Rattle.dsc.proofs.LineByLine.{by_line}
 use Rattle.dsc.specs.Fields.{fields_in}
 use Rattle.document_paper.specs.Media.{comment_fields, contents, contents_of}
 
-contents_enough : (k m : ℕ) (text : List ℕ) → length text ≤ k → length text ≤ m → contents_of k text ≡ contents_of m text
-contents_enough zero zero text h g = refl
-contents_enough zero (suc m) [] h g = refl
-contents_enough zero (suc m) (b ∷ bs) h g = absurd (omega (arith, h))
-contents_enough (suc k) zero [] h g = refl
-contents_enough (suc k) zero (b ∷ bs) h g = absurd (omega (arith, g))
-contents_enough (suc k) (suc m) [] h g = refl
-contents_enough (suc k) (suc m) (b ∷ bs) h g =
-    let text : List ℕ = b ∷ bs in
-    let n : ℕ = line_len text in
-    let moves = line_len-pos b bs in
-    let less : length (drop n text) ≤ length bs = omega (arith, moves, length-drop n text) in
-    ap (λ rest. content_of text ∷ rest) (contents_enough k m (drop n text) (omega (arith, h, less)) (omega (arith, g, less)))
+no_lines : (k : ℕ) → contents_of k [] ≡ contents_of 0 []
+no_lines zero = refl
+no_lines (suc k) = refl
 
 contents_step : (b : ℕ) (bs : List ℕ) → contents (b ∷ bs) ≡ content_of (b ∷ bs) ∷ contents (drop (line_len (b ∷ bs)) (b ∷ bs))
-contents_step b bs =
-    let text : List ℕ = b ∷ bs in
-    let n : ℕ = line_len text in
-    let moves = line_len-pos b bs in
-    ap (λ rest. content_of text ∷ rest)
-    (contents_enough (length bs) (length (drop n text)) (drop n text) (omega (arith, moves, length-drop n text)) (omega arith))
+contents_step b bs = by_line contents_of (λ b bs rest. content_of (b ∷ bs) ∷ rest) no_lines (λ k b bs. refl) b bs
 
 abbrev choose : (name content : List ℕ) → List (List ℕ) → Bool → Option (List (List ℕ))
 choose name content rest test = if test then Some (fields content) else comment_fields name rest

@@ -23,5 +23,6 @@ pub mod Trailers
 pub mod Preambles
 pub mod Letters
 pub mod LineBlocks
+pub mod LineByLine
 pub mod HeaderRun
 pub mod Examples
