@@ -8,7 +8,7 @@ use Rattle.dsc.specs.declared.errors.CutError.{CutError}
 use Rattle.dsc.specs.declared.errors.CutError.TheVariants as cut_fault
 use Rattle.profile.specs.Units.{TextUnit, BlockFault, FaultyBlock, cut, ◌>>=◌}
 use Rattle.profile.specs.Parts.{NestedUnit, nested_from, nested, pages}
-use Rattle.profile.specs.Run.{DocumentFault, InputTooLong, NotPostScript, BadBlock, InputTooManyPages, NoPages, document_of, with_pages, refuse_if, of_block}
+use Rattle.profile.specs.Run.{DocumentFault, InputTooLong, NotPostScript, BadBlock, InputTooManyPages, NoPages, document_of, most_input_bytes, most_pages, with_pages, refuse_if, of_block}
 use Rattle.dsc.specs.Units.{or_none, units_of, faulty_block}
 use Rattle.dsc.specs.Marks.{starts_of, end_of, marks_on, scan_on, stop_at}
 use Rattle.dsc.specs.declared.units.UnitError.{UnitError}
@@ -22,11 +22,11 @@ use Rattle.dsc.proofs.PartMarks.{scanned, page_count, fault_found}
 
 -- the checks that come before the cut
 abbrev pub Opens : List ℕ → Type 0
-Opens text = (length text ≤ 1_073_741_824) × (starts_with nat_eq text (codes "%!") ≡ true)
+Opens text = (length text ≤ most_input_bytes) × (starts_with nat_eq text (codes "%!") ≡ true)
 
 opened : (text : List ℕ) → Opens text → document_of text ≡ (of_block (cut text) >>= λ ps. with_pages (nested_from 0 ps))
 opened text h =
-    ap (λ t. refuse_if t InputTooLong (refuse_if (not (starts_with nat_eq text (codes "%!"))) NotPostScript (of_block (cut text) >>= λ ps. with_pages (nested_from 0 ps)))) (le-ltb 1_073_741_824 (length text) h.0)
+    ap (λ t. refuse_if t InputTooLong (refuse_if (not (starts_with nat_eq text (codes "%!"))) NotPostScript (of_block (cut text) >>= λ ps. with_pages (nested_from 0 ps)))) (le-ltb most_input_bytes (length text) h.0)
     ∙ ap (λ t. refuse_if (not t) NotPostScript (of_block (cut text) >>= λ ps. with_pages (nested_from 0 ps))) h.1
 
 pub faulty_read : (most : ℕ) (text : List ℕ) (at : ℕ) (bad : BlockFault) → Opens text → scan_on most [] None 0 0 text ≡ Err (faulty_block at bad) → document_of text ≡ Err (BadBlock (faulty_block at bad))
@@ -58,22 +58,22 @@ same_kept most xs ys e h =
 cut_read : (text : List ℕ) → Opens text → cut text ≡ Ok (or_none (cut text)) → document_of text ≡ with_pages (units_of text)
 cut_read text h e = opened text h ∙ ap (λ r. of_block r >>= λ ps. with_pages (nested_from 0 ps)) e
 
-pub many_read : (most : ℕ) (text starts : List ℕ) (stop : Option ℕ) → Opens text → 1_000_000 < most → scan_on most [] None 0 0 text ≡ Ok (marks_on most starts stop (length text) []) → 1_000_000 < length starts
+pub many_read : (most : ℕ) (text starts : List ℕ) (stop : Option ℕ) → Opens text → most_pages < most → scan_on most [] None 0 0 text ≡ Ok (marks_on most starts stop (length text) []) → most_pages < length starts
     → document_of text ≡ Err InputTooManyPages
 many_read most text starts stop h m e n =
     let w = passed most text starts stop e in
     let s = sizes most starts (starts_of (units_of text)) w.1 in
     let c = page_count (units_of text) in
-    let more : 1_000_000 < length (pages (units_of text)) = omega (arith, s, c, n, m) in
-    cut_read text h w.0 ∙ ap (λ t. refuse_if t InputTooManyPages (refuse_if (length (pages (units_of text)) == 0) NoPages (Ok (units_of text)))) (lt-ltb 1_000_000 (length (pages (units_of text))) more)
+    let more : most_pages < length (pages (units_of text)) = omega (arith, s, c, n, m) in
+    cut_read text h w.0 ∙ ap (λ t. refuse_if t InputTooManyPages (refuse_if (length (pages (units_of text)) == 0) NoPages (Ok (units_of text)))) (lt-ltb most_pages (length (pages (units_of text))) more)
 
-few_read : (text : List ℕ) (n : ℕ) → document_of text ≡ with_pages (units_of text) → length (pages (units_of text)) ≡ n → n ≤ 1_000_000
+few_read : (text : List ℕ) (n : ℕ) → document_of text ≡ with_pages (units_of text) → length (pages (units_of text)) ≡ n → n ≤ most_pages
     → document_of text ≡ refuse_if (n == 0) NoPages (Ok (units_of text))
 few_read text n e c h =
-    e ∙ ap (λ k. refuse_if (nat_lt 1_000_000 k) InputTooManyPages (refuse_if (k == 0) NoPages (Ok (units_of text)))) c
-    ∙ ap (λ t. refuse_if t InputTooManyPages (refuse_if (n == 0) NoPages (Ok (units_of text)))) (le-ltb 1_000_000 n h)
+    e ∙ ap (λ k. refuse_if (nat_lt most_pages k) InputTooManyPages (refuse_if (k == 0) NoPages (Ok (units_of text)))) c
+    ∙ ap (λ t. refuse_if t InputTooManyPages (refuse_if (n == 0) NoPages (Ok (units_of text)))) (le-ltb most_pages n h)
 
-pub none_read : (most : ℕ) (text starts : List ℕ) (stop : Option ℕ) → Opens text → 1_000_000 < most → scan_on most [] None 0 0 text ≡ Ok (marks_on most starts stop (length text) []) → length starts ≡ 0
+pub none_read : (most : ℕ) (text starts : List ℕ) (stop : Option ℕ) → Opens text → most_pages < most → scan_on most [] None 0 0 text ≡ Ok (marks_on most starts stop (length text) []) → length starts ≡ 0
     → document_of text ≡ Err NoPages
 none_read most text starts stop h m e n =
     let w = passed most text starts stop e in
@@ -85,7 +85,7 @@ none_read most text starts stop h m e n =
 not_none : (n : ℕ) → 0 < n → (n == 0) ≡ false
 not_none n h = by_test (n == 0) (λ is. let e = eqb-true n 0 is in absurd (omega (arith, h, e))) (λ isnt. isnt)
 
-pub good_read : (most : ℕ) (text starts : List ℕ) (stop : Option ℕ) → Opens text → 1_000_000 < most → scan_on most [] None 0 0 text ≡ Ok (marks_on most starts stop (length text) []) → 0 < length starts → length starts ≤ 1_000_000
+pub good_read : (most : ℕ) (text starts : List ℕ) (stop : Option ℕ) → Opens text → most_pages < most → scan_on most [] None 0 0 text ≡ Ok (marks_on most starts stop (length text) []) → 0 < length starts → length starts ≤ most_pages
     → (document_of text ≡ Ok (units_of text)) × (cut text ≡ Ok (or_none (cut text))) × (starts ≡ starts_of (units_of text)) × (stop_at stop (length text) ≡ end_of (units_of text))
 good_read most text starts stop h m e some few =
     let w = passed most text starts stop e in

@@ -1,7 +1,7 @@
 -- What a document keeps true of its fields.
 use Rattle.std.specs.Prelude.{◌≡◌, ℕ, ◌<◌, ◌≤◌, List, length, Ok}
 use Rattle.profile.specs.Units.{cut}
-use Rattle.profile.specs.Run.{document_of}
+use Rattle.profile.specs.Run.{document_of, most_pages}
 use Rattle.dsc.specs.Units.{or_none, units_of}
 use Rattle.dsc.specs.Marks.{starts_of, end_of}
 use Rattle.dsc.specs.BodyStarts.{AreBodyStarts}
@@ -12,6 +12,6 @@ pub record HasItsParts (text : List ℕ) (starts : List ℕ) (bodies : List ℕ)
   pub is_cut : cut text ≡ Ok (or_none (cut text))
   pub starts_are : starts ≡ starts_of (units_of text)
   pub some : 0 < length starts
-  pub few : length starts ≤ 1_000_000
+  pub few : length starts ≤ most_pages
   pub stop_is : stop ≡ end_of (units_of text)
   pub bodies_are : AreBodyStarts (units_of text) bodies

@@ -4,6 +4,7 @@ use Rattle.std.specs.List.{starts_with}
 use Rattle.profile.specs.Units.{FaultyBlock}
 use Rattle.profile.specs.Units as block
 use Rattle.profile.specs.Run.{DocumentFault, InputTooLong, NotPostScript, BadBlock, InputTooManyPages, NoPages}
+use Rattle.profile.specs.Run.{most_input_bytes}
 use Rattle.dsc.specs.Units.{faulty_block}
 use Rattle.dsc.specs.declared.errors.CutError.{CutError}
 use Rattle.dsc.specs.declared.errors.CutError.TheVariants as cut_fault
@@ -37,7 +38,7 @@ widened cut_fault.NoMemory = fault.NoMemory
 
 -- the first two checks are made before memory is asked for
 abbrev pub PassedFirstChecks : DscError → List ℕ → Type 0
-PassedFirstChecks fault.NoMemory text = (length text ≤ 1_073_741_824) × (starts_with nat_eq text (codes "%!") ≡ true)
+PassedFirstChecks fault.NoMemory text = (length text ≤ most_input_bytes) × (starts_with nat_eq text (codes "%!") ≡ true)
 PassedFirstChecks other text = Unit {0}
 
 -- how a page is refused: with its first faulty block, or because memory ran out

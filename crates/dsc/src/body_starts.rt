@@ -1,5 +1,6 @@
 //! Where the bodies of pages begin, as far as the pass that cuts the text can tell.
 ghost use Rattle.std.specs.Prelude.{◌≡◌, ◌+◌, ◌≤◌, length, OnOk, IfOk};
+ghost use Rattle.profile.specs.Run.{most_input_bytes};
 ghost use Rattle.dsc.specs.Views.{unit_of, at_depth};
 ghost use Rattle.dsc.specs.Filters.{is_dropped};
 ghost use Rattle.dsc.specs.BodyStarts.{none_sought, noted, with_page, moved, starts_in, ends_line, closed};
@@ -58,7 +59,7 @@ impl BodyStarts {
 
     /// Notes a unit.
     pub fn note(&mut self, step: &Step<'_>) -> Result<(), AllocError>
-        requires { step.now.at + length step.now.unit.bytes.now ≤ 1_073_741_824 }
+        requires { step.now.at + length step.now.unit.bytes.now ≤ most_input_bytes }
         ensures { OnOk result (self.new ≡ noted self.old step.now.at (step.now.at + length step.now.unit.bytes.now)
             step.now.meaning.is_page step.now.meaning.is_trailer
             (is_dropped PageSetup self.old.was (at_depth step.now.depth (unit_of step.now.unit))) step.now.unit.bytes.now) }

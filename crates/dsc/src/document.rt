@@ -16,6 +16,12 @@ use crate::scan::scan;
 use std::alloc::{AllocError, Global};
 use std::marker::Model;
 
+/// The most bytes that a document may have.
+const MOST_BYTES: usize = 1_073_741_824;
+
+/// The most pages that it may have.
+const MOST_PAGES: usize = 1_000_000;
+
 /// A text that is accepted as a document. Contracts see the units that it is cut into, each with its depth.
 #[derive(Drop)]
 pub struct Document<'d> {
@@ -48,7 +54,7 @@ impl<'d> Document<'d> {
         ensures answer { Gives (λ d. d) fault_told result (document_of text.now) }
         ensures first_checks { IfErr result (λ e. PassedFirstChecks e text.now) }
     {
-        if text.len() > 1_073_741_824 {
+        if text.len() > MOST_BYTES {
             return Err(DscError::TooLong);
         }
         if !text.starts_with(b"%!") {
@@ -58,7 +64,7 @@ impl<'d> Document<'d> {
             Ok(found) => found,
             Err(error) => return Err(widen(error)),
         };
-        if seen.starts.len() > 1_000_000 {
+        if seen.starts.len() > MOST_PAGES {
             return Err(DscError::TooManyPages);
         }
         if seen.starts.is_empty() {

@@ -1,5 +1,6 @@
 //! One pass over a text, which notes where its pages begin and where its trailer does.
 ghost use Rattle.std.specs.Prelude.{◌≡◌, ◌+◌, ◌<◌, ◌≤◌, [], length, OnOk, IfOk, None};
+ghost use Rattle.profile.specs.Run.{most_input_bytes};
 ghost use Rattle.dsc.specs.Views.{Gives, unit_of, at_depth};
 ghost use Rattle.dsc.specs.Faults.{block_fault_told};
 ghost use Rattle.dsc.specs.Filters.{is_dropped};
@@ -29,7 +30,7 @@ pub struct Seen {
 impl Seen {
     /// Notes a unit that begins at this byte.
     fn note(&mut self, meaning: Meaning, at: usize) -> Result<(), AllocError>
-        requires { at ≤ 1_073_741_824 }
+        requires { at ≤ most_input_bytes }
         ensures starts { OnOk result (self.new.starts.items
             ≡ noted_starts MOST_STARTS self.old.starts.items self.old.stop meaning.is_page meaning.is_trailer at) }
         ensures stop { OnOk result (self.new.stop
@@ -58,7 +59,7 @@ impl Seen {
 
 /// One pass over the text. Where bodies begin is noted as long as there aren't too many pages.
 pub fn scan(alloc: Global, text: &[u8]) -> Result<(Seen, Vec<u32>), CutError>
-    requires { length text.now ≤ 1_073_741_824 }
+    requires { length text.now ≤ most_input_bytes }
     ensures marks { Gives (λ s. marks_on MOST_STARTS s.0.starts.items s.0.stop (length text.now) []) block_fault_told
         result (scan_on MOST_STARTS [] None 0 0 text.now) }
     ensures bodies { IfOk result (λ s. length s.0.starts.items < MOST_STARTS
@@ -88,7 +89,7 @@ pub fn scan(alloc: Global, text: &[u8]) -> Result<(Seen, Vec<u32>), CutError>
 
 /// Notes a unit. Where bodies begin is wanted only as long as there aren't too many pages.
 fn note(seen: &mut Seen, bodies: &mut BodyStarts, step: &Step<'_>) -> Result<(), AllocError>
-    requires { step.now.at + length step.now.unit.bytes.now ≤ 1_073_741_824 }
+    requires { step.now.at + length step.now.unit.bytes.now ≤ most_input_bytes }
     ensures starts { OnOk result (seen.new.starts.items ≡ noted_starts MOST_STARTS seen.old.starts.items seen.old.stop
         step.now.meaning.is_page step.now.meaning.is_trailer step.now.at) }
     ensures stop { OnOk result (seen.new.stop

@@ -14,7 +14,7 @@ use Rattle.profile.specs.Admissible.{IsAdmissible, Fault, fault_of, any_too_larg
 use Rattle.profile.specs.Sheets.{Slot, blocks}
 use Rattle.profile.specs.Signatures.{AreSidesIfGiven, row_len, entry_in, sheets_in}
 use Rattle.profile.specs.Output.{Frame, sheet_text, output}
-use Rattle.profile.specs.Run.{document_of, PlanFault, PlanTooManyPages, TooManySheets, TooManyPlaces, plan_in}
+use Rattle.profile.specs.Run.{document_of, most_input_bytes, most_pages, most_sheets, PlanFault, PlanTooManyPages, TooManySheets, TooManyPlaces, plan_in}
 use Rattle.profile.proofs.Counts.{sheet_count}
 use Rattle.profile.proofs.Signatures.{whole_signatures}
 use Rattle.dsc.specs.Units.{or_none, units_of}
@@ -232,7 +232,7 @@ done frame all us s m l k = let p : Parts us = parts us l in done_by frame all u
 
 -- Accepted documents, plans and specifications.
 
-planned : (sides : Option ℕ) (spec : Spec) (n : ℕ) (all : List (List Slot)) → plan_in sides spec n ≡ Ok all → (length (sheets_in sides spec n) ≤ 1_000_000) × (sheets_in sides spec n ≡ all)
+planned : (sides : Option ℕ) (spec : Spec) (n : ℕ) (all : List (List Slot)) → plan_in sides spec n ≡ Ok all → (length (sheets_in sides spec n) ≤ most_sheets) × (sheets_in sides spec n ≡ all)
 planned sides spec n all h =
     let a = let_through _ PlanTooManyPages _ all h in
     let b = let_through _ TooManySheets _ all a.1 in
@@ -301,8 +301,8 @@ done_of frame all text us d c many =
     let whole : joined us ≡ text = joined_is text us m in
     done frame all us (ap (λ t. starts_with nat_eq t (codes "%!")) whole ∙ accepted_opening text (nested us) d) (subst (λ t. AreUnits t us) (sym whole) m) (some_pages text (nested us) d) many
 
-again_of : (frame : Frame) (all : List (List Slot)) (text : List ℕ) (us : List TextUnit) → document_of text ≡ Ok (nested us) → cut text ≡ Ok us → 0 < length all → length all ≤ 1_000_000
-    → length (written frame all (nested us)) ≤ 1_073_741_824
+again_of : (frame : Frame) (all : List (List Slot)) (text : List ℕ) (us : List TextUnit) → document_of text ≡ Ok (nested us) → cut text ≡ Ok us → 0 < length all → length all ≤ most_pages
+    → length (written frame all (nested us)) ≤ most_input_bytes
     → (document_of (written frame all (nested us)) ≡ Ok (units_of (written frame all (nested us)))) × IsAgain frame all (nested us) (units_of (written frame all (nested us)))
 again_of frame all text us d c many few l =
     let x : Done frame all (nested us) = done_of frame all text us d c many in
@@ -312,7 +312,7 @@ again_of frame all text us d c many few l =
 
 abbrev Says : (frame : Frame) (all : List (List Slot)) → List NestedUnit → Type 0
 Says frame all us =
-    length (written frame all us) ≤ 1_073_741_824
+    length (written frame all us) ≤ most_input_bytes
     → (document_of (written frame all us) ≡ Ok (units_of (written frame all us))) × IsAgain frame all us (units_of (written frame all us))
 
 pub written_is_document : WrittenIsDocument

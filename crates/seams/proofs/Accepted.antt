@@ -5,7 +5,7 @@ use Rattle.std.proofs.Common.{nat_eq, ◌==◌, Bool, true, false, ◌≡◌, �
 use Rattle.std.proofs.lemmas.Bool.{le-ltb, ltb-false, eqb-true}
 use Rattle.profile.specs.Units.{TextUnit, FaultyBlock, AreUnits, cut, ◌>>=◌}
 use Rattle.profile.specs.Parts.{NestedUnit, nested, pages}
-use Rattle.profile.specs.Run.{DocumentFault, InputTooLong, NotPostScript, InputTooManyPages, NoPages, document_of, with_pages, refuse_if, of_block}
+use Rattle.profile.specs.Run.{DocumentFault, InputTooLong, NotPostScript, InputTooManyPages, NoPages, document_of, most_input_bytes, most_pages, with_pages, refuse_if, of_block}
 use Rattle.dsc.specs.Units.{or_none, units_of}
 use Rattle.dsc.proofs.Cases.{by_test}
 use Rattle.seams.proofs.Texts.{units_are}
@@ -24,34 +24,34 @@ same_units us vs e = cc
 pub pages_of : (r : Result (List TextUnit) FaultyBlock) (us : List NestedUnit) → (of_block r >>= λ ps. with_pages (nested ps)) ≡ Ok us → 0 < length (pages us)
 pages_of (Err e) us h = cc
 pages_of (Ok ps) us h =
-    let a = let_through (nat_lt 1_000_000 (length (pages (nested ps)))) InputTooManyPages _ us h in
+    let a = let_through (nat_lt most_pages (length (pages (nested ps)))) InputTooManyPages _ us h in
     let b = let_through (length (pages (nested ps)) == 0) NoPages (Ok (nested ps)) us a.1 in
     subst (λ vs. 0 < length (pages vs)) (same_units (nested ps) us b.1) (some_of (length (pages (nested ps))) b.0)
 
 pub some_pages : (text : List ℕ) (us : List NestedUnit) → document_of text ≡ Ok us → 0 < length (pages us)
 some_pages text us h = let a = let_through _ InputTooLong _ us h in let b = let_through _ NotPostScript _ us a.1 in pages_of (cut text) us b.1
 
-few_of : (r : Result (List TextUnit) FaultyBlock) (us : List NestedUnit) → (of_block r >>= λ ps. with_pages (nested ps)) ≡ Ok us → length (pages us) ≤ 1_000_000
+few_of : (r : Result (List TextUnit) FaultyBlock) (us : List NestedUnit) → (of_block r >>= λ ps. with_pages (nested ps)) ≡ Ok us → length (pages us) ≤ most_pages
 few_of (Err e) us h = cc
 few_of (Ok ps) us h =
-    let a = let_through (nat_lt 1_000_000 (length (pages (nested ps)))) InputTooManyPages _ us h in
+    let a = let_through (nat_lt most_pages (length (pages (nested ps)))) InputTooManyPages _ us h in
     let b = let_through (length (pages (nested ps)) == 0) NoPages (Ok (nested ps)) us a.1 in
-    subst (λ vs. length (pages vs) ≤ 1_000_000) (same_units (nested ps) us b.1) (ltb-false _ _ a.0)
+    subst (λ vs. length (pages vs) ≤ most_pages) (same_units (nested ps) us b.1) (ltb-false _ _ a.0)
 
-pub few_pages : (text : List ℕ) (us : List NestedUnit) → document_of text ≡ Ok us → length (pages us) ≤ 1_000_000
+pub few_pages : (text : List ℕ) (us : List NestedUnit) → document_of text ≡ Ok us → length (pages us) ≤ most_pages
 few_pages text us h = let a = let_through _ InputTooLong _ us h in let b = let_through _ NotPostScript _ us a.1 in few_of (cut text) us b.1
 
-pub accept : (text : List ℕ) (us : List TextUnit) (n : ℕ) → length text ≤ 1_073_741_824 → starts_with nat_eq text (codes "%!") ≡ true → AreUnits text us → length (pages (nested us)) ≡ n → 0 < n → n ≤ 1_000_000
+pub accept : (text : List ℕ) (us : List TextUnit) (n : ℕ) → length text ≤ most_input_bytes → starts_with nat_eq text (codes "%!") ≡ true → AreUnits text us → length (pages (nested us)) ≡ n → 0 < n → n ≤ most_pages
     → (document_of text ≡ Ok (units_of text)) × (units_of text ≡ nested us)
 accept text us n l s m e some few =
     let c : cut text ≡ Ok us = units_are text us m in
     let same : units_of text ≡ nested us = ap (λ r. nested (or_none r)) c in
     let none : (n == 0) ≡ false = by_test (n == 0) (λ is. let z = eqb-true n 0 is in absurd (omega (arith, some, z))) (λ isnt. isnt) in (
-      ap (λ t. refuse_if t InputTooLong (refuse_if (not (starts_with nat_eq text (codes "%!"))) NotPostScript (of_block (cut text) >>= λ ps. with_pages (nested ps)))) (le-ltb 1_073_741_824 (length text) l)
+      ap (λ t. refuse_if t InputTooLong (refuse_if (not (starts_with nat_eq text (codes "%!"))) NotPostScript (of_block (cut text) >>= λ ps. with_pages (nested ps)))) (le-ltb most_input_bytes (length text) l)
           ∙ ap (λ t. refuse_if (not t) NotPostScript (of_block (cut text) >>= λ ps. with_pages (nested ps))) s
           ∙ ap (λ r. of_block r >>= λ ps. with_pages (nested ps)) c
-          ∙ ap (λ k. refuse_if (nat_lt 1_000_000 k) InputTooManyPages (refuse_if (k == 0) NoPages (Ok (nested us)))) e
-          ∙ ap (λ t. refuse_if t InputTooManyPages (refuse_if (n == 0) NoPages (Ok (nested us)))) (le-ltb 1_000_000 n few)
+          ∙ ap (λ k. refuse_if (nat_lt most_pages k) InputTooManyPages (refuse_if (k == 0) NoPages (Ok (nested us)))) e
+          ∙ ap (λ t. refuse_if t InputTooManyPages (refuse_if (n == 0) NoPages (Ok (nested us)))) (le-ltb most_pages n few)
           ∙ ap (λ t. refuse_if t NoPages (Ok (nested us))) none
           ∙ ap Ok (sym same),
       same,
