@@ -21,6 +21,9 @@ pub struct Full(pub u32);
 
 type Line = RuledArrayQueue<u32, View, OneHistory>;
 
+/// How many shares there are of a queue.
+const WHOLE_SHARE: u64 = 4_294_967_296;
+
 /// The sheets that are ready, oldest first: a bounded queue for many threads, without a lock.
 ///
 /// Each call takes a `Pass` of the queue. In any schedule a put that is accepted and a take that gives a sheet are one
@@ -51,7 +54,7 @@ impl Ready {
         let ready = Ready { line };
         let pass = Pass {
             token,
-            share: 4_294_967_296,
+            share: WHOLE_SHARE,
         };
         Ok((ready, pass))
     }

@@ -1,5 +1,6 @@
 //! What the collector needs and keeps, and how it takes what the workers finish.
 ghost use Rattle.std.specs.Prelude.{◌≡◌, ℕ, ◌+◌, ◌<◌, ◌≤◌, None, Some, length, false, IsTrue};
+ghost use Rattle.std.below.core.specs.declared.int.u64.TheConstants.{MAX as most_failures};
 ghost use Rattle.crossbeam_channel.specs.Claims.{IsSeatAt};
 ghost use Rattle.crossbeam_channel.specs.Ends.{receives_on};
 ghost use Rattle.profile.specs.Filters.{preamble_text};
@@ -53,7 +54,7 @@ impl<'s, 'r, 'j, 'd, 'a, T: Texts, G: Gate, S: Sink> Collector<CollectorState<'a
         × (state.header.now ≡ preamble_text (length input.job.now.plan.sheets) input.job.now.units)
         × (state.progress ≡ record { next = 0; written = 0; halted = None })
         × AreEarly input.job.now state.early.now.places.items
-        × (S.failures state.sink.now < 18_446_744_073_709_551_615) };
+        × (S.failures state.sink.now < most_failures) };
 
     ghost collected = { λ input old new.
         StandsSince S.told S.failures input.job.now old.sink.now new.sink.now new.progress

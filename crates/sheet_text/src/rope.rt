@@ -101,7 +101,7 @@ impl<'r> Rope<'r> {
     /// How many bytes the text has. None if there are more than a number can count: one slice may stand in it often.
     pub fn len(&self) -> Option<usize>
         ensures counted { IfSome result (λ count. count ≡ length self.now) }
-        ensures uncounted { IsNone result → 18_446_744_073_709_551_615 < length self.now }
+        ensures uncounted { IsNone result → usize.MAX < length self.now }
     {
         let mut count = self.own.len();
         for placed in self.slices.as_slice() {

@@ -97,7 +97,7 @@ fn write_sheet<S: Sink>(
 ) -> Progress
     requires countable { S.failures sink.old < u64.MAX }
     requires going { (progress.halted ≡ None) × (progress.next < length job.now.plan.sheets)
-        × (progress.next < 4_294_967_295) }
+        × (progress.next < u32.MAX) }
     requires text { text.now ≡ text_of job.now progress.next }
     ensures goes_on { GoesOn S.told S.failures job.now sink.old sink.new progress result }
     ensures next { result.next ≡ progress.next + 1 }
@@ -196,7 +196,7 @@ fn next_text<'r>(
 ) -> Result<Rope<'r>, AllocError>
     requires sheet { sheet < length job.now.plan.sheets }
     requires early { AreEarly job.now early.old.places.items }
-    requires few { swept.old < 4_294_967_295 }
+    requires few { swept.old < u32.MAX }
     ensures text { IfOk result (λ text. text ≡ text_of job.now sheet) }
     ensures early { AreEarly job.now early.new.places.items }
     ensures swept { swept.new ≤ swept.old + 1 }
