@@ -1,0 +1,10 @@
+pub mod Made
+pub mod Dressed
+pub mod Rows
+pub mod Auto
+pub mod Ranges
+pub mod RangeTexts
+pub mod Faces
+pub mod Folded
+pub mod Examples
+pub mod RowExamples

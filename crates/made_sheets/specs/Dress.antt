@@ -1,0 +1,18 @@
+-- The dress of an output: lines that are added to its text, in three places. All here is this project's own profile.
+use Rattle.std.specs.Prelude.{ℕ, List, [], flat_map}
+use Rattle.profile.specs.Bytes.{line}
+use Rattle.profile.specs.Papers.{Paper}
+
+-- lines behind the line %%Pages; lines at the start of each sheet, behind its page line; and lines at its end, before
+-- its showpage. The lines of a sheet are a function of its number, counted from 0, and of its paper
+pub record Dress : Type 0 where
+  pub header : List (List ℕ)
+  pub start : (sheet : ℕ) → Paper → List (List ℕ)
+  pub finish : (sheet : ℕ) → Paper → List (List ℕ)
+
+-- no line anywhere
+abbrev pub undressed : Dress
+undressed = record { header = []; start = λ s paper. []; finish = λ s paper. [] }
+
+abbrev pub lines_text : List (List ℕ) → List ℕ
+lines_text lines = flat_map line lines
