@@ -124,17 +124,17 @@ parts us l = let s : Split begins_page 0 us = split begins_page 0 us in parts_by
 
 -- Rows.
 
-row_front : (us vs : List TextUnit) → Row (us ++ vs) → Row us
+pub row_front : (us vs : List TextUnit) → Row (us ++ vs) → Row us
 row_front [] vs r = tt
 row_front (u ∷ us) vs r = (r.0, r.1, (λ l. r.2 (let n = length-append us vs in omega (arith, l, n))), row_front us vs r.3)
 
-row_back : (us vs : List TextUnit) → Row (us ++ vs) → Row vs
+pub row_back : (us vs : List TextUnit) → Row (us ++ vs) → Row vs
 row_back [] vs r = r
 row_back (u ∷ us) vs r = row_back us vs r.3
 
 -- The first line.
 
-first_not_dropped : (u : TextUnit) → IsFirst u → drops_in_header u.content ≡ false
+pub first_not_dropped : (u : TextUnit) → IsFirst u → drops_in_header u.content ≡ false
 first_not_dropped u f = ap header_key f.named
 
 pub opened : (z w : List ℕ) → starts_with nat_eq (ended (37 ∷ 33 ∷ z) ++ w) (codes "%!") ≡ true
@@ -147,11 +147,11 @@ each_sheet : (c : Type 0) (frame : Frame) (texts : List (List ℕ)) (xs : List (
 each_sheet c frame texts [] h = tt
 each_sheet c frame texts (x ∷ xs) h = (sheet c frame texts x.0 x.1 h, each_sheet c frame texts xs h)
 
-mapped : {X : Type 0} (f : X → List ℕ) (xs : List X) → flat_map f xs ≡ flat_map (λ t. t) (map f xs)
+pub mapped : {X : Type 0} (f : X → List ℕ) (xs : List X) → flat_map f xs ≡ flat_map (λ t. t) (map f xs)
 mapped f [] = refl
 mapped f (x ∷ xs) = ap (λ t. f x ++ t) (mapped f xs)
 
-as_many : {X : Type 0} (f : ℕ × X → List ℕ) (n : ℕ) (xs : List X) → length (map f (enumerate_from n xs)) ≡ length xs
+pub as_many : {X : Type 0} (f : ℕ × X → List ℕ) (n : ℕ) (xs : List X) → length (map f (enumerate_from n xs)) ≡ length xs
 as_many f n [] = refl
 as_many f n (x ∷ xs) = ap suc (as_many f (n + 1) xs)
 
@@ -166,7 +166,7 @@ pub record Done (frame : Frame) (all : List (List Slot)) (us : List NestedUnit) 
   pub starts : starts_with nat_eq (written frame all us) (codes "%!") ≡ true
 
 -- the first unit begins no page
-some_preamble : (us run rest : List TextUnit) → us ≡ run ++ rest → 0 < length run → Opens begins_page 0 run → starts_with nat_eq (joined us) (codes "%!") ≡ true → AreUnits (joined us) us → ⊥
+pub some_preamble : (us run rest : List TextUnit) → us ≡ run ++ rest → 0 < length run → Opens begins_page 0 run → starts_with nat_eq (joined us) (codes "%!") ≡ true → AreUnits (joined us) us → ⊥
 some_preamble us [] rest e l o s m = omega (arith, l)
 some_preamble us (v ∷ run) rest e l o s m =
     let n : AreUnits (joined (v ∷ (run ++ rest))) (v ∷ (run ++ rest)) = subst (λ ws. AreUnits (joined ws) ws) e m in

@@ -231,7 +231,7 @@ trailer_key u h =
     or_none true e = refl
     or_none false e = e
 
-not_dropped : (u : NestedUnit) → drops_in_header u.unit.content ≡ false → is_dropped false drops_in_header u ≡ false
+pub not_dropped : (u : NestedUnit) → drops_in_header u.unit.content ≡ false → is_dropped false drops_in_header u ≡ false
 not_dropped u h = ap (λ t. (is_outermost_line u && t) || false) h ∙ ap (λ t. t || false) (nothing_and (is_outermost_line u))
 
 abbrev content_or : Option (List ℕ × Bool) → List ℕ × Bool
@@ -261,7 +261,7 @@ trailer_made z (u ∷ us) r h x =
 abbrev pub count_content : ℕ → List ℕ
 count_content n = codes "%%Pages: " ++ decimal n
 
-count_whole : (n : ℕ) → no_ends (count_content n) ≡ true
+pub count_whole : (n : ℕ) → no_ends (count_content n) ≡ true
 count_whole n = (plain (codes "%%Pages: ") refl then number n).is
 
 pub count_text : (n : ℕ) (u : TextUnit) (us : List TextUnit) → drops_in_header u.content ≡ false

@@ -4,4 +4,6 @@ pub mod Pieces
 pub mod Pages
 pub mod Assembly
 pub mod Again
+pub mod MadePieces
+pub mod MadeAgain
 pub mod Examples

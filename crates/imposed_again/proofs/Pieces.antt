@@ -17,6 +17,7 @@ use Rattle.profile.specs.Output.{Frame, edge_text, border_text, opening_text, cl
 use Rattle.std.proofs.lemmas.Bool.{eqb-true}
 use Rattle.dsc.proofs.Cases.{and_false, by_test}
 use Rattle.seams.specs.Seams.{passes, no_ends, line_unit, lf, ends}
+use Rattle.imposed_again.specs.MadeAgain.{IsTame}
 use Rattle.seams.proofs.Texts.{Goes, goes_append, goes_line, units_join}
 use Rattle.seams.proofs.Splits.{at_depth, passes_cons, passes_append, Through, through_append}
 use Rattle.seams.proofs.Plainly.{no_ends_append, no_ends_points, no_ends_scale, Whole, text as plain, ◌then◌, number, length_of}
@@ -24,15 +25,6 @@ use Rattle.seams.proofs.Plainly.{no_ends_append, no_ends_points, no_ends_scale, 
 -- begins a page or the trailer
 abbrev pub begins_part : NestedUnit → Bool
 begins_part u = begins_page u || begins_trailer u
-
--- a line that begins no part and no data, and doesn't change the depth
-pub record IsTame (content : List ℕ) : Type 0 where
-  pub whole : no_ends content ≡ true
-  pub no_data : begins_block content ≡ false
-  pub no_document : has_key (codes "%%BeginDocument" ∷ []) content ≡ false
-  pub no_end : has_key (codes "%%EndDocument" ∷ []) content ≡ false
-  pub no_page : is_comment (codes "%%Page") content ≡ false
-  pub no_trailer : has_key (codes "%%Trailer" ∷ codes "%%EOF" ∷ []) content ≡ false
 
 -- a text that has units of its own, whatever follows; none begins a part, at whatever depth, and under the condition the depth is 0 behind them again
 pub record Piece (c : Type 0) (text : List ℕ) : Type 0 where
@@ -53,7 +45,7 @@ append c a b p q =
       shut = λ h. passes_append begins_part 0 p.units q.units 0 (p.shut h) ∙ q.shut h;
     }
 
-tame_depth : (d : ℕ) (c : List ℕ) → IsTame c → depth_after d (line_unit c) ≡ d
+pub tame_depth : (d : ℕ) (c : List ℕ) → IsTame c → depth_after d (line_unit c) ≡ d
 tame_depth d c h = ap (λ t. if t then d + 1 else (if has_key (codes "%%EndDocument" ∷ []) c then d - 1 else d)) h.no_document ∙ ap (λ t. if t then d - 1 else d) h.no_end
 
 tame_part : (d : ℕ) (c : List ℕ) → IsTame c → begins_part (at_depth d (line_unit c)) ≡ false
@@ -128,7 +120,7 @@ matrix_tame m =
       no_trailer = ap (λ k. list_any (bytes_eq k) (codes "%%Trailer" ∷ codes "%%EOF" ∷ [])) (bracket_key rest);
     }
 
-known : (k : Type 0) (c : List ℕ) → no_ends c ≡ true → begins_block c ≡ false → has_key (codes "%%BeginDocument" ∷ []) c ≡ false → has_key (codes "%%EndDocument" ∷ []) c ≡ false
+pub known : (k : Type 0) (c : List ℕ) → no_ends c ≡ true → begins_block c ≡ false → has_key (codes "%%BeginDocument" ∷ []) c ≡ false → has_key (codes "%%EndDocument" ∷ []) c ≡ false
     → is_comment (codes "%%Page") c ≡ false → has_key (codes "%%Trailer" ∷ codes "%%EOF" ∷ []) c ≡ false → Piece k (line c)
 known k c a b d e f g = tame_line k c (record { whole = a; no_data = b; no_document = d; no_end = e; no_page = f; no_trailer = g })
 
@@ -194,7 +186,7 @@ no_body c = record { depth = 0; made = record { units = []; are = refl; ended = 
 closing : (c : Type 0) → Piece c closing_text
 closing c = known c (codes "ImposeSave restore") refl refl refl refl refl refl
 
-closed : (c : Type 0) (text : List ℕ) → Body c text → Piece c (text ++ closing_text)
+pub closed : (c : Type 0) (text : List ℕ) → Body c text → Piece c (text ++ closing_text)
 closed c text b =
     let m : Made begins_part b.depth text = b.made in
     let z : Piece c closing_text = closing c in
@@ -233,10 +225,10 @@ slots_piece : (c : Type 0) (frame : Frame) (pages : List (List ℕ)) (slots : Li
 slots_piece c frame pages [] h = nothing c
 slots_piece c frame pages (s ∷ slots) h = append c (slot_text frame pages s.page s.item) (flat_map (λ s. slot_text frame pages s.page s.item) slots) (slot c frame pages s.page s.item h) (slots_piece c frame pages slots h)
 
-abbrev page_content : ℕ → List ℕ
+abbrev pub page_content : ℕ → List ℕ
 page_content n = codes "%%Page: " ++ decimal n ++ codes " " ++ decimal n
 
-page_whole : (n : ℕ) → no_ends (page_content n) ≡ true
+pub page_whole : (n : ℕ) → no_ends (page_content n) ≡ true
 page_whole n = (plain (codes "%%Page: ") refl then number n then plain (codes " ") refl then number n).is
 
 pub sheet : (c : Type 0) (frame : Frame) (pages : List (List ℕ)) (s : ℕ) (slots : List Slot) → AllBodies c pages → Sheet c (sheet_text frame pages s slots)

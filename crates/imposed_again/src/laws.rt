@@ -1,5 +1,6 @@
 //! Laws of what a run wrote, read again. The functions do nothing.
 ghost use Rattle.imposed_again.specs.Again.{ImposedAgain, MakesSheets, SheetsShut, TrailerShuts, WrittenIsDocument};
+ghost use Rattle.imposed_again.specs.MadeAgain.{MadeIsDocument};
 
 /// What is written of an accepted document, with any sheets, is accepted again, unless it is too long: its preamble and
 /// trailer are those that were written, and its pages are the sheets exactly if each sheet but the last leaves no
@@ -27,4 +28,10 @@ pub fn makes_sheets()
 /// too long; if the document's last page leaves no embedded document open, the pages of the output are the sheets.
 pub fn imposed_again()
     ensures { ImposedAgain }
+{}
+
+/// The output of made sheets of an accepted document is accepted again, unless it is too long, if the lines of its
+/// dress begin nothing; if the document's last page leaves no embedded document open, its pages are the sheets.
+pub fn made_is_document()
+    ensures { MadeIsDocument }
 {}
