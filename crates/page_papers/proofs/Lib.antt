@@ -1,0 +1,4 @@
+pub mod Covering
+pub mod Tame
+pub mod Found
+pub mod Examples

@@ -1,0 +1,6 @@
+-- Read in this order: what comments tell; a page's own paper, and which papers count as one; how sheets tell
+-- theirs; what is found of it.
+pub mod Comments
+pub mod Own
+pub mod Told
+pub mod Found

@@ -1,0 +1,77 @@
+-- A page's own paper, and which papers count as one. All here is this project's own profile.
+use Rattle.std.specs.Prelude.{◌≡◌, ℕ, ◌+◌, ◌*◌, ◌<◌, ℤ, pos, ◌-ℤ◌, nat_abs, int_le, Bool, true, ◌&&◌, ◌==◌, nat_le}
+use Rattle.std.specs.Prelude.{if◌then◌else◌, List, [], length}
+use Rattle.std.specs.Prelude.{◌∷◌, ◌++◌, map, fold, filter, Option, Some, None, slice_index_or}
+use Rattle.std.specs.List.{list_any}
+use Rattle.profile.specs.Papers.{Paper}
+use Rattle.profile.specs.Parts.{NestedUnit, pages}
+use Rattle.document_paper.specs.Media.{header}
+use Rattle.page_papers.specs.Comments.{media, page_head, told_by_document, told_by_page, trailer_lines}
+
+-- what is told, and else this
+abbrev pub or_this : Option Paper → Paper → Paper
+or_this (Some paper) other = paper
+or_this None other = other
+
+-- a page's own paper: what it tells itself, else what its document tells, else the one at home. The header comments, and
+-- the lines of the trailer, are the document's
+abbrev pub own_paper : (named : List ℕ → Option Paper) → (home : Paper) → (header trailer : List (List ℕ)) → (page : List ℕ) → Paper
+own_paper named home header trailer page =
+    or_this (told_by_page (media header) (page_head page)) (or_this (told_by_document named header trailer) home)
+
+-- the papers of a document's pages, in order: the one that was asked for, if one was, and else each page's own
+abbrev pub own_papers : (asked : Option Paper) → (named : List ℕ → Option Paper) → (home : Paper) → (text : List ℕ)
+    → List NestedUnit → List Paper
+own_papers (Some paper) named home text us = map (λ page. paper) (pages us)
+own_papers None named home text us = map (own_paper named home (header text) (trailer_lines us)) (pages us)
+
+-- ---- papers that count as one
+
+-- by so much, 15 points, programs' sizes of one paper may differ
+abbrev pub nearness : ℕ
+nearness = 15 * 127_000_000_000
+
+abbrev pub is_near : Paper → Paper → Bool
+is_near a b = nat_le (nat_abs (a.width -ℤ b.width)) nearness && nat_le (nat_abs (a.height -ℤ b.height)) nearness
+
+-- the papers that are like no earlier one: each paper that is near to none of those found before it is one more
+abbrev pub kinds_from : (found : List Paper) → List Paper → List Paper
+kinds_from found [] = found
+kinds_from found (p ∷ ps) = if list_any (is_near p) found then kinds_from found ps else kinds_from (found ++ p ∷ []) ps
+
+abbrev pub kinds : List Paper → List Paper
+kinds all = kinds_from [] all
+
+-- of which kind a paper is: the first to which it is near
+abbrev pub kind_of : List Paper → Paper → ℕ
+kind_of [] p = 0
+kind_of (k ∷ ks) p = if is_near p k then 0 else kind_of ks p + 1
+
+-- the larger side
+abbrev pub larger : ℤ → ℤ → ℤ
+larger a b = if int_le a b then b else a
+
+-- the least paper that covers both
+abbrev pub covering : Paper → Paper → Paper
+covering a b = record { width = larger a.width b.width; height = larger a.height b.height }
+
+-- no paper
+abbrev pub no_size : Paper
+no_size = record { width = pos 0; height = pos 0 }
+
+-- the paper of a kind: the least one that covers all of the kind, so that no page is cut for another one's sake
+abbrev pub paper_of_kind : List Paper → (kind : ℕ) → Paper
+paper_of_kind all kind = fold covering no_size (filter (λ q. kind_of (kinds all) q == kind) all)
+
+-- each paper of a list as the paper of its kind
+abbrev pub as_one : List Paper → List Paper
+as_one all = map (λ p. paper_of_kind all (kind_of (kinds all) p)) all
+
+-- it covers it: no side is shorter
+abbrev pub covers : (large small : Paper) → Bool
+covers large small = int_le small.width large.width && int_le small.height large.height
+
+-- each paper is covered by the one that it counts as: a law
+abbrev pub NothingIsCut : Type 0
+NothingIsCut = (all : List Paper) (k : ℕ) (d : Paper) → k < length all
+    → covers (slice_index_or (as_one all) k d) (slice_index_or all k d) ≡ true
