@@ -75,16 +75,22 @@ known l a b d e f g = record { whole = a; no_data = b; no_document = d; no_end =
 set_size : (p : Paper) → AreTame (page_size_lines p)
 set_size p = (
   known (codes "/PStoPSenablepage where {pop PStoPSenablepage}") refl refl refl refl refl refl,
-  (known (codes "{userdict /showpage 2 copy known {get dup type /operatortype eq {pop true} {length 0 ne} ifelse} {pop pop true} ifelse} ifelse") refl refl refl refl refl refl, (record {
-    whole =
-        no_ends_append (codes "systemdict /setpagedevice known and {1 dict dup /PageSize [") (size_text p ++ codes "] put systemdict /setpagedevice get exec} if") refl
-        (no_ends_append (size_text p) (codes "] put systemdict /setpagedevice get exec} if") (whole_size p) refl);
-    no_data = refl;
-    no_document = refl;
-    no_end = refl;
-    no_page = refl;
-    no_trailer = refl;
-  }, tt)),
+  (
+    known (codes "{userdict /showpage 2 copy known {get dup type /operatortype eq {pop true} {length 0 ne} ifelse} {pop pop true} ifelse} ifelse") refl refl refl refl refl refl,
+    (
+      record {
+        whole =
+            no_ends_append (codes "systemdict /setpagedevice known and {1 dict dup /PageSize [") (size_text p ++ codes "] put systemdict /setpagedevice get exec} if") refl
+            (no_ends_append (size_text p) (codes "] put systemdict /setpagedevice get exec} if") (whole_size p) refl);
+        no_data = refl;
+        no_document = refl;
+        no_end = refl;
+        no_page = refl;
+        no_trailer = refl;
+      },
+      tt,
+    ),
+  ),
 )
 
 told : (ps : List Paper) → IsTameDress (telling_of ps)
