@@ -61,6 +61,15 @@ medium_before_name : own (codes "%!PS\n%%DocumentPaperSizes: A4\n%%DocumentMedia
 unfolding number_at
 medium_before_name = refl
 
+by_header_box : own (codes "%!PS\n%%BoundingBox: 0 0 300 400\n%%Page: 1 1\nx\n%%Trailer\n%%BoundingBox: 0 0 420 595\n%%EOF\n") ≡ Ok (points 300 400 ∷ [])
+unfolding number_at
+by_header_box = refl
+
+-- a box that doesn't begin at 0 0 is a part of a page
+no_header_box : own (codes "%!PS\n%%BoundingBox: 0 1 300 400\n%%Page: 1 1\nx\n") ≡ Ok (home ∷ [])
+unfolding number_at
+no_header_box = refl
+
 in_the_trailer : own (codes "%!PS\n%%BoundingBox: (atend)\n%%Page: 1 1\nx\n%%Trailer\n%%BoundingBox: 0 0 420 595\n%%EOF\n") ≡ Ok (points 420 595 ∷ [])
 unfolding number_at
 in_the_trailer = refl
