@@ -9,7 +9,7 @@ use Rattle.profile.specs.Run.{document_of, DocumentFault}
 use Rattle.made_sheets.specs.Made.{MadeSlot, Blank, Placed, MadeSheet}
 use Rattle.made_sheets.specs.Dress.{Dress, undressed}
 use Rattle.made_sheets.specs.MadeOutput.{made_output}
-use Rattle.made_sheets.specs.MadePlans.{MadeFault, MadeNoSuchPage, MadeSlotsOutOfRange, made_layout, made_plan_of}
+use Rattle.made_sheets.specs.MadePlans.{MadeNoSuchPage, MadeSlotsOutOfRange, made_layout, made_plan_of}
 
 abbrev made_in : Option ℤ → Dress → List MadeSheet → List ℕ → Result (List ℕ) DocumentFault
 made_in border dress all text = document_of text >>= λ us. Ok (made_output border dress all us)

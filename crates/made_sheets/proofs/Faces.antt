@@ -1,12 +1,12 @@
 -- What stands on the halves of leaves.
-use Rattle.std.proofs.Common.{arith, ◌≡◌, ℕ, zero, suc, ◌+◌, ◌-◌, ◌*◌, ◌/◌, Bool, false, List, [], ◌∷◌, ◌++◌, Option, Some, None, length, map, refl, sym, ap, ◌∙◌}
+use Rattle.std.proofs.Common.{arith, ◌≡◌, ℕ, zero, suc, ◌+◌, ◌-◌, ◌*◌, ◌/◌, false, List, [], ◌∷◌, ◌++◌, Option, None, length, map, refl, sym, ap, ◌∙◌}
 use Rattle.std.specs.Prelude.{flat_map, if◌then◌else◌}
 use Rattle.std.specs.List.{range_with_len}
 use Rattle.std.proofs.lemmas.List.FromFn.{fill_by_all}
-use Rattle.profile.specs.Specification.{Item, Spec}
+use Rattle.profile.specs.Specification.{Item}
 use Rattle.profile.specs.Sheets.{Slot, blocks, place}
 use Rattle.profile.specs.Signatures.{entry_of}
-use Rattle.made_sheets.specs.Rows.{Row, sheets_of_row}
+use Rattle.made_sheets.specs.Rows.{Row}
 use Rattle.made_sheets.specs.Leaves.{Face, SheetsAreFaces, face_of, faces}
 
 two_more : (f : ℕ) → 2 * suc f ≡ suc (suc (2 * f))

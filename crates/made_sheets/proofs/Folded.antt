@@ -5,7 +5,7 @@ use Rattle.profile.specs.Sheets.{blocks}
 use Rattle.profile.specs.Signatures.{entry_of}
 use Rattle.profile.proofs.Counts.{row_at}
 use Rattle.made_sheets.specs.Rows.{Row, in_signatures}
-use Rattle.made_sheets.specs.Leaves.{Face, ReadInOrder, RowIsRead, face_of, faces, outwards, read_inwards, read_outwards, read_signature, reading}
+use Rattle.made_sheets.specs.Leaves.{ReadInOrder, RowIsRead, face_of, faces, outwards, read_inwards, read_outwards, read_signature, reading}
 use Rattle.made_sheets.proofs.Faces.{left_of, right_of}
 use Rattle.std.proofs.Common.{arith, ◌≡◌, ℕ, zero, suc, ◌+◌, ◌-◌, ◌*◌, ◌%◌, ◌<◌, ◌≤◌, List, [], ◌∷◌, ◌++◌, map, refl, sym, ap, ◌∙◌}
 use Rattle.std.specs.Prelude.{flat_map, ◌==◌, if◌then◌else◌}

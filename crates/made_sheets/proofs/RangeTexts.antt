@@ -1,5 +1,5 @@
 -- Texts of ranges, and how they are read.
-use Rattle.std.proofs.Common.{arith, inl, inr, ◌≡◌, ◌≢◌, ℕ, zero, suc, ◌+◌, ◌<◌, ◌≤◌, List, [], ◌∷◌, ◌++◌, Bool, true, false, Option, Some, None, refl, sym, ap, subst, ◌∙◌, length, true≢false}
+use Rattle.std.proofs.Common.{arith, inl, inr, ◌≡◌, ◌≢◌, ℕ, zero, suc, ◌<◌, List, [], ◌∷◌, ◌++◌, Bool, true, false, Option, Some, None, refl, sym, ap, subst, ◌∙◌, length, true≢false}
 use Rattle.std.specs.Prelude.{◌⊎◌, ◌==◌, ◌||◌, if◌then◌else◌, codes, option_map, option_and_then}
 use Rattle.std.specs.List.{All, list_all, onto_first, slice_split}
 use Rattle.std.specs.Str.{bytes_eq}
@@ -12,7 +12,7 @@ use Rattle.std.proofs.lemmas.List.Sums.{AllPass-from_list_all, list_all-from_All
 use Rattle.profile.specs.Numbers.{number_of}
 use Rattle.profile.specs.Specification.{IsDigits, IsJoined}
 use Rattle.profile.proofs.OneValue.{same_head, same_tail}
-use Rattle.made_sheets.specs.Ranges.{AreRanges, BlankPage, FromEnd, FromStart, FromTo, IsPlace, IsRange, Place, Range, RangesAreRead, by_digits, is_blank_page, is_number, last_place_at, pieces_of, place_at, range_at, range_of, ranges_in, ranges_of, the_last}
+use Rattle.made_sheets.specs.Ranges.{BlankPage, FromEnd, FromStart, FromTo, IsPlace, IsRange, Place, Range, RangesAreRead, by_digits, is_blank_page, is_number, last_place_at, place_at, range_at, range_of, ranges_in, the_last}
 
 -- ---- cases
 by_test : {P : Type 0} (b : Bool) → (b ≡ true → P) → (b ≡ false → P) → P

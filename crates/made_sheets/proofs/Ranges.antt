@@ -1,12 +1,12 @@
 -- What ranges name in all pages.
-use Rattle.std.proofs.Common.{arith, ◌≡◌, ℕ, zero, suc, ◌+◌, ◌-◌, ◌<◌, ◌≤◌, Bool, true, false, List, [], ◌∷◌, ◌++◌, Option, Some, None, length, map, refl, sym, ap, ◌∙◌, append-nil}
+use Rattle.std.proofs.Common.{arith, ◌≡◌, ℕ, zero, suc, ◌+◌, ◌-◌, ◌<◌, ◌≤◌, true, false, List, [], ◌∷◌, Option, Some, None, length, map, refl, sym, ap, ◌∙◌, append-nil}
 use Rattle.std.specs.Prelude.{nat_le, if◌then◌else◌, reverse}
 use Rattle.std.specs.List.{range_with_len}
 use Rattle.std.proofs.lemmas.Bool.Decides.{nat_tests}
 use Rattle.std.proofs.lemmas.List.{get_or-reverse, length-reverse}
 use Rattle.std.proofs.lemmas.List.FromFn.{fill_by_all, get_or-map-range_with_len, length-map-range_with_len}
 use Rattle.profile.specs.Signatures.{entry_of}
-use Rattle.made_sheets.specs.Rows.{Row, all_pages}
+use Rattle.made_sheets.specs.Rows.{all_pages}
 use Rattle.made_sheets.specs.Ranges.{RangesOfAll, from_to}
 
 is_le : (a b : ℕ) → a ≤ b → nat_le a b ≡ true

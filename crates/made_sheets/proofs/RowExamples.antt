@@ -4,8 +4,8 @@ use Rattle.std.specs.Prelude.{codes, Result, Ok, Err}
 use Rattle.profile.specs.Units.{◌>>=◌}
 use Rattle.made_sheets.specs.Rows.{Row, all_pages, auto_count, auto_sides, in_signatures}
 use Rattle.made_sheets.specs.Ranges.{pieces_of}
-use Rattle.made_sheets.specs.Choice.{RowFault, NotARange, NotInDocument, TooManyEntries, NoEntries, Part, All, Odd, Even, Choice, Signing, InOne, OfSides, Auto, row_of_text, row_standing, standing_from, chosen, imposed_row}
-use Rattle.made_sheets.specs.Leaves.{Face, faces, reading, read_signature}
+use Rattle.made_sheets.specs.Choice.{RowFault, NotARange, NotInDocument, TooManyEntries, NoEntries, Part, All, Odd, Even, Choice, InOne, OfSides, Auto, row_of_text, row_standing, standing_from, chosen, imposed_row}
+use Rattle.made_sheets.specs.Leaves.{faces, reading, read_signature}
 
 -- ---- ranges
 

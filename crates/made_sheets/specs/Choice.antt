@@ -1,6 +1,6 @@
 -- What is imposed: which pages are chosen, how their row is made of them, and why there is none. All here is this
 -- project's own profile.
-use Rattle.std.specs.Prelude.{ℕ, ◌+◌, ◌*◌, Bool, ◌==◌, nat_lt, not, if◌then◌else◌, List, [], ◌∷◌, length, reverse, Option}
+use Rattle.std.specs.Prelude.{ℕ, ◌+◌, ◌*◌, Bool, ◌==◌, nat_lt, if◌then◌else◌, List, [], ◌∷◌, length, reverse, Option}
 use Rattle.std.specs.Prelude.{Some, None, Result, Ok, Err}
 use Rattle.profile.specs.Units.{◌>>=◌}
 use Rattle.profile.specs.Run.{most_pages, refuse_if}

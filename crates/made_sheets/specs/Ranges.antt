@@ -1,7 +1,7 @@
 -- Ranges: a row as a text names it. The signs are those of psselect(1), option -p; the words `blank` and `last`, and what
 -- is refused, are this project's own profile.
 use Rattle.std.specs.Prelude.{◌≡◌, ◌↔◌, ◌⊎◌, ℕ, ◌+◌, ◌-◌, ◌<◌, ◌≤◌, Bool, true, false, ◌&&◌, ◌||◌, ◌==◌, nat_le}
-use Rattle.std.specs.Prelude.{if◌then◌else◌, List, [], ◌∷◌, ◌++◌, length, map, flat_map, reverse, codes, Option, Some}
+use Rattle.std.specs.Prelude.{if◌then◌else◌, List, [], ◌∷◌, ◌++◌, map, flat_map, reverse, codes, Option, Some}
 use Rattle.std.specs.Prelude.{None, option_map, option_and_then}
 use Rattle.std.specs.List.{range_with_len, list_all, slice_split}
 use Rattle.std.specs.Str.{bytes_eq}

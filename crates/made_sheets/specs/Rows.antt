@@ -1,6 +1,6 @@
 -- Rows: what is imposed, in order. A row is made by steps, each of which takes a row to a row. The order of signatures is
 -- of psbook(1); all else here is this project's own profile.
-use Rattle.std.specs.Prelude.{◌≡◌, ℕ, ◌+◌, ◌-◌, ◌*◌, ◌%◌, ◌<◌, ◌≤◌, Bool, ◌==◌, if◌then◌else◌, List, [], ◌∷◌, ◌++◌}
+use Rattle.std.specs.Prelude.{◌≡◌, ℕ, ◌+◌, ◌*◌, ◌%◌, ◌<◌, ◌≤◌, Bool, ◌==◌, if◌then◌else◌, List, [], ◌∷◌}
 use Rattle.std.specs.Prelude.{length, map, flat_map, reverse, Option, Some, None}
 use Rattle.std.specs.List.{range_with_len}
 use Rattle.profile.specs.Specification.{Spec}
