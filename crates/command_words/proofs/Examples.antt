@@ -2,7 +2,7 @@
 use Rattle.std.proofs.Common.{◌≡◌, refl, Some, None}
 use Rattle.std.specs.Prelude.{codes, pos}
 use Rattle.lengths.specs.Reading.{number_at}
-use Rattle.profile.specs.Papers.{points}
+use Rattle.rules.specs.Papers.{points}
 use Rattle.command_words.specs.Borders.{border_named, border_of}
 
 no_border_asked_for : border_named (points 1 1) None ≡ Some None

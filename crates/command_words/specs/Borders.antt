@@ -1,6 +1,6 @@
 -- What the width of a border stands for.
 use Rattle.std.specs.Prelude.{ℕ, ℤ, pos, int_le, option_and_then, if◌then◌else◌, List, Option, Some, None}
-use Rattle.profile.specs.Papers.{Paper}
+use Rattle.rules.specs.Papers.{Paper}
 use Rattle.lengths.specs.Lengths.{length_named}
 
 -- the border of this width: there is none of the width 0, and no width is below 0

@@ -3,7 +3,7 @@ use Rattle.std.specs.Prelude.{if◌then◌else◌, Option, Some}
 use Rattle.std.proofs.Common.{Bool, true, false, ◌&&◌, ◌||◌, ◌≡◌, ℕ, zero, suc, ◌+◌, ◌<◌, List, [], ◌∷◌, length, drop, refl, ap, arith, ◌∙◌}
 use Rattle.std.specs.Str.{bytes_eq}
 use Rattle.std.proofs.lemmas.Slice.Eq.{bytes_eq-Decides}
-use Rattle.profile.specs.Units.{content_of, fields, has_key, is_comment, key, line_len}
+use Rattle.rules.specs.Units.{content_of, fields, has_key, is_comment, key, line_len}
 use Rattle.dsc.proofs.LineByLine.{by_line}
 use Rattle.dsc.specs.Fields.{fields_in}
 use Rattle.document_paper.specs.Media.{comment_fields, contents, contents_of}

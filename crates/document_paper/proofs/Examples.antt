@@ -1,7 +1,7 @@
 -- Documents and their papers, worked out.
 use Rattle.std.proofs.Common.{◌≡◌, ℕ, true, false, List, [], ◌∷◌, refl}
 use Rattle.std.specs.Prelude.{codes, None, Some, pos, neg_ℤ, map}
-use Rattle.profile.specs.Papers.{points}
+use Rattle.rules.specs.Papers.{points}
 use Rattle.document_paper.specs.declared.media.Comment.TheVariants.{DocumentMedia, BoundingBox}
 use Rattle.lengths.specs.Reading.{number_at}
 use Rattle.document_paper.specs.Media.{points_of, is_zero, comment_fields, media_paper, box_paper, document_paper}

@@ -2,9 +2,9 @@
 use Rattle.std.specs.Prelude.{ℕ, zero, suc, ℤ, pos, ◌+◌, ◌≡◌, Bool, false, if◌then◌else◌, option_map, option_and_then}
 use Rattle.std.specs.Prelude.{List, [], ◌∷◌, length, take, drop, codes, Option, Some, None}
 use Rattle.std.specs.Ordering.{int_eq}
-use Rattle.profile.specs.Papers.{Paper, Pt, grains, is_paper}
-use Rattle.profile.specs.Numbers.{is_large}
-use Rattle.profile.specs.Units.{content_of, line_len, is_comment, fields}
+use Rattle.rules.specs.Papers.{Paper, Pt, grains, is_paper}
+use Rattle.rules.specs.Numbers.{is_large}
+use Rattle.rules.specs.Units.{content_of, line_len, is_comment, fields}
 use Rattle.dsc.specs.Header.{header_len}
 use Rattle.lengths.specs.Lengths.{a4}
 use Rattle.lengths.specs.Reading.{is_empty, number_at}

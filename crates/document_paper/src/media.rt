@@ -1,7 +1,7 @@
 //! The paper that a document is made for, as its header comments tell it.
 ghost use Rattle.std.specs.Prelude.{◌≡◌, ◌++◌, ◌∷◌, [], option_and_then, option_map, codes};
-ghost use Rattle.profile.specs.Bytes.{colon};
-ghost use Rattle.profile.specs.Units.{content_of, is_comment};
+ghost use Rattle.rules.specs.Bytes.{colon};
+ghost use Rattle.rules.specs.Units.{content_of, is_comment};
 ghost use Rattle.dsc.specs.Fields.{fields_in};
 ghost use Rattle.document_paper.specs.Media as meaning;
 

@@ -4,10 +4,10 @@ use Rattle.std.specs.List.{prefix_len}
 use Rattle.std.proofs.Common.{Bool, true, false, ◌&&◌, ◌==◌, ◌≡◌, ℕ, zero, suc, List, [], ◌∷◌, ◌++◌, length, take, drop, refl, ap, arith, sym, ◌∙◌, subst}
 use Rattle.std.proofs.lemmas.Bool.{eqb-true}
 use Rattle.std.proofs.lemmas.List.Elements.{All-nil, All-cons}
-use Rattle.profile.specs.Units.{TextUnit, BeginsWith, cut, ◌>>=◌}
-use Rattle.profile.specs.Parts.{NestedUnit, depth_after, nested_from, nested, begins_page, begins_trailer, up_to, starting_at, page_run, split_pages, bytes_of, pages}
-use Rattle.profile.specs.Filters.{kept, drops_in_page, ended, prepared}
-use Rattle.profile.specs.Output.{body_text}
+use Rattle.rules.specs.Units.{TextUnit, BeginsWith, cut, ◌>>=◌}
+use Rattle.rules.specs.Parts.{NestedUnit, depth_after, nested_from, nested, begins_page, begins_trailer, up_to, starting_at, page_run, split_pages, bytes_of, pages}
+use Rattle.rules.specs.Filters.{kept, drops_in_page, ended, prepared}
+use Rattle.rules.specs.Output.{body_text}
 use Rattle.dsc.specs.Laws.{StandAlone, PagesStandAlone, HasBody}
 use Rattle.dsc.proofs.Cases.{by_test}
 use Rattle.dsc.proofs.Rows.{joined, units-alone, units-cut, cut-begins}

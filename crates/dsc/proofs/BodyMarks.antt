@@ -1,8 +1,8 @@
 -- What the pass finds of the bodies of pages.
 use Rattle.std.specs.Prelude.{Result}
 use Rattle.std.proofs.Common.{Bool, true, false, ◌≡◌, ℕ, suc, ◌+◌, ◌-◌, ◌<◌, List, [], ◌∷◌, ◌++◌, if◌then◌else◌, length, get_or, refl, ap, arith, length-append, ◌∙◌}
-use Rattle.profile.specs.Units.{TextUnit, FaultyBlock, is_end}
-use Rattle.profile.specs.Parts.{NestedUnit, begins_page, begins_trailer}
+use Rattle.rules.specs.Units.{TextUnit, FaultyBlock, is_end}
+use Rattle.rules.specs.Parts.{NestedUnit, begins_page, begins_trailer}
 use Rattle.dsc.specs.Filters.{is_dropped}
 use Rattle.dsc.specs.BodyStarts.{Sought, noted, ends_line}
 use Rattle.dsc.specs.declared.filters.Drops.TheVariants.{PageSetup}

@@ -1,8 +1,8 @@
 -- Laws of the cut of a text into units.
 use Rattle.std.specs.Prelude.{Result, Ok, Err}
 use Rattle.std.proofs.Common.{◌≡◌, ℕ, zero, suc, ◌+◌, ◌<◌, ◌≤◌, List, [], ◌∷◌, length, drop, refl, ap, arith, length-drop, ◌∙◌}
-use Rattle.profile.specs.Units.{TextUnit, BlockFault, first_unit, FaultyBlock, at_byte, cut_from, ◌>>=◌}
-use Rattle.profile.proofs.CutUnits.{unit_some}
+use Rattle.rules.specs.Units.{TextUnit, BlockFault, first_unit, FaultyBlock, at_byte, cut_from, ◌>>=◌}
+use Rattle.rules.proofs.CutUnits.{unit_some}
 use Rattle.dsc.specs.Units.{faulty_block}
 use Rattle.dsc.specs.Filters.{of_units}
 

@@ -3,8 +3,8 @@ use Rattle.std.specs.Prelude.{Err, codes}
 use Rattle.std.specs.List.{list_all}
 use Rattle.std.specs.Char.{is_ascii_digit}
 use Rattle.std.proofs.Common.{Bool, true, false, ◌&&◌, ◌≡◌, ℕ, ◌<◌, List, [], ◌∷◌, length, refl, arith, min}
-use Rattle.profile.specs.Numbers.{number_of}
-use Rattle.profile.specs.Units.{ShortData, is_comment, fields, counts_lines, data_len}
+use Rattle.rules.specs.Numbers.{number_of}
+use Rattle.rules.specs.Units.{ShortData, is_comment, fields, counts_lines, data_len}
 use Rattle.dsc.specs.Fields.{third_is, data_in}
 use Rattle.dsc.proofs.Fronts.{short_counted}
 

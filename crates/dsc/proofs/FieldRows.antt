@@ -5,7 +5,7 @@ use Rattle.std.proofs.Common.{true, false, ◌≡◌, ℕ, suc, ◌+◌, ◌<◌
 use Rattle.std.proofs.lemmas.Bool.{lt-ltb}
 use Rattle.std.proofs.lemmas.List.Sums.{prefix_len-le-length}
 use Rattle.std.proofs.lemmas.List.Splits.{slice_split-cons_yes, slice_split-cons_no}
-use Rattle.profile.specs.Units.{is_blank}
+use Rattle.rules.specs.Units.{is_blank}
 use Rattle.dsc.specs.Fields.{fields_in}
 use Rattle.dsc.proofs.Cases.{by_test}
 

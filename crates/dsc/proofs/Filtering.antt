@@ -2,9 +2,9 @@
 use Rattle.std.specs.Prelude.{Result, Ok, Err, not}
 use Rattle.std.proofs.Common.{append_assoc, append-nil, Bool, true, false, if◌then◌else◌, ◌≡◌, ℕ, suc, ◌+◌, ◌-◌, ◌<◌, List, [], ◌∷◌, ◌++◌, length, take, drop, get_or, refl, ap, arith, sym, ◌∙◌}
 use Rattle.std.proofs.Math.Seq.{take-add}
-use Rattle.profile.specs.Units.{TextUnit, is_end, FaultyBlock, cut}
-use Rattle.profile.specs.Parts.{NestedUnit, nested, bytes_of}
-use Rattle.profile.specs.Filters.{kept_after, kept, drops_in_header, ended}
+use Rattle.rules.specs.Units.{TextUnit, is_end, FaultyBlock, cut}
+use Rattle.rules.specs.Parts.{NestedUnit, nested, bytes_of}
+use Rattle.rules.specs.Filters.{kept_after, kept, drops_in_header, ended}
 use Rattle.dsc.specs.Units.{or_none, units_of}
 use Rattle.dsc.specs.Filters.{drops_of, is_dropped, of_units, filter_on}
 use Rattle.dsc.specs.declared.filters.Drops.{Drops}

@@ -2,9 +2,9 @@
 use Rattle.std.specs.Prelude.{Ok, map}
 use Rattle.std.proofs.Common.{Bool, true, false, if◌then◌else◌, ◌≡◌, ℕ, zero, suc, ◌+◌, ◌-◌, ◌<◌, ◌≤◌, List, [], ◌∷◌, length, take, drop, get_or, refl, ap, arith, length-take, length-drop, sym, ◌∙◌, subst}
 use Rattle.std.proofs.lemmas.List.{drop-drop, drop-take, length-map}
-use Rattle.profile.specs.Units.{is_end, cut, ◌>>=◌}
-use Rattle.profile.specs.Parts.{NestedUnit, nested, page_run, split_pages, bytes_of, pages}
-use Rattle.profile.specs.Filters.{kept, drops_in_page, ended, prepared}
+use Rattle.rules.specs.Units.{is_end, cut, ◌>>=◌}
+use Rattle.rules.specs.Parts.{NestedUnit, nested, page_run, split_pages, bytes_of, pages}
+use Rattle.rules.specs.Filters.{kept, drops_in_page, ended, prepared}
 use Rattle.dsc.specs.Units.{or_none, units_of}
 use Rattle.dsc.specs.Laws.{StandAlone}
 use Rattle.dsc.specs.Marks.{starts_of}

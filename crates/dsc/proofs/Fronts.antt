@@ -5,8 +5,8 @@ use Rattle.std.specs.Char.{is_ascii_digit}
 use Rattle.std.proofs.Common.{Bool, true, false, ltb, if◌then◌else◌, ◌≡◌, ℕ, ◌+◌, ◌-◌, ◌<◌, ◌≤◌, List, [], ◌∷◌, length, take, drop, refl, ap, arith, length-drop, length-take, sym, ◌∙◌}
 use Rattle.std.proofs.lemmas.List.{take-take}
 use Rattle.std.proofs.lemmas.Bool.{ltb-false, le-ltb, lt-ltb}
-use Rattle.profile.specs.Numbers.{number_of}
-use Rattle.profile.specs.Units.{TextUnit, BlockFault, ShortData, content_of, line_len, lines_len, begins_block, fields, counts_lines, or_short, data_len, block, first_unit}
+use Rattle.rules.specs.Numbers.{number_of}
+use Rattle.rules.specs.Units.{TextUnit, BlockFault, ShortData, content_of, line_len, lines_len, begins_block, fields, counts_lines, or_short, data_len, block, first_unit}
 use Rattle.dsc.specs.Fields.{counted}
 use Rattle.dsc.proofs.Cases.{by_test}
 use Rattle.dsc.proofs.LineLengths.{content_len, content_of-take, line_len-take, line_len-within, line_len_is, lines_len-take, lines_len-least, behind}

@@ -1,7 +1,7 @@
 -- The run of header comments, a line at a time.
 use Rattle.std.specs.Prelude.{if◌then◌else◌}
 use Rattle.std.proofs.Common.{true, false, ◌≡◌, ℕ, zero, suc, ◌+◌, ◌<◌, List, [], ◌∷◌, length, drop, refl, ap, arith, ◌∙◌}
-use Rattle.profile.specs.Units.{content_of, line_len}
+use Rattle.rules.specs.Units.{content_of, line_len}
 use Rattle.dsc.specs.Header.{stays, is_last, run_len, header_run}
 use Rattle.dsc.proofs.LineByLine.{by_line}
 

@@ -8,7 +8,7 @@ use Rattle.std.proofs.lemmas.Slice.Eq.{bytes_eq-Decides}
 use Rattle.std.proofs.lemmas.List.{take-append-drop, take-take}
 use Rattle.std.proofs.Math.Seq.{take-append_seam}
 use Rattle.std.proofs.lemmas.List.Sums.{take_while-cons}
-use Rattle.profile.specs.Units.{is_blank, key, has_key, is_comment, begins_block, fields}
+use Rattle.rules.specs.Units.{is_blank, key, has_key, is_comment, begins_block, fields}
 use Rattle.dsc.specs.Fields.{fields_in}
 use Rattle.dsc.proofs.Cases.{by_test, and_false}
 

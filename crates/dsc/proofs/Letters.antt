@@ -8,8 +8,8 @@ use Rattle.std.proofs.lemmas.List.{length-take}
 use Rattle.std.proofs.lemmas.Option.{same_Some}
 use Rattle.std.proofs.lemmas.List.Sums.{take_while-cons}
 use Rattle.std.proofs.lemmas.Slice.Eq.{bytes_eq-Decides}
-use Rattle.profile.specs.Units.{is_blank, key}
-use Rattle.profile.specs.Filters.{drops_in_page}
+use Rattle.rules.specs.Units.{is_blank, key}
+use Rattle.rules.specs.Filters.{drops_in_page}
 use Rattle.dsc.specs.Letters.{letter_of}
 use Rattle.dsc.proofs.Cases.{by_test}
 use Rattle.dsc.proofs.Headings.{in_key}

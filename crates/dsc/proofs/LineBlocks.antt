@@ -5,7 +5,7 @@ use Rattle.std.proofs.Common.{Bool, true, false, cond, ◌||◌, ◌==◌, ◌�
 use Rattle.std.proofs.lemmas.Bool.{eqb-true}
 use Rattle.std.proofs.lemmas.List.{take-append-drop, length-take}
 use Rattle.std.proofs.lemmas.List.Sums.{sum_by-cons}
-use Rattle.profile.specs.Units.{is_end, line_len, lines_len}
+use Rattle.rules.specs.Units.{is_end, line_len, lines_len}
 use Rattle.dsc.proofs.Cases.{by_test}
 use Rattle.dsc.proofs.LineLengths.{content_len, added_on}
 use Rattle.dsc.proofs.PlainLines.{line_split}

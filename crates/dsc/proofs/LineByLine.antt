@@ -1,6 +1,6 @@
 -- A function that takes a text line by line, of so many lines at most: each line has a byte, so the text's length is enough of them.
 use Rattle.std.proofs.Common.{◌≡◌, ℕ, zero, suc, ◌≤◌, List, [], ◌∷◌, length, drop, ap, sym, arith, length-drop, ◌∙◌}
-use Rattle.profile.specs.Units.{line_len}
+use Rattle.rules.specs.Units.{line_len}
 use Rattle.dsc.proofs.LineLengths.{line_len-pos}
 
 module _ {X : Type 0} (f : ℕ → List ℕ → X) (with_line : ℕ → List ℕ → X → X) (none : (k : ℕ) → f k [] ≡ f 0 [])

@@ -7,7 +7,7 @@ use Rattle.std.proofs.lemmas.List.Folds.{length-prefix_len}
 use Rattle.std.proofs.lemmas.List.Sums.{prefix_len-le-length}
 use Rattle.std.proofs.lemmas.Grind.{common_steps}
 use Rattle.memchr.specs.Find.{IsFirstByte, is_byte2}
-use Rattle.profile.specs.Units.{is_end, content_of, end_len, line_len, lines_len}
+use Rattle.rules.specs.Units.{is_end, content_of, end_len, line_len, lines_len}
 use Rattle.dsc.proofs.Cases.{by_test}
 
 -- how long the content is

@@ -3,7 +3,7 @@ use Rattle.std.specs.Prelude.{slice_index}
 use Rattle.std.proofs.Common.{Bool, false, ltb, ◌≡◌, ℕ, zero, suc, ◌+◌, ◌-◌, ◌<◌, ◌≤◌, List, [], ◌∷◌, length, get_or, ap, arith, sym, ◌∙◌, subst}
 use Rattle.std.proofs.lemmas.Bool.{ltb-false, ltb-true, false≢true}
 use Rattle.memchr.specs.Find.{Nowhere, Passes, places_from, places, is_byte2}
-use Rattle.profile.specs.Units.{content_of}
+use Rattle.rules.specs.Units.{content_of}
 use Rattle.dsc.proofs.Cases.{by_test}
 use Rattle.dsc.proofs.LineLengths.{content_found, no_end_found}
 

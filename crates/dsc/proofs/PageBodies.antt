@@ -6,9 +6,9 @@ use Rattle.std.proofs.Common.{append_assoc, nat_eq, Bool, true, false, cond, ◌
 use Rattle.std.proofs.lemmas.Bool.{eqb-true, eq-eqb, ne_eqb, false≢true}
 use Rattle.std.proofs.lemmas.List.{drop-drop}
 use Rattle.std.proofs.Math.Seq.{drop-append_seam}
-use Rattle.profile.specs.Units.{TextUnit, FaultyBlock, cut}
-use Rattle.profile.specs.Parts.{NestedUnit, nested, nested_from, begins_page, begins_trailer, up_to, page_run, split_pages, bytes_of}
-use Rattle.profile.specs.Filters.{kept_after, drops_in_page, continues}
+use Rattle.rules.specs.Units.{TextUnit, FaultyBlock, cut}
+use Rattle.rules.specs.Parts.{NestedUnit, nested, nested_from, begins_page, begins_trailer, up_to, page_run, split_pages, bytes_of}
+use Rattle.rules.specs.Filters.{kept_after, drops_in_page, continues}
 use Rattle.dsc.specs.Filters.{is_dropped, of_units}
 use Rattle.dsc.specs.Units.{or_none, units_of}
 use Rattle.dsc.specs.Marks.{page_starts}

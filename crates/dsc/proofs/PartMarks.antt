@@ -6,8 +6,8 @@ use Rattle.std.proofs.Common.{Bool, true, false, cond, ◌||◌, ◌&&◌, if◌
 use Rattle.std.proofs.lemmas.List.Sums.{take_while-cons}
 use Rattle.std.proofs.lemmas.List.{length-map}
 use Rattle.std.proofs.lemmas.Slice.Eq.{bytes_eq-Decides}
-use Rattle.profile.specs.Units.{TextUnit, key, has_key, is_comment, FaultyBlock, cut}
-use Rattle.profile.specs.Parts.{NestedUnit, nested_from, is_outermost_line, begins_page, begins_trailer, up_to, starting_at, preamble, page_run, split_pages, bytes_of, pages}
+use Rattle.rules.specs.Units.{TextUnit, key, has_key, is_comment, FaultyBlock, cut}
+use Rattle.rules.specs.Parts.{NestedUnit, nested_from, is_outermost_line, begins_page, begins_trailer, up_to, starting_at, preamble, page_run, split_pages, bytes_of, pages}
 use Rattle.dsc.specs.Units.{or_none, units_of}
 use Rattle.dsc.specs.Filters.{of_units}
 use Rattle.dsc.specs.Marks.{page_starts, starts_of, end_of, starts_from, end_from, Marks, marks_on, scan_on}

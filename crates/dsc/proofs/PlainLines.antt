@@ -6,7 +6,7 @@ use Rattle.std.proofs.lemmas.Bool.{ltb-false, ltb-true}
 use Rattle.std.proofs.lemmas.List.{take-take, drop-drop, get_or-drop}
 use Rattle.std.proofs.lemmas.Slice.Eq.{bytes_eq-Decides}
 use Rattle.memchr.specs.Find.{FindsNeedle, OccursAt}
-use Rattle.profile.specs.Units.{is_end, content_of, end_len, line_len}
+use Rattle.rules.specs.Units.{is_end, content_of, end_len, line_len}
 use Rattle.dsc.specs.Plain.{ArePlain, BeginsPlain, next_line}
 use Rattle.dsc.proofs.Cases.{by_test}
 use Rattle.dsc.proofs.LineLengths.{content_len, line_len-pos, line_len-within, line_len_is, end_len-pos}

@@ -5,9 +5,9 @@ use Rattle.std.specs.Str.{bytes_eq}
 use Rattle.std.proofs.lemmas.Bool.{false≢true}
 use Rattle.std.proofs.lemmas.Slice.Eq.{bytes_eq-Decides}
 use Rattle.std.proofs.Common.{Bool, false, nat_eq, not, ◌||◌, ◌&&◌, ◌==◌, if◌then◌else◌, ◌≡◌, ℕ, ◌+◌, ◌-◌, List, [], ◌∷◌, length, take, refl, ap, arith, length-take, sym, ◌∙◌}
-use Rattle.profile.specs.Units.{TextUnit, is_blank, key, has_key, content_of, line_len, first_unit}
-use Rattle.profile.specs.Parts.{NestedUnit, depth_after, is_outermost_line, begins_page, begins_trailer}
-use Rattle.profile.specs.Filters.{continues}
+use Rattle.rules.specs.Units.{TextUnit, is_blank, key, has_key, content_of, line_len, first_unit}
+use Rattle.rules.specs.Parts.{NestedUnit, depth_after, is_outermost_line, begins_page, begins_trailer}
+use Rattle.rules.specs.Filters.{continues}
 use Rattle.dsc.specs.Filters.{drops_of, is_dropped}
 use Rattle.dsc.specs.declared.filters.Drops.{Drops}
 use Rattle.dsc.specs.declared.filters.Drops.TheVariants.{PageSetup, DocumentSetup}

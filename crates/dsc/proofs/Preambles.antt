@@ -7,10 +7,10 @@ use Rattle.std.proofs.lemmas.List.{take-append-drop}
 use Rattle.std.proofs.lemmas.List.Sums.{take_while-cons}
 use Rattle.std.proofs.lemmas.Slice.Eq.{bytes_eq-Decides}
 use Rattle.std.proofs.Math.Seq.{take-append_seam}
-use Rattle.profile.specs.Bytes.{line}
-use Rattle.profile.specs.Units.{TextUnit, BlockFault, is_end, is_blank, content_of, line_len, key, begins_block, fields, data_len, block, first_unit, cut, BeginsWith}
-use Rattle.profile.specs.Parts.{NestedUnit, depth_after, nested_from, nested, begins_page, up_to, preamble, bytes_of}
-use Rattle.profile.specs.Filters.{kept_after, kept, drops_in_header, ended, with_count, preamble_text, continues}
+use Rattle.rules.specs.Bytes.{line}
+use Rattle.rules.specs.Units.{TextUnit, BlockFault, is_end, is_blank, content_of, line_len, key, begins_block, fields, data_len, block, first_unit, cut, BeginsWith}
+use Rattle.rules.specs.Parts.{NestedUnit, depth_after, nested_from, nested, begins_page, up_to, preamble, bytes_of}
+use Rattle.rules.specs.Filters.{kept_after, kept, drops_in_header, ended, with_count, preamble_text, continues}
 use Rattle.dsc.specs.Units.{or_none, units_of}
 use Rattle.dsc.specs.Documents.{HasItsParts}
 use Rattle.dsc.specs.Marks.{end_of}

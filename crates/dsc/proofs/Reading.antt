@@ -6,9 +6,9 @@ use Rattle.std.proofs.lemmas.Bool.{le-ltb, lt-ltb, eqb-true}
 use Rattle.std.proofs.lemmas.List.{take_all}
 use Rattle.dsc.specs.declared.errors.CutError.{CutError}
 use Rattle.dsc.specs.declared.errors.CutError.TheVariants as cut_fault
-use Rattle.profile.specs.Units.{TextUnit, BlockFault, FaultyBlock, cut, ◌>>=◌}
-use Rattle.profile.specs.Parts.{NestedUnit, nested_from, nested, pages}
-use Rattle.profile.specs.Run.{DocumentFault, InputTooLong, NotPostScript, BadBlock, InputTooManyPages, NoPages, document_of, most_input_bytes, most_pages, with_pages, refuse_if, of_block}
+use Rattle.rules.specs.Units.{TextUnit, BlockFault, FaultyBlock, cut, ◌>>=◌}
+use Rattle.rules.specs.Parts.{NestedUnit, nested_from, nested, pages}
+use Rattle.rules.specs.Run.{DocumentFault, InputTooLong, NotPostScript, BadBlock, InputTooManyPages, NoPages, document_of, most_input_bytes, most_pages, with_pages, refuse_if, of_block}
 use Rattle.dsc.specs.Units.{or_none, units_of, faulty_block}
 use Rattle.dsc.specs.Marks.{starts_of, end_of, marks_on, scan_on, stop_at}
 use Rattle.dsc.specs.declared.units.UnitError.{UnitError}

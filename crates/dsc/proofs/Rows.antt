@@ -3,8 +3,8 @@ use Rattle.std.specs.Prelude.{Result, Ok, Err, flat_map, drop}
 use Rattle.std.proofs.Common.{append_assoc, Bool, true, false, cond, ◌≡◌, ℕ, zero, suc, ◌+◌, ◌<◌, ◌≤◌, List, [], ◌∷◌, ◌++◌, length, take, refl, ap, arith, length-append, sym, ◌∙◌, subst}
 use Rattle.std.proofs.lemmas.List.{take-append-drop}
 use Rattle.std.proofs.Math.Seq.{take-append_seam, drop-append_seam}
-use Rattle.profile.specs.Units.{TextUnit, BlockFault, content_of, line_len, begins_block, fields, data_len, block, first_unit, cut, AreUnits, BeginsWith}
-use Rattle.profile.proofs.CutUnits.{cut_is_units, unit_some}
+use Rattle.rules.specs.Units.{TextUnit, BlockFault, content_of, line_len, begins_block, fields, data_len, block, first_unit, cut, AreUnits, BeginsWith}
+use Rattle.rules.proofs.CutUnits.{cut_is_units, unit_some}
 use Rattle.dsc.proofs.Fronts.{bytes_or, first_unit-take}
 
 abbrev pub joined : List TextUnit → List ℕ

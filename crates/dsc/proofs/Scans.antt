@@ -5,8 +5,8 @@ use Rattle.std.specs.Str.{bytes_eq}
 use Rattle.std.specs.Prelude.{codes}
 use Rattle.std.proofs.lemmas.Bool.{ltb-false, lt-ltb}
 use Rattle.std.proofs.lemmas.List.{take-append-le}
-use Rattle.profile.specs.Units.{TextUnit, key, FaultyBlock}
-use Rattle.profile.specs.Parts.{NestedUnit, depth_after, begins_page, begins_trailer}
+use Rattle.rules.specs.Units.{TextUnit, key, FaultyBlock}
+use Rattle.rules.specs.Parts.{NestedUnit, depth_after, begins_page, begins_trailer}
 use Rattle.dsc.specs.Marks.{starts_from, end_from, Marks, marks_on, noted_starts, noted_end, scan_on}
 use Rattle.dsc.specs.Views.{at_depth}
 use Rattle.dsc.specs.Walks.{Place, behind, IsPieceOf}

@@ -5,12 +5,12 @@ use Rattle.std.proofs.Common.{append_assoc, Bool, true, false, cond, ◌≡◌, 
 use Rattle.std.proofs.lemmas.List.{drop-drop, take-append-drop}
 use Rattle.std.proofs.lemmas.Grind.{flat_map-append}
 use Rattle.std.proofs.Math.Seq.{take-append_seam, drop-append_seam}
-use Rattle.profile.specs.Units.{cut}
-use Rattle.profile.specs.Parts.{NestedUnit, begins_page, begins_trailer, up_to, starting_at, preamble, page_run, trailer, split_pages, bytes_of, pages}
+use Rattle.rules.specs.Units.{cut}
+use Rattle.rules.specs.Parts.{NestedUnit, begins_page, begins_trailer, up_to, starting_at, preamble, page_run, trailer, split_pages, bytes_of, pages}
 use Rattle.dsc.specs.Units.{or_none, units_of}
 use Rattle.dsc.specs.Marks.{page_starts, starts_of, end_of}
 use Rattle.dsc.proofs.Cases.{by_test}
-use Rattle.profile.proofs.Whole.{units_make_text}
+use Rattle.rules.proofs.Whole.{units_make_text}
 use Rattle.dsc.specs.Documents.{HasItsParts}
 use Rattle.dsc.proofs.Alone.{nested-bytes}
 use Rattle.dsc.proofs.PartMarks.{before-cons, from-cons, page_count}

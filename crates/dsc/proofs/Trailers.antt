@@ -5,8 +5,8 @@ use Rattle.std.proofs.Common.{Bool, true, cond, ◌==◌, ◌≡◌, ℕ, ◌≤
 use Rattle.std.proofs.lemmas.List.{drop-drop}
 use Rattle.std.proofs.lemmas.Bool.{eqb-true}
 use Rattle.std.proofs.Math.Seq.{drop-append_seam}
-use Rattle.profile.specs.Units.{TextUnit, cut, BeginsWith}
-use Rattle.profile.specs.Parts.{NestedUnit, depth_after, nested_from, nested, begins_page, begins_trailer, starting_at, preamble, page_run, trailer, bytes_of}
+use Rattle.rules.specs.Units.{TextUnit, cut, BeginsWith}
+use Rattle.rules.specs.Parts.{NestedUnit, depth_after, nested_from, nested, begins_page, begins_trailer, starting_at, preamble, page_run, trailer, bytes_of}
 use Rattle.dsc.specs.Units.{or_none, units_of}
 use Rattle.dsc.specs.Marks.{end_of}
 use Rattle.dsc.specs.Laws.{StandAlone}

@@ -3,8 +3,8 @@ use Rattle.std.specs.Prelude.{Result, Ok}
 use Rattle.std.proofs.Common.{inl, inr, append_assoc, append-nil, ◌≡◌, ℕ, zero, suc, ◌+◌, ◌-◌, ◌<◌, ◌≤◌, List, [], ◌∷◌, ◌++◌, length, take, drop, refl, ap, arith, length-drop, length-take, sym, ◌∙◌}
 use Rattle.std.proofs.lemmas.List.{drop-drop}
 use Rattle.std.proofs.Math.Seq.{take-add}
-use Rattle.profile.specs.Units.{TextUnit, FaultyBlock, first_unit, content_of, line_len}
-use Rattle.profile.specs.Parts.{NestedUnit, depth_after, nested_from}
+use Rattle.rules.specs.Units.{TextUnit, FaultyBlock, first_unit, content_of, line_len}
+use Rattle.rules.specs.Parts.{NestedUnit, depth_after, nested_from}
 use Rattle.dsc.specs.Filters.{of_units}
 use Rattle.dsc.specs.Plain.{ArePlain}
 use Rattle.dsc.specs.Views.{at_depth}

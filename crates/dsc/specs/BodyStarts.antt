@@ -1,9 +1,9 @@
 -- Where the bodies of pages begin in the text, if they are the rest of their page.
 use Rattle.std.specs.Prelude.{◌≡◌, ℕ, ◌+◌, ◌-◌, ◌<◌, ◌≤◌, Bool, true, false, ◌&&◌, ◌||◌, ◌==◌, if◌then◌else◌}
 use Rattle.std.specs.Prelude.{List, [], ◌∷◌, ◌++◌, length, drop, slice_index_or}
-use Rattle.profile.specs.Units.{is_end}
-use Rattle.profile.specs.Parts.{NestedUnit, page_run, split_pages, bytes_of}
-use Rattle.profile.specs.Filters.{kept, drops_in_page}
+use Rattle.rules.specs.Units.{is_end}
+use Rattle.rules.specs.Parts.{NestedUnit, page_run, split_pages, bytes_of}
+use Rattle.rules.specs.Filters.{kept, drops_in_page}
 use Rattle.dsc.specs.Marks.{starts_of}
 
 -- whether bytes end with a line end; of none this is as it was before

@@ -1,7 +1,7 @@
 -- What a document keeps true of its fields.
 use Rattle.std.specs.Prelude.{◌≡◌, ℕ, ◌<◌, ◌≤◌, List, length, Ok}
-use Rattle.profile.specs.Units.{cut}
-use Rattle.profile.specs.Run.{document_of, most_pages}
+use Rattle.rules.specs.Units.{cut}
+use Rattle.rules.specs.Run.{document_of, most_pages}
 use Rattle.dsc.specs.Units.{or_none, units_of}
 use Rattle.dsc.specs.Marks.{starts_of, end_of}
 use Rattle.dsc.specs.BodyStarts.{AreBodyStarts}

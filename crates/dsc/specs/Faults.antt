@@ -1,10 +1,10 @@
 -- The faults of a document, as the code names them.
 use Rattle.std.specs.Prelude.{◌≡◌, ℕ, ◌≤◌, true, List, length, codes, nat_eq, Option, Some, None}
 use Rattle.std.specs.List.{starts_with}
-use Rattle.profile.specs.Units.{FaultyBlock}
-use Rattle.profile.specs.Units as block
-use Rattle.profile.specs.Run.{DocumentFault, InputTooLong, NotPostScript, BadBlock, InputTooManyPages, NoPages}
-use Rattle.profile.specs.Run.{most_input_bytes}
+use Rattle.rules.specs.Units.{FaultyBlock}
+use Rattle.rules.specs.Units as block
+use Rattle.rules.specs.Run.{DocumentFault, InputTooLong, NotPostScript, BadBlock, InputTooManyPages, NoPages}
+use Rattle.rules.specs.Run.{most_input_bytes}
 use Rattle.dsc.specs.Units.{faulty_block}
 use Rattle.dsc.specs.declared.errors.CutError.{CutError}
 use Rattle.dsc.specs.declared.errors.CutError.TheVariants as cut_fault

@@ -4,8 +4,8 @@ use Rattle.std.specs.Prelude.{if◌then◌else◌}
 use Rattle.std.specs.List.{slice_split, list_all}
 use Rattle.std.specs.Str.{bytes_eq}
 use Rattle.std.specs.Char.{is_ascii_digit}
-use Rattle.profile.specs.Numbers.{number_of}
-use Rattle.profile.specs.Units.{is_blank, BlockFault, BadCount, or_short, lines_len, bytes_len}
+use Rattle.rules.specs.Numbers.{number_of}
+use Rattle.rules.specs.Units.{is_blank, BlockFault, BadCount, or_short, lines_len, bytes_len}
 
 -- the pieces between blanks that aren't empty
 abbrev pub fields_in : List ℕ → List (List ℕ)

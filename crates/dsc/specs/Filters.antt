@@ -1,10 +1,10 @@
 -- What is kept of a text, as a loop over it has it.
 use Rattle.std.specs.Prelude.{ℕ, Bool, ◌&&◌, ◌||◌, List, ◌++◌, length, Result, Ok}
-use Rattle.profile.specs.Units.{TextUnit, FaultyBlock, cut_from, ◌>>=◌}
-use Rattle.profile.specs.Parts.{NestedUnit, nested_from, bytes_of, is_outermost_line}
+use Rattle.rules.specs.Units.{TextUnit, FaultyBlock, cut_from, ◌>>=◌}
+use Rattle.rules.specs.Parts.{NestedUnit, nested_from, bytes_of, is_outermost_line}
 use Rattle.dsc.specs.declared.filters.Drops.{Drops}
 use Rattle.dsc.specs.declared.filters.Drops.TheVariants.{PageSetup, DocumentSetup}
-use Rattle.profile.specs.Filters.{kept_after, continues, drops_in_header, drops_in_page}
+use Rattle.rules.specs.Filters.{kept_after, continues, drops_in_header, drops_in_page}
 
 -- the lines that are dropped from a page, or from a preamble and a trailer
 abbrev pub drops_of : Drops → List ℕ → Bool

@@ -3,7 +3,7 @@
 use Rattle.std.specs.Prelude.{ℕ, zero, suc, ◌+◌, Bool, false, not, ◌&&◌, ◌||◌, ◌==◌, nat_eq, nat_le, if◌then◌else◌}
 use Rattle.std.specs.Prelude.{List, [], ◌∷◌, length, drop, codes}
 use Rattle.std.specs.List.{starts_with}
-use Rattle.profile.specs.Units.{content_of, line_len, key, has_key, is_comment}
+use Rattle.rules.specs.Units.{content_of, line_len, key, has_key, is_comment}
 
 -- a percent sign and a byte that prints
 abbrev pub is_header : List ℕ → Bool

@@ -1,10 +1,10 @@
 -- What the laws of pages say.
 use Rattle.std.specs.Prelude.{◌≡◌, ℕ, List, map, All, Ok}
-use Rattle.profile.specs.Units.{TextUnit, cut}
-use Rattle.profile.specs.Parts.{NestedUnit, nested, split_pages, page_run, bytes_of, pages}
-use Rattle.profile.specs.Filters.{prepared}
-use Rattle.profile.specs.Output.{body_text}
-use Rattle.profile.specs.Run.{document_of}
+use Rattle.rules.specs.Units.{TextUnit, cut}
+use Rattle.rules.specs.Parts.{NestedUnit, nested, split_pages, page_run, bytes_of, pages}
+use Rattle.rules.specs.Filters.{prepared}
+use Rattle.rules.specs.Output.{body_text}
+use Rattle.rules.specs.Run.{document_of}
 
 -- cut as a text of their own, these units are the same again, and so are the depths before them
 abbrev pub StandAlone : List NestedUnit → Type 0

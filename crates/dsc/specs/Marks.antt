@@ -1,9 +1,9 @@
 -- Where the pages of a document begin, and where its trailer does.
 use Rattle.std.specs.Prelude.{ℕ, ◌+◌, Bool, true, ◌&&◌, ◌||◌, nat_lt, if◌then◌else◌, List, [], ◌∷◌, ◌++◌, length, take}
 use Rattle.std.specs.Prelude.{Option, Some, None, Result}
-use Rattle.profile.specs.Units.{FaultyBlock, cut_from}
+use Rattle.rules.specs.Units.{FaultyBlock, cut_from}
 use Rattle.dsc.specs.Filters.{of_units}
-use Rattle.profile.specs.Parts.{NestedUnit, nested_from, begins_page, begins_trailer, bytes_of, preamble, page_run}
+use Rattle.rules.specs.Parts.{NestedUnit, nested_from, begins_page, begins_trailer, bytes_of, preamble, page_run}
 
 -- where the page lines stand in these units, the first of which begins at this byte
 abbrev pub page_starts : ℕ → List NestedUnit → List ℕ

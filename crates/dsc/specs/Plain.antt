@@ -2,7 +2,7 @@
 use Rattle.std.specs.Prelude.{◌≡◌, ℕ, zero, suc, ◌+◌, ◌-◌, ◌<◌, ◌≤◌, false, nat_eq, if◌then◌else◌, codes, List, length}
 use Rattle.std.specs.Prelude.{drop, slice_index}
 use Rattle.std.specs.List.{starts_with}
-use Rattle.profile.specs.Units.{is_end, content_of, line_len}
+use Rattle.rules.specs.Units.{is_end, content_of, line_len}
 
 -- so many first lines of the text, none of which begins with two percent signs, have n bytes
 abbrev pub ArePlain : (lines : ℕ) → (n : ℕ) → List ℕ → Type 0

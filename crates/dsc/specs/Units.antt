@@ -1,7 +1,7 @@
 -- The units of a text that is cut.
 use Rattle.std.specs.Prelude.{ℕ, List, [], Result, Ok, Err}
-use Rattle.profile.specs.Units.{BlockFault, FaultyBlock, cut}
-use Rattle.profile.specs.Parts.{NestedUnit, nested}
+use Rattle.rules.specs.Units.{BlockFault, FaultyBlock, cut}
+use Rattle.rules.specs.Parts.{NestedUnit, nested}
 
 abbrev pub or_none : {A E : Type 0} → Result (List A) E → List A
 or_none (Ok xs) = xs

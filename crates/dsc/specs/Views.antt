@@ -1,8 +1,8 @@
 -- What the values of the code stand for.
 use Rattle.std.specs.Prelude.{◌≡◌, ℕ, List, [], false, Option, Result, Ok, Err, IfSome}
-use Rattle.profile.specs.Units.{TextUnit, BlockFault}
-use Rattle.profile.specs.Units as block
-use Rattle.profile.specs.Parts.{NestedUnit}
+use Rattle.rules.specs.Units.{TextUnit, BlockFault}
+use Rattle.rules.specs.Units as block
+use Rattle.rules.specs.Parts.{NestedUnit}
 use Rattle.dsc.specs.declared.units.Unit.{Unit as CodeUnit}
 use Rattle.dsc.specs.declared.units.UnitError.{UnitError}
 use Rattle.dsc.specs.declared.units.UnitError.TheVariants as fault

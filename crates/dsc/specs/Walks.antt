@@ -1,7 +1,7 @@
 -- Where a walk over the units of a text stands, and what it takes for one unit.
 use Rattle.std.specs.Prelude.{◌≡◌, ℕ, ◌+◌, ◌<◌, ◌≤◌, ◌⊎◌, false, List, [], length, take, drop, Ok}
-use Rattle.profile.specs.Units.{TextUnit, first_unit}
-use Rattle.profile.specs.Parts.{depth_after}
+use Rattle.rules.specs.Units.{TextUnit, first_unit}
+use Rattle.rules.specs.Parts.{depth_after}
 use Rattle.dsc.specs.Plain.{BeginsPlain}
 
 -- a place in a text: what stands from there on, the byte at which that begins, and the depth there

@@ -1,6 +1,6 @@
 //! The prepared body of a page, which is a part of the page if that serves.
 ghost use Rattle.std.specs.Prelude.{◌≡◌, ◌++◌, IfOk, IfErr, IfSome};
-ghost use Rattle.profile.specs.Filters.{ended, prepared};
+ghost use Rattle.rules.specs.Filters.{ended, prepared};
 ghost use Rattle.dsc.specs.Views.{Gives};
 ghost use Rattle.dsc.specs.Faults.{block_fault_told, page_fault_told, IsPageError};
 ghost use Rattle.dsc.specs.Laws.{HasBody};

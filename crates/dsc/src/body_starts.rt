@@ -1,6 +1,6 @@
 //! Where the bodies of pages begin, as far as the pass that cuts the text can tell.
 ghost use Rattle.std.specs.Prelude.{◌≡◌, ◌+◌, ◌≤◌, length, OnOk, IfOk};
-ghost use Rattle.profile.specs.Run.{most_input_bytes};
+ghost use Rattle.rules.specs.Run.{most_input_bytes};
 ghost use Rattle.dsc.specs.Views.{unit_of, at_depth};
 ghost use Rattle.dsc.specs.Filters.{is_dropped};
 ghost use Rattle.dsc.specs.BodyStarts.{none_sought, noted, with_page, moved, starts_in, ends_line, closed};

@@ -1,9 +1,9 @@
 //! A document with its parts.
 ghost use Rattle.std.specs.Prelude.{◌≡◌, ◌+◌, ◌-◌, ◌<◌, ◌≤◌, [], length, take, drop, slice_index_or};
 ghost use Rattle.std.specs.Prelude.{IfOk, IfErr, IfSome, Ok};
-ghost use Rattle.profile.specs.Parts.{pages};
-ghost use Rattle.profile.specs.Filters.{preamble_text, trailer_text, prepared};
-ghost use Rattle.profile.specs.Run.{document_of};
+ghost use Rattle.rules.specs.Parts.{pages};
+ghost use Rattle.rules.specs.Filters.{preamble_text, trailer_text, prepared};
+ghost use Rattle.rules.specs.Run.{document_of};
 ghost use Rattle.dsc.specs.Views.{Gives};
 ghost use Rattle.dsc.specs.Faults.{fault_told, PassedFirstChecks};
 ghost use Rattle.dsc.specs.Laws.{HasBody};
@@ -34,7 +34,7 @@ pub struct Document<'d> {
 
 impl<'d> Model for Document<'d> {
     ghost use Rattle.std.specs.Prelude.{List};
-    ghost use Rattle.profile.specs.Parts.{NestedUnit};
+    ghost use Rattle.rules.specs.Parts.{NestedUnit};
     ghost use Rattle.dsc.specs.Units.{units_of};
     ghost use Rattle.dsc.specs.Documents.{HasItsParts};
 

@@ -2,8 +2,8 @@
 ghost use Rattle.std.specs.Prelude.{◌≡◌, ◌≤◌, length, MatchOption, min, [], ◌∷◌, true, false, not};
 ghost use Rattle.std.specs.List.{list_all, prefix_len};
 ghost use Rattle.std.specs.Char.{is_ascii_digit};
-ghost use Rattle.profile.specs.Units.{is_blank};
-ghost use Rattle.profile.specs.Numbers.{number_of};
+ghost use Rattle.rules.specs.Units.{is_blank};
+ghost use Rattle.rules.specs.Numbers.{number_of};
 ghost use Rattle.dsc.specs.Fields.{fields_in};
 
 /// How many blanks the bytes begin with.

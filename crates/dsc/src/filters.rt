@@ -1,10 +1,10 @@
 //! What is kept of a text.
 ghost use Rattle.std.specs.Prelude.{◌≡◌, ◌+◌, ◌<◌, ◌≤◌, [], ◌++◌, length, take, drop, IfOk, IfErr, OnOk};
 ghost use Rattle.std.specs.Prelude.{if◌then◌else◌, false, Ok, codes, decimal};
-ghost use Rattle.profile.specs.Bytes.{line};
-ghost use Rattle.profile.specs.Units.{cut};
-ghost use Rattle.profile.specs.Parts.{bytes_of};
-ghost use Rattle.profile.specs.Filters.{kept, drops_in_header, drops_in_page, ended, prepared};
+ghost use Rattle.rules.specs.Bytes.{line};
+ghost use Rattle.rules.specs.Units.{cut};
+ghost use Rattle.rules.specs.Parts.{bytes_of};
+ghost use Rattle.rules.specs.Filters.{kept, drops_in_header, drops_in_page, ended, prepared};
 ghost use Rattle.dsc.specs.Units.{or_none, units_of};
 ghost use Rattle.dsc.specs.Views.{unit_of, at_depth, Gives};
 ghost use Rattle.dsc.specs.Faults.{block_fault_told, page_fault_told, IsPageError};

@@ -1,6 +1,6 @@
 //! Where the header comments of a document end.
 ghost use Rattle.std.specs.Prelude.{◌≡◌, ◌<◌, ◌≤◌, length};
-ghost use Rattle.profile.specs.Units.{content_of, line_len};
+ghost use Rattle.rules.specs.Units.{content_of, line_len};
 ghost use Rattle.dsc.specs.Header.{is_header, ends_header, stays, is_last, header_run, header_len};
 
 use crate::keys::key_of;

@@ -1,8 +1,8 @@
 //! The keys of lines, and what a line's key means for the parts of a document.
 ghost use Rattle.std.specs.Prelude.{◌≡◌, ◌<◌, length, nat_eq, codes, false};
 ghost use Rattle.std.specs.List.{starts_with};
-ghost use Rattle.profile.specs.Units.{key};
-ghost use Rattle.profile.specs.Parts.{begins_page, begins_trailer, depth_after};
+ghost use Rattle.rules.specs.Units.{key};
+ghost use Rattle.rules.specs.Parts.{begins_page, begins_trailer, depth_after};
 ghost use Rattle.dsc.specs.Letters.{letter_of};
 ghost use Rattle.dsc.specs.Views.{unit_of, at_depth, comment_line};
 

@@ -1,7 +1,7 @@
 //! The lines of a text. A line ends with CR LF, CR or LF; the last one may have no end.
 ghost use Rattle.std.specs.Prelude.{◌≡◌, ◌+◌, ◌-◌, ◌<◌, ◌≤◌, ◌==◌, length, drop, option_map, IfSome};
 ghost use Rattle.std.specs.List.{count_by};
-ghost use Rattle.profile.specs.Units.{is_end, line_len, lines_len, end_len, content_of};
+ghost use Rattle.rules.specs.Units.{is_end, line_len, lines_len, end_len, content_of};
 
 use memchr::memchr2_iter;
 

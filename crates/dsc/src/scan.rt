@@ -1,6 +1,6 @@
 //! One pass over a text, which notes where its pages begin and where its trailer does.
 ghost use Rattle.std.specs.Prelude.{◌≡◌, ◌+◌, ◌<◌, ◌≤◌, [], length, OnOk, IfOk, None};
-ghost use Rattle.profile.specs.Run.{most_input_bytes};
+ghost use Rattle.rules.specs.Run.{most_input_bytes};
 ghost use Rattle.dsc.specs.Views.{Gives, unit_of, at_depth};
 ghost use Rattle.dsc.specs.Faults.{block_fault_told};
 ghost use Rattle.dsc.specs.Filters.{is_dropped};

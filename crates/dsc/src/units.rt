@@ -1,6 +1,6 @@
 //! The units of a text: lines, and blocks of data.
 ghost use Rattle.std.specs.Prelude.{◌≡◌, ◌<◌, ◌≤◌, length, codes, IfOk, MatchOption, true, false};
-ghost use Rattle.profile.specs.Units.{first_unit, begins_block, fields, is_comment};
+ghost use Rattle.rules.specs.Units.{first_unit, begins_block, fields, is_comment};
 ghost use Rattle.dsc.specs.Fields.{fields_in, third_is, data_in};
 ghost use Rattle.dsc.specs.Views.{unit_of, fault_of, Reads};
 

@@ -1,7 +1,7 @@
 //! The walk over the units of a text, which the cut and the filters share.
 ghost use Rattle.std.specs.Prelude.{◌≡◌, ◌<◌, length, codes, IfOk, IfErr, true, false, Err};
-ghost use Rattle.profile.specs.Parts.{begins_page, begins_trailer};
-ghost use Rattle.profile.specs.Units.{first_unit};
+ghost use Rattle.rules.specs.Parts.{begins_page, begins_trailer};
+ghost use Rattle.rules.specs.Units.{first_unit};
 ghost use Rattle.dsc.specs.Views.{unit_of, fault_of, at_depth};
 ghost use Rattle.dsc.specs.Walks.{start_of, behind, IsPiece, IsPieceOf};
 

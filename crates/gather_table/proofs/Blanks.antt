@@ -5,7 +5,7 @@ use Rattle.std.specs.Int.{bit_at}
 use mathlib.Core.Logic.{dite}
 use native.Mathlib.Decide.{ℕ_discrete}
 use Rattle.std.proofs.Math.ListN.{length-map}
-use Rattle.profile.specs.Sheets.{Plan, Layout, layout}
+use Rattle.rules.specs.Sheets.{Plan, Layout, layout}
 use Rattle.sheet_plan.specs.Plans as plans
 use Rattle.gather_table.specs.Table.{is_blank, in_group, bits, slots, slot_count, group_size, IsSound}
 use Rattle.gather_table.specs.Words.{has_bit}

@@ -1,6 +1,6 @@
 -- A look at a group that finds none of its slots missing shows that the group may be closed.
 use Rattle.std.proofs.Common.{◌≡◌, ℕ, ◌-◌, ◌^◌, Bool, true, not, List, [], ◌∷◌, ◌++◌, sym, ap, ◌∙◌, subst, arith, eq-eqb}
-use Rattle.profile.specs.Sheets.{Layout}
+use Rattle.rules.specs.Sheets.{Layout}
 use Rattle.gather_table.specs.Table.{TableState, group_size, in_group, HasGroup, all_below, bits, missing_in, start, IsClosable}
 use Rattle.gather_table.specs.History.{Entry, LookGroup, after_history}
 use Rattle.gather_table.specs.Shared.{SeatView}

@@ -3,7 +3,7 @@ use Rattle.std.proofs.Common.{◌≡◌, ℕ, ◌<◌, List, [], ◌∷◌, ◌+
 use mathlib.Core.Option.{some}
 use lib.ListN.{get_elem?}
 use Rattle.atomic_table.specs.Table.{State}
-use Rattle.profile.specs.Sheets.{Layout}
+use Rattle.rules.specs.Sheets.{Layout}
 use Rattle.gather_table.specs.History.{Entry, after, Fits, after_history, IsLegal}
 use Rattle.gather_table.specs.Rule.{WordsHold, IsKept, Sight}
 use Rattle.gather_table.specs.Steps.{Adds}

@@ -5,7 +5,7 @@ use mathlib.Core.Logic.{dite}
 use native.Mathlib.Decide.{ℕ_discrete}
 use Rattle.std.proofs.lemmas.List.{get_or_append_left, get_or-append-add}
 use Rattle.atomic_table.specs.Table.{opening}
-use Rattle.profile.specs.Sheets.{Layout}
+use Rattle.rules.specs.Sheets.{Layout}
 use Rattle.gather_table.specs.declared.lane.Home.{Home}
 use Rattle.gather_table.specs.declared.lane.Lane.{Lane}
 use Rattle.gather_table.specs.Homes.{IsHome}

@@ -1,6 +1,6 @@
 -- What a table of the program keeps beside its words.
 use Rattle.std.specs.Prelude.{◌≡◌, ℕ, ◌<◌, List, length, slice_index_or}
-use Rattle.profile.specs.Sheets.{Layout}
+use Rattle.rules.specs.Sheets.{Layout}
 use Rattle.gather_table.specs.declared.lane.Home.{Home}
 use Rattle.gather_table.specs.Table.{IsSound}
 use Rattle.gather_table.specs.Lanes.{wide_at}

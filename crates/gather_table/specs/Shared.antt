@@ -2,7 +2,7 @@
 -- histories.
 use Rattle.std.specs.Prelude.{ℕ, List}
 use Rattle.atomic_table.specs.Seated.{TableId}
-use Rattle.profile.specs.Sheets.{Layout}
+use Rattle.rules.specs.Sheets.{Layout}
 use Rattle.histories.specs.Calls.{IsOf, opening, own_entries}
 use Rattle.gather_table.specs.History.{Entry, IsLegal}
 

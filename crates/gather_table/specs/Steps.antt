@@ -1,7 +1,7 @@
 -- What each step tells.
 use Rattle.std.specs.Prelude.{◌≡◌, ℕ, ◌-◌, ◌/◌, ◌%◌, ◌^◌, ◌≤◌}
 use Rattle.atomic_table.specs.Table.{Me, Step}
-use Rattle.profile.specs.Sheets.{Layout}
+use Rattle.rules.specs.Sheets.{Layout}
 use Rattle.gather_table.specs.History.{Entry, Publish, Mark, Look, PageAt, CloseGroup, LookGroup, IsLegal}
 use Rattle.gather_table.specs.Lanes.{lane, in_lane}
 use Rattle.gather_table.specs.Rule.{Sight}

@@ -1,8 +1,8 @@
 //! How the shared table is made.
 ghost use Rattle.std.specs.Prelude.{◌≡◌, ◌+◌, ◌/◌, ◌<◌, ◌≤◌, nat_lt, if◌then◌else◌, length, IfOk};
-ghost use Rattle.profile.specs.Admissible.{most_slots};
-ghost use Rattle.profile.specs.Run.{most_pages, most_sheets};
-ghost use Rattle.profile.specs.Sheets.{layout};
+ghost use Rattle.rules.specs.Admissible.{most_slots};
+ghost use Rattle.rules.specs.Run.{most_pages, most_sheets};
+ghost use Rattle.rules.specs.Sheets.{layout};
 ghost use Rattle.gather_table.specs.Homes.{AreHomes};
 ghost use Rattle.gather_table.specs.Lanes.{fitted, free, wide_at};
 ghost use Rattle.gather_table.specs.Shared.{opening_seat};

@@ -21,7 +21,7 @@ impl Model for View {
 pub struct OneHistory;
 
 impl<'s> TableRule<(), View, Plan<'s>> for OneHistory {
-    ghost use Rattle.profile.specs.Sheets.{layout};
+    ghost use Rattle.rules.specs.Sheets.{layout};
     ghost use Rattle.histories.specs.Seats.{opening_sight};
     ghost use Rattle.gather_table.specs.Rule.{Kept};
 

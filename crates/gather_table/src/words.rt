@@ -1,8 +1,8 @@
 //! What words stand for: the slots of a group, bit k for slot k of it, the groups of a wide sheet, and the index of a
 //! page.
 ghost use Rattle.std.specs.Prelude.{◌≡◌, ◌+◌, ◌-◌, ◌*◌, ◌/◌, ◌<◌, ◌≤◌, ◌^◌, nat_lt, if◌then◌else◌, length};
-ghost use Rattle.profile.specs.Admissible.{most_slots};
-ghost use Rattle.profile.specs.Sheets.{layout};
+ghost use Rattle.rules.specs.Admissible.{most_slots};
+ghost use Rattle.rules.specs.Sheets.{layout};
 ghost use Rattle.gather_table.specs.Table.{is_blank, in_group, bits, slots, group_count, group_size, group_reply};
 ghost use Rattle.gather_table.specs.Table.{closing_by, publish_reply};
 ghost use Rattle.gather_table.specs.Words.{index_in, reply_in};

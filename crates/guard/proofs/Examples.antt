@@ -2,7 +2,7 @@
 use Rattle.std.proofs.Common.{◌≡◌, ℕ, List, [], ◌∷◌, length, refl}
 use Rattle.std.specs.Prelude.{codes, None, Some}
 use Rattle.std.specs.Fmt.{digits}
-use Rattle.profile.specs.Papers.{points}
+use Rattle.rules.specs.Papers.{points}
 use Rattle.guard.specs.PutIn.{put_in}
 use Rattle.guard.specs.Guard.{page_size_line, guard_lines}
 

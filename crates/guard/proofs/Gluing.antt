@@ -3,11 +3,11 @@ use Rattle.std.specs.Prelude.{flat_map, codes, Option}
 use Rattle.std.proofs.Common.{append_assoc, length-append, Bool, true, false, if◌then◌else◌, ◌+◌, ◌≡◌, ℕ, zero, suc, ◌-◌, ◌<◌, ◌≤◌, List, [], ◌∷◌, ◌++◌, length, take, drop, refl, ap, ◌∙◌, sym, subst, arith}
 use Rattle.std.proofs.lemmas.Grind.{flat_map-append}
 use Rattle.std.proofs.lemmas.List.{drop-drop}
-use Rattle.profile.specs.Units.{is_end}
-use Rattle.profile.specs.Bytes.{line}
-use Rattle.profile.specs.Filters.{ended}
-use Rattle.profile.specs.Numbers.{points_text}
-use Rattle.profile.specs.Papers.{Paper}
+use Rattle.rules.specs.Units.{is_end}
+use Rattle.rules.specs.Bytes.{line}
+use Rattle.rules.specs.Filters.{ended}
+use Rattle.rules.specs.Numbers.{points_text}
+use Rattle.rules.specs.Papers.{Paper}
 use Rattle.dsc.specs.Header.{header_len}
 use Rattle.guard.specs.PutIn.{put_in}
 use Rattle.guard.specs.Guard.{first_lines, other_lines, page_size_line, page_size_lines, guard_lines}

@@ -6,11 +6,11 @@ use Rattle.std.proofs.Common.{nat_eq, ◌==◌, ◌||◌, ◌&&◌, Bool, true, 
 use Rattle.std.proofs.lemmas.List.{append-nil, take-append-drop}
 use Rattle.std.proofs.lemmas.Bool.{eqb-true}
 use Rattle.std.proofs.Math.Seq.{drop-append_seam}
-use Rattle.profile.specs.Bytes.{line}
-use Rattle.profile.specs.Units.{TextUnit, is_end, end_len, content_of, line_len, AreUnits, key, has_key, is_comment, begins_block, cut}
-use Rattle.profile.specs.Parts.{depth_after, nested, begins_page, begins_trailer, up_to, split_pages, bytes_of, pages, trailer, is_outermost_line}
-use Rattle.profile.specs.Filters.{ended}
-use Rattle.profile.specs.Run.{document_of}
+use Rattle.rules.specs.Bytes.{line}
+use Rattle.rules.specs.Units.{TextUnit, is_end, end_len, content_of, line_len, AreUnits, key, has_key, is_comment, begins_block, cut}
+use Rattle.rules.specs.Parts.{depth_after, nested, begins_page, begins_trailer, up_to, split_pages, bytes_of, pages, trailer, is_outermost_line}
+use Rattle.rules.specs.Filters.{ended}
+use Rattle.rules.specs.Run.{document_of}
 use Rattle.dsc.specs.Units.{or_none, units_of}
 use Rattle.dsc.proofs.Cases.{by_test, and_false}
 use Rattle.dsc.proofs.LineLengths.{line_len-within, end_len-pos}

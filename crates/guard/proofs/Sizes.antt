@@ -4,8 +4,8 @@ use Rattle.std.proofs.Common.{Bool, true, false, ◌==◌, ◌≡◌, ℕ, zero,
 use Rattle.std.proofs.Math.Nat.{div-le_self}
 use Rattle.std.proofs.lemmas.Bool.{leb-true}
 use Rattle.std.proofs.lemmas.Fmt.{length-decimal-le_wide}
-use Rattle.profile.specs.Numbers.{signed, rounded, is_negative, without_last_zeros, decimals_of, fraction_text, sign_text, printed, points_text}
-use Rattle.profile.specs.Papers.{Paper, is_side, is_paper}
+use Rattle.rules.specs.Numbers.{signed, rounded, is_negative, without_last_zeros, decimals_of, fraction_text, sign_text, printed, points_text}
+use Rattle.rules.specs.Papers.{Paper, is_side, is_paper}
 use Rattle.guard.specs.Guard.{first_lines, other_lines, page_size_line, page_size_lines}
 use Rattle.guard.specs.Laws.{AreShort, GuardIsShort}
 

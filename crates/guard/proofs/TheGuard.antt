@@ -1,10 +1,10 @@
 -- The guard's lines can be put in, for every paper.
 use Rattle.std.specs.Prelude.{codes, map, not, ◌&&◌, Option, Some, None}
 use Rattle.std.proofs.Common.{Bool, true, false, ◌≡◌, ℕ, List, [], ◌∷◌, ◌++◌, refl, arith}
-use Rattle.profile.specs.Numbers.{points_text}
-use Rattle.profile.specs.Papers.{Paper}
-use Rattle.profile.specs.Parts.{begins_page}
-use Rattle.profile.specs.Units.{begins_block}
+use Rattle.rules.specs.Numbers.{points_text}
+use Rattle.rules.specs.Papers.{Paper}
+use Rattle.rules.specs.Parts.{begins_page}
+use Rattle.rules.specs.Units.{begins_block}
 use Rattle.seams.specs.Seams.{passes, no_ends, AreLines, IsLine, line_unit}
 use Rattle.seams.proofs.Plainly.{no_ends_append, no_ends_points}
 use Rattle.guard.specs.Guard.{first_lines, other_lines, page_size_line, page_size_lines, guard_lines}

@@ -1,8 +1,8 @@
 -- The guard: lines of PostScript that are put into a document before it is imposed. docs/GUARD.md says what each is
 -- for.
 use Rattle.std.specs.Prelude.{ℕ, List, [], ◌∷◌, ◌++◌, codes, Option, Some, None}
-use Rattle.profile.specs.Numbers.{points_text}
-use Rattle.profile.specs.Papers.{Paper}
+use Rattle.rules.specs.Numbers.{points_text}
+use Rattle.rules.specs.Papers.{Paper}
 use Rattle.guard.specs.PutIn.{put_in}
 
 -- the line that sets the device's page size to a paper, if the interpreter has `setpagedevice`

@@ -1,10 +1,10 @@
 -- What stays as it is if lines are put into a document.
 use Rattle.std.specs.Prelude.{◌≡◌, ℕ, ◌<◌, ◌≤◌, List, [], ◌∷◌, ◌++◌, length, take, map, Option, Some, Ok, IfSome}
 use Rattle.std.specs.Prelude.{IsTrue}
-use Rattle.profile.specs.Units.{TextUnit}
-use Rattle.profile.specs.Parts.{NestedUnit, nested, begins_page, pages, trailer}
-use Rattle.profile.specs.Papers.{Paper, is_paper}
-use Rattle.profile.specs.Run.{document_of, most_input_bytes}
+use Rattle.rules.specs.Units.{TextUnit}
+use Rattle.rules.specs.Parts.{NestedUnit, nested, begins_page, pages, trailer}
+use Rattle.rules.specs.Papers.{Paper, is_paper}
+use Rattle.rules.specs.Run.{document_of, most_input_bytes}
 use Rattle.dsc.specs.Units.{units_of}
 use Rattle.seams.specs.Seams.{joined, passes, AreLines, line_unit}
 use Rattle.dsc.specs.Header.{header_len}

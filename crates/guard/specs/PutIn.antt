@@ -1,7 +1,7 @@
 -- Lines put in behind the header comments of a document.
 use Rattle.std.specs.Prelude.{ℕ, List, ◌++◌, take, drop, flat_map}
-use Rattle.profile.specs.Bytes.{line}
-use Rattle.profile.specs.Filters.{ended}
+use Rattle.rules.specs.Bytes.{line}
+use Rattle.rules.specs.Filters.{ended}
 use Rattle.dsc.specs.Header.{header_len}
 
 -- the text with lines put in behind its header comments, whose last line gets an end if it has none

@@ -1,7 +1,7 @@
 //! The guard's text, and where it is put in.
 ghost use Rattle.std.specs.Prelude.{◌≡◌, ◌+◌, ◌≤◌, ◌++◌, flat_map, length, option_map, take, drop, vec_len, IfOk, OnErr, OnOk};
-ghost use Rattle.profile.specs.Bytes.{line};
-ghost use Rattle.profile.specs.Filters.{ended};
+ghost use Rattle.rules.specs.Bytes.{line};
+ghost use Rattle.rules.specs.Filters.{ended};
 ghost use Rattle.guard.specs.Guard.{page_size_line, page_size_lines, guard_lines, guarded};
 
 use dsc::{end_line, header_len};

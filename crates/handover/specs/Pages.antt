@@ -1,6 +1,6 @@
 -- Prepared pages, as clauses see them.
 use Rattle.std.specs.Prelude.{◌≡◌, ℕ, List, Ok}
-use Rattle.profile.specs.Filters.{prepared}
+use Rattle.rules.specs.Filters.{prepared}
 
 -- a page with its number, its bytes in the input, and its body
 pub record PreparedPage : Type 0 where

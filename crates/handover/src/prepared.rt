@@ -1,7 +1,7 @@
 //! A prepared page.
 ghost use Rattle.std.specs.Prelude.{◌≡◌, ◌<◌, [], length, slice_index_or, IfOk, IfErr, Ok};
-ghost use Rattle.profile.specs.Parts.{pages};
-ghost use Rattle.profile.specs.Filters.{prepared};
+ghost use Rattle.rules.specs.Parts.{pages};
+ghost use Rattle.rules.specs.Filters.{prepared};
 ghost use Rattle.dsc.specs.Views.{Gives};
 ghost use Rattle.dsc.specs.Faults.{page_fault_told, IsPageError};
 ghost use Rattle.dsc.specs.Laws.{HasBody};
@@ -23,7 +23,7 @@ pub struct Prepared<'d> {
 
 impl<'d> Model for Prepared<'d> {
     ghost use Rattle.std.specs.Prelude.{◌≡◌, Ok};
-    ghost use Rattle.profile.specs.Filters.{prepared};
+    ghost use Rattle.rules.specs.Filters.{prepared};
     ghost use Rattle.handover.specs.Pages.{PreparedPage};
 
     ghost Value = { PreparedPage };

@@ -2,10 +2,10 @@
 use Rattle.std.proofs.Common.{◌≤◌, ◌≡◌, ◌∙◌, ℕ, ◌++◌, List, ap, drop, length, subst, sym}
 use Rattle.std.specs.Prelude.{Some, string_bytes}
 use Rattle.std.proofs.Math.Seq.{drop-append_seam}
-use Rattle.profile.specs.Admissible.{most_slots}
-use Rattle.profile.specs.Output.{output}
-use Rattle.profile.specs.Run.{most_input_bytes}
-use Rattle.profile.specs.Parts.{NestedUnit}
+use Rattle.rules.specs.Admissible.{most_slots}
+use Rattle.rules.specs.Output.{output}
+use Rattle.rules.specs.Run.{most_input_bytes}
+use Rattle.rules.specs.Parts.{NestedUnit}
 use Rattle.imposed_again.proofs.Again.{imposed_again, trailer_shuts}
 use Rattle.impose_cli.specs.Tasks.{Finishes, frame_used, sheets_made, sheet_found, taken_text}
 use Rattle.impose_cli.specs.Laws.{IsDocumentAgain, WroteDocument}

@@ -2,13 +2,13 @@
 use Rattle.std.proofs.Common.{◌≡◌, ◌∙◌, ℕ, ap, sym, subst, List, Option, Result, Ok, Err}
 use Rattle.std.specs.Prelude.{string_bytes}
 use Rattle.std.specs.Io.KnownBytes.{Appends}
-use Rattle.profile.specs.Papers.{Paper}
-use Rattle.profile.specs.Specification.{Spec}
-use Rattle.profile.specs.Admissible.{Fault as SpecFault, Takes, most_slots}
-use Rattle.profile.specs.Parts.{NestedUnit}
-use Rattle.profile.specs.Run.{document_of}
-use Rattle.profile.specs.Output.{output}
-use Rattle.profile.proofs.OneFault.{one_answer}
+use Rattle.rules.specs.Papers.{Paper}
+use Rattle.rules.specs.Specification.{Spec}
+use Rattle.rules.specs.Admissible.{Fault as SpecFault, Takes, most_slots}
+use Rattle.rules.specs.Parts.{NestedUnit}
+use Rattle.rules.specs.Run.{document_of}
+use Rattle.rules.specs.Output.{output}
+use Rattle.rules.proofs.OneFault.{one_answer}
 use Rattle.layouts.specs.Selections.{IsSelection}
 use Rattle.layouts.specs.Grids.{leaves, n_up}
 use Rattle.layouts.specs.Laws.{IsNUp, IsBooklet}

@@ -3,7 +3,7 @@ use Rattle.std.proofs.Common.{◌≡◌, true, false, [], ◌∷◌, refl, map}
 use Rattle.std.specs.Prelude.{codes, None, Some}
 use Rattle.clap.specs.declared.error.kind.ErrorKind.TheVariants.{DisplayHelp, DisplayVersion, UnknownArgument}
 use Rattle.lengths.specs.Reading.{number_at}
-use Rattle.profile.specs.Papers.{points}
+use Rattle.rules.specs.Papers.{points}
 use Rattle.guard.specs.Guard.{guarded}
 use Rattle.layouts.specs.declared.error.LayoutError.TheVariants as layout
 use Rattle.layouts.specs.declared.select.Which.TheVariants.{All, Odd, Even}

@@ -5,7 +5,7 @@ use Rattle.std.specs.Box.{box_value}
 use Rattle.clap.specs.Words.{Row, Text, found_of, rows_of, subcommand_name_of, subcommand_rows, subcommand_rows_of}
 use Rattle.clap.specs.declared.parser.matches.ArgMatches.{ArgMatches}
 use Rattle.clap.specs.declared.parser.matches.ArgMatches.TheViews.{out-ArgMatches, out-SubCommand}
-use Rattle.profile.specs.Papers.{Paper}
+use Rattle.rules.specs.Papers.{Paper}
 use Rattle.impose_cli.specs.Words.{Enters, HasPapers, HasSizes, ParseRefuses, Refuses, RefusesFound, RefusesArguments, border_found, size_found}
 use Rattle.impose_cli.specs.Sizing.{ReadsSizes, RefusesBorder, RefusesSize, RefusesSizes}
 use Rattle.impose_cli.specs.declared.fault.PaperOption.{PaperOption}

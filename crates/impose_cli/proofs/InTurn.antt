@@ -3,13 +3,13 @@ use Rattle.std.proofs.Common.{◌≡◌, ◌∙◌, ℕ, zero, suc, ◌+◌, ◌
 use Rattle.std.specs.Prelude.{flat_map}
 use Rattle.std.specs.List.{AllByRecursion, range_with_len}
 use Rattle.std.proofs.lemmas.Bool.{ltb-false}
-use Rattle.profile.specs.Papers.{Paper}
-use Rattle.profile.specs.Specification.{Item, Spec, Turn, Left, Right}
-use Rattle.profile.specs.Parts.{NestedUnit, pages}
-use Rattle.profile.specs.Run.{DocumentFault, InputTooLong, document_of, most_input_bytes, refuse_if}
-use Rattle.profile.specs.Sheets.{Slot, blocks, page_at, place, sheets_over}
-use Rattle.profile.specs.Signatures.{AreSides, AreSidesIfGiven, entry_of, sheets_in, signature_row}
-use Rattle.profile.proofs.Signatures.{whole_signatures}
+use Rattle.rules.specs.Papers.{Paper}
+use Rattle.rules.specs.Specification.{Item, Spec, Turn, Left, Right}
+use Rattle.rules.specs.Parts.{NestedUnit, pages}
+use Rattle.rules.specs.Run.{DocumentFault, InputTooLong, document_of, most_input_bytes, refuse_if}
+use Rattle.rules.specs.Sheets.{Slot, blocks, page_at, place, sheets_over}
+use Rattle.rules.specs.Signatures.{AreSides, AreSidesIfGiven, entry_of, sheets_in, signature_row}
+use Rattle.rules.proofs.Signatures.{whole_signatures}
 use Rattle.dsc.specs.Units.{units_of}
 use Rattle.guard.specs.Guard.{guarded}
 use Rattle.guard.proofs.TheGuard.{guard_stays}

@@ -1,6 +1,6 @@
 -- What the fault of a layout's error says of the layout.
 use Rattle.std.proofs.Common.{◌≡◌, ℕ, refl, inl, inr, List, Option, Some}
-use Rattle.profile.specs.Papers.{Paper}
+use Rattle.rules.specs.Papers.{Paper}
 use Rattle.layouts.specs.NoSelection.{RefusesSelection}
 use Rattle.layouts.specs.Refusals.{IsRefusal}
 use Rattle.layouts.specs.declared.error.LayoutError.{LayoutError}

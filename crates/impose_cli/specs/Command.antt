@@ -2,7 +2,7 @@
 -- [OUTFILE]].
 use Rattle.std.specs.Prelude.{ℕ, pos, true, false, List, [], ◌∷◌, map, Some, codes}
 use Rattle.std.specs.List.{fold}
-use Rattle.profile.specs.Signatures.{most_sides}
+use Rattle.rules.specs.Signatures.{most_sides}
 use Rattle.layouts.specs.Refusals.{most_on_sheet}
 use Rattle.clap.specs.Words.{App, Rule, Shape, Text, new_app, new_rule, with_rule, with_subcommand}
 use Rattle.clap.specs.Simple.{on_top}

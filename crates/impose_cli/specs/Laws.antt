@@ -2,13 +2,13 @@
 use Rattle.std.specs.Prelude.{◌≡◌, ℕ, ◌-◌, ◌*◌, ◌<◌, ◌≤◌, List, [], ◌∷◌, ◌++◌, length, map, Option, Some, Ok, unwrap_or}
 use Rattle.std.specs.Prelude.{string_bytes}
 use Rattle.std.specs.List.{range_with_len}
-use Rattle.profile.specs.Specification.{Spec}
-use Rattle.profile.specs.Admissible.{Takes, most_slots}
-use Rattle.profile.specs.Parts.{NestedUnit, page_run, pages, trailer}
-use Rattle.profile.specs.Sheets.{Slot, blocks, page_at, sheets}
-use Rattle.profile.specs.Signatures.{entry_of, signature_row}
-use Rattle.profile.specs.Output.{Frame}
-use Rattle.profile.specs.Run.{document_of, most_input_bytes}
+use Rattle.rules.specs.Specification.{Spec}
+use Rattle.rules.specs.Admissible.{Takes, most_slots}
+use Rattle.rules.specs.Parts.{NestedUnit, page_run, pages, trailer}
+use Rattle.rules.specs.Sheets.{Slot, blocks, page_at, sheets}
+use Rattle.rules.specs.Signatures.{entry_of, signature_row}
+use Rattle.rules.specs.Output.{Frame}
+use Rattle.rules.specs.Run.{document_of, most_input_bytes}
 use Rattle.dsc.specs.Units.{units_of}
 use Rattle.layouts.specs.Grids.{alone}
 use Rattle.layouts.specs.Selections.{Selects}

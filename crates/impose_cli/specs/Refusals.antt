@@ -1,7 +1,7 @@
 -- What a refused request says.
 use Rattle.std.specs.Prelude.{◌≡◌, ◌⊎◌, ℕ, IfSome, List, Some, Err, string_bytes}
-use Rattle.profile.specs.Papers.{Paper}
-use Rattle.profile.specs.Run.{document_of}
+use Rattle.rules.specs.Papers.{Paper}
+use Rattle.rules.specs.Run.{document_of}
 use Rattle.layouts.specs.NoSelection.{RefusesSelection}
 use Rattle.layouts.specs.Refusals.{why_not, why_no_booklet}
 use Rattle.layouts.specs.declared.select.Which.{Which}

@@ -2,7 +2,7 @@
 use Rattle.std.specs.Prelude.{ℕ, ℤ, ◌+◌, ◌==◌, if◌then◌else◌, is_some, nat_lt, not, List, length, take, drop, Option}
 use Rattle.std.specs.Prelude.{None}
 use Rattle.std.specs.List.{prefix_len}
-use Rattle.profile.specs.Papers.{Paper, paper_named}
+use Rattle.rules.specs.Papers.{Paper, paper_named}
 use Rattle.lengths.specs.Lengths.{a4}
 use Rattle.lengths.specs.Lengths as lengths
 use Rattle.document_paper.specs.Media.{paper_of}

@@ -1,7 +1,7 @@
 -- The papers and the border that the words ask for: the steps of their reading.
 use Rattle.std.specs.Prelude.{◌≡◌, ⊤, ℤ, true, is_some, List, Option, Some, None, codes, string_bytes}
 use Rattle.clap.specs.Words.{Row, first_of}
-use Rattle.profile.specs.Papers.{Paper}
+use Rattle.rules.specs.Papers.{Paper}
 use Rattle.impose_cli.specs.Words.{HasPapers, NamesNoSize, border_found, size_found}
 use Rattle.impose_cli.specs.declared.fault.PaperOption.{PaperOption}
 use Rattle.impose_cli.specs.declared.fault.PaperOption.TheVariants.{Paper as OfPages, Sheet as OfSheets}

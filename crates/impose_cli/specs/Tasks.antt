@@ -1,19 +1,19 @@
 -- What is imposed, and how: a request for a document.
 use Rattle.std.specs.Prelude.{◌≡◌, ℕ, ◌+◌, ◌*◌, ◌/◌, Bool, true, false, if◌then◌else◌, unwrap_or, List, length, Option}
 use Rattle.std.specs.Prelude.{Some, None, Ok, string_bytes}
-use Rattle.profile.specs.Papers.{Paper}
-use Rattle.profile.specs.Specification.{Spec, canonical}
-use Rattle.profile.specs.Admissible.{IsAdmissible, Takes, most_slots}
-use Rattle.profile.specs.Parts.{NestedUnit, pages}
-use Rattle.profile.specs.Run.{document_of, plan_in}
-use Rattle.profile.specs.Sheets.{Slot}
-use Rattle.profile.specs.Signatures.{AreSidesIfGiven, sheets_in}
+use Rattle.rules.specs.Papers.{Paper}
+use Rattle.rules.specs.Specification.{Spec, canonical}
+use Rattle.rules.specs.Admissible.{IsAdmissible, Takes, most_slots}
+use Rattle.rules.specs.Parts.{NestedUnit, pages}
+use Rattle.rules.specs.Run.{document_of, plan_in}
+use Rattle.rules.specs.Sheets.{Slot}
+use Rattle.rules.specs.Signatures.{AreSidesIfGiven, sheets_in}
 use Rattle.guard.specs.Guard.{guarded}
 use Rattle.layouts.specs.Grids.{leaves, n_up}
 use Rattle.layouts.specs.Laws.{IsNUp, IsBooklet}
 use Rattle.layouts.specs.Selections.{IsSelection}
 use Rattle.std.specs.Io.KnownBytes.{Appends}
-use Rattle.profile.specs.Output.{Frame, output}
+use Rattle.rules.specs.Output.{Frame, output}
 use Rattle.imposer.specs.Runs.{Reports}
 use Rattle.imposer.specs.Runs as runs
 use Rattle.lengths.specs.Lengths.{a4}
@@ -99,7 +99,7 @@ LaysOut (layout.Spec specs) page sheet pages spec sides = Takes most_slots (stri
 abbrev pub frame_used : Request → Finished → Frame
 frame_used r done = record { paper = done.page; border = r.border }
 
--- the request was carried out for this document: exactly the output was appended that the profile defines for the
+-- the request was carried out for this document: exactly the output was appended that the rules define for the
 -- layout's specification and the document, with the guard in it if it is asked for
 pub record Finishes (r : Request) (input : List ℕ) (old new : Option (List ℕ)) (done : Finished) : Type 0 where
   pub page_count : ℕ

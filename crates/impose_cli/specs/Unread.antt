@@ -1,8 +1,8 @@
 -- What can be said of a layout before the document is read.
 use Rattle.std.specs.Prelude.{◌≡◌, ⊤, ℕ, List, Option, None, Some, string_bytes}
-use Rattle.profile.specs.Papers.{Paper}
-use Rattle.profile.specs.Specification.{Spec}
-use Rattle.profile.specs.Admissible.{Takes, most_slots}
+use Rattle.rules.specs.Papers.{Paper}
+use Rattle.rules.specs.Specification.{Spec}
+use Rattle.rules.specs.Admissible.{Takes, most_slots}
 use Rattle.pagespec.specs.Refusals.{IsRefusal}
 use Rattle.pagespec.specs.declared.error.SpecError.{SpecError}
 use Rattle.layouts.specs.Refusals.{why_not, why_no_booklet}

@@ -1,14 +1,14 @@
 //! What is imposed, and how: the request for a document.
 ghost use Rattle.std.specs.Prelude.{◌≡◌, ◌<◌, ◌≤◌, IfErr, IfOk, None, OnOk, Some, string_bytes, unwrap_or};
 ghost use Rattle.std.specs.Io.KnownBytes.{Appends};
-ghost use Rattle.profile.specs.Output.{output};
-ghost use Rattle.profile.specs.Run.{most_pages};
+ghost use Rattle.rules.specs.Output.{output};
+ghost use Rattle.rules.specs.Run.{most_pages};
 ghost use Rattle.layouts.specs.Grids.{leaves, n_up};
 ghost use Rattle.layouts.specs.Laws.{IsNUp, IsBooklet};
 ghost use Rattle.layouts.specs.Refusals.{why_not, why_no_booklet};
 ghost use Rattle.layouts.specs.Selections.{IsSelection};
 ghost use Rattle.imposer.specs.Runs.{Accepted, FailedIn, HasWritten, IsRefusal, Reports, frame_of};
-ghost use Rattle.profile.specs.Specification.{Spec as SpecValue};
+ghost use Rattle.rules.specs.Specification.{Spec as SpecValue};
 ghost use Rattle.impose_cli.specs.Faults.{of_selection as selection_fault, without_memory};
 ghost use Rattle.impose_cli.specs.Tasks.{Finishes, HasPages, IsPlaced, IsTask, IsWritten, asked_by, fours, page_found};
 ghost use Rattle.impose_cli.specs.Tasks.{sheet_found, taken_text};
@@ -337,7 +337,7 @@ pub fn run_request<R: Threads + Wait + Sync, S: Sink>(
     sink: &mut S,
 ) -> Result<Finished, Fault>
     requires countable { S.failures sink.old < u64.MAX }
-    // Exactly the output was appended that the profile defines for the layout's specification and the guarded document.
+    // Exactly the output was appended that the rules define for the layout's specification and the guarded document.
     ensures finished { IfOk result (Finishes request.now input.items (S.told sink.old) (S.told sink.new)) }
     // It was carried out and no write failed; or a fault was told before the run, and nothing was written; or the fault
     // is the run's, which names the first check that fails, or says after how many bytes memory ran out or a write failed.

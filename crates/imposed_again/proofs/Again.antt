@@ -6,17 +6,17 @@ use Rattle.std.proofs.Common.{nat_eq, ◌==◌, Bool, true, false, append_assoc,
 use Rattle.std.proofs.lemmas.List.{append-nil}
 use Rattle.std.proofs.lemmas.Nat.{le-div}
 use Rattle.std.proofs.lemmas.Bool.{ltb-false, eqb-true}
-use Rattle.profile.specs.Units.{TextUnit, AreUnits, has_key, cut}
-use Rattle.profile.specs.Parts.{NestedUnit, depth_after, nested_from, nested, begins_page, begins_trailer, up_to, starting_at, preamble, page_run, trailer, split_pages, bytes_of, pages, is_outermost_line}
-use Rattle.profile.specs.Filters.{ended, kept, drops_in_header, with_count, preamble_text, trailer_text}
-use Rattle.profile.specs.Specification.{Spec, WrittenSpec, WrittenItem, IsSpec, AreGroups, settled_item}
-use Rattle.profile.specs.Admissible.{IsAdmissible, Fault, fault_of, any_too_large, else_first, only_if, TooLarge, ModuloZero}
-use Rattle.profile.specs.Sheets.{Slot, blocks}
-use Rattle.profile.specs.Signatures.{AreSidesIfGiven, row_len, entry_in, sheets_in}
-use Rattle.profile.specs.Output.{Frame, sheet_text, output}
-use Rattle.profile.specs.Run.{document_of, most_input_bytes, most_pages, most_sheets, PlanFault, PlanTooManyPages, TooManySheets, TooManyPlaces, plan_in}
-use Rattle.profile.proofs.Counts.{sheet_count}
-use Rattle.profile.proofs.Signatures.{whole_signatures}
+use Rattle.rules.specs.Units.{TextUnit, AreUnits, has_key, cut}
+use Rattle.rules.specs.Parts.{NestedUnit, depth_after, nested_from, nested, begins_page, begins_trailer, up_to, starting_at, preamble, page_run, trailer, split_pages, bytes_of, pages, is_outermost_line}
+use Rattle.rules.specs.Filters.{ended, kept, drops_in_header, with_count, preamble_text, trailer_text}
+use Rattle.rules.specs.Specification.{Spec, WrittenSpec, WrittenItem, IsSpec, AreGroups, settled_item}
+use Rattle.rules.specs.Admissible.{IsAdmissible, Fault, fault_of, any_too_large, else_first, only_if, TooLarge, ModuloZero}
+use Rattle.rules.specs.Sheets.{Slot, blocks}
+use Rattle.rules.specs.Signatures.{AreSidesIfGiven, row_len, entry_in, sheets_in}
+use Rattle.rules.specs.Output.{Frame, sheet_text, output}
+use Rattle.rules.specs.Run.{document_of, most_input_bytes, most_pages, most_sheets, PlanFault, PlanTooManyPages, TooManySheets, TooManyPlaces, plan_in}
+use Rattle.rules.proofs.Counts.{sheet_count}
+use Rattle.rules.proofs.Signatures.{whole_signatures}
 use Rattle.dsc.specs.Units.{or_none, units_of}
 use Rattle.dsc.proofs.Reading.{accepted_cut, accepted_opening}
 use Rattle.dsc.proofs.PartMarks.{exclusive}

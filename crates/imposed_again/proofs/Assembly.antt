@@ -4,10 +4,10 @@ use Rattle.std.specs.Str.{bytes_eq}
 use Rattle.std.proofs.Common.{◌==◌, ◌||◌, ◌&&◌, Bool, true, false, append_assoc, ◌≡◌, ℕ, zero, suc, ◌<◌, ◌≤◌, List, [], ◌∷◌, ◌++◌, length, refl, ap, arith, length-append, sym, ◌∙◌, subst}
 use Rattle.std.proofs.lemmas.List.{append-nil}
 use Rattle.std.proofs.lemmas.Slice.Eq.{bytes_eq-Decides}
-use Rattle.profile.specs.Bytes.{line}
-use Rattle.profile.specs.Units.{TextUnit, first_unit, AreUnits, key, has_key, is_comment}
-use Rattle.profile.specs.Parts.{NestedUnit, depth_after, nested_from, nested, begins_page, begins_trailer, up_to, starting_at, preamble, page_run, trailer, split_pages, bytes_of, pages, is_outermost_line}
-use Rattle.profile.specs.Filters.{ended, kept, kept_after, drops_in_header, with_count}
+use Rattle.rules.specs.Bytes.{line}
+use Rattle.rules.specs.Units.{TextUnit, first_unit, AreUnits, key, has_key, is_comment}
+use Rattle.rules.specs.Parts.{NestedUnit, depth_after, nested_from, nested, begins_page, begins_trailer, up_to, starting_at, preamble, page_run, trailer, split_pages, bytes_of, pages, is_outermost_line}
+use Rattle.rules.specs.Filters.{ended, kept, kept_after, drops_in_header, with_count}
 use Rattle.dsc.proofs.Cases.{by_test}
 use Rattle.dsc.proofs.PartMarks.{exclusive}
 use Rattle.dsc.proofs.Alone.{nested-bytes}

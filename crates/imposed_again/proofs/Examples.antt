@@ -3,14 +3,14 @@
 use Rattle.std.proofs.Common.{ℕ, List, [], ◌∷◌, ◌++◌, refl, ◌≡◌, false, None, map, length}
 use Rattle.std.specs.Prelude.{codes, flat_map, Result, Ok, pos}
 use Rattle.std.specs.Fmt.{digits}
-use Rattle.profile.specs.Papers.{Pt, points}
-use Rattle.profile.specs.Specification.{Item, Spec, Upright}
-use Rattle.profile.specs.Units.{FaultyBlock, ◌>>=◌, cut, first_unit}
-use Rattle.profile.specs.Parts.{NestedUnit, nested, pages, page_run, trailer}
-use Rattle.profile.specs.Filters.{ended, kept, drops_in_page}
-use Rattle.profile.specs.Run.{document_of, DocumentFault}
-use Rattle.profile.specs.Sheets.{sheets}
-use Rattle.profile.specs.Output.{Frame, output}
+use Rattle.rules.specs.Papers.{Pt, points}
+use Rattle.rules.specs.Specification.{Item, Spec, Upright}
+use Rattle.rules.specs.Units.{FaultyBlock, ◌>>=◌, cut, first_unit}
+use Rattle.rules.specs.Parts.{NestedUnit, nested, pages, page_run, trailer}
+use Rattle.rules.specs.Filters.{ended, kept, drops_in_page}
+use Rattle.rules.specs.Run.{document_of, DocumentFault}
+use Rattle.rules.specs.Sheets.{sheets}
+use Rattle.rules.specs.Output.{Frame, output}
 use Rattle.imposed_again.specs.Again.{depth_behind, sheet_texts}
 
 abbrev frame : Frame

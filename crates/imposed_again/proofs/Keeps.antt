@@ -6,9 +6,9 @@ use Rattle.std.proofs.Common.{nat_eq, ◌==◌, ◌||◌, ◌&&◌, cond, Bool, 
 use Rattle.std.proofs.lemmas.List.{take-append-drop}
 use Rattle.std.proofs.lemmas.List.Sums.{take_while-cons}
 use Rattle.std.proofs.lemmas.Slice.Eq.{bytes_eq-Decides}
-use Rattle.profile.specs.Units.{TextUnit, key, has_key, is_blank}
-use Rattle.profile.specs.Parts.{NestedUnit, depth_after, nested_from, bytes_of, is_outermost_line}
-use Rattle.profile.specs.Filters.{continues, kept_after, drops_in_header, drops_in_page}
+use Rattle.rules.specs.Units.{TextUnit, key, has_key, is_blank}
+use Rattle.rules.specs.Parts.{NestedUnit, depth_after, nested_from, bytes_of, is_outermost_line}
+use Rattle.rules.specs.Filters.{continues, kept_after, drops_in_header, drops_in_page}
 use Rattle.dsc.proofs.Cases.{by_test}
 use Rattle.seams.specs.Seams.{joined, passes}
 use Rattle.seams.proofs.Keys.{not_key}

@@ -3,11 +3,11 @@ use Rattle.std.specs.Prelude.{Option, Some, None, Ok, ℤ, codes, map, flat_map,
 use Rattle.std.specs.List.{starts_with, enumerate_from}
 use Rattle.std.proofs.Common.{nat_eq, ◌==◌, ◌&&◌, Bool, true, false, append_assoc, ◌≡◌, ℕ, ◌+◌, ◌<◌, ◌≤◌, List, [], ◌∷◌, ◌++◌, length, refl, ap, arith, length-append, sym, ◌∙◌, subst}
 use Rattle.std.proofs.lemmas.List.{append-nil}
-use Rattle.profile.specs.Bytes.{line}
-use Rattle.profile.specs.Filters.{ended, kept, kept_after, drops_in_header, trailer_text}
-use Rattle.profile.specs.Parts.{NestedUnit, bytes_of, begins_page, begins_trailer, depth_after, nested, nested_from, page_run, pages, split_pages}
-use Rattle.profile.specs.Run.{document_of}
-use Rattle.profile.specs.Units.{TextUnit, AreUnits, cut, first_unit}
+use Rattle.rules.specs.Bytes.{line}
+use Rattle.rules.specs.Filters.{ended, kept, kept_after, drops_in_header, trailer_text}
+use Rattle.rules.specs.Parts.{NestedUnit, bytes_of, begins_page, begins_trailer, depth_after, nested, nested_from, page_run, pages, split_pages}
+use Rattle.rules.specs.Run.{document_of}
+use Rattle.rules.specs.Units.{TextUnit, AreUnits, cut, first_unit}
 use Rattle.dsc.proofs.Reading.{accepted_cut, accepted_opening}
 use Rattle.dsc.specs.Units.{or_none, units_of}
 use Rattle.seams.proofs.Accepted.{accept, some_pages}

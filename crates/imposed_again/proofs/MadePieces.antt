@@ -3,11 +3,11 @@ use Rattle.std.specs.Prelude.{flat_map, codes, ℤ, Option, slice_index_or, map,
 use Rattle.std.proofs.Common.{arith, ◌≡◌, ℕ, ◌+◌, ◌&&◌, List, [], ◌∷◌, ◌++◌, append_assoc, length-append, false, refl, sym, ap, subst, ◌∙◌}
 use Rattle.std.proofs.lemmas.List.{append-nil}
 use Rattle.dsc.proofs.Cases.{and_false}
-use Rattle.profile.specs.Bytes.{line}
-use Rattle.profile.specs.Filters.{prepared}
-use Rattle.profile.specs.Output.{Frame, opening_text, closing_text, body_text}
-use Rattle.profile.specs.Parts.{depth_after, begins_page, is_outermost_line}
-use Rattle.profile.specs.Units.{TextUnit, first_unit}
+use Rattle.rules.specs.Bytes.{line}
+use Rattle.rules.specs.Filters.{prepared}
+use Rattle.rules.specs.Output.{Frame, opening_text, closing_text, body_text}
+use Rattle.rules.specs.Parts.{depth_after, begins_page, is_outermost_line}
+use Rattle.rules.specs.Units.{TextUnit, first_unit}
 use Rattle.seams.specs.Seams.{joined, line_unit, passes}
 use Rattle.seams.proofs.Splits.{at_depth}
 use Rattle.seams.proofs.Texts.{Goes, goes_append, goes_line}

@@ -6,10 +6,10 @@ use Rattle.std.specs.Str.{bytes_eq}
 use Rattle.std.proofs.Common.{◌==◌, ◌||◌, ◌&&◌, Bool, true, false, append_assoc, ◌≡◌, ℕ, zero, suc, ◌<◌, List, [], ◌∷◌, ◌++◌, length, refl, ap, arith, length-append, sym, ◌∙◌, subst}
 use Rattle.std.proofs.lemmas.List.{append-nil}
 use Rattle.std.proofs.Math.Seq.{drop-append_seam, take-append_seam}
-use Rattle.profile.specs.Units.{TextUnit, is_end, first_unit, AreUnits, key, is_comment, ◌>>=◌}
-use Rattle.profile.specs.Parts.{NestedUnit, depth_after, nested_from, nested, begins_page, begins_trailer, up_to, split_pages, bytes_of, is_outermost_line}
-use Rattle.profile.specs.Filters.{ended, kept, drops_in_page, prepared}
-use Rattle.profile.specs.Output.{body_text}
+use Rattle.rules.specs.Units.{TextUnit, is_end, first_unit, AreUnits, key, is_comment, ◌>>=◌}
+use Rattle.rules.specs.Parts.{NestedUnit, depth_after, nested_from, nested, begins_page, begins_trailer, up_to, split_pages, bytes_of, is_outermost_line}
+use Rattle.rules.specs.Filters.{ended, kept, drops_in_page, prepared}
+use Rattle.rules.specs.Output.{body_text}
 use Rattle.dsc.proofs.Cases.{by_test}
 use Rattle.dsc.proofs.Fronts.{first_unit-take}
 use Rattle.std.proofs.lemmas.Bool.{eqb-true}

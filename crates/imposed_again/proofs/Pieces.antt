@@ -4,16 +4,16 @@ use Rattle.std.specs.List.{starts_with, list_any}
 use Rattle.std.specs.Str.{bytes_eq}
 use Rattle.std.proofs.Common.{nat_eq, ◌==◌, ◌||◌, ◌&&◌, Bool, true, false, append_assoc, ◌≡◌, ℕ, ◌+◌, ◌<◌, ◌≤◌, List, [], ◌∷◌, ◌++◌, length, refl, ap, arith, sym, ◌∙◌, subst}
 use Rattle.std.proofs.lemmas.List.Sums.{take_while-cons}
-use Rattle.profile.specs.Bytes.{line}
-use Rattle.profile.specs.Filters.{prepared}
-use Rattle.profile.specs.Units.{TextUnit, AreUnits, key, has_key, is_comment, is_blank, begins_block}
-use Rattle.profile.specs.Parts.{NestedUnit, depth_after, begins_page, begins_trailer, is_outermost_line}
-use Rattle.profile.specs.Papers.{Paper}
-use Rattle.profile.specs.Specification.{Item}
-use Rattle.profile.specs.Sheets.{Slot}
-use Rattle.profile.specs.Placement.{Matrix, matrix_of, matrix_text, spaced}
-use Rattle.profile.specs.Numbers.{points_text, scale_text}
-use Rattle.profile.specs.Output.{Frame, edge_text, border_text, opening_text, closing_text, body_text, slot_text, sheet_text}
+use Rattle.rules.specs.Bytes.{line}
+use Rattle.rules.specs.Filters.{prepared}
+use Rattle.rules.specs.Units.{TextUnit, AreUnits, key, has_key, is_comment, is_blank, begins_block}
+use Rattle.rules.specs.Parts.{NestedUnit, depth_after, begins_page, begins_trailer, is_outermost_line}
+use Rattle.rules.specs.Papers.{Paper}
+use Rattle.rules.specs.Specification.{Item}
+use Rattle.rules.specs.Sheets.{Slot}
+use Rattle.rules.specs.Placement.{Matrix, matrix_of, matrix_text, spaced}
+use Rattle.rules.specs.Numbers.{points_text, scale_text}
+use Rattle.rules.specs.Output.{Frame, edge_text, border_text, opening_text, closing_text, body_text, slot_text, sheet_text}
 use Rattle.std.proofs.lemmas.Bool.{eqb-true}
 use Rattle.dsc.proofs.Cases.{and_false, by_test}
 use Rattle.seams.specs.Seams.{passes, no_ends, line_unit, lf, ends}

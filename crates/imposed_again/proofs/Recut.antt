@@ -5,8 +5,8 @@ use Rattle.std.proofs.Common.{eqb, ◌&&◌, Bool, true, false, append_assoc, �
 use Rattle.std.proofs.lemmas.Bool.{eqb-true}
 use Rattle.std.proofs.lemmas.List.{append-nil}
 use Rattle.std.proofs.Math.Seq.{drop-append_seam, take-append_seam}
-use Rattle.profile.specs.Units.{TextUnit, BlockFault, first_unit, AreUnits}
-use Rattle.profile.specs.Parts.{NestedUnit, depth_after}
+use Rattle.rules.specs.Units.{TextUnit, BlockFault, first_unit, AreUnits}
+use Rattle.rules.specs.Parts.{NestedUnit, depth_after}
 use Rattle.dsc.proofs.Cases.{by_test}
 use Rattle.dsc.proofs.Fronts.{first_unit-take}
 use Rattle.seams.specs.Seams.{joined, passes, line_unit, lf}

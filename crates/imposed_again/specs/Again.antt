@@ -1,14 +1,14 @@
 -- What a run wrote, read again as a document.
 use Rattle.std.specs.Prelude.{◌≡◌, ℕ, ◌<◌, ◌≤◌, List, [], ◌∷◌, ◌++◌, length, map, flat_map, Option, Ok}
 use Rattle.std.specs.List.{enumerate_from}
-use Rattle.profile.specs.Parts.{NestedUnit, depth_after, preamble, page_run, pages, trailer, bytes_of}
-use Rattle.profile.specs.Filters.{preamble_text, trailer_text}
-use Rattle.profile.specs.Specification.{Spec}
-use Rattle.profile.specs.Admissible.{IsAdmissible}
-use Rattle.profile.specs.Sheets.{Slot}
-use Rattle.profile.specs.Signatures.{AreSidesIfGiven, sheets_in}
-use Rattle.profile.specs.Output.{Frame, sheet_text, output}
-use Rattle.profile.specs.Run.{document_of, plan_in, most_input_bytes, most_pages}
+use Rattle.rules.specs.Parts.{NestedUnit, depth_after, preamble, page_run, pages, trailer, bytes_of}
+use Rattle.rules.specs.Filters.{preamble_text, trailer_text}
+use Rattle.rules.specs.Specification.{Spec}
+use Rattle.rules.specs.Admissible.{IsAdmissible}
+use Rattle.rules.specs.Sheets.{Slot}
+use Rattle.rules.specs.Signatures.{AreSidesIfGiven, sheets_in}
+use Rattle.rules.specs.Output.{Frame, sheet_text, output}
+use Rattle.rules.specs.Run.{document_of, plan_in, most_input_bytes, most_pages}
 use Rattle.dsc.specs.Units.{units_of}
 
 -- the depth behind units, that is how many embedded documents they leave open; behind none it is 0

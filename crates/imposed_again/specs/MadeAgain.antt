@@ -1,11 +1,11 @@
 -- The output of made sheets, read again as a document.
 use Rattle.std.specs.Prelude.{◌≡◌, ℕ, ◌<◌, ◌≤◌, true, false, List, [], ◌∷◌, length, map, codes, Option, Ok, ℤ}
 use Rattle.std.specs.List.{enumerate_from}
-use Rattle.profile.specs.Papers.{Paper}
-use Rattle.profile.specs.Units.{begins_block, has_key, is_comment}
-use Rattle.profile.specs.Parts.{NestedUnit, preamble, page_run, pages, trailer, bytes_of}
-use Rattle.profile.specs.Filters.{trailer_text}
-use Rattle.profile.specs.Run.{document_of, most_input_bytes, most_pages}
+use Rattle.rules.specs.Papers.{Paper}
+use Rattle.rules.specs.Units.{begins_block, has_key, is_comment}
+use Rattle.rules.specs.Parts.{NestedUnit, preamble, page_run, pages, trailer, bytes_of}
+use Rattle.rules.specs.Filters.{trailer_text}
+use Rattle.rules.specs.Run.{document_of, most_input_bytes, most_pages}
 use Rattle.dsc.specs.Units.{units_of}
 use Rattle.seams.specs.Seams.{no_ends}
 use Rattle.made_sheets.specs.Made.{MadeSheet}

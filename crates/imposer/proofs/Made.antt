@@ -6,13 +6,13 @@ use Rattle.std.proofs.KnownBytes.{Keeps-refl}
 use Rattle.std.specs.List.{range_with_len}
 use Rattle.std.proofs.lemmas.List.{length-map}
 use Rattle.std.proofs.lemmas.List.FromFn.{length-range_with_len}
-use Rattle.profile.specs.Specification.{Spec}
-use Rattle.profile.specs.Admissible.{Takes, most_slots}
-use Rattle.profile.specs.Run.{document_of, plan_in}
-use Rattle.profile.specs.Sheets.{Plan, layout}
-use Rattle.profile.specs.Signatures.{sheets_in}
-use Rattle.profile.specs.Parts.{NestedUnit, pages}
-use Rattle.profile.specs.Output.{Frame, output}
+use Rattle.rules.specs.Specification.{Spec}
+use Rattle.rules.specs.Admissible.{Takes, most_slots}
+use Rattle.rules.specs.Run.{document_of, plan_in}
+use Rattle.rules.specs.Sheets.{Plan, layout}
+use Rattle.rules.specs.Signatures.{sheets_in}
+use Rattle.rules.specs.Parts.{NestedUnit, pages}
+use Rattle.rules.specs.Output.{Frame, output}
 use Rattle.sheet_plan.specs.Plans.{planned_in}
 use Rattle.sheet_plan.specs.Places.{born_complete, is_blank}
 use Rattle.sheet_text.specs.Jobs.{JobView, output_of}

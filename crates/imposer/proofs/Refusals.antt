@@ -1,10 +1,10 @@
 -- What the refusals of the parts say of a run.
 use Rattle.std.proofs.Common.{ℕ, ◌≡◌, List, length, refl}
 use Rattle.std.specs.Prelude.{Ok}
-use Rattle.profile.specs.Specification.{Spec}
-use Rattle.profile.specs.Run.{document_of}
-use Rattle.profile.specs.Parts.{NestedUnit, pages}
-use Rattle.profile.specs.Admissible.{Takes, most_slots}
+use Rattle.rules.specs.Specification.{Spec}
+use Rattle.rules.specs.Run.{document_of}
+use Rattle.rules.specs.Parts.{NestedUnit, pages}
+use Rattle.rules.specs.Admissible.{Takes, most_slots}
 use Rattle.sheet_plan.specs.Refusals as plan_said
 use Rattle.imposer.specs.Workers.{AreOptions}
 use Rattle.imposer.specs.Outcomes.{of_plan}

@@ -1,7 +1,7 @@
 -- What an error of a plan tells. Out of memory tells of no fault.
 use Rattle.std.specs.Prelude.{Option, Some, None}
-use Rattle.profile.specs.Run.{PlanFault}
-use Rattle.profile.specs.Run as run
+use Rattle.rules.specs.Run.{PlanFault}
+use Rattle.rules.specs.Run as run
 use Rattle.sheet_plan.specs.declared.error.PlanError.{PlanError}
 use Rattle.sheet_plan.specs.declared.error.PlanError.TheVariants as plan
 

@@ -2,7 +2,7 @@
 use Rattle.std.specs.Prelude.{◌≡◌, ℕ, ◌≤◌, List, [], length, Option, None, Result, Ok, Err, MatchResult, IfSome}
 use Rattle.std.specs.Prelude.{IsSomeAnd, IsNone, ⊤}
 use Rattle.std.specs.Io.KnownBytes.{Appends}
-use Rattle.profile.specs.Sheets.{layout}
+use Rattle.rules.specs.Sheets.{layout}
 use Rattle.histories.specs.Seats.{whole_share}
 use Rattle.sheet_plan.specs.Places.{born_complete}
 use Rattle.gather_table.specs.Shared.{TableView, SeatView, IsSeat, IsSeatOf}

@@ -1,13 +1,13 @@
 -- What the answers of a run mean.
 use Rattle.std.specs.Io.KnownBytes.{Appends, Keeps}
 use Rattle.std.specs.Prelude.{Result, Ok, Err, IsSomeAnd, ⊤, ◌⊎◌, ◌≡◌, ℕ, ◌≤◌, ◌+◌, List, length, take, Option}
-use Rattle.profile.specs.Specification.{Spec}
-use Rattle.profile.specs.Admissible.{Takes, Refuses, most_slots, most_spec_bytes}
-use Rattle.profile.specs.Sheets.{layout}
-use Rattle.profile.specs.Signatures.{sheets_in}
-use Rattle.profile.specs.Parts.{NestedUnit, pages}
-use Rattle.profile.specs.Output.{Frame, output}
-use Rattle.profile.specs.Run.{document_of, plan_in}
+use Rattle.rules.specs.Specification.{Spec}
+use Rattle.rules.specs.Admissible.{Takes, Refuses, most_slots, most_spec_bytes}
+use Rattle.rules.specs.Sheets.{layout}
+use Rattle.rules.specs.Signatures.{sheets_in}
+use Rattle.rules.specs.Parts.{NestedUnit, pages}
+use Rattle.rules.specs.Output.{Frame, output}
+use Rattle.rules.specs.Run.{document_of, plan_in}
 use Rattle.dsc.specs.Faults as dsc
 use Rattle.imposer.specs.Workers.{AreOptions}
 use Rattle.pagespec.specs.Faults.{fault_named}

@@ -1,6 +1,6 @@
 -- Which options a run takes.
 use Rattle.std.specs.Prelude.{◌≡◌, ◌≤◌, true}
-use Rattle.profile.specs.Signatures.{AreSidesIfGiven}
+use Rattle.rules.specs.Signatures.{AreSidesIfGiven}
 use Rattle.sheet_text.specs.Jobs.{is_border}
 use Rattle.imposer.specs.declared.options.Workers.{Workers}
 use Rattle.imposer.specs.declared.options.Options.{Options}

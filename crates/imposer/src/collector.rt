@@ -3,7 +3,7 @@ ghost use Rattle.std.specs.Prelude.{◌≡◌, ℕ, ◌+◌, ◌<◌, ◌≤◌,
 ghost use Rattle.std.below.core.specs.declared.int.u64.TheConstants.{MAX as most_failures};
 ghost use Rattle.crossbeam_channel.specs.Claims.{IsSeatAt};
 ghost use Rattle.crossbeam_channel.specs.Ends.{receives_on};
-ghost use Rattle.profile.specs.Filters.{preamble_text};
+ghost use Rattle.rules.specs.Filters.{preamble_text};
 ghost use Rattle.sheet_writer.specs.Writing.{StandsSince, GoesOn, AreEarly};
 
 use crate::channel::{RuledJob, SheetReceiver, SheetRule, Texts, Ticket};

@@ -1,6 +1,6 @@
 //! What a run is told beside its specification.
 ghost use Rattle.std.specs.Prelude.{◌≡◌, ◌↔◌, IsTrue};
-ghost use Rattle.profile.specs.Signatures.{AreSidesIfGiven};
+ghost use Rattle.rules.specs.Signatures.{AreSidesIfGiven};
 ghost use Rattle.sheet_text.specs.Jobs.{is_border};
 ghost use Rattle.imposer.specs.Workers.{AreWorkers, AreOptions};
 

@@ -1,9 +1,9 @@
 //! A run from bytes to bytes.
 ghost use Rattle.std.specs.Prelude.{◌≡◌, ℕ, ◌+◌, ◌<◌, IfOk, IfErr, OnOk, Ok};
 ghost use Rattle.std.specs.Io.KnownBytes.{Appends};
-ghost use Rattle.profile.specs.Output.{output};
-ghost use Rattle.profile.specs.Run.{plan_in};
-ghost use Rattle.profile.specs.Signatures.{AreSidesIfGiven, sheets_in};
+ghost use Rattle.rules.specs.Output.{output};
+ghost use Rattle.rules.specs.Run.{plan_in};
+ghost use Rattle.rules.specs.Signatures.{AreSidesIfGiven, sheets_in};
 ghost use Rattle.sheet_plan.specs.Plans.{planned_in};
 ghost use Rattle.sheet_plan.specs.Refusals.{RefusesIn};
 ghost use Rattle.imposer.specs.Gathering.{Answers};

@@ -2,7 +2,7 @@
 ghost use Rattle.std.specs.Prelude.{◌≡◌, ℕ, length, IfOk};
 ghost use Rattle.crossbeam_channel.specs.Claims.{IsSeatAt};
 ghost use Rattle.crossbeam_channel.specs.Ends.{sends_on, receives_on};
-ghost use Rattle.profile.specs.Filters.{preamble_text, trailer_text};
+ghost use Rattle.rules.specs.Filters.{preamble_text, trailer_text};
 ghost use Rattle.sheet_writer.specs.Writing.{AreEarly};
 
 use crate::channel::{SheetReceiver, SheetRule, SheetSender, Texts, Ticket};

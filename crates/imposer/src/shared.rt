@@ -1,6 +1,6 @@
 //! What all threads of one run share, and what the workers need.
 ghost use Rattle.std.specs.Prelude.{◌≡◌};
-ghost use Rattle.profile.specs.Sheets.{layout};
+ghost use Rattle.rules.specs.Sheets.{layout};
 
 use crate::channel::{RuledJob, SheetSender, Texts};
 use crate::turns::Turns;

@@ -1,6 +1,6 @@
 -- How much is read at most, worked out.
 use Rattle.std.proofs.Common.{◌≡◌, ◌+◌, refl}
-use Rattle.profile.specs.Run.{most_input_bytes}
+use Rattle.rules.specs.Run.{most_input_bytes}
 use Rattle.input.specs.Input.{most_bytes}
 
 -- one byte more is read than an input may have, so that a longer one is seen to be too long

@@ -1,7 +1,7 @@
 -- What a source of bytes does, and what is read of it.
 use Rattle.std.specs.Prelude.{◌≡◌, ◌+◌, ◌≤◌, length, ℕ, List, Option, Result, MatchResult, take, IfSome}
 use Rattle.std.specs.Io.KnownBytes.{Consumes, IsAtEnd, Keeps}
-use Rattle.profile.specs.Run.{most_input_bytes}
+use Rattle.rules.specs.Run.{most_input_bytes}
 use Rattle.input.specs.declared.read.ReadFault.{ReadFault}
 use Rattle.input.specs.declared.read.ReadFault.TheVariants.{Device, NoMemory}
 

@@ -3,8 +3,8 @@ use Rattle.std.proofs.Common.{arith, ◌≡◌, inl, inr, ℕ, suc, zero, ◌*�
 use Rattle.std.specs.Prelude.{ℤ, neg_ℤ, ◌≤ℤ◌}
 use Rattle.std.proofs.Math.Nat.{div-add-mod}
 use Rattle.std.proofs.lemmas.Int.{ints}
-use Rattle.profile.specs.Papers.{Paper}
-use Rattle.profile.specs.Specification.{Item}
+use Rattle.rules.specs.Papers.{Paper}
+use Rattle.rules.specs.Specification.{Item}
 use Rattle.layouts.specs.Placed.{AreApart, IsLeftOf, IsAbove}
 use Rattle.layouts.specs.Grids.{item_in}
 use Rattle.layouts.specs.Laws.{GridIsApart}

@@ -3,9 +3,9 @@ use Rattle.std.proofs.Common.{arith, ◌≡◌, inl, inr, ℕ, ◌+◌, ◌-◌,
 use Rattle.std.specs.Prelude.{ℤ, pos, negsuc, ◌≤ℤ◌, ◌*ℤ◌, ◌-ℤ◌, neg_ℤ, nat_abs, if◌then◌else◌}
 use Rattle.std.proofs.Math.Nat.{mul-le-mul_left}
 use Rattle.std.proofs.lemmas.Int.{ints}
-use Rattle.profile.specs.Papers.{Paper}
-use Rattle.profile.specs.Specification.{Upright, Left, Half, Right}
-use Rattle.profile.specs.Placement.{Point}
+use Rattle.rules.specs.Papers.{Paper}
+use Rattle.rules.specs.Specification.{Upright, Left, Half, Right}
+use Rattle.rules.specs.Placement.{Point}
 use Rattle.layouts.specs.Placed.{stands, IsOfPage, LiesOn, IsInside, IsLeftOf, AreApart}
 use Rattle.layouts.specs.Grids.{back_in, half_turned, cell_width, cell_height, scale_in, to_right, to_top, whole}
 use Rattle.layouts.specs.Laws.{BackIsInside, BackIsInOrder, BackIsHalfTurn}

@@ -2,8 +2,8 @@
 use Rattle.std.proofs.Common.{◌≡◌, refl}
 use Rattle.std.specs.Prelude.{codes, true, false, [], ◌∷◌, None, Some}
 use Rattle.std.specs.Fmt.{digits}
-use Rattle.profile.specs.Papers.{points}
-use Rattle.profile.specs.Specification.{canonical}
+use Rattle.rules.specs.Papers.{points}
+use Rattle.rules.specs.Specification.{canonical}
 use Rattle.layouts.specs.declared.error.LayoutError.TheVariants.{FoldOnLongEdge, PagesOutOfRange, SideTooLong}
 use Rattle.layouts.specs.Grids.{n_up, best_grid, scale_in, leaves}
 use Rattle.layouts.specs.Refusals.{is_count, is_reached, is_scale, why_not, why_no_booklet}

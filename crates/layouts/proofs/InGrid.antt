@@ -2,7 +2,7 @@
 use Rattle.std.proofs.Common.{arith, rules, ◌≡◌, ℕ, suc, zero, ◌+◌, ◌-◌, ◌*◌, ◌/◌, ◌%◌, ◌<◌, ◌≤◌, Bool, true, false, refl, sym, subst}
 use Rattle.std.specs.Prelude.{ℤ, pos, negsuc, nat_abs, IsTrue, ◌&&◌}
 use Rattle.std.proofs.Math.Nat.{min-le_left, min-le_right, mod-lt, div-lt_iff_lt-mul}
-use Rattle.profile.specs.Papers.{Paper, is_side}
+use Rattle.rules.specs.Papers.{Paper, is_side}
 use Rattle.layouts.specs.Placed.{IsInside, IsLeftOf, IsAbove}
 use Rattle.layouts.specs.Grids.{Grid, item_in, cell_width, cell_height, scale_in, fitting, to_right, to_top}
 use Rattle.layouts.specs.Refusals.{is_reached, are_reached}

@@ -5,8 +5,8 @@ use Rattle.std.specs.List.{range_with_len, AllByRecursion}
 use Rattle.std.proofs.Math.Nat.{le_of_mul-le-mul_left, mul_comm}
 use Rattle.std.proofs.lemmas.Bool.{cases_lt}
 use Rattle.lengths.proofs.Numbers.{same_byte}
-use Rattle.profile.specs.Papers.{Paper}
-use Rattle.profile.specs.Specification.{Item, Upright, Left, Right}
+use Rattle.rules.specs.Papers.{Paper}
+use Rattle.rules.specs.Specification.{Item, Upright, Left, Right}
 use Rattle.layouts.specs.Placed.{IsInside, AreApart}
 use Rattle.layouts.specs.Grids.{Grid, item_in, back_in, n_up, best_grid, scale_in, turn_in, leaves, beside, alone, is_same, is_itself, in_grid}
 use Rattle.layouts.specs.Refusals.{folds_short}

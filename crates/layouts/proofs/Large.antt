@@ -4,7 +4,7 @@ use Rattle.std.specs.Prelude.{nat_abs, nat_lt, ◌==◌, ◌&&◌, if◌then◌e
 use Rattle.std.proofs.Math.Nat.{lt-div-mul-add, mul_comm, mul_left_comm, lt_of_mul-lt-mul_left, mul-le-mul_right, mul-div_cancel, mul-add, zero-mul}
 use Rattle.std.proofs.lemmas.Bool.{cases_lt}
 use Rattle.std.proofs.lemmas.Nat.{div-add-mod'}
-use Rattle.profile.specs.Papers.{Paper}
+use Rattle.rules.specs.Papers.{Paper}
 use Rattle.layouts.specs.Grids.{Grid, grid, best_columns, best_of, best_grid, scale_in, part, fitting, held_width, held_height, cell_width, cell_height}
 use Rattle.layouts.specs.Laws.{Allows, IsNotTiny, BestIsLarge, BestHasCells}
 

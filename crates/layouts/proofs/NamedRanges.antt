@@ -4,8 +4,8 @@ use Rattle.std.specs.Prelude.{min, map, if◌then◌else◌}
 use Rattle.std.specs.List.{range_with_len}
 use Rattle.std.proofs.Math.ListN.{get_or}
 use Rattle.std.proofs.lemmas.List.{map-append, length-append, take_more, take-append-drop}
-use Rattle.profile.specs.Numbers.{number_of}
-use Rattle.profile.specs.Admissible.{most_groups}
+use Rattle.rules.specs.Numbers.{number_of}
+use Rattle.rules.specs.Admissible.{most_groups}
 use Rattle.lengths.specs.Reading.{digits, past_digits}
 use Rattle.lengths.proofs.Numbers.{taken}
 use Rattle.pagespec.specs.Reading.{byte_at}

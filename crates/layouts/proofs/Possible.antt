@@ -2,8 +2,8 @@
 use Rattle.std.proofs.Common.{◌≡◌, ℕ, Bool, true, false, None, List, [], ◌∷◌, refl, sym, ap, subst, ◌∙◌}
 use Rattle.std.specs.Prelude.{IsTrue, ◌&&◌, map}
 use Rattle.std.specs.List.{range_with_len}
-use Rattle.profile.specs.Papers.{Paper}
-use Rattle.profile.specs.Specification.{Item, Spec}
+use Rattle.rules.specs.Papers.{Paper}
+use Rattle.rules.specs.Specification.{Item, Spec}
 use Rattle.layouts.specs.Grids.{Grid, scale_in, beside, item_in, back_in, leaves}
 use Rattle.layouts.specs.Refusals.{are_reached, folds_short, is_scale, why_no_booklet}
 use Rattle.layouts.proofs.InGrid.{both_true}

@@ -2,9 +2,9 @@
 use Rattle.std.proofs.Common.{arith, ◌≡◌, ℕ, ◌+◌, ◌-◌, ◌*◌, ◌/◌, ◌%◌, refl}
 use Rattle.std.specs.Prelude.{ℤ, pos, ◌*ℤ◌, nat_abs}
 use Rattle.std.proofs.lemmas.Int.{ints}
-use Rattle.profile.specs.Papers.{Paper}
-use Rattle.profile.specs.Specification.{Turn, Upright, Left, Half, Right}
-use Rattle.profile.specs.Placement.{Matrix}
+use Rattle.rules.specs.Papers.{Paper}
+use Rattle.rules.specs.Specification.{Turn, Upright, Left, Half, Right}
+use Rattle.rules.specs.Placement.{Matrix}
 use Rattle.placement.specs.Printed.{nearest}
 use Rattle.layouts.specs.Grids.{turn_in, half_turned, scale_in, to_right, to_top, whole}
 use Rattle.layouts.specs.Laws.{IsExact, PrintedAsItIs}

@@ -4,8 +4,8 @@ use Rattle.std.specs.Prelude.{◌==◌, map, if◌then◌else◌}
 use Rattle.std.specs.List.{AllPass}
 use Rattle.std.specs.Char.{is_ascii_digit}
 use Rattle.std.proofs.lemmas.List.{map-append}
-use Rattle.profile.specs.Numbers.{number_of}
-use Rattle.profile.specs.Specification.{IsDigits}
+use Rattle.rules.specs.Numbers.{number_of}
+use Rattle.rules.specs.Specification.{IsDigits}
 use Rattle.lengths.specs.Reading.{digits, past_digits, is_empty}
 use Rattle.lengths.proofs.Digits.{digits-no, past_digits-no, digits_whole, digits_pass, digits-append, past_digits-append}
 use Rattle.lengths.proofs.Numbers.{chosen_some, not_empty, taken, some_same}

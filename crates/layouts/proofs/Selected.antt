@@ -8,9 +8,9 @@ use Rattle.std.proofs.lemmas.Bool.{cases_lt}
 use Rattle.std.proofs.lemmas.List.{length-append, length-map}
 use Rattle.std.proofs.lemmas.List.FromFn.{map-range_with_len_more}
 use Rattle.std.proofs.lemmas.Grind.{flat_map-append}
-use Rattle.profile.specs.Specification.{Item, Spec, item_text}
-use Rattle.profile.specs.Admissible.{most_groups}
-use Rattle.profile.specs.Sheets.{Slot, sheets, blocks, page_at}
+use Rattle.rules.specs.Specification.{Item, Spec, item_text}
+use Rattle.rules.specs.Admissible.{most_groups}
+use Rattle.rules.specs.Sheets.{Slot, sheets, blocks, page_at}
 use Rattle.pagespec.specs.Items.{group_text}
 use Rattle.pagespec.specs.Made.{IsItemOf, IsGroupOf, IsWritable}
 use Rattle.pagespec.proofs.Short.{either}

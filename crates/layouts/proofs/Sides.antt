@@ -4,9 +4,9 @@ use Rattle.std.proofs.Common.{arith, ℕ, ◌+◌, ◌*◌, ◌≤◌}
 use Rattle.std.specs.Prelude.{ℤ, pos, negsuc, ◌≤ℤ◌, neg_ℤ, false}
 use Rattle.std.proofs.Math.Nat.{mul-le-mul_left}
 use Rattle.std.proofs.lemmas.Int.{ints}
-use Rattle.profile.specs.Papers.{Paper}
-use Rattle.profile.specs.Specification.{Item, Turn, Upright, Left}
-use Rattle.profile.specs.Placement.{Point}
+use Rattle.rules.specs.Papers.{Paper}
+use Rattle.rules.specs.Specification.{Item, Turn, Upright, Left}
+use Rattle.rules.specs.Placement.{Point}
 use Rattle.layouts.specs.Placed.{stands, IsOfPage, LiesOn, IsInside, IsLeftOf, IsAbove}
 use Rattle.layouts.specs.Grids.{in_points}
 

@@ -4,8 +4,8 @@ use Rattle.std.specs.Prelude.{map, pos, int_le, nat_abs, IsTrue, nat_le}
 use Rattle.std.specs.List.{range_with_len, AllByRecursion}
 use Rattle.std.proofs.lemmas.List.FromFn.{length-map-range_with_len, map-range_with_len_more}
 use Rattle.std.proofs.lemmas.List.{map-append}
-use Rattle.profile.specs.Papers.{Paper}
-use Rattle.profile.specs.Specification.{Item, Turn, item_text}
+use Rattle.rules.specs.Papers.{Paper}
+use Rattle.rules.specs.Specification.{Item, Turn, item_text}
 use Rattle.pagespec.specs.Items.{group_text}
 use Rattle.pagespec.specs.Made.{IsItemOf, IsGroupOf, IsWritable}
 use Rattle.pagespec.proofs.MadeShort.{page_few, forward_few, group_few, groups_short}

@@ -5,8 +5,8 @@
 use Rattle.std.specs.Prelude.{ℕ, ◌+◌, ◌-◌, ◌*◌, ◌/◌, ◌%◌, min, suc, zero, pos, nat_abs, Bool, true, false, ◌&&◌, ◌==◌}
 use Rattle.std.specs.Prelude.{nat_lt, if◌then◌else◌, [], ◌∷◌, map}
 use Rattle.std.specs.List.{range_with_len}
-use Rattle.profile.specs.Papers.{Paper, Pt}
-use Rattle.profile.specs.Specification.{Item, Spec, Measure, Turn, Upright, Left, Half, Right, zero_points}
+use Rattle.rules.specs.Papers.{Paper, Pt}
+use Rattle.rules.specs.Specification.{Item, Spec, Measure, Turn, Upright, Left, Half, Right, zero_points}
 
 -- rows and columns, as one holds the sheet to read it; the pages are turned to the left, or upright
 pub record Grid : Type 0 where

@@ -2,9 +2,9 @@
 use Rattle.std.specs.Prelude.{◌≡◌, ◌≢◌, ℕ, ◌+◌, ◌*◌, ◌/◌, ◌%◌, ◌<◌, ◌≤◌, ◌⊎◌, nat_abs, pos, ◌*ℤ◌, ◌-ℤ◌, Bool, true}
 use Rattle.std.specs.Prelude.{false, List, [], ◌∷◌, map, ⊤, IsTrue}
 use Rattle.std.specs.List.{AllByRecursion, AllZip, range_with_len}
-use Rattle.profile.specs.Papers.{Paper, is_paper}
-use Rattle.profile.specs.Specification.{Item, Spec, Turn, Upright, Left, Right}
-use Rattle.profile.specs.Placement.{Point, matrix_of}
+use Rattle.rules.specs.Papers.{Paper, is_paper}
+use Rattle.rules.specs.Specification.{Item, Spec, Turn, Upright, Left, Right}
+use Rattle.rules.specs.Placement.{Point, matrix_of}
 use Rattle.placement.specs.Printed.{printed_matrix}
 use Rattle.layouts.specs.Placed.{stands, IsInside, AreApart, IsLeftOf, IsAbove}
 use Rattle.layouts.specs.Grids.{Grid, item_in, back_in, held_width, held_height, scale_in, best_grid, whole}

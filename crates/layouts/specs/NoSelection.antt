@@ -1,7 +1,7 @@
 -- Why there is no selection.
 use Rattle.std.specs.Prelude.{◌≡◌, ℕ, ◌<◌, ◌≤◌, true, false, List, [], length}
-use Rattle.profile.specs.Numbers.{greatest_whole}
-use Rattle.profile.specs.Admissible.{most_groups}
+use Rattle.rules.specs.Numbers.{greatest_whole}
+use Rattle.rules.specs.Admissible.{most_groups}
 use Rattle.layouts.specs.declared.error.LayoutError.{LayoutError}
 use Rattle.layouts.specs.declared.error.LayoutError.TheVariants.{PagesOutOfRange, SideTooLong, FoldOnLongEdge}
 use Rattle.layouts.specs.declared.error.LayoutError.TheVariants.{ScaleOutOfRange, DocumentTooLong, Syntax}

@@ -2,9 +2,9 @@
 -- paper. A sheet is measured here in 10^-9 of a grain: a scale, in 10^-9, times a whole number of grains is a whole
 -- number of these.
 use Rattle.std.specs.Prelude.{◌≡◌, ℤ, pos, ◌*ℤ◌, neg_ℤ, ◌≤ℤ◌, ◌⊎◌}
-use Rattle.profile.specs.Papers.{Paper}
-use Rattle.profile.specs.Specification.{Item, Turn, Upright, Left, Half, Right}
-use Rattle.profile.specs.Placement.{Point, offset, turned, moved, put}
+use Rattle.rules.specs.Papers.{Paper}
+use Rattle.rules.specs.Specification.{Item, Turn, Upright, Left, Half, Right}
+use Rattle.rules.specs.Placement.{Point, offset, turned, moved, put}
 
 abbrev pub times : ℤ → Point → Point
 times n p = record { x = n *ℤ p.x; y = n *ℤ p.y }

@@ -1,7 +1,7 @@
 -- Reading ranges off a text, from the left.
 use Rattle.std.specs.Prelude.{◌≡◌, ℕ, suc, min, if◌then◌else◌, List, length, map, Option, Some, None}
-use Rattle.profile.specs.Bytes.{comma, minus_sign}
-use Rattle.profile.specs.Numbers.{number_of}
+use Rattle.rules.specs.Bytes.{comma, minus_sign}
+use Rattle.rules.specs.Numbers.{number_of}
 use Rattle.lengths.specs.Reading.{least_large, digits, past_digits, is_empty}
 use Rattle.pagespec.specs.Reading.{◌>>=◌, byte_at, joined_at, whole}
 use Rattle.layouts.specs.Selections.{Range, One, FromTo, From}

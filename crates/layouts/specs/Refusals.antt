@@ -1,7 +1,7 @@
 -- Why there is no layout.
 use Rattle.std.specs.Prelude.{◌≡◌, ◌⊎◌, ℕ, nat_abs, Bool, true, false, ◌&&◌, ◌||◌, nat_le, nat_lt, if◌then◌else◌}
 use Rattle.std.specs.Prelude.{Option, Some, None}
-use Rattle.profile.specs.Papers.{Paper}
+use Rattle.rules.specs.Papers.{Paper}
 use Rattle.layouts.specs.declared.error.LayoutError.{LayoutError}
 use Rattle.layouts.specs.declared.error.LayoutError.TheVariants.{PagesOutOfRange, SideTooLong, FoldOnLongEdge}
 use Rattle.layouts.specs.declared.error.LayoutError.TheVariants.{ScaleOutOfRange, NoMemory}

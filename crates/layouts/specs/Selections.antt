@@ -2,10 +2,10 @@
 use Rattle.std.specs.Prelude.{◌≡◌, ℕ, ◌+◌, ◌-◌, ◌<◌, ◌≤◌, ◌%◌, nat_le, Bool, true, false, not, ◌&&◌, ◌==◌}
 use Rattle.std.specs.Prelude.{if◌then◌else◌, List, [], ◌∷◌, ◌++◌, length, map, flat_map, Some, IsTrue}
 use Rattle.std.specs.List.{range_with_len, list_any, AllByRecursion}
-use Rattle.profile.specs.Bytes.{comma, minus_sign}
-use Rattle.profile.specs.Specification.{IsJoined, IsDigits, Spec}
-use Rattle.profile.specs.Admissible.{most_groups}
-use Rattle.profile.specs.Sheets.{sheets}
+use Rattle.rules.specs.Bytes.{comma, minus_sign}
+use Rattle.rules.specs.Specification.{IsJoined, IsDigits, Spec}
+use Rattle.rules.specs.Admissible.{most_groups}
+use Rattle.rules.specs.Sheets.{sheets}
 use Rattle.layouts.specs.declared.select.Which.{Which}
 use Rattle.layouts.specs.declared.select.Which.TheVariants.{All, Odd, Even}
 use Rattle.layouts.specs.Grids.{alone}

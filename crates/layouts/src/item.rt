@@ -1,7 +1,7 @@
 //! Pages in the cells of a grid.
 ghost use Rattle.std.specs.Prelude.{◌≡◌, ◌+◌, ◌-◌, ◌*◌, ◌/◌, ◌%◌, pos, IfOk, ◌<◌, ◌≤◌, nat_abs, IsTrue, map, ◌∷◌, []};
 ghost use Rattle.std.specs.List.{range_with_len};
-ghost use Rattle.profile.specs.Numbers.{greatest_whole, greatest_number};
+ghost use Rattle.rules.specs.Numbers.{greatest_whole, greatest_number};
 ghost use Rattle.pagespec.specs.Items.{item_of, measure_of, groups_of, turn_of};
 ghost use Rattle.layouts.specs.Grids.{alone as alone_of, in_grid, item_in as item_of_grid, back_in as back_of_grid};
 ghost use Rattle.layouts.specs.Grids.{in_points, margin as margin_of, margin_x, margin_y, cell_width, cell_height};

@@ -1,7 +1,7 @@
 //! The pages of a selection, in a row.
 ghost use Rattle.std.specs.Prelude.{◌≡◌, ◌≤◌, ◌-◌, ◌+◌, ◌++◌, ◌∷◌, [], false, length, map, IfOk, IfErr, OnOk};
-ghost use Rattle.profile.specs.Numbers.{greatest_whole};
-ghost use Rattle.profile.specs.Admissible.{most_groups};
+ghost use Rattle.rules.specs.Numbers.{greatest_whole};
+ghost use Rattle.rules.specs.Admissible.{most_groups};
 ghost use Rattle.pagespec.specs.Items.{groups_of};
 ghost use Rattle.layouts.specs.Grids.{alone as alone_of};
 ghost use Rattle.layouts.specs.Selections.{kept, from_to, steps as steps_of, behind as page_behind, misses, row_of};

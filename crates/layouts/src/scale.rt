@@ -1,6 +1,6 @@
 //! How large pages in a grid are.
 ghost use Rattle.std.specs.Prelude.{◌≡◌, ◌*◌, ◌<◌, ◌≤◌, nat_abs, IsTrue};
-ghost use Rattle.profile.specs.Papers.{is_side, longest_side};
+ghost use Rattle.rules.specs.Papers.{is_side, longest_side};
 ghost use Rattle.layouts.specs.Refusals.{is_scale as may_be_scale};
 ghost use Rattle.layouts.specs.Grids.{cell_width, cell_height, part as part_of, fitting as fits, scale_in as scale_of};
 

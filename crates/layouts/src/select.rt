@@ -1,6 +1,6 @@
 //! Some pages of a document, in any order.
 ghost use Rattle.std.specs.Prelude.{◌≡◌, ◌≤◌, IfOk, IfErr};
-ghost use Rattle.profile.specs.Numbers.{greatest_whole};
+ghost use Rattle.rules.specs.Numbers.{greatest_whole};
 ghost use Rattle.layouts.specs.Selections.{Selects, IsSelection, is_kept};
 ghost use Rattle.layouts.specs.NoSelection.{RefusesSelection, IsPlaced};
 

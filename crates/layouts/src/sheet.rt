@@ -1,6 +1,6 @@
 //! Several pages on each sheet.
 ghost use Rattle.std.specs.Prelude.{◌≡◌, IfOk, IfErr, OnOk, None, IsTrue, ◌&&◌};
-ghost use Rattle.profile.specs.Papers.{is_paper};
+ghost use Rattle.rules.specs.Papers.{is_paper};
 ghost use Rattle.layouts.specs.Laws.{IsNUp, IsBooklet};
 ghost use Rattle.layouts.specs.Grids.{n_up, leaves, is_same};
 ghost use Rattle.layouts.specs.Refusals.{why_not, why_no_booklet, IsRefusal, are_reached, folds_short};

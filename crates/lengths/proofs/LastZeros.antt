@@ -2,7 +2,7 @@
 use Rattle.std.proofs.Common.{arith, ◌≡◌, ◌≢◌, ℕ, suc, List, [], ◌∷◌, ◌++◌, Bool, true, false, refl, ap, ◌∙◌, length}
 use Rattle.std.specs.Prelude.{◌==◌, ◌&&◌, if◌then◌else◌}
 use Rattle.std.proofs.lemmas.Grind.{common_steps}
-use Rattle.profile.specs.Numbers.{without_last_zeros}
+use Rattle.rules.specs.Numbers.{without_last_zeros}
 
 -- a digit before a row that is left with this
 abbrev before_kept : ℕ → List ℕ → List ℕ

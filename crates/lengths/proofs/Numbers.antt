@@ -7,7 +7,7 @@ use Rattle.std.proofs.lemmas.List.{take_at, take-append-drop, length-drop}
 use Rattle.std.proofs.lemmas.Grind.{common_steps}
 use Rattle.std.proofs.lemmas.List.{append-nil, length-append}
 use Rattle.std.proofs.lemmas.List.Elements.{All-nil, All-head}
-use Rattle.profile.specs.Numbers.{IsNumber, IsSign, IsFraction, IsLongestNumber}
+use Rattle.rules.specs.Numbers.{IsNumber, IsSign, IsFraction, IsLongestNumber}
 use Rattle.lengths.specs.Reading.{digits, past_digits, is_minus, unsigned, decimals_at, past_decimals, value_of, is_empty, number_from, number_at, Ends}
 use Rattle.lengths.proofs.Digits.{IsDigit, by_test, digits_whole, digits_pass, digits-append, past_digits-append}
 

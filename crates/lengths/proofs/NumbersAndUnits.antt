@@ -3,8 +3,8 @@ use Rattle.std.proofs.Common.{◌≡◌, ◌∙◌, ap, refl, sym, subst, ℕ, �
 use Rattle.std.specs.Prelude.{codes, if◌then◌else◌}
 use Rattle.std.specs.Str.{bytes_eq}
 use Rattle.std.proofs.lemmas.Slice.Eq.{bytes_eq-Decides}
-use Rattle.profile.specs.Numbers.{is_large}
-use Rattle.profile.specs.Papers.{LengthUnit, Pt, Cm, Mm, In, Paper, grains}
+use Rattle.rules.specs.Numbers.{is_large}
+use Rattle.rules.specs.Papers.{LengthUnit, Pt, Cm, Mm, In, Paper, grains}
 use Rattle.lengths.specs.Reading.{Ends, number_at}
 use Rattle.lengths.proofs.Numbers.{number_found, number_read}
 use Rattle.lengths.specs.Lengths.{IsLength, length_named, length_of, unit_named}

@@ -2,8 +2,8 @@
 use Rattle.std.proofs.Common.{arith, ℕ, List, length, sym, subst}
 use Rattle.std.specs.Prelude.{ℤ, Ok}
 use Rattle.std.proofs.lemmas.List.{take_all}
-use Rattle.profile.specs.Numbers.{IsNumber, IsNumberRead, scale_text, number_text}
-use Rattle.profile.proofs.Printed.{printed_is_number, number_text_is_number}
+use Rattle.rules.specs.Numbers.{IsNumber, IsNumberRead, scale_text, number_text}
+use Rattle.rules.proofs.Printed.{printed_is_number, number_text_is_number}
 use Rattle.lengths.specs.Ranges.{FitsNumber}
 use Rattle.lengths.specs.Printed.{IsReadAgain}
 use Rattle.lengths.proofs.Scans.{not_large}

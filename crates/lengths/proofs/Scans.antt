@@ -4,8 +4,8 @@ use Rattle.std.specs.Prelude.{Result, Ok, Err, IfOk, IfErr, ℤ, nat_abs, nat_lt
 use Rattle.std.specs.List.{AllPass}
 use Rattle.std.specs.Char.{is_ascii_digit}
 use Rattle.std.proofs.lemmas.List.{length-append, length-drop, drop_at}
-use Rattle.profile.specs.Numbers.{signed, number_of, decimals_value, IsLongestNumber, IsNumberRead}
-use Rattle.profile.specs.Numbers.{is_large}
+use Rattle.rules.specs.Numbers.{signed, number_of, decimals_value, IsLongestNumber, IsNumberRead}
+use Rattle.rules.specs.Numbers.{is_large}
 use Rattle.lengths.specs.Reading.{digits, past_digits, is_minus, unsigned, decimals_at, past_decimals, value_of, is_empty, number_from, number_at}
 use Rattle.lengths.proofs.Digits.{digits_pass}
 use Rattle.lengths.proofs.Numbers.{from_parts, number_found, number_longest, no_number, decimals_pass}

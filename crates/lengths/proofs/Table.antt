@@ -6,7 +6,7 @@ use Rattle.std.specs.Char.{to_ascii_lowercase}
 use Rattle.std.specs.Str.{bytes_eq}
 use Rattle.std.proofs.lemmas.Slice.Eq.{bytes_eq-Decides}
 use Rattle.std.proofs.lemmas.Bool.Decides.{nat_tests}
-use Rattle.profile.specs.Papers.{NamedPaper, points, small, paper_among}
+use Rattle.rules.specs.Papers.{NamedPaper, points, small, paper_among}
 
 -- a row of the table: its name, and the sides in points
 abbrev pub Row : Type 0

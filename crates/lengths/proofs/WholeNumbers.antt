@@ -1,7 +1,7 @@
 -- Whole numbers are printed without decimals.
 use Rattle.std.proofs.Common.{arith, ◌≡◌, ◌≤◌, ℕ, zero, suc, [], refl}
 use Rattle.std.specs.Fmt.{digits}
-use Rattle.profile.specs.Numbers.{decimals_of}
+use Rattle.rules.specs.Numbers.{decimals_of}
 
 pub no_decimals : (e : ℕ) → e ≤ 9 → decimals_of e 0 ≡ []
 unfolding digits

@@ -1,8 +1,8 @@
 -- Lengths as people write them: a number and its unit.
 use Rattle.std.specs.Prelude.{◌≡◌, ◌↔◌, ◌++◌, ℕ, ℤ, false, option_map, if◌then◌else◌, List, [], Option, Some, None, codes}
 use Rattle.std.specs.Str.{bytes_eq}
-use Rattle.profile.specs.Numbers.{IsNumber, is_large}
-use Rattle.profile.specs.Papers.{LengthUnit, Pt, Cm, Mm, In, Paper, grains, points}
+use Rattle.rules.specs.Numbers.{IsNumber, is_large}
+use Rattle.rules.specs.Papers.{LengthUnit, Pt, Cm, Mm, In, Paper, grains, points}
 use Rattle.lengths.specs.Reading.{number_at}
 
 -- the paper that is taken if nothing tells one

@@ -1,6 +1,6 @@
 -- Printed numbers are read again.
 use Rattle.std.specs.Prelude.{ℕ, ℤ, List, length, Ok}
-use Rattle.profile.specs.Numbers.{IsNumberRead}
+use Rattle.rules.specs.Numbers.{IsNumberRead}
 use Rattle.lengths.specs.Ranges.{FitsNumber}
 
 -- reading what is printed of a number gives that number, and the whole text

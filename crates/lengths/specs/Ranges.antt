@@ -1,6 +1,6 @@
 -- How large a number and a length may be.
 use Rattle.std.specs.Prelude.{◌≤◌, ◌^◌, ℤ, nat_abs}
-use Rattle.profile.specs.Numbers.{greatest_number}
+use Rattle.rules.specs.Numbers.{greatest_number}
 
 -- at most the greatest number, in 10^-9
 abbrev pub FitsNumber : ℤ → Type 0

@@ -3,8 +3,8 @@
 use Rattle.std.specs.Prelude.{◌≡◌, ℕ, ◌+◌, ◌*◌, ◌^◌, ℤ, Bool, true, false, ◌||◌, ◌==◌, if◌then◌else◌, List, [], ◌∷◌}
 use Rattle.std.specs.Prelude.{◌++◌, Option, Some, None}
 use Rattle.std.specs.Char.{is_ascii_digit}
-use Rattle.profile.specs.Bytes.{plus_sign, minus_sign, dot}
-use Rattle.profile.specs.Numbers.{signed, number_of, decimals_value}
+use Rattle.rules.specs.Bytes.{plus_sign, minus_sign, dot}
+use Rattle.rules.specs.Numbers.{signed, number_of, decimals_value}
 
 -- the least whole part that is too large: digits that stand for more are told as this
 abbrev pub least_large : ℕ

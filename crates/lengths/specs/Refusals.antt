@@ -1,7 +1,7 @@
 -- What a refusal to read a number says.
 use Rattle.std.specs.Prelude.{◌≡◌, ℕ, ◌≤◌, ℤ, true, List, drop, length, Some, None, Result, Ok, Err}
-use Rattle.profile.specs.Numbers.{NumberFault, is_large, NumberTooLarge}
-use Rattle.profile.specs.Numbers.{NotANumber as NoNumber}
+use Rattle.rules.specs.Numbers.{NumberFault, is_large, NumberTooLarge}
+use Rattle.rules.specs.Numbers.{NotANumber as NoNumber}
 use Rattle.lengths.specs.Reading.{number_at}
 use Rattle.lengths.specs.declared.read.NumberError.{NumberError}
 use Rattle.lengths.specs.declared.read.NumberError.TheVariants.{NotANumber, TooLarge}

@@ -1,6 +1,6 @@
 -- The units of the code as those of the definitions.
-use Rattle.profile.specs.Papers.{LengthUnit, Width, Height}
-use Rattle.profile.specs.Papers.{Pt as Point, Cm as Centimetre, Mm as Millimetre, In as Inch}
+use Rattle.rules.specs.Papers.{LengthUnit, Width, Height}
+use Rattle.rules.specs.Papers.{Pt as Point, Cm as Centimetre, Mm as Millimetre, In as Inch}
 use Rattle.lengths.specs.declared.unit.Unit.{Unit as WrittenUnit}
 use Rattle.lengths.specs.declared.unit.Unit.TheVariants.{Pt, Cm, Mm, In, W, H}
 

@@ -1,7 +1,7 @@
 //! Lengths in units, in grains.
 ghost use Rattle.std.specs.Prelude.{◌≡◌, ◌+◌, ◌*◌, ◌^◌, ◌<◌, ◌*ℤ◌, nat_abs, IsTrue};
-ghost use Rattle.profile.specs.Numbers.{rounded as nearest};
-ghost use Rattle.profile.specs.Papers.{grains, is_side};
+ghost use Rattle.rules.specs.Numbers.{rounded as nearest};
+ghost use Rattle.rules.specs.Papers.{grains, is_side};
 ghost use Rattle.lengths.specs.Units.{length_unit};
 
 use super::grains::Grains;

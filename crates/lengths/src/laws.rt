@@ -1,5 +1,5 @@
 //! Laws of reading and printing. The functions do nothing.
-ghost use Rattle.profile.specs.Numbers.{scale_text, number_text};
+ghost use Rattle.rules.specs.Numbers.{scale_text, number_text};
 ghost use Rattle.lengths.specs.Lengths.{LengthsAreNumbers};
 ghost use Rattle.lengths.specs.Printed.{IsReadAgain};
 

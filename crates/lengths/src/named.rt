@@ -1,7 +1,7 @@
 //! Papers by their names.
 ghost use Rattle.std.specs.Prelude.{◌≡◌, ◌<◌, ◌≤◌, map, IsTrue, ◌↔◌};
 ghost use Rattle.std.specs.Str.{bytes_eq};
-ghost use Rattle.profile.specs.Papers.{paper_named, points, small};
+ghost use Rattle.rules.specs.Papers.{paper_named, points, small};
 ghost use Rattle.lengths.specs.Lengths.{a4};
 
 use super::paper::Paper;

@@ -1,6 +1,6 @@
 //! A number as specifications write it, kept exactly.
 ghost use Rattle.std.specs.Prelude.{◌≡◌, ◌↔◌, ◌+◌, ◌*◌, ◌^◌, ◌<◌, ◌≤◌, ℤ, neg_ℤ, IsSome, IfSome};
-ghost use Rattle.profile.specs.Numbers.{greatest_whole, signed};
+ghost use Rattle.rules.specs.Numbers.{greatest_whole, signed};
 ghost use Rattle.lengths.specs.Ranges.{FitsNumber};
 
 use std::marker::Model;

@@ -1,6 +1,6 @@
 //! A sheet of paper.
 ghost use Rattle.std.specs.Prelude.{◌≡◌, ◌↔◌, ◌<◌, IsSome, IfSome, IsTrue};
-ghost use Rattle.profile.specs.Papers.{is_paper, is_side, points};
+ghost use Rattle.rules.specs.Papers.{is_paper, is_side, points};
 
 use super::grains::Grains;
 use std::marker::Model;
@@ -20,7 +20,7 @@ pub struct Paper {
 
 impl Model for Paper {
     ghost use Rattle.std.specs.Prelude.{IsTrue};
-    ghost use Rattle.profile.specs.Papers.{Paper as PaperSize, is_paper};
+    ghost use Rattle.rules.specs.Papers.{Paper as PaperSize, is_paper};
 
     ghost Value = { PaperSize };
 

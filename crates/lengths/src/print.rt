@@ -1,9 +1,9 @@
 //! Numbers and lengths printed in decimals.
 ghost use Rattle.std.specs.Prelude.{◌≡◌, ◌+◌, ◌*◌, ◌/◌, ◌%◌, ◌^◌, ◌<◌, ◌≤◌, ◌++◌, ℕ, ℤ, FitsSigned, nat_abs, drop};
 ghost use Rattle.std.specs.Prelude.{decimal, length, [], ◌∷◌, if◌then◌else◌, OnOk, OnErr, vec_len, vec_capacity};
-ghost use Rattle.profile.specs.Bytes.{minus_sign};
-ghost use Rattle.profile.specs.Numbers.{without_last_zeros, decimals_of, fraction_text, is_negative, sign_text};
-ghost use Rattle.profile.specs.Numbers.{whole_text, printed, scale_text, number_text, points_text};
+ghost use Rattle.rules.specs.Bytes.{minus_sign};
+ghost use Rattle.rules.specs.Numbers.{without_last_zeros, decimals_of, fraction_text, is_negative, sign_text};
+ghost use Rattle.rules.specs.Numbers.{whole_text, printed, scale_text, number_text, points_text};
 
 use super::convert::rounded;
 use super::grains::Grains;

@@ -3,8 +3,8 @@ ghost use Rattle.std.specs.Prelude.{◌≡◌, ◌≢◌, ◌+◌, ◌*◌, ◌^
 ghost use Rattle.std.specs.Prelude.{slice_index, IfOk, IfErr, MatchOption};
 ghost use Rattle.std.specs.Char.{is_ascii_digit};
 ghost use Rattle.std.specs.List.{AllPass};
-ghost use Rattle.profile.specs.Bytes.{digit_zero};
-ghost use Rattle.profile.specs.Numbers.{IsNumberRead, number_of, decimals_value, signed};
+ghost use Rattle.rules.specs.Bytes.{digit_zero};
+ghost use Rattle.rules.specs.Numbers.{IsNumberRead, number_of, decimals_value, signed};
 ghost use Rattle.lengths.specs.Ranges.{FitsNumber};
 ghost use Rattle.lengths.specs.Reading.{least_large, digits, past_digits, unsigned, is_minus, decimals_at};
 ghost use Rattle.lengths.specs.Reading.{past_decimals, number_at};

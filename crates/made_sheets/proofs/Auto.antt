@@ -4,9 +4,9 @@ use Rattle.std.specs.Prelude.{Option}
 use Rattle.std.specs.List.{range_with_len}
 use Rattle.std.proofs.lemmas.List.FromFn.{length-map-range_with_len}
 use Rattle.std.proofs.lemmas.Nat.{div-add-mod', mod_below, div_below, le-div, mul-le}
-use Rattle.profile.specs.Sheets.{blocks}
-use Rattle.profile.specs.Signatures.{most_sides, entry_of, page_in_signature}
-use Rattle.profile.proofs.Counts.{range_len, rows_len}
+use Rattle.rules.specs.Sheets.{blocks}
+use Rattle.rules.specs.Signatures.{most_sides, entry_of, page_in_signature}
+use Rattle.rules.proofs.Counts.{range_len, rows_len}
 use Rattle.made_sheets.specs.Rows.{AutoSignatures, Row, auto_count, auto_leaves, auto_sides, in_signatures, leaves_for, most_leaves}
 
 -- signatures are filled up

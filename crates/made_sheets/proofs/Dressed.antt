@@ -2,8 +2,8 @@
 use Rattle.std.proofs.Common.{suc, ◌≡◌, ℕ, ◌+◌, List, [], ◌∷◌, ◌++◌, length, map, refl, ap, ◌∙◌}
 use Rattle.std.specs.Prelude.{flat_map, Option, ℤ}
 use Rattle.std.specs.List.{enumerate_from}
-use Rattle.profile.specs.Parts.{pages}
-use Rattle.profile.specs.Filters.{trailer_text}
+use Rattle.rules.specs.Parts.{pages}
+use Rattle.rules.specs.Filters.{trailer_text}
 use Rattle.made_sheets.specs.Dress.{Dress}
 use Rattle.made_sheets.specs.Dressed.{DressedIsMade, DressedSheet, dressed_in, dressed_sheet_text}
 use Rattle.made_sheets.specs.Made.{MadeSheet}

@@ -2,10 +2,10 @@
 use Rattle.std.proofs.Common.{ℕ, List, [], ◌∷◌, ◌++◌, refl, ◌≡◌, ◌+◌, Some, None, Option, false}
 use Rattle.std.specs.Prelude.{codes, decimal, replicate, Result, Ok, Err, ℤ, pos, ◌*ℤ◌}
 use Rattle.std.specs.Fmt.{digits}
-use Rattle.profile.specs.Papers.{Pt, Paper, points}
-use Rattle.profile.specs.Specification.{Item, Upright, Left, Turn}
-use Rattle.profile.specs.Units.{◌>>=◌}
-use Rattle.profile.specs.Run.{document_of, DocumentFault}
+use Rattle.rules.specs.Papers.{Pt, Paper, points}
+use Rattle.rules.specs.Specification.{Item, Upright, Left, Turn}
+use Rattle.rules.specs.Units.{◌>>=◌}
+use Rattle.rules.specs.Run.{document_of, DocumentFault}
 use Rattle.made_sheets.specs.Made.{MadeSlot, Blank, Placed, MadeSheet}
 use Rattle.made_sheets.specs.Dress.{Dress, undressed}
 use Rattle.made_sheets.specs.MadeOutput.{made_output}

@@ -3,9 +3,9 @@ use Rattle.std.proofs.Common.{arith, ◌≡◌, ℕ, zero, suc, ◌+◌, ◌-◌
 use Rattle.std.specs.Prelude.{flat_map, if◌then◌else◌}
 use Rattle.std.specs.List.{range_with_len}
 use Rattle.std.proofs.lemmas.List.FromFn.{fill_by_all}
-use Rattle.profile.specs.Specification.{Item}
-use Rattle.profile.specs.Sheets.{Slot, blocks, place}
-use Rattle.profile.specs.Signatures.{entry_of}
+use Rattle.rules.specs.Specification.{Item}
+use Rattle.rules.specs.Sheets.{Slot, blocks, place}
+use Rattle.rules.specs.Signatures.{entry_of}
 use Rattle.made_sheets.specs.Rows.{Row}
 use Rattle.made_sheets.specs.Leaves.{Face, SheetsAreFaces, face_of, faces}
 

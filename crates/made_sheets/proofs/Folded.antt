@@ -1,9 +1,9 @@
 -- A signature that was folded is read in order.
 use Rattle.std.specs.Prelude.{Option, None, length}
 use Rattle.std.proofs.lemmas.List.FromFn.{get_or-map-range_with_len, length-map-range_with_len}
-use Rattle.profile.specs.Sheets.{blocks}
-use Rattle.profile.specs.Signatures.{entry_of}
-use Rattle.profile.proofs.Counts.{row_at}
+use Rattle.rules.specs.Sheets.{blocks}
+use Rattle.rules.specs.Signatures.{entry_of}
+use Rattle.rules.proofs.Counts.{row_at}
 use Rattle.made_sheets.specs.Rows.{Row, in_signatures}
 use Rattle.made_sheets.specs.Leaves.{ReadInOrder, RowIsRead, face_of, faces, outwards, read_inwards, read_outwards, read_signature, reading}
 use Rattle.made_sheets.proofs.Faces.{left_of, right_of}
@@ -11,7 +11,7 @@ use Rattle.std.proofs.Common.{arith, ◌≡◌, ℕ, zero, suc, ◌+◌, ◌-◌
 use Rattle.std.specs.Prelude.{flat_map, ◌==◌, if◌then◌else◌}
 use Rattle.std.specs.List.{range_with_len}
 use Rattle.std.proofs.lemmas.Nat.{div-mul-add, mod-mul-add}
-use Rattle.profile.specs.Signatures.{page_in_signature}
+use Rattle.rules.specs.Signatures.{page_in_signature}
 
 -- leaf j, and which of its four sides
 abbrev side : (s j r : ℕ) → ℕ

@@ -2,12 +2,12 @@
 use Rattle.std.proofs.Common.{append-nil, suc, ◌≡◌, ℕ, ◌+◌, List, [], ◌∷◌, ◌++◌, Option, Some, None, length, map, refl, ap, ◌∙◌}
 use Rattle.std.specs.Prelude.{flat_map, codes, decimal}
 use Rattle.std.specs.List.{enumerate_from}
-use Rattle.profile.specs.Bytes.{line}
-use Rattle.profile.specs.Sheets.{Slot}
-use Rattle.profile.specs.Signatures.{sheets_in}
-use Rattle.profile.specs.Parts.{NestedUnit, pages, preamble, bytes_of}
-use Rattle.profile.specs.Filters.{kept, drops_in_header, ended, preamble_text, trailer_text, with_count}
-use Rattle.profile.specs.Output.{Frame, slot_text, sheet_text}
+use Rattle.rules.specs.Bytes.{line}
+use Rattle.rules.specs.Sheets.{Slot}
+use Rattle.rules.specs.Signatures.{sheets_in}
+use Rattle.rules.specs.Parts.{NestedUnit, pages, preamble, bytes_of}
+use Rattle.rules.specs.Filters.{kept, drops_in_header, ended, preamble_text, trailer_text, with_count}
+use Rattle.rules.specs.Output.{Frame, slot_text, sheet_text}
 use Rattle.made_sheets.specs.Made.{made_slot, made_of}
 use Rattle.made_sheets.specs.Dress.{undressed}
 use Rattle.made_sheets.specs.MadeOutput.{MadeIsOutput, made_slot_text, made_sheet_text, with_lines, dressed_preamble}

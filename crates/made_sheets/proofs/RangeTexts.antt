@@ -9,9 +9,9 @@ use Rattle.std.proofs.lemmas.Slice.Eq.{bytes_eq-Decides}
 use Rattle.std.proofs.lemmas.List.Elements.{All-nil, All-cons, All-head, All-weaker}
 use Rattle.std.proofs.lemmas.List.Splits.{slice_split-cons_yes, slice_split-cons_no, slice_split_none, slice_split_at}
 use Rattle.std.proofs.lemmas.List.Sums.{AllPass-from_list_all, list_all-from_AllPass}
-use Rattle.profile.specs.Numbers.{number_of}
-use Rattle.profile.specs.Specification.{IsDigits, IsJoined}
-use Rattle.profile.proofs.OneValue.{same_head, same_tail}
+use Rattle.rules.specs.Numbers.{number_of}
+use Rattle.rules.specs.Specification.{IsDigits, IsJoined}
+use Rattle.rules.proofs.OneValue.{same_head, same_tail}
 use Rattle.made_sheets.specs.Ranges.{BlankPage, FromEnd, FromStart, FromTo, IsPlace, IsRange, Place, Range, RangesAreRead, by_digits, is_blank_page, is_number, last_place_at, place_at, range_at, range_of, ranges_in, the_last}
 
 -- ---- cases

@@ -5,7 +5,7 @@ use Rattle.std.specs.List.{range_with_len}
 use Rattle.std.proofs.lemmas.Bool.Decides.{nat_tests}
 use Rattle.std.proofs.lemmas.List.{get_or-reverse, length-reverse}
 use Rattle.std.proofs.lemmas.List.FromFn.{fill_by_all, get_or-map-range_with_len, length-map-range_with_len}
-use Rattle.profile.specs.Signatures.{entry_of}
+use Rattle.rules.specs.Signatures.{entry_of}
 use Rattle.made_sheets.specs.Rows.{all_pages}
 use Rattle.made_sheets.specs.Ranges.{RangesOfAll, from_to}
 

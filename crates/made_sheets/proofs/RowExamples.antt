@@ -1,7 +1,7 @@
 -- Rows, computed from the definitions.
 use Rattle.std.proofs.Common.{ℕ, List, [], ◌∷◌, refl, ◌≡◌, Some, None, Option, false, true, Bool}
 use Rattle.std.specs.Prelude.{codes, Result, Ok, Err}
-use Rattle.profile.specs.Units.{◌>>=◌}
+use Rattle.rules.specs.Units.{◌>>=◌}
 use Rattle.made_sheets.specs.Rows.{Row, all_pages, auto_count, auto_sides, in_signatures}
 use Rattle.made_sheets.specs.Ranges.{pieces_of}
 use Rattle.made_sheets.specs.Choice.{RowFault, NotARange, NotInDocument, TooManyEntries, NoEntries, Part, All, Odd, Even, Choice, InOne, OfSides, Auto, row_of_text, row_standing, standing_from, chosen, imposed_row}

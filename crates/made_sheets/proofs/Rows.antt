@@ -5,9 +5,9 @@ use Rattle.std.specs.List.{range_with_len}
 use Rattle.std.proofs.lemmas.Bool.{cases_lt}
 use Rattle.std.proofs.lemmas.List.{get_or_past, reverse-reverse}
 use Rattle.std.proofs.lemmas.List.FromFn.{get_or-map-range_with_len, length-map-range_with_len}
-use Rattle.profile.specs.Sheets.{blocks, page_at, sheets_over}
-use Rattle.profile.specs.Signatures.{entry_of, page_in_signature}
-use Rattle.profile.proofs.Signatures.{page_shown, page_hidden, without_sides}
+use Rattle.rules.specs.Sheets.{blocks, page_at, sheets_over}
+use Rattle.rules.specs.Signatures.{entry_of, page_in_signature}
+use Rattle.rules.proofs.Signatures.{page_shown, page_hidden, without_sides}
 use Rattle.made_sheets.specs.Rows.{Row, PartsByNumber, PartsOfRow, SheetsOfAll, SignaturesOfAll, all_pages, even_part, interleaved, odd_part, with_numbers}
 
 all_len : (n : ℕ) → length (all_pages n) ≡ n

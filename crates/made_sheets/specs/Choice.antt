@@ -1,9 +1,9 @@
 -- What is imposed: which pages are chosen, how their row is made of them, and why there is none. All here is this
--- project's own profile.
+-- project's own rules.
 use Rattle.std.specs.Prelude.{ℕ, ◌+◌, ◌*◌, Bool, ◌==◌, nat_lt, if◌then◌else◌, List, [], ◌∷◌, length, reverse, Option}
 use Rattle.std.specs.Prelude.{Some, None, Result, Ok, Err}
-use Rattle.profile.specs.Units.{◌>>=◌}
-use Rattle.profile.specs.Run.{most_pages, refuse_if}
+use Rattle.rules.specs.Units.{◌>>=◌}
+use Rattle.rules.specs.Run.{most_pages, refuse_if}
 use Rattle.made_sheets.specs.Rows.{Row, all_pages, odd_part, even_part, in_order_of, leaves_for, auto_sides}
 use Rattle.made_sheets.specs.Ranges.{Range, range_at, pieces_of, has_range, entries_of, row_named}
 

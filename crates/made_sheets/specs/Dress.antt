@@ -1,7 +1,7 @@
--- The dress of an output: lines that are added to its text, in three places. All here is this project's own profile.
+-- The dress of an output: lines that are added to its text, in three places. All here is this project's own rules.
 use Rattle.std.specs.Prelude.{ℕ, List, [], flat_map}
-use Rattle.profile.specs.Bytes.{line}
-use Rattle.profile.specs.Papers.{Paper}
+use Rattle.rules.specs.Bytes.{line}
+use Rattle.rules.specs.Papers.{Paper}
 
 -- lines behind the line %%Pages; lines at the start of each sheet, behind its page line; and lines at its end, before
 -- its showpage. The lines of a sheet are a function of its number, counted from 0, and of its paper

@@ -1,9 +1,9 @@
 -- Made sheets together with the lines of their dress, as lists alone: what a program keeps of them.
 use Rattle.std.specs.Prelude.{◌≡◌, ℕ, ◌+◌, ◌++◌, List, length, map, flat_map, codes, decimal, Option, ℤ}
 use Rattle.std.specs.List.{enumerate_from}
-use Rattle.profile.specs.Bytes.{line}
-use Rattle.profile.specs.Parts.{NestedUnit, pages}
-use Rattle.profile.specs.Filters.{trailer_text}
+use Rattle.rules.specs.Bytes.{line}
+use Rattle.rules.specs.Parts.{NestedUnit, pages}
+use Rattle.rules.specs.Filters.{trailer_text}
 use Rattle.made_sheets.specs.Made.{MadeSheet, MadeSlot}
 use Rattle.made_sheets.specs.Dress.{Dress, lines_text}
 use Rattle.made_sheets.specs.MadeOutput.{dressed_preamble, made_output, made_slot_text}

@@ -1,11 +1,11 @@
 -- Leaves: sheets of paper that are printed on both sides, folded in the middle and put into one another. All here is
--- this project's own profile.
+-- this project's own rules.
 use Rattle.std.specs.Prelude.{◌≡◌, ℕ, zero, suc, ◌+◌, ◌*◌, false, List, [], ◌∷◌, ◌++◌, length, map, flat_map, Option, None}
 use Rattle.std.specs.Prelude.{slice_index_or}
 use Rattle.std.specs.List.{range_with_len}
-use Rattle.profile.specs.Specification.{Item}
-use Rattle.profile.specs.Sheets.{blocks}
-use Rattle.profile.specs.Signatures.{page_in_signature, entry_of}
+use Rattle.rules.specs.Specification.{Item}
+use Rattle.rules.specs.Sheets.{blocks}
+use Rattle.rules.specs.Signatures.{page_in_signature, entry_of}
 use Rattle.made_sheets.specs.Rows.{Row, in_signatures, sheets_of_row}
 
 -- one side of a leaf, held with the fold upright: what stands on its left and on its right half

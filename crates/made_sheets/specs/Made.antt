@@ -1,9 +1,9 @@
 -- Sheets that are made, in whatever way: of a specification, or of a row and an arrangement. All here is this project's
--- own profile.
+-- own rules.
 use Rattle.std.specs.Prelude.{ℕ, List, map, Option, Some, None}
-use Rattle.profile.specs.Papers.{Paper}
-use Rattle.profile.specs.Specification.{Item}
-use Rattle.profile.specs.Sheets.{Slot}
+use Rattle.rules.specs.Papers.{Paper}
+use Rattle.rules.specs.Specification.{Item}
+use Rattle.rules.specs.Sheets.{Slot}
 
 -- a place on a sheet: blank, or a page, the item that says how it stands there, and the paper by which this page is
 -- clipped and bordered, and of which the item's `w` and `h` are parts

@@ -2,12 +2,12 @@
 use Rattle.std.specs.Prelude.{◌≡◌, ℕ, ◌+◌, ◌++◌, List, [], ◌∷◌, length, flat_map, codes, decimal, Option, ℤ}
 use Rattle.std.specs.Prelude.{slice_index_or}
 use Rattle.std.specs.List.{enumerate_from}
-use Rattle.profile.specs.Bytes.{line}
-use Rattle.profile.specs.Specification.{Spec}
-use Rattle.profile.specs.Signatures.{sheets_in}
-use Rattle.profile.specs.Parts.{NestedUnit, pages, preamble, bytes_of}
-use Rattle.profile.specs.Filters.{kept, drops_in_header, ended, prepared, trailer_text}
-use Rattle.profile.specs.Output.{Frame, opening_text, closing_text, body_text, output}
+use Rattle.rules.specs.Bytes.{line}
+use Rattle.rules.specs.Specification.{Spec}
+use Rattle.rules.specs.Signatures.{sheets_in}
+use Rattle.rules.specs.Parts.{NestedUnit, pages, preamble, bytes_of}
+use Rattle.rules.specs.Filters.{kept, drops_in_header, ended, prepared, trailer_text}
+use Rattle.rules.specs.Output.{Frame, opening_text, closing_text, body_text, output}
 use Rattle.made_sheets.specs.Made.{MadeSlot, Blank, Placed, MadeSheet, made_of}
 use Rattle.made_sheets.specs.Dress.{Dress, undressed, lines_text}
 

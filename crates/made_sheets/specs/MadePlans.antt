@@ -1,11 +1,11 @@
 -- Which sheets that are made are taken, and the first fault of the others. The limits are those of a specification's
--- sheets. All here is this project's own profile.
+-- sheets. All here is this project's own rules.
 use Rattle.std.specs.Prelude.{ℕ, Bool, false, not, ◌&&◌, nat_le, nat_lt, List, length, map, sum_by, position, Option}
 use Rattle.std.specs.Prelude.{Some, None, Result, Ok, Err}
 use Rattle.std.specs.List.{list_any}
-use Rattle.profile.specs.Admissible.{most_slots}
-use Rattle.profile.specs.Sheets.{Layout}
-use Rattle.profile.specs.Run.{most_pages, most_sheets, most_places, refuse_if}
+use Rattle.rules.specs.Admissible.{most_slots}
+use Rattle.rules.specs.Sheets.{Layout}
+use Rattle.rules.specs.Run.{most_pages, most_sheets, most_places, refuse_if}
 use Rattle.made_sheets.specs.Made.{MadeSlot, Blank, Placed, MadeSheet}
 
 -- why made sheets are no plan; a sheet is counted from 0. A sheet has one slot at least, which may be blank

@@ -1,15 +1,15 @@
 -- Ranges: a row as a text names it. The signs are those of psselect(1), option -p; the words `blank` and `last`, and what
--- is refused, are this project's own profile.
+-- is refused, are this project's own rules.
 use Rattle.std.specs.Prelude.{◌≡◌, ◌↔◌, ◌⊎◌, ℕ, ◌+◌, ◌-◌, ◌<◌, ◌≤◌, Bool, true, false, ◌&&◌, ◌||◌, ◌==◌, nat_le}
 use Rattle.std.specs.Prelude.{if◌then◌else◌, List, [], ◌∷◌, ◌++◌, map, flat_map, reverse, codes, Option, Some}
 use Rattle.std.specs.Prelude.{None, option_map, option_and_then}
 use Rattle.std.specs.List.{range_with_len, list_all, slice_split}
 use Rattle.std.specs.Str.{bytes_eq}
 use Rattle.std.specs.Char.{is_ascii_digit}
-use Rattle.profile.specs.Bytes.{comma, minus_sign}
-use Rattle.profile.specs.Numbers.{number_of}
-use Rattle.profile.specs.Specification.{IsJoined, IsDigits}
-use Rattle.profile.specs.Signatures.{entry_of}
+use Rattle.rules.specs.Bytes.{comma, minus_sign}
+use Rattle.rules.specs.Numbers.{number_of}
+use Rattle.rules.specs.Specification.{IsJoined, IsDigits}
+use Rattle.rules.specs.Signatures.{entry_of}
 use Rattle.made_sheets.specs.Rows.{Row, all_pages}
 
 -- a page by its number, from the start of the document or from its end. Both are counted from 1

@@ -1,11 +1,11 @@
 -- Rows: what is imposed, in order. A row is made by steps, each of which takes a row to a row. The order of signatures is
--- of psbook(1); all else here is this project's own profile.
+-- of psbook(1); all else here is this project's own rules.
 use Rattle.std.specs.Prelude.{◌≡◌, ℕ, ◌+◌, ◌*◌, ◌%◌, ◌<◌, ◌≤◌, Bool, ◌==◌, if◌then◌else◌, List, [], ◌∷◌}
 use Rattle.std.specs.Prelude.{length, map, flat_map, reverse, Option, Some, None}
 use Rattle.std.specs.List.{range_with_len}
-use Rattle.profile.specs.Specification.{Spec}
-use Rattle.profile.specs.Sheets.{Slot, blocks, sheets_over}
-use Rattle.profile.specs.Signatures.{AreSides, page_in_signature, signature_row, entry_of, sheets_in}
+use Rattle.rules.specs.Specification.{Spec}
+use Rattle.rules.specs.Sheets.{Slot, blocks, sheets_over}
+use Rattle.rules.specs.Signatures.{AreSides, page_in_signature, signature_row, entry_of, sheets_in}
 
 -- a row: pages, counted from 0, and blanks
 abbrev pub Row : Type 0
@@ -67,7 +67,7 @@ in_order_of (Some s) row = in_signatures s row
 abbrev pub sheets_of_row : Spec → Row → List (List Slot)
 sheets_of_row spec row = sheets_over spec (length row) (entry_of row)
 
--- the row of all pages in signatures is that of the profile: a law
+-- the row of all pages in signatures is that of the rules: a law
 abbrev pub SignaturesOfAll : Type 0
 SignaturesOfAll = (s n : ℕ) → in_signatures s (all_pages n) ≡ signature_row s n
 

@@ -25,7 +25,7 @@ pub fn parts_by_number()
     ensures { PartsByNumber }
 {}
 
-/// The row of all pages in signatures is that of the profile.
+/// The row of all pages in signatures is that of the rules.
 pub fn signatures_of_all()
     ensures { SignaturesOfAll }
 {}

@@ -2,10 +2,10 @@
 use Rattle.std.proofs.Common.{◌≡◌, ℕ, List, [], ◌∷◌, false, Some, None, refl}
 use Rattle.std.specs.Prelude.{codes, pos, Result, Ok}
 use Rattle.std.specs.Fmt.{digits}
-use Rattle.profile.specs.Papers.{Paper, Pt, points, paper_named}
-use Rattle.profile.specs.Specification.{Item, Upright}
-use Rattle.profile.specs.Units.{◌>>=◌}
-use Rattle.profile.specs.Run.{document_of, DocumentFault}
+use Rattle.rules.specs.Papers.{Paper, Pt, points, paper_named}
+use Rattle.rules.specs.Specification.{Item, Upright}
+use Rattle.rules.specs.Units.{◌>>=◌}
+use Rattle.rules.specs.Run.{document_of, DocumentFault}
 use Rattle.lengths.specs.Reading.{number_at}
 use Rattle.made_sheets.specs.Made.{MadeSheet, MadeSlot, Blank, Placed}
 use Rattle.made_sheets.specs.MadeOutput.{made_output}

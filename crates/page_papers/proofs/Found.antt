@@ -6,13 +6,13 @@ use Rattle.std.proofs.Common.{arith, ◌≡◌, ◌≢◌, ℕ, zero, suc, ◌+�
 use Rattle.std.proofs.lemmas.Bool.Decides.{nat_tests}
 use Rattle.std.proofs.lemmas.List.Elements.{All-nil, All-cons, All-append, All-weaker}
 use Rattle.std.proofs.lemmas.List.Splits.{slice_split_at}
-use Rattle.profile.specs.Bytes.{line}
-use Rattle.profile.specs.Numbers.{IsNumber, decimals_of, decimals_value, fraction_text, number_of, points_text, printed}
-use Rattle.profile.specs.Papers.{Paper, is_side as may_be_side}
-use Rattle.profile.specs.Units.{fields, is_blank, is_comment, is_end, line_len}
-use Rattle.profile.proofs.Digits.{decimal_writes, number_of-last}
-use Rattle.profile.proofs.LastZeros.{filled}
-use Rattle.profile.proofs.Printed.{decimals_few, decimals_pass, decimals_read, fraction_is}
+use Rattle.rules.specs.Bytes.{line}
+use Rattle.rules.specs.Numbers.{IsNumber, decimals_of, decimals_value, fraction_text, number_of, points_text, printed}
+use Rattle.rules.specs.Papers.{Paper, is_side as may_be_side}
+use Rattle.rules.specs.Units.{fields, is_blank, is_comment, is_end, line_len}
+use Rattle.rules.proofs.Digits.{decimal_writes, number_of-last}
+use Rattle.rules.proofs.LastZeros.{filled}
+use Rattle.rules.proofs.Printed.{decimals_few, decimals_pass, decimals_read, fraction_is}
 use Rattle.lengths.specs.Reading.{number_at}
 use Rattle.lengths.proofs.Numbers.{number_read}
 use Rattle.seams.specs.Seams.{no_ends}

@@ -1,9 +1,9 @@
 -- The lines that tell a paper begin nothing.
 use Rattle.std.specs.Prelude.{codes, map, false, true}
 use Rattle.std.proofs.Common.{◌≡◌, ℕ, List, [], ◌∷◌, ◌++◌, refl, fold}
-use Rattle.profile.specs.Papers.{Paper}
-use Rattle.profile.specs.Numbers.{points_text}
-use Rattle.profile.specs.Units.{begins_block, has_key, is_comment}
+use Rattle.rules.specs.Papers.{Paper}
+use Rattle.rules.specs.Numbers.{points_text}
+use Rattle.rules.specs.Units.{begins_block, has_key, is_comment}
 use Rattle.seams.proofs.Plainly.{no_ends_append, no_ends_points}
 use Rattle.seams.specs.Seams.{no_ends}
 use Rattle.made_sheets.specs.Made.{MadeSheet}

@@ -1,13 +1,13 @@
 -- Papers that comments tell. The comments are of DSC 3.0: %%DocumentMedia and %%+ of General Header Comments,
 -- %%PageMedia and %%PageBoundingBox of Page Requirement and General Page Comments; %%DocumentPaperSizes is of DSC 2.1.
--- Which of them count, and in which order, is this project's own profile.
+-- Which of them count, and in which order, is this project's own rules.
 use Rattle.std.specs.Prelude.{ℕ, zero, suc, Bool, false, not, ◌&&◌, ◌||◌, nat_eq, nat_lt, if◌then◌else◌, List, [], ◌∷◌, ◌++◌}
 use Rattle.std.specs.Prelude.{length, drop, filter, map, codes, Option, Some, None, option_and_then}
 use Rattle.std.specs.List.{starts_with, slice_split}
 use Rattle.std.specs.Str.{bytes_eq}
-use Rattle.profile.specs.Papers.{Paper}
-use Rattle.profile.specs.Units.{content_of, line_len, key, has_key, is_comment, is_blank, fields}
-use Rattle.profile.specs.Parts.{NestedUnit, is_outermost_line, trailer}
+use Rattle.rules.specs.Papers.{Paper}
+use Rattle.rules.specs.Units.{content_of, line_len, key, has_key, is_comment, is_blank, fields}
+use Rattle.rules.specs.Parts.{NestedUnit, is_outermost_line, trailer}
 use Rattle.guard.specs.Header.{is_header}
 use Rattle.document_paper.specs.Media.{comment_fields, media_paper, box_paper}
 

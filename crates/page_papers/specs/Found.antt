@@ -1,7 +1,7 @@
 -- What is found of a paper that was told.
 use Rattle.std.specs.Prelude.{◌≡◌, ℕ, ◌*◌, ◌<◌, ◌≤◌, pos, false, List, [], ◌∷◌, ◌++◌, codes, Option, ℤ}
-use Rattle.profile.specs.Papers.{Paper}
-use Rattle.profile.specs.Units.{is_comment}
+use Rattle.rules.specs.Papers.{Paper}
+use Rattle.rules.specs.Units.{is_comment}
 use Rattle.made_sheets.specs.Made.{MadeSheet}
 use Rattle.made_sheets.specs.MadeOutput.{made_sheet_text}
 use Rattle.page_papers.specs.Own.{own_paper}

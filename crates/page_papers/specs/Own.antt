@@ -1,10 +1,10 @@
--- A page's own paper, and which papers count as one. All here is this project's own profile.
+-- A page's own paper, and which papers count as one. All here is this project's own rules.
 use Rattle.std.specs.Prelude.{◌≡◌, ℕ, ◌+◌, ◌*◌, ◌<◌, ℤ, pos, ◌-ℤ◌, nat_abs, int_le, Bool, true, ◌&&◌, ◌==◌, nat_le}
 use Rattle.std.specs.Prelude.{if◌then◌else◌, List, [], length}
 use Rattle.std.specs.Prelude.{◌∷◌, ◌++◌, map, fold, filter, Option, Some, None, slice_index_or}
 use Rattle.std.specs.List.{list_any}
-use Rattle.profile.specs.Papers.{Paper}
-use Rattle.profile.specs.Parts.{NestedUnit, pages}
+use Rattle.rules.specs.Papers.{Paper}
+use Rattle.rules.specs.Parts.{NestedUnit, pages}
 use Rattle.document_paper.specs.Media.{header}
 use Rattle.page_papers.specs.Comments.{media, page_head, told_by_document, told_by_page, trailer_lines}
 

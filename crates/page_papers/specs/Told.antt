@@ -1,11 +1,11 @@
 -- How sheets tell their paper: the lines that are added to an output for it. Their comments are of DSC 3.0
 -- (%%BoundingBox, %%DocumentMedia and %%+ of General Header Comments, %%PageMedia of Page Requirement Comments), their
--- operators of the PostScript Language Reference. The rest is this project's own profile.
+-- operators of the PostScript Language Reference. The rest is this project's own rules.
 use Rattle.std.specs.Prelude.{ℕ, Bool, if◌then◌else◌, List, [], ◌∷◌, ◌++◌, map, fold, codes}
 use Rattle.std.specs.List.{list_any}
 use Rattle.std.specs.Str.{bytes_eq}
-use Rattle.profile.specs.Numbers.{points_text}
-use Rattle.profile.specs.Papers.{Paper}
+use Rattle.rules.specs.Numbers.{points_text}
+use Rattle.rules.specs.Papers.{Paper}
 use Rattle.made_sheets.specs.Made.{MadeSheet}
 use Rattle.made_sheets.specs.Dress.{Dress, undressed}
 use Rattle.imposed_again.specs.MadeAgain.{IsTameDress}

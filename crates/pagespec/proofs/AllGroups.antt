@@ -2,7 +2,7 @@
 use Rattle.std.proofs.Common.{◌≡◌, ◌≢◌, ℕ, List, [], ◌∷◌, Option, Some, None, refl, sym, ap, subst, ◌∙◌, inr}
 use Rattle.std.specs.List.{AllZip}
 use Rattle.std.specs.Prelude.{MatchResult, Result, Ok, Err, IfOk, IfErr}
-use Rattle.profile.specs.Specification.{WrittenItem}
+use Rattle.rules.specs.Specification.{WrittenItem}
 use Rattle.pagespec.specs.Reading.{◌>>=◌, groups_at, bare_at, all_groups_at, whole, or_bare}
 use Rattle.pagespec.specs.Parsed.{ItemShows}
 use Rattle.pagespec.specs.Groups.{GroupsRead, ParsesTo, BareRead, IsStop}

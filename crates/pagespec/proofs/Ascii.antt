@@ -8,12 +8,12 @@ use Rattle.std.proofs.lemmas.Grind.{common_steps}
 use Rattle.std.proofs.lemmas.Str.{IsAscii-append}
 use Rattle.std.proofs.lemmas.Fmt.{IsAscii-decimal_wide}
 use Rattle.std.proofs.lemmas.List.Elements.{All-head, All-tail}
-use Rattle.profile.specs.Numbers.{is_large, number_text, IsNumber, IsSign, IsFraction}
-use Rattle.profile.specs.Papers.{LengthUnit, Pt, Cm, Mm, In, Width, Height}
-use Rattle.profile.specs.Specification.{Measure, WrittenItem, WrittenSpec, Spec, Turn, Upright, Left, Half, Right, minus_text, unit_text, measure_text, turn_text, turn_of, quarters, scale, offset_x, offset_y, scale_part, is_one, offset_part, is_zero_points, item_text, joined_by, modulo_text, settled_item, settled, canonical}
-use Rattle.profile.specs.Admissible.{IsAdmissible, fault_of, has_large, items, most_slots}
-use Rattle.profile.proofs.Digits.{IsDigit}
-use Rattle.profile.proofs.Printed.{number_text_is_number}
+use Rattle.rules.specs.Numbers.{is_large, number_text, IsNumber, IsSign, IsFraction}
+use Rattle.rules.specs.Papers.{LengthUnit, Pt, Cm, Mm, In, Width, Height}
+use Rattle.rules.specs.Specification.{Measure, WrittenItem, WrittenSpec, Spec, Turn, Upright, Left, Half, Right, minus_text, unit_text, measure_text, turn_text, turn_of, quarters, scale, offset_x, offset_y, scale_part, is_one, offset_part, is_zero_points, item_text, joined_by, modulo_text, settled_item, settled, canonical}
+use Rattle.rules.specs.Admissible.{IsAdmissible, fault_of, has_large, items, most_slots}
+use Rattle.rules.proofs.Digits.{IsDigit}
+use Rattle.rules.proofs.Printed.{number_text_is_number}
 use Rattle.pagespec.specs.Items.{group_text, groups_text}
 use Rattle.pagespec.proofs.Faults.{no_fault, neither}
 use Rattle.pagespec.proofs.NumberLengths.{small_abs}

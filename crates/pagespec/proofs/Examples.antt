@@ -3,8 +3,8 @@ use Rattle.std.proofs.Common.{◌≡◌, inl, inr, ◌+◌, [], ◌∷◌, lengt
 use Rattle.std.specs.Prelude.{codes}
 use Rattle.std.specs.Fmt.{digits}
 use Rattle.std.proofs.lemmas.List.Elements.{All-nil, All-cons}
-use Rattle.profile.specs.Specification.{Quarters, Left, WrittenItem, settled, canonical}
-use Rattle.profile.proofs.Digits.{IsDigit}
+use Rattle.rules.specs.Specification.{Quarters, Left, WrittenItem, settled, canonical}
+use Rattle.rules.proofs.Digits.{IsDigit}
 use Rattle.pagespec.specs.Canonical.{LeavesPageOut}
 use Rattle.pagespec.proofs.Canonical.{turn_written}
 

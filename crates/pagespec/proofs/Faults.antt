@@ -8,8 +8,8 @@ use Rattle.std.proofs.lemmas.Grind.{common_steps}
 use Rattle.std.specs.List.{AllZip, list_any, position_or_len, prefix_len}
 use Rattle.std.specs.Prelude.{option_map}
 use Rattle.std.specs.Option.{option_or}
-use Rattle.profile.specs.Specification.{WrittenItem, WrittenSpec}
-use Rattle.profile.specs.Admissible.{items, has_large, is_flat, Fault, fault_of, else_first, only_if, at_lowest, TooLarge, ModuloZero, PageOutOfBlock, ScaleZero, Repeated, TooManySlots, TooManyGroups, most_slots, most_groups}
+use Rattle.rules.specs.Specification.{WrittenItem, WrittenSpec}
+use Rattle.rules.specs.Admissible.{items, has_large, is_flat, Fault, fault_of, else_first, only_if, at_lowest, TooLarge, ModuloZero, PageOutOfBlock, ScaleZero, Repeated, TooManySlots, TooManyGroups, most_slots, most_groups}
 use Rattle.pagespec.specs.Parsed.{is_repeated, ItemShows}
 use Rattle.pagespec.specs.Groups.{AreParsed}
 use Rattle.pagespec.specs.Faults.{fault_named, first_fault_of, has_too_large, fault_if}

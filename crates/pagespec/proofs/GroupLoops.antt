@@ -2,7 +2,7 @@
 use Rattle.std.proofs.Common.{arith, ◌≡◌, ◌≢◌, ℕ, suc, ◌+◌, List, [], ◌∷◌, ◌++◌, Bool, true, false, Option, Some, None, refl, sym, ap, subst, ◌∙◌, append_assoc, append-nil, length, true≢false}
 use Rattle.std.specs.Prelude.{map, flat_map, if◌then◌else◌, ◌==◌}
 use Rattle.std.proofs.lemmas.List.{length-append, map-append, nil_from_length}
-use Rattle.profile.specs.Specification.{WrittenItem}
+use Rattle.rules.specs.Specification.{WrittenItem}
 use Rattle.pagespec.specs.Reading.{byte_at, item_at, group_at, groups_at, bare_at, whole, item_with, is_minus, past_minus, modifiers_at}
 use Rattle.lengths.specs.Reading.{is_empty}
 use Rattle.pagespec.specs.Parsed.{ItemShows, ModifiersRead}

@@ -6,8 +6,8 @@ use Rattle.std.specs.Char.{is_ascii_digit}
 use Rattle.std.proofs.lemmas.Grind.{common_steps}
 use Rattle.std.proofs.lemmas.List.{append-nil, length-append}
 use Rattle.std.proofs.lemmas.List.Elements.{All-head}
-use Rattle.profile.specs.Numbers.{number_of}
-use Rattle.profile.specs.Specification.{Modifier, Quarters, Scaled, Moved, WrittenItem, IsItem, IsDigits, IsModifier, AreModifiers, minus_text}
+use Rattle.rules.specs.Numbers.{number_of}
+use Rattle.rules.specs.Specification.{Modifier, Quarters, Scaled, Moved, WrittenItem, IsItem, IsDigits, IsModifier, AreModifiers, minus_text}
 use Rattle.lengths.specs.Reading.{Ends, digits, past_digits, is_empty}
 use Rattle.lengths.proofs.Digits.{IsDigit, by_test, digits_whole, digits_pass, digits-append, past_digits-append}
 use Rattle.lengths.proofs.Numbers.{same_byte, chosen_some, not_empty, ends_digits, taken, no_minus}

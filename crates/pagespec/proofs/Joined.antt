@@ -3,7 +3,7 @@ use Rattle.std.proofs.Common.{inl, inr, arith, ◌≡◌, ℕ, zero, suc, ◌≤
 use Rattle.std.specs.Prelude.{◌==◌}
 use Rattle.std.proofs.lemmas.Grind.{common_steps}
 use Rattle.std.proofs.lemmas.List.{length-append}
-use Rattle.profile.specs.Specification.{IsJoined}
+use Rattle.rules.specs.Specification.{IsJoined}
 use Rattle.lengths.proofs.Digits.{by_test}
 use Rattle.lengths.proofs.Numbers.{some_same}
 use Rattle.pagespec.specs.Reading.{byte_at, joined_at, more_at, with_part}

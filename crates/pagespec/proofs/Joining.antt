@@ -1,7 +1,7 @@
 -- Texts written one behind the other, with a byte between them.
 use Rattle.std.proofs.Common.{◌≡◌, ℕ, List, [], ◌∷◌, ◌++◌, sym, ap, ◌∙◌, append_assoc, append-nil}
 use Rattle.std.specs.Prelude.{map, flat_map, Result, Ok, Err, OnOk}
-use Rattle.profile.specs.Specification.{joined_by, Item, Spec, modulo_text, canonical}
+use Rattle.rules.specs.Specification.{joined_by, Item, Spec, modulo_text, canonical}
 use Rattle.pagespec.specs.Items.{groups_text}
 
 -- the first text, and the others with the byte before each

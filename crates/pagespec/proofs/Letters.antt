@@ -2,7 +2,7 @@
 use Rattle.std.proofs.Common.{inl, inr, ◌⊎◌, arith, ◌≡◌, ◌≢◌, ℕ, ◌<◌, List, [], ◌∷◌, Bool, true, false, refl, ap}
 use Rattle.std.specs.Prelude.{◌==◌, ◌||◌, if◌then◌else◌}
 use Rattle.lengths.proofs.Numbers.{same_byte}
-use Rattle.profile.specs.Specification.{IsTurn}
+use Rattle.rules.specs.Specification.{IsTurn}
 use Rattle.pagespec.specs.Reading.{quarters_of}
 
 -- a letter with a turn is one of its two

@@ -4,10 +4,10 @@ use Rattle.std.specs.Prelude.{pos, map, decimal}
 use Rattle.std.specs.List.{AllByRecursion}
 use Rattle.std.proofs.lemmas.List.{length-append}
 use Rattle.std.proofs.lemmas.Fmt.{length-decimal-le_wide}
-use Rattle.profile.specs.Numbers.{number_text}
-use Rattle.profile.specs.Papers.{Pt}
-use Rattle.profile.specs.Specification.{Measure, Item, Spec, Turn, turn_text, scale_part, offset_part, item_text, joined_by, canonical, modulo_text, measure_text}
-use Rattle.profile.specs.Admissible.{most_spec_bytes}
+use Rattle.rules.specs.Numbers.{number_text}
+use Rattle.rules.specs.Papers.{Pt}
+use Rattle.rules.specs.Specification.{Measure, Item, Spec, Turn, turn_text, scale_part, offset_part, item_text, joined_by, canonical, modulo_text, measure_text}
+use Rattle.rules.specs.Admissible.{most_spec_bytes}
 use Rattle.pagespec.specs.Items.{group_text, groups_text}
 use Rattle.pagespec.proofs.NumberLengths.{positive_few}
 use Rattle.pagespec.proofs.Short.{scale_short, offset_short, turn_few, modulo_short}

@@ -4,9 +4,9 @@ use Rattle.std.specs.Prelude.{nat_lt, nat_le, ◌||◌, ◌&&◌, ◌==◌, map,
 use Rattle.std.specs.List.{list_any, AllByRecursion}
 use Rattle.std.proofs.lemmas.List.{length-map}
 use Rattle.lengths.proofs.Numbers.{same_byte}
-use Rattle.profile.specs.Numbers.{is_large}
-use Rattle.profile.specs.Specification.{Item, WrittenItem, WrittenSpec, Spec, IsJoined, IsItem, AreGroups, IsSpec, minus_text, turn_text, scale_part, offset_part, item_text, is_one, is_zero_points, joined_by, canonical, settled, settled_item, scale, offset_x, offset_y}
-use Rattle.profile.specs.Admissible.{TooLarge, ModuloZero, PageOutOfBlock, ScaleZero, Repeated, TooManySlots, TooManyGroups, items, fault_of, only_if, at_lowest, any_too_large, has_large, is_flat, repeats, Takes, IsAdmissible, most_groups}
+use Rattle.rules.specs.Numbers.{is_large}
+use Rattle.rules.specs.Specification.{Item, WrittenItem, WrittenSpec, Spec, IsJoined, IsItem, AreGroups, IsSpec, minus_text, turn_text, scale_part, offset_part, item_text, is_one, is_zero_points, joined_by, canonical, settled, settled_item, scale, offset_x, offset_y}
+use Rattle.rules.specs.Admissible.{TooLarge, ModuloZero, PageOutOfBlock, ScaleZero, Repeated, TooManySlots, TooManyGroups, items, fault_of, only_if, at_lowest, any_too_large, has_large, is_flat, repeats, Takes, IsAdmissible, most_groups}
 use Rattle.pagespec.specs.Items.{group_text, groups_text}
 use Rattle.pagespec.specs.Made.{IsItemOf, IsGroupOf, IsWritable}
 use Rattle.pagespec.proofs.Texts.{IsGroup}

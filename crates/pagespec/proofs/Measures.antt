@@ -2,8 +2,8 @@
 use Rattle.std.proofs.Common.{inl, inr, ◌⊎◌, arith, ◌≡◌, ℕ, List, [], ◌∷◌, ◌++◌, Bool, true, false, Option, Some, None, refl, sym, ap, subst, ◌∙◌, append_assoc}
 use Rattle.std.specs.Prelude.{◌==◌, ◌&&◌, if◌then◌else◌, codes}
 use Rattle.std.proofs.lemmas.Grind.{common_steps}
-use Rattle.profile.specs.Papers.{LengthUnit, Pt, Cm, Mm, In, Width, Height}
-use Rattle.profile.specs.Specification.{Measure, IsMeasure, unit_name}
+use Rattle.rules.specs.Papers.{LengthUnit, Pt, Cm, Mm, In, Width, Height}
+use Rattle.rules.specs.Specification.{Measure, IsMeasure, unit_name}
 use Rattle.lengths.specs.Reading.{number_at, Ends}
 use Rattle.lengths.proofs.Digits.{by_test}
 use Rattle.lengths.proofs.Numbers.{number_found, number_read, some_same, same_byte}

@@ -1,7 +1,7 @@
 -- A loop over modifiers.
 use Rattle.std.proofs.Common.{◌≡◌, ℕ, zero, suc, List, [], ◌∷◌, ◌++◌, Some, None, refl, sym, ap, ◌∙◌, append_assoc, length}
 use Rattle.std.proofs.lemmas.List.{append-nil}
-use Rattle.profile.specs.Specification.{Modifier}
+use Rattle.rules.specs.Specification.{Modifier}
 use Rattle.pagespec.specs.Reading.{modifier_at, modifiers_at, with_modifier}
 use Rattle.pagespec.specs.Views.{Stands, ModifierRead}
 use Rattle.pagespec.specs.Parsed.{Shows, ModifiersRead}

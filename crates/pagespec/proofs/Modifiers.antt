@@ -3,8 +3,8 @@ use Rattle.std.proofs.Common.{inl, inr, arith, ◌≡◌, ◌≢◌, ℕ, zero, 
 use Rattle.std.specs.Prelude.{◌==◌, ℤ, if◌then◌else◌}
 use Rattle.std.proofs.lemmas.Grind.{common_steps}
 use Rattle.std.proofs.lemmas.List.{length-append}
-use Rattle.profile.specs.Numbers.{IsNumber}
-use Rattle.profile.specs.Specification.{Measure, Modifier, Quarters, Scaled, Moved, IsMeasure, IsTurn, IsModifier, AreModifiers}
+use Rattle.rules.specs.Numbers.{IsNumber}
+use Rattle.rules.specs.Specification.{Measure, Modifier, Quarters, Scaled, Moved, IsMeasure, IsTurn, IsModifier, AreModifiers}
 use Rattle.std.specs.Char.{is_ascii_digit}
 use Rattle.lengths.specs.Reading.{number_at, Ends}
 use Rattle.lengths.proofs.Digits.{by_test}

@@ -1,6 +1,6 @@
 -- A whole text: its modulo and its groups.
 use Rattle.std.proofs.Common.{◌≡◌, ℕ, List, Option, Some, None, refl, sym, ap, ◌∙◌}
-use Rattle.profile.specs.Numbers.{number_of}
+use Rattle.rules.specs.Numbers.{number_of}
 use Rattle.lengths.specs.Reading.{digits}
 use Rattle.pagespec.specs.Reading.{◌>>=◌, all_groups_at, past_modulo, tree_from, tree_of, spec_at}
 use Rattle.pagespec.specs.Groups.{IsStop, ParsesTo}

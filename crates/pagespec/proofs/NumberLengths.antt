@@ -7,9 +7,9 @@ use Rattle.std.proofs.lemmas.Fmt.{decimal_digit, length-decimal-le_wide}
 use Rattle.std.proofs.lemmas.List.{length-append, length-take-le, length-drop}
 use Rattle.std.proofs.lemmas.Nat.{div-mul-add, mod-mul-add}
 use Rattle.std.proofs.lemmas.List.Elements.{All-nil, All-cons, All-append, All-head, All-tail, All-replicate}
-use Rattle.profile.specs.Numbers.{number_of, decimals_value, decimals_of, without_last_zeros, fraction_text, sign_text, whole_text, number_text, is_large, signed, IsNumber, IsSign, IsFraction}
-use Rattle.profile.proofs.Digits.{IsDigit, with_digit, number_behind, number_below, decimal_goes_on}
-use Rattle.profile.proofs.LastZeros.{filled, without_last_zeros-filled, stripped_length}
+use Rattle.rules.specs.Numbers.{number_of, decimals_value, decimals_of, without_last_zeros, fraction_text, sign_text, whole_text, number_text, is_large, signed, IsNumber, IsSign, IsFraction}
+use Rattle.rules.proofs.Digits.{IsDigit, with_digit, number_behind, number_below, decimal_goes_on}
+use Rattle.rules.proofs.LastZeros.{filled, without_last_zeros-filled, stripped_length}
 
 -- the nine decimals that count, with zeros behind where there are fewer
 abbrev nine : List ℕ → List ℕ

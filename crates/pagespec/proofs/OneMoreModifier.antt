@@ -6,8 +6,8 @@ use Rattle.std.specs.Option.{option_or, is_some}
 use Rattle.std.proofs.lemmas.Grind.{common_steps}
 use Rattle.std.proofs.lemmas.List.Folds.{list_any-append}
 use Rattle.std.proofs.lemmas.List.Sums.{sum_by-append}
-use Rattle.profile.specs.Specification.{Measure, Modifier, Quarters, Scaled, Moved, quarters}
-use Rattle.profile.specs.Admissible.{has_large, is_scale, is_offset, is_flat}
+use Rattle.rules.specs.Specification.{Measure, Modifier, Quarters, Scaled, Moved, quarters}
+use Rattle.rules.specs.Admissible.{has_large, is_scale, is_offset, is_flat}
 use Rattle.pagespec.specs.Items.{measure_of}
 use Rattle.pagespec.specs.Views.{Stands}
 use Rattle.pagespec.specs.Parsed.{Shows, first_scale, first_offset, is_repeated}

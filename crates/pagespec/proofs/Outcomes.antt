@@ -4,8 +4,8 @@ use Rattle.std.specs.Prelude.{flat_map, option_map, ◌==◌, nat_lt, nat_le, po
 use Rattle.std.specs.List.{list_any}
 use Rattle.std.proofs.lemmas.List.{length-append, length-map, append-nil}
 use Rattle.std.proofs.lemmas.Slice.Zip.{AllZip-long}
-use Rattle.profile.specs.Specification.{WrittenItem, WrittenSpec, Item, Spec, IsSpec, IsItem, IsJoined, AreGroups, settled}
-use Rattle.profile.specs.Admissible.{Fault, TooLong, Syntax, TooLarge, ModuloZero, PageOutOfBlock, ScaleZero, Repeated, TooManySlots, TooManyGroups, items, fault_of, else_first, only_if, at_lowest, any_too_large, is_flat, repeats, Refuses, Takes, IsAdmissible, most_slots, most_spec_bytes, most_groups}
+use Rattle.rules.specs.Specification.{WrittenItem, WrittenSpec, Item, Spec, IsSpec, IsItem, IsJoined, AreGroups, settled}
+use Rattle.rules.specs.Admissible.{Fault, TooLong, Syntax, TooLarge, ModuloZero, PageOutOfBlock, ScaleZero, Repeated, TooManySlots, TooManyGroups, items, fault_of, else_first, only_if, at_lowest, any_too_large, is_flat, repeats, Refuses, Takes, IsAdmissible, most_slots, most_spec_bytes, most_groups}
 use Rattle.pagespec.specs.Reading.{spec_at}
 use Rattle.pagespec.specs.Groups.{AreParsed}
 use Rattle.pagespec.specs.Faults.{fault_named, first_fault_of}

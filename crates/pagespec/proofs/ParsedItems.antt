@@ -1,7 +1,7 @@
 -- An item, as its reader parses it.
 use Rattle.std.proofs.Common.{◌≡◌, ◌≢◌, ℕ, List, [], Bool, Some, None, sym, ap, ◌∙◌, length, min}
 use Rattle.std.specs.Prelude.{if◌then◌else◌}
-use Rattle.profile.specs.Numbers.{number_of}
+use Rattle.rules.specs.Numbers.{number_of}
 use Rattle.lengths.specs.Reading.{digits, past_digits, is_empty}
 use Rattle.lengths.proofs.Numbers.{taken}
 use Rattle.pagespec.specs.Reading.{modifiers_at, is_minus, past_minus, item_with, item_from, item_at}

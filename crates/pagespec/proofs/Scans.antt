@@ -1,13 +1,13 @@
 -- What the readers of the code found, against reading off the front.
 use Rattle.std.proofs.Common.{arith, ◌≡◌, ◌≢◌, ℕ, List, [], ◌∷◌, Bool, true, false, Option, Some, None, refl, sym, ap, subst, ◌∙◌, drop}
 use Rattle.std.specs.Prelude.{ℤ, if◌then◌else◌, ◌==◌}
-use Rattle.profile.specs.Papers.{LengthUnit}
-use Rattle.profile.specs.Specification.{Measure, Modifier, Scaled, Moved, Quarters}
+use Rattle.rules.specs.Papers.{LengthUnit}
+use Rattle.rules.specs.Specification.{Measure, Modifier, Scaled, Moved, Quarters}
 use Rattle.std.proofs.lemmas.Grind.{common_steps}
 use Rattle.lengths.proofs.Numbers.{same_byte}
 use Rattle.lengths.specs.Reading.{number_at}
-use Rattle.profile.specs.Numbers.{is_large}
-use Rattle.profile.specs.Admissible.{has_large}
+use Rattle.rules.specs.Numbers.{is_large}
+use Rattle.rules.specs.Admissible.{has_large}
 use Rattle.lengths.specs.Refusals.{IsRefused}
 use Rattle.lengths.specs.declared.read.NumberError.{NumberError}
 use Rattle.lengths.specs.declared.read.NumberError.TheVariants.{NotANumber, TooLarge}

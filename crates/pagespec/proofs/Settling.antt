@@ -4,7 +4,7 @@ use Rattle.std.specs.Prelude.{map, flat_map, unwrap_or, option_map, pos, ℤ}
 use Rattle.std.specs.List.{AllZip}
 use Rattle.std.proofs.lemmas.List.{length-append, length-map, length-drop, map-append}
 use Rattle.std.proofs.lemmas.Slice.Zip.{AllZip-long}
-use Rattle.profile.specs.Specification.{Measure, Modifier, Quarters, Scaled, Moved, Turn, WrittenItem, Item, settled_item, quarters, turn_of, scale, offset_x, offset_y, zero_points}
+use Rattle.rules.specs.Specification.{Measure, Modifier, Quarters, Scaled, Moved, Turn, WrittenItem, Item, settled_item, quarters, turn_of, scale, offset_x, offset_y, zero_points}
 use Rattle.pagespec.specs.Items.{measure_of}
 use Rattle.pagespec.specs.Parsed.{Known, first_scale, first_offset}
 use Rattle.pagespec.specs.Settled.{item_of_parsed, offset_of_parsed, split_by, AreLengths}

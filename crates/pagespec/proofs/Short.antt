@@ -5,10 +5,10 @@ use Rattle.std.specs.List.{list_any}
 use Rattle.std.proofs.lemmas.List.{length-append}
 use Rattle.std.proofs.lemmas.List.Folds.{list_any-append}
 use Rattle.std.proofs.lemmas.Fmt.{length-decimal-le_wide}
-use Rattle.profile.specs.Numbers.{greatest_whole, is_large, number_text}
-use Rattle.profile.specs.Papers.{LengthUnit, Pt, Cm, Mm, In, Width, Height}
-use Rattle.profile.specs.Specification.{Measure, Modifier, Quarters, Scaled, Moved, WrittenItem, WrittenSpec, Turn, Upright, Left, Half, Right, IsJoined, IsDigits, IsMeasure, AreModifiers, IsItem, IsBareItem, AreGroups, IsSpec, minus_text, unit_name, unit_text, measure_text, turn_text, turn_of, quarters, scale, offset_x, offset_y, scale_part, is_one, offset_part, is_zero_points, item_text, joined_by, modulo_text, settled_item, settled, canonical}
-use Rattle.profile.specs.Admissible.{fault_of, has_large, items, most_slots, most_spec_bytes}
+use Rattle.rules.specs.Numbers.{greatest_whole, is_large, number_text}
+use Rattle.rules.specs.Papers.{LengthUnit, Pt, Cm, Mm, In, Width, Height}
+use Rattle.rules.specs.Specification.{Measure, Modifier, Quarters, Scaled, Moved, WrittenItem, WrittenSpec, Turn, Upright, Left, Half, Right, IsJoined, IsDigits, IsMeasure, AreModifiers, IsItem, IsBareItem, AreGroups, IsSpec, minus_text, unit_name, unit_text, measure_text, turn_text, turn_of, quarters, scale, offset_x, offset_y, scale_part, is_one, offset_part, is_zero_points, item_text, joined_by, modulo_text, settled_item, settled, canonical}
+use Rattle.rules.specs.Admissible.{fault_of, has_large, items, most_slots, most_spec_bytes}
 use Rattle.pagespec.specs.Canonical.{LeavesPageOut, CanonicalIsShort}
 use Rattle.pagespec.proofs.Letters.{turn_letter}
 use Rattle.pagespec.proofs.Faults.{no_fault, neither}

@@ -4,8 +4,8 @@ use Rattle.std.specs.Prelude.{if◌then◌else◌}
 use Rattle.std.specs.List.{AllPass}
 use Rattle.std.specs.Char.{is_ascii_digit}
 use Rattle.std.proofs.lemmas.List.{append-nil, length-append}
-use Rattle.profile.specs.Numbers.{number_of}
-use Rattle.profile.specs.Specification.{WrittenItem, WrittenSpec, IsJoined, IsItem, IsBareItem, AreModifiers, AreGroups, IsSpec}
+use Rattle.rules.specs.Numbers.{number_of}
+use Rattle.rules.specs.Specification.{WrittenItem, WrittenSpec, IsJoined, IsItem, IsBareItem, AreModifiers, AreGroups, IsSpec}
 use Rattle.lengths.specs.Reading.{digits, past_digits, is_empty}
 use Rattle.lengths.proofs.Digits.{digits_whole, digits_pass, digits-append, past_digits-append}
 use Rattle.lengths.proofs.Numbers.{some_same, not_empty, ends_digits}

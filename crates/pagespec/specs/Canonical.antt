@@ -1,8 +1,8 @@
 -- Canonical texts are taken, and are no longer than what was read, or by one byte.
 use Rattle.std.specs.Prelude.{◌≡◌, ◌⊎◌, ℕ, ◌+◌, ◌<◌, ◌≤◌, List, ◌∷◌, ◌++◌, length}
-use Rattle.profile.specs.Bytes.{colon}
-use Rattle.profile.specs.Specification.{WrittenItem, IsBareItem, IsDigits, Spec, canonical}
-use Rattle.profile.specs.Admissible.{Takes, most_slots}
+use Rattle.rules.specs.Bytes.{colon}
+use Rattle.rules.specs.Specification.{WrittenItem, IsBareItem, IsDigits, Spec, canonical}
+use Rattle.rules.specs.Admissible.{Takes, most_slots}
 
 -- the canonical text of what a text comes to is taken too, and comes to the same: a law
 abbrev pub CanonicalIsTaken : Type 0

@@ -3,8 +3,8 @@ use Rattle.std.specs.Prelude.{ℕ, Bool, ◌==◌, ◌||◌, nat_lt, nat_le, if�
 use Rattle.std.specs.Prelude.{None, option_map}
 use Rattle.std.specs.List.{list_any}
 use Rattle.std.specs.Option.{option_or}
-use Rattle.profile.specs.Numbers.{greatest_whole}
-use Rattle.profile.specs.Admissible as profile
+use Rattle.rules.specs.Numbers.{greatest_whole}
+use Rattle.rules.specs.Admissible as rules
 use Rattle.pagespec.specs.declared.error.SpecError.{SpecError}
 use Rattle.pagespec.specs.declared.error.SpecError.TheVariants.{TooLong, Syntax, TooLarge, ModuloZero, PageOutOfBlock}
 use Rattle.pagespec.specs.declared.error.SpecError.TheVariants.{ScaleZero, Repeated, TooManySlots, TooManyGroups}
@@ -12,16 +12,16 @@ use Rattle.pagespec.specs.declared.error.SpecError.TheVariants.{NoMemory}
 use Rattle.pagespec.specs.declared.parsed.ParsedItem.{ParsedItem}
 
 -- the fault that a refusal names, but for out of memory
-abbrev pub fault_named : SpecError → Option profile.Fault
-fault_named TooLong = Some profile.TooLong
-fault_named (Syntax at) = Some profile.Syntax
-fault_named TooLarge = Some profile.TooLarge
-fault_named ModuloZero = Some profile.ModuloZero
-fault_named (PageOutOfBlock item) = Some (profile.PageOutOfBlock item)
-fault_named (ScaleZero item) = Some (profile.ScaleZero item)
-fault_named (Repeated item) = Some (profile.Repeated item)
-fault_named (TooManySlots group) = Some (profile.TooManySlots group)
-fault_named TooManyGroups = Some profile.TooManyGroups
+abbrev pub fault_named : SpecError → Option rules.Fault
+fault_named TooLong = Some rules.TooLong
+fault_named (Syntax at) = Some rules.Syntax
+fault_named TooLarge = Some rules.TooLarge
+fault_named ModuloZero = Some rules.ModuloZero
+fault_named (PageOutOfBlock item) = Some (rules.PageOutOfBlock item)
+fault_named (ScaleZero item) = Some (rules.ScaleZero item)
+fault_named (Repeated item) = Some (rules.Repeated item)
+fault_named (TooManySlots group) = Some (rules.TooManySlots group)
+fault_named TooManyGroups = Some rules.TooManyGroups
 fault_named NoMemory = None
 
 abbrev pub has_too_large : ℕ → List ParsedItem → Bool
@@ -38,5 +38,5 @@ first_fault_of modulo items lengths =
     (option_or (option_map PageOutOfBlock (position (λ i. nat_le modulo i.page) items))
     (option_or (option_map ScaleZero (position (λ i. i.modifiers.scale_zero) items))
     (option_or (option_map Repeated (position (λ i. i.modifiers.repeated) items))
-    (option_or (option_map TooManySlots (position (λ n. nat_lt profile.most_slots n) lengths))
-    (fault_if (nat_lt profile.most_groups (length lengths)) TooManyGroups))))))
+    (option_or (option_map TooManySlots (position (λ n. nat_lt rules.most_slots n) lengths))
+    (fault_if (nat_lt rules.most_groups (length lengths)) TooManyGroups))))))

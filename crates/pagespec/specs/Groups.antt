@@ -1,7 +1,7 @@
 -- Groups as they were read, against the groups of the text.
 use Rattle.std.specs.Prelude.{◌≡◌, ℕ, List, [], ◌∷◌, ◌++◌, length, map, flat_map, Option, Some, None}
 use Rattle.std.specs.List.{AllZip}
-use Rattle.profile.specs.Specification.{WrittenItem}
+use Rattle.rules.specs.Specification.{WrittenItem}
 use Rattle.pagespec.specs.Reading.{item_at, group_at, groups_at, bare_at}
 use Rattle.pagespec.specs.Parsed.{ItemShows}
 use Rattle.pagespec.specs.declared.parsed.ParsedItem.{ParsedItem}

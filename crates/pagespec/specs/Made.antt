@@ -1,9 +1,9 @@
 -- Specifications that are made, and not read.
 use Rattle.std.specs.Prelude.{◌≡◌, ℕ, ◌<◌, ◌≤◌, pos, int_le, nat_abs, false, List, length}
 use Rattle.std.specs.List.{AllByRecursion}
-use Rattle.profile.specs.Numbers.{greatest_whole, greatest_number}
-use Rattle.profile.specs.Specification.{Item, Spec, canonical}
-use Rattle.profile.specs.Admissible.{most_groups, most_spec_bytes}
+use Rattle.rules.specs.Numbers.{greatest_whole, greatest_number}
+use Rattle.rules.specs.Specification.{Item, Spec, canonical}
+use Rattle.rules.specs.Admissible.{most_groups, most_spec_bytes}
 
 -- an item of a block of so many pages: its numbers are in range, and its scale is above zero
 pub record IsItemOf (modulo : ℕ) (i : Item) : Type 0 where

@@ -2,8 +2,8 @@
 use Rattle.std.specs.Prelude.{◌≡◌, ℕ, ◌%◌, ℤ, Bool, false, ◌||◌, nat_lt, min, List, [], ◌∷◌, length, count_by, Option}
 use Rattle.std.specs.Prelude.{Some, None, option_map}
 use Rattle.std.specs.List.{list_any}
-use Rattle.profile.specs.Specification.{Measure, Modifier, Quarters, Scaled, Moved, WrittenItem, quarters}
-use Rattle.profile.specs.Admissible.{has_large, is_scale, is_offset, is_flat}
+use Rattle.rules.specs.Specification.{Measure, Modifier, Quarters, Scaled, Moved, WrittenItem, quarters}
+use Rattle.rules.specs.Admissible.{has_large, is_scale, is_offset, is_flat}
 use Rattle.lengths.specs.Reading.{least_large}
 use Rattle.pagespec.specs.Reading.{modifiers_at, item_at}
 use Rattle.pagespec.specs.Items.{measure_of}

@@ -1,10 +1,10 @@
 -- Reading a specification off a text, from the left.
 use Rattle.std.specs.Prelude.{ℕ, zero, suc, ℤ, Bool, false, ◌&&◌, ◌||◌, ◌==◌, if◌then◌else◌, List, [], ◌∷◌, length}
 use Rattle.std.specs.Prelude.{Option, Some, None}
-use Rattle.profile.specs.Bytes.{at_sign, closing_parenthesis, colon, comma, minus_sign, opening_parenthesis, plus_sign}
-use Rattle.profile.specs.Numbers.{number_of}
-use Rattle.profile.specs.Papers.{LengthUnit, Pt, Cm, Mm, In, Width, Height}
-use Rattle.profile.specs.Specification.{Measure, Modifier, Quarters, Scaled, Moved, WrittenItem, WrittenSpec}
+use Rattle.rules.specs.Bytes.{at_sign, closing_parenthesis, colon, comma, minus_sign, opening_parenthesis, plus_sign}
+use Rattle.rules.specs.Numbers.{number_of}
+use Rattle.rules.specs.Papers.{LengthUnit, Pt, Cm, Mm, In, Width, Height}
+use Rattle.rules.specs.Specification.{Measure, Modifier, Quarters, Scaled, Moved, WrittenItem, WrittenSpec}
 use Rattle.lengths.specs.Reading.{digits, past_digits, is_empty, number_at}
 
 -- how many quarters to the left a letter stands for

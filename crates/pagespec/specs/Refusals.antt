@@ -1,6 +1,6 @@
 -- What a refusal to read a specification says.
 use Rattle.std.specs.Prelude.{◌≤◌, ℕ, List, length, Option, Some, None}
-use Rattle.profile.specs.Admissible.{Refuses, Fault, most_slots, most_spec_bytes}
+use Rattle.rules.specs.Admissible.{Refuses, Fault, most_slots, most_spec_bytes}
 use Rattle.pagespec.specs.declared.error.SpecError.{SpecError}
 use Rattle.pagespec.specs.declared.error.SpecError.TheVariants.{Syntax}
 use Rattle.pagespec.specs.Faults.{fault_named}

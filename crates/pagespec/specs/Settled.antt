@@ -1,6 +1,6 @@
 -- What the parsed items come to.
 use Rattle.std.specs.Prelude.{◌≤◌, ℕ, pos, List, [], ◌∷◌, length, take, drop, Option, Some, None, unwrap_or}
-use Rattle.profile.specs.Specification.{Measure, Item, turn_of, zero_points}
+use Rattle.rules.specs.Specification.{Measure, Item, turn_of, zero_points}
 use Rattle.pagespec.specs.Items.{measure_of}
 use Rattle.pagespec.specs.declared.item.Measure.{Measure as ParsedMeasure}
 use Rattle.pagespec.specs.declared.parsed.ParsedItem.{ParsedItem}

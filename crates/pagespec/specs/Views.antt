@@ -1,8 +1,8 @@
 -- What the readers found, as the definitions see it.
 use Rattle.std.specs.Prelude.{◌≡◌, ℕ, true, false, List, Option, Some, None}
-use Rattle.profile.specs.Numbers.{is_large}
-use Rattle.profile.specs.Specification as profile
-use Rattle.profile.specs.Admissible.{has_large}
+use Rattle.rules.specs.Numbers.{is_large}
+use Rattle.rules.specs.Specification as rules
+use Rattle.rules.specs.Admissible.{has_large}
 use Rattle.pagespec.specs.Items.{measure_of}
 use Rattle.pagespec.specs.Reading.{measure_at, modifier_at}
 use Rattle.pagespec.specs.declared.item.Measure.{Measure}
@@ -10,20 +10,20 @@ use Rattle.pagespec.specs.declared.scan.Modifier.{Modifier}
 use Rattle.pagespec.specs.declared.scan.Modifier.TheVariants.{Turn, Scale, Offset, TooLarge}
 
 -- a number that is too large isn't kept
-abbrev pub IsMeasureOf : Option Measure → profile.Measure → Type 0
+abbrev pub IsMeasureOf : Option Measure → rules.Measure → Type 0
 IsMeasureOf None a = is_large a.number ≡ true
 IsMeasureOf (Some m) a = (a ≡ measure_of m) × (is_large a.number ≡ false)
 
 -- this measure is at the front
 abbrev pub MeasureRead : List ℕ → Option Measure → List ℕ → Type 0
-MeasureRead bytes m rest = (a : profile.Measure) × (measure_at bytes ≡ Some (a, rest)) × IsMeasureOf m a
+MeasureRead bytes m rest = (a : rules.Measure) × (measure_at bytes ≡ Some (a, rest)) × IsMeasureOf m a
 
-abbrev pub Stands : Modifier → profile.Modifier → Type 0
-Stands (Turn n) m = m ≡ profile.Quarters n
-Stands (Scale n) m = (m ≡ profile.Scaled n) × (has_large m ≡ false)
-Stands (Offset x y) m = (m ≡ profile.Moved (measure_of x) (measure_of y)) × (has_large m ≡ false)
+abbrev pub Stands : Modifier → rules.Modifier → Type 0
+Stands (Turn n) m = m ≡ rules.Quarters n
+Stands (Scale n) m = (m ≡ rules.Scaled n) × (has_large m ≡ false)
+Stands (Offset x y) m = (m ≡ rules.Moved (measure_of x) (measure_of y)) × (has_large m ≡ false)
 Stands TooLarge m = has_large m ≡ true
 
 -- this modifier is at the front
 abbrev pub ModifierRead : List ℕ → Modifier → List ℕ → Type 0
-ModifierRead bytes part rest = (m : profile.Modifier) × (modifier_at bytes ≡ Some (m, rest)) × Stands part m
+ModifierRead bytes part rest = (m : rules.Modifier) × (modifier_at bytes ≡ Some (m, rest)) × Stands part m

@@ -1,7 +1,7 @@
 -- A whole text, as it was read.
 use Rattle.std.specs.Prelude.{◌≡◌, ℕ, min, List, Option, Some, None}
-use Rattle.profile.specs.Numbers.{number_of}
-use Rattle.profile.specs.Specification.{WrittenSpec}
+use Rattle.rules.specs.Numbers.{number_of}
+use Rattle.rules.specs.Specification.{WrittenSpec}
 use Rattle.lengths.specs.Reading.{least_large, digits}
 use Rattle.pagespec.specs.Reading.{spec_at}
 use Rattle.pagespec.specs.Groups.{IsParseOf}

@@ -3,8 +3,8 @@ ghost use Rattle.std.specs.Prelude.{◌≡◌, ◌<◌, ◌^◌, ◌||◌, lengt
 ghost use Rattle.std.specs.Prelude.{Some};
 ghost use Rattle.std.specs.Option.{ForSome};
 ghost use Rattle.std.specs.List.{list_any};
-ghost use Rattle.profile.specs.Numbers.{greatest_whole};
-ghost use Rattle.profile.specs.Admissible.{most_slots};
+ghost use Rattle.rules.specs.Numbers.{greatest_whole};
+ghost use Rattle.rules.specs.Admissible.{most_slots};
 ghost use Rattle.pagespec.specs.Faults.{first_fault_of, has_too_large};
 
 use crate::error::SpecError;

@@ -1,6 +1,6 @@
 //! An item as it is parsed: enough to tell every fault of it, and the item itself if it has none.
 ghost use Rattle.std.specs.Prelude.{◌≡◌, ◌∷◌, ◌++◌, [], List, None, MatchResult, not, int_le, pos};
-ghost use Rattle.profile.specs.Specification.{Modifier as WrittenModifier};
+ghost use Rattle.rules.specs.Specification.{Modifier as WrittenModifier};
 ghost use Rattle.pagespec.specs.Reading.{is_minus, past_minus, item_at};
 ghost use Rattle.pagespec.specs.Views.{Stands};
 ghost use Rattle.pagespec.specs.Parsed.{Shows, ModifiersRead, ItemRead};

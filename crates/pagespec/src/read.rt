@@ -1,6 +1,6 @@
 //! Reading a specification.
 ghost use Rattle.std.specs.Prelude.{◌≡◌, ◌≤◌, length, IfOk, IfErr, MatchResult};
-ghost use Rattle.profile.specs.Admissible.{Takes, most_slots};
+ghost use Rattle.rules.specs.Admissible.{Takes, most_slots};
 ghost use Rattle.pagespec.specs.Reading.{spec_at, past_modulo};
 ghost use Rattle.pagespec.specs.Groups.{IsStop};
 ghost use Rattle.pagespec.specs.Written.{WrittenRead, ModuloRead};

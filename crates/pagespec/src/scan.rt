@@ -1,6 +1,6 @@
 //! Reading units, measures and modifiers off the front of a text.
 ghost use Rattle.std.specs.Prelude.{◌≡◌, ◌<◌, ℕ, Some, None, MatchResult, MatchOption};
-ghost use Rattle.profile.specs.Specification.{Measure as WrittenMeasure, Modifier as WrittenModifier, Moved};
+ghost use Rattle.rules.specs.Specification.{Measure as WrittenMeasure, Modifier as WrittenModifier, Moved};
 ghost use Rattle.lengths.specs.Units.{length_unit};
 ghost use Rattle.pagespec.specs.Reading.{byte_at, unit_at, measure_at, offset_at, scale_at, modifier_at, quarters_of};
 ghost use Rattle.pagespec.specs.Views.{MeasureRead, ModifierRead, IsMeasureOf, Stands};

@@ -1,6 +1,6 @@
 //! What the items of a text come to, if they have no fault.
 ghost use Rattle.std.specs.Prelude.{◌≡◌, map, IfOk, unwrap_or};
-ghost use Rattle.profile.specs.Specification as profile;
+ghost use Rattle.rules.specs.Specification as rules;
 ghost use Rattle.pagespec.specs.Items.{item_of, turn_of, groups_of, measure_of};
 ghost use Rattle.pagespec.specs.Settled.{item_of_parsed, split_by, AreLengths, offset_of_parsed};
 
@@ -54,7 +54,7 @@ fn settled_item(parsed: ParsedItem) -> Item
 
 /// The turn by so many quarters to the left.
 fn turn_by(quarters: u8) -> Turn
-    ensures { turn_of result ≡ profile.turn_of quarters }
+    ensures { turn_of result ≡ rules.turn_of quarters }
 {
     match quarters % 4 {
         0 => Turn::None,

@@ -1,6 +1,6 @@
 //! An admissible specification.
 ghost use Rattle.std.specs.Prelude.{◌≡◌};
-ghost use Rattle.profile.specs.Admissible.{IsAdmissible, most_slots};
+ghost use Rattle.rules.specs.Admissible.{IsAdmissible, most_slots};
 ghost use Rattle.pagespec.specs.Items.{groups_of};
 ghost use Rattle.pagespec.specs.Made.{IsWritable};
 
@@ -16,11 +16,11 @@ pub struct Spec {
 }
 
 impl Model for Spec {
-    ghost use Rattle.profile.specs.Specification.{Spec};
+    ghost use Rattle.rules.specs.Specification.{Spec};
 
     ghost Value = { Spec };
 
-    ghost use Rattle.profile.specs.Admissible.{IsAdmissible, most_slots};
+    ghost use Rattle.rules.specs.Admissible.{IsAdmissible, most_slots};
     ghost use Rattle.pagespec.specs.Items.{groups_of};
 
     ghost view = { λ s. record { modulo = s.modulo; groups = groups_of s.groups.items } };

@@ -1,9 +1,9 @@
 //! Writing a specification in its canonical form.
 ghost use Rattle.std.specs.Prelude.{◌≡◌, ◌&&◌, ◌∷◌, ◌++◌, [], ◌≤◌, decimal, map, flat_map, IfOk, OnOk, string_bytes};
 ghost use Rattle.std.specs.Str.{IsAscii};
-ghost use Rattle.profile.specs.Bytes.{comma, plus_sign};
-ghost use Rattle.profile.specs.Admissible.{Takes, most_slots};
-ghost use Rattle.profile.specs.Specification as profile;
+ghost use Rattle.rules.specs.Bytes.{comma, plus_sign};
+ghost use Rattle.rules.specs.Admissible.{Takes, most_slots};
+ghost use Rattle.rules.specs.Specification as rules;
 ghost use Rattle.pagespec.specs.Items.{measure_of, turn_of, item_of, groups_of, group_text, groups_text};
 ghost use Rattle.lengths.specs.Units.{length_unit};
 
@@ -17,7 +17,7 @@ use std::alloc::{AllocError, Global};
 /// modulo if it isn't 1, page numbers without leading zeros, one letter for a turn, and no scale, offset or unit that
 /// changes nothing.
 pub fn write_spec(alloc: Global, spec: &Spec) -> Result<String, AllocError>
-    ensures canonical { IfOk result (λ text. string_bytes text ≡ profile.canonical spec.now) }
+    ensures canonical { IfOk result (λ text. string_bytes text ≡ rules.canonical spec.now) }
     ensures taken { IfOk result (λ text. Takes most_slots (string_bytes text) spec.now) }
 {
     let mut out = Vec::new(alloc);
@@ -28,7 +28,7 @@ pub fn write_spec(alloc: Global, spec: &Spec) -> Result<String, AllocError>
 
 /// The modulo and its colon, if it isn't 1.
 fn append_modulo(modulo: u32, out: &mut Vec<u8>) -> Result<(), AllocError>
-    ensures { OnOk result (out.new.items ≡ out.old.items ++ profile.modulo_text modulo) }
+    ensures { OnOk result (out.new.items ≡ out.old.items ++ rules.modulo_text modulo) }
 {
     if modulo == 1 {
         return Ok(());
@@ -78,7 +78,7 @@ fn append_group(group: &[Item], out: &mut Vec<u8>) -> Result<(), AllocError>
 /// Items with a plus sign before each.
 fn append_more_items(items: &[Item], out: &mut Vec<u8>) -> Result<(), AllocError>
     ensures { OnOk result (out.new.items ≡
-        out.old.items ++ flat_map (λ i. plus_sign ∷ profile.item_text i) (map item_of items.now)) }
+        out.old.items ++ flat_map (λ i. plus_sign ∷ rules.item_text i) (map item_of items.now)) }
 {
     for item in items {
         append(out, b"+")?;
@@ -88,7 +88,7 @@ fn append_more_items(items: &[Item], out: &mut Vec<u8>) -> Result<(), AllocError
 }
 
 fn append_item(item: &Item, out: &mut Vec<u8>) -> Result<(), AllocError>
-    ensures { OnOk result (out.new.items ≡ out.old.items ++ profile.item_text (item_of item.now)) }
+    ensures { OnOk result (out.new.items ≡ out.old.items ++ rules.item_text (item_of item.now)) }
 {
     append(out, if item.from_end { b"-" } else { b"" })?;
     append_count(item.page, out)?;
@@ -98,7 +98,7 @@ fn append_item(item: &Item, out: &mut Vec<u8>) -> Result<(), AllocError>
 }
 
 fn turn_letter(turn: Turn) -> &'static [u8]
-    ensures { result.now ≡ profile.turn_text (turn_of turn) }
+    ensures { result.now ≡ rules.turn_text (turn_of turn) }
 {
     match turn {
         Turn::None => b"",
@@ -110,7 +110,7 @@ fn turn_letter(turn: Turn) -> &'static [u8]
 
 /// The scale behind its sign, if it isn't 1.
 fn append_scale(scale: Number, out: &mut Vec<u8>) -> Result<(), AllocError>
-    ensures { OnOk result (out.new.items ≡ out.old.items ++ profile.scale_part scale) }
+    ensures { OnOk result (out.new.items ≡ out.old.items ++ rules.scale_part scale) }
 {
     if scale.billionths() == 1_000_000_000 {
         return Ok(());
@@ -121,7 +121,7 @@ fn append_scale(scale: Number, out: &mut Vec<u8>) -> Result<(), AllocError>
 
 /// The offset in parentheses, if it isn't 0 pt and 0 pt.
 fn append_offset(x: &Measure, y: &Measure, out: &mut Vec<u8>) -> Result<(), AllocError>
-    ensures { OnOk result (out.new.items ≡ out.old.items ++ profile.offset_part (measure_of x.now) (measure_of y.now)) }
+    ensures { OnOk result (out.new.items ≡ out.old.items ++ rules.offset_part (measure_of x.now) (measure_of y.now)) }
 {
     if is_no_offset(x, y) {
         return Ok(());
@@ -134,19 +134,19 @@ fn append_offset(x: &Measure, y: &Measure, out: &mut Vec<u8>) -> Result<(), Allo
 }
 
 fn is_no_offset(x: &Measure, y: &Measure) -> bool
-    ensures { result ≡ (profile.is_zero_points (measure_of x.now) && profile.is_zero_points (measure_of y.now)) }
+    ensures { result ≡ (rules.is_zero_points (measure_of x.now) && rules.is_zero_points (measure_of y.now)) }
 {
     is_zero_points(x) && is_zero_points(y)
 }
 
 fn is_zero_points(measure: &Measure) -> bool
-    ensures { result ≡ profile.is_zero_points (measure_of measure.now) }
+    ensures { result ≡ rules.is_zero_points (measure_of measure.now) }
 {
     measure.number.billionths() == 0 && is_points(measure.unit)
 }
 
 fn is_points(unit: Unit) -> bool
-    ensures { result ≡ profile.is_points (length_unit unit) }
+    ensures { result ≡ rules.is_points (length_unit unit) }
 {
     match unit {
         Unit::Pt => true,
@@ -156,14 +156,14 @@ fn is_points(unit: Unit) -> bool
 
 /// A number and its unit; points are left out.
 fn append_measure(measure: &Measure, out: &mut Vec<u8>) -> Result<(), AllocError>
-    ensures { OnOk result (out.new.items ≡ out.old.items ++ profile.measure_text (measure_of measure.now)) }
+    ensures { OnOk result (out.new.items ≡ out.old.items ++ rules.measure_text (measure_of measure.now)) }
 {
     print_number(measure.number, out)?;
     append(out, unit_name(measure.unit))
 }
 
 fn unit_name(unit: Unit) -> &'static [u8]
-    ensures { result.now ≡ profile.unit_text (length_unit unit) }
+    ensures { result.now ≡ rules.unit_text (length_unit unit) }
 {
     match unit {
         Unit::Pt => b"",

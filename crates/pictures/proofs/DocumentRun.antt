@@ -4,13 +4,13 @@ use Rattle.std.proofs.Common.{◌≡◌, ℕ, zero, suc, ◌+◌, ◌*◌, ◌<�
 use Rattle.std.proofs.lemmas.Grind.{flat_map-append}
 use Rattle.std.proofs.lemmas.List.{take_more, take_all}
 use Rattle.std.proofs.lemmas.Bool.{ltb-true}
-use Rattle.profile.specs.Specification.{Item, Spec}
+use Rattle.rules.specs.Specification.{Item, Spec}
 use Rattle.std.specs.List.{range_with_len}
-use Rattle.profile.specs.Sheets.{Slot, blocks, place, page_at}
-use Rattle.profile.specs.Signatures.{signature_row, page_in_signature, row_len, entry_in, sheets_in}
-use Rattle.profile.specs.Parts.{NestedUnit, preamble, pages, trailer, bytes_of}
-use Rattle.profile.specs.Run.{document_of}
-use Rattle.profile.proofs.Whole.{parts_make_text}
+use Rattle.rules.specs.Sheets.{Slot, blocks, place, page_at}
+use Rattle.rules.specs.Signatures.{signature_row, page_in_signature, row_len, entry_in, sheets_in}
+use Rattle.rules.specs.Parts.{NestedUnit, preamble, pages, trailer, bytes_of}
+use Rattle.rules.specs.Run.{document_of}
+use Rattle.rules.proofs.Whole.{parts_make_text}
 use Rattle.pictures.specs.Objects.{Token}
 use Rattle.pictures.specs.Machine.{State, Painting, Runs}
 use Rattle.pictures.specs.Scanner.{Between, ended, tokens, IsComplete}

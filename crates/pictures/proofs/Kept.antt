@@ -3,14 +3,14 @@ use Rattle.std.specs.Prelude.{Result, Ok, Err, flat_map, if◌then◌else◌, co
 use Rattle.std.specs.List.{starts_with}
 use Rattle.std.proofs.lemmas.List.Sums.{take_while-cons}
 use Rattle.std.proofs.Common.{◌≡◌, ℕ, suc, refl, ap, ◌∙◌, sym, subst, Bool, true, false, not, ◌&&◌, ◌||◌, ◌==◌, ◌<◌, List, [], ◌∷◌, ◌++◌, append-nil, true≢false, arith, length, drop, ◌⊎◌, inl, inr, ⊎_elim}
-use Rattle.profile.specs.Bytes.{line, line_feed}
-use Rattle.profile.specs.Units.{TextUnit, FaultyBlock, cut, is_end, AreUnits, ◌>>=◌}
-use Rattle.profile.specs.Parts.{NestedUnit, nested, nested_from, depth_after, is_outermost_line, begins_page, up_to, preamble, bytes_of}
-use Rattle.profile.specs.Filters.{continues, kept, kept_after, drops_in_header, drops_in_page, with_count, preamble_text, ended, prepared}
-use Rattle.profile.specs.Run.{DocumentFault, NoPages, InputTooManyPages, InputTooLong, NotPostScript, of_block, refuse_if, with_pages, document_of}
-use Rattle.profile.specs.Output.{body_text}
-use Rattle.profile.proofs.Whole.{units_make_text}
-use Rattle.profile.proofs.CutUnits.{cut_is_units, same_ok, apart_results, none_below}
+use Rattle.rules.specs.Bytes.{line, line_feed}
+use Rattle.rules.specs.Units.{TextUnit, FaultyBlock, cut, is_end, AreUnits, ◌>>=◌}
+use Rattle.rules.specs.Parts.{NestedUnit, nested, nested_from, depth_after, is_outermost_line, begins_page, up_to, preamble, bytes_of}
+use Rattle.rules.specs.Filters.{continues, kept, kept_after, drops_in_header, drops_in_page, with_count, preamble_text, ended, prepared}
+use Rattle.rules.specs.Run.{DocumentFault, NoPages, InputTooManyPages, InputTooLong, NotPostScript, of_block, refuse_if, with_pages, document_of}
+use Rattle.rules.specs.Output.{body_text}
+use Rattle.rules.proofs.Whole.{units_make_text}
+use Rattle.rules.proofs.CutUnits.{cut_is_units, same_ok, apart_results, none_below}
 use Rattle.pictures.specs.Scanner.{Reading, Between, InComment, scan_from, behind, tokens, IsComplete}
 use Rattle.pictures.specs.Scanner as Scanner
 use Rattle.pictures.specs.Kept.{reading_behind, is_between, has_form_feed, goes, apart_at, comments_apart, apart_in, first_is_complete, KeptRunsAlike, PreambleRunsAlike}

@@ -4,10 +4,10 @@ use Rattle.std.specs.List.{starts_with, list_any}
 use Rattle.std.proofs.lemmas.List.Sums.{take_while-cons}
 use Rattle.std.proofs.lemmas.Slice.Eq.{bytes_eq-Decides}
 use Rattle.std.proofs.Common.{◌≡◌, ℕ, suc, ◌+◌, refl, ap, ◌∙◌, sym, subst, Bool, true, false, not, ◌&&◌, ◌||◌, ◌==◌, List, [], ◌∷◌, true≢false, arith, length, take, drop, eqb-true, eq-eqb, ◌⊎◌, inl, inr, ⊎_elim}
-use Rattle.profile.specs.Bytes.{line_feed, carriage_return, colon}
-use Rattle.profile.specs.Units.{TextUnit, BlockFault, is_end, is_blank, content_of, end_len, line_len, key, first_unit, block, begins_block, data_len, fields}
-use Rattle.profile.specs.Filters.{drops_in_header, drops_in_page}
-use Rattle.profile.proofs.CutUnits.{same_ok, apart_results}
+use Rattle.rules.specs.Bytes.{line_feed, carriage_return, colon}
+use Rattle.rules.specs.Units.{TextUnit, BlockFault, is_end, is_blank, content_of, end_len, line_len, key, first_unit, block, begins_block, data_len, fields}
+use Rattle.rules.specs.Filters.{drops_in_header, drops_in_page}
+use Rattle.rules.proofs.CutUnits.{same_ok, apart_results}
 use Rattle.pictures.specs.Scanner.{Between, InComment, scan_from, behind, ends_comment, form_feed, percent_sign}
 use Rattle.pictures.specs.Kept.{has_form_feed}
 use Rattle.pictures.proofs.Tests.{by_test, first, second}

@@ -5,11 +5,11 @@ use Rattle.std.proofs.lemmas.List.Elements.{All-head, All-tail}
 use Rattle.std.specs.List.{AllPass}
 use Rattle.std.specs.Fmt.{digits, digits_onto, digit_glyph}
 use Rattle.std.specs.Char.{is_ascii_digit}
-use Rattle.profile.specs.Numbers.{printed, fraction_text, is_negative, without_last_zeros, decimals_of, points_text, scale_text, rounded}
-use Rattle.profile.proofs.Digits.{digit_range}
+use Rattle.rules.specs.Numbers.{printed, fraction_text, is_negative, without_last_zeros, decimals_of, points_text, scale_text, rounded}
+use Rattle.rules.proofs.Digits.{digit_range}
 use Rattle.std.proofs.lemmas.List.{reverse-append}
 use Rattle.pictures.proofs.Scanned.{scan_behind}
-use Rattle.profile.specs.Bytes.{dot, minus_sign}
+use Rattle.rules.specs.Bytes.{dot, minus_sign}
 use Rattle.pictures.specs.Objects.{Token, Number, Name, Unknown}
 use Rattle.pictures.specs.Scanner.{Reading, Between, InWord, behind, class_of, Regular, scan_from, word, is_number, is_sign, is_whole, has_radix, begins_exponent, ends_comment, digits_from, decimals_from, begun, in_word}
 

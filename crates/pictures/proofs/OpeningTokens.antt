@@ -1,12 +1,12 @@
 -- The tokens of what stands before a placed page.
 use Rattle.std.specs.Prelude.{Option, Some, None, codes, ℤ, option_map}
 use Rattle.std.proofs.Common.{◌≡◌, ℕ, refl, ap, ◌∙◌, subst, List, [], ◌∷◌, ◌++◌, append-nil, reverse}
-use Rattle.profile.specs.Bytes.{line, line_feed, space}
-use Rattle.profile.specs.Numbers.{points_text}
-use Rattle.profile.specs.Papers.{Paper}
-use Rattle.profile.specs.Specification.{Item}
-use Rattle.profile.specs.Placement.{Matrix, matrix_of, matrix_text, spaced}
-use Rattle.profile.specs.Output.{Frame, edge_text, border_text, opening_text}
+use Rattle.rules.specs.Bytes.{line, line_feed, space}
+use Rattle.rules.specs.Numbers.{points_text}
+use Rattle.rules.specs.Papers.{Paper}
+use Rattle.rules.specs.Specification.{Item}
+use Rattle.rules.specs.Placement.{Matrix, matrix_of, matrix_text, spaced}
+use Rattle.rules.specs.Output.{Frame, edge_text, border_text, opening_text}
 use Rattle.pictures.specs.Objects.{Token, Number, Name}
 use Rattle.pictures.specs.Scanner.{Reading, Between, InWord, word, ended, behind}
 use Rattle.pictures.specs.Sheets.{Numbers, saving_tokens, placing_tokens, border_tokens}

@@ -4,13 +4,13 @@ use Rattle.std.specs.List.{enumerate_from}
 use Rattle.std.proofs.Common.{◌≡◌, ℕ, ◌+◌, refl, ap, ◌∙◌, sym, subst, false, List, [], ◌∷◌, ◌++◌, map, append_assoc, append-nil, length}
 use Rattle.std.proofs.lemmas.Grind.{flat_map-append}
 use Rattle.std.proofs.lemmas.List.{map-append}
-use Rattle.profile.specs.Bytes.{line, line_feed}
-use Rattle.profile.specs.Specification.{Item}
-use Rattle.profile.specs.Sheets.{Slot}
-use Rattle.profile.specs.Signatures.{sheets_in}
-use Rattle.profile.specs.Parts.{NestedUnit, pages}
-use Rattle.profile.specs.Filters.{preamble_text, trailer_text}
-use Rattle.profile.specs.Output.{Frame, opening_text, closing_text, slot_text, sheet_text, output}
+use Rattle.rules.specs.Bytes.{line, line_feed}
+use Rattle.rules.specs.Specification.{Item}
+use Rattle.rules.specs.Sheets.{Slot}
+use Rattle.rules.specs.Signatures.{sheets_in}
+use Rattle.rules.specs.Parts.{NestedUnit, pages}
+use Rattle.rules.specs.Filters.{preamble_text, trailer_text}
+use Rattle.rules.specs.Output.{Frame, opening_text, closing_text, slot_text, sheet_text, output}
 use Rattle.pictures.specs.Objects.{Token, Name}
 use Rattle.pictures.specs.Machine.{State, Painting, Runs}
 use Rattle.pictures.specs.Scanner.{Reading, Between, InComment, scan_from, behind, ended, tokens, IsComplete}

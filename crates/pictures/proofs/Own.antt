@@ -10,11 +10,11 @@ use Rattle.pictures.specs.Machine.{State, Graphics, Snapshot, Painting, body_of,
 use Rattle.pictures.specs.Sheets.{run_of, alone, entries_before, PaintsAlone}
 use Rattle.pictures.specs.DocumentRun.{PrintsSheet}
 use Rattle.pictures.specs.Unaware.{put_names, none_among, asked_on, unaware_step, unaware_steps, absent, is_in, IsPlainGround, EndsThePage, PrintsItself, none_before, OwnPicture, PagePrints, SheetsShowThePages}
-use Rattle.profile.specs.Sheets.{Slot}
-use Rattle.profile.specs.Signatures.{sheets_in}
-use Rattle.profile.specs.Parts.{NestedUnit, pages, preamble, bytes_of}
-use Rattle.profile.specs.Filters.{preamble_text}
-use Rattle.profile.specs.Run.{document_of}
+use Rattle.rules.specs.Sheets.{Slot}
+use Rattle.rules.specs.Signatures.{sheets_in}
+use Rattle.rules.specs.Parts.{NestedUnit, pages, preamble, bytes_of}
+use Rattle.rules.specs.Filters.{preamble_text}
+use Rattle.rules.specs.Run.{document_of}
 use Rattle.pictures.specs.Kept.{preamble_comments_apart}
 use Rattle.pictures.proofs.Kept.{kept_runs_alike, preamble_runs_alike}
 use Rattle.pictures.specs.Scanner.{tokens}

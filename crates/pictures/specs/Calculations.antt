@@ -6,8 +6,8 @@ use Rattle.std.specs.Prelude.{ℕ, ◌+◌, ◌/◌, List, [], ◌∷◌, ◌++�
 use Rattle.std.specs.Prelude.{Option, Some, None, ℤ, pos, ◌+ℤ◌, ◌-ℤ◌, ◌*ℤ◌, neg_ℤ, nat_abs, int_lt, decimal, bytes_eq}
 use Rattle.std.specs.List.{list_all}
 use Rattle.std.specs.Char.{is_ascii_digit}
-use Rattle.profile.specs.Bytes.{plus_sign, minus_sign}
-use Rattle.profile.specs.Numbers.{number_of, signed, is_negative}
+use Rattle.rules.specs.Bytes.{plus_sign, minus_sign}
+use Rattle.rules.specs.Numbers.{number_of, signed, is_negative}
 use Rattle.pictures.specs.Objects.{Calculation, Add, Subtract, Multiply, Divide}
 use Rattle.pictures.specs.Objects.{Comparison, Equal, NotEqual, Less, LessOrEqual, Greater, GreaterOrEqual}
 

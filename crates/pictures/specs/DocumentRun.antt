@@ -1,8 +1,8 @@
 -- A document as it is, run page after page in one machine: what it prints, and what it means that its pages are
 -- independent of one another.
 use Rattle.std.specs.Prelude.{◌≡◌, ℕ, zero, suc, ◌<◌, List, [], ◌∷◌, flat_map, take, length, false, Ok}
-use Rattle.profile.specs.Parts.{NestedUnit, preamble, pages, trailer, bytes_of}
-use Rattle.profile.specs.Run.{document_of}
+use Rattle.rules.specs.Parts.{NestedUnit, preamble, pages, trailer, bytes_of}
+use Rattle.rules.specs.Run.{document_of}
 use Rattle.pictures.specs.Objects.{Token}
 use Rattle.pictures.specs.Machine.{State, Painting, Runs}
 use Rattle.pictures.specs.Scanner.{tokens, IsComplete}

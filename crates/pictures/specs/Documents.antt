@@ -1,14 +1,14 @@
 -- The text of a whole output as tokens, and the picture of a document.
 use Rattle.std.specs.Prelude.{◌≡◌, ℕ, List, [], ◌∷◌, ◌++◌, map, flat_map, Option, Some, None, option_map}
 use Rattle.std.specs.Prelude.{slice_index_or, length, false}
-use Rattle.profile.specs.Numbers.{points_text, scale_text}
-use Rattle.profile.specs.Specification.{Item, Spec}
-use Rattle.profile.specs.Sheets.{Slot}
-use Rattle.profile.specs.Signatures.{sheets_in}
-use Rattle.profile.specs.Placement.{matrix_of}
-use Rattle.profile.specs.Parts.{NestedUnit, pages}
-use Rattle.profile.specs.Filters.{preamble_text, trailer_text, prepared}
-use Rattle.profile.specs.Output.{Frame, body_text, opening_text, output}
+use Rattle.rules.specs.Numbers.{points_text, scale_text}
+use Rattle.rules.specs.Specification.{Item, Spec}
+use Rattle.rules.specs.Sheets.{Slot}
+use Rattle.rules.specs.Signatures.{sheets_in}
+use Rattle.rules.specs.Placement.{matrix_of}
+use Rattle.rules.specs.Parts.{NestedUnit, pages}
+use Rattle.rules.specs.Filters.{preamble_text, trailer_text, prepared}
+use Rattle.rules.specs.Output.{Frame, body_text, opening_text, output}
 use Rattle.pictures.specs.Objects.{Token}
 use Rattle.pictures.specs.Dictionaries.{userdict}
 use Rattle.pictures.specs.Machine.{State, Painting, Runs}

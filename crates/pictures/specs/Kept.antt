@@ -1,11 +1,11 @@
 -- What is kept of a page and of a preamble is run as they are: what is dropped are comments.
 use Rattle.std.specs.Prelude.{◌≡◌, ℕ, Bool, true, false, not, ◌&&◌, ◌||◌, ◌==◌, if◌then◌else◌, List, [], ◌∷◌, Result}
 use Rattle.std.specs.Prelude.{Ok, Err}
-use Rattle.profile.specs.Units.{cut, TextUnit, FaultyBlock}
-use Rattle.profile.specs.Parts.{NestedUnit, nested, is_outermost_line, bytes_of, preamble}
-use Rattle.profile.specs.Run.{document_of}
-use Rattle.profile.specs.Filters.{continues, drops_in_header, drops_in_page, kept, prepared, preamble_text}
-use Rattle.profile.specs.Output.{body_text}
+use Rattle.rules.specs.Units.{cut, TextUnit, FaultyBlock}
+use Rattle.rules.specs.Parts.{NestedUnit, nested, is_outermost_line, bytes_of, preamble}
+use Rattle.rules.specs.Run.{document_of}
+use Rattle.rules.specs.Filters.{continues, drops_in_header, drops_in_page, kept, prepared, preamble_text}
+use Rattle.rules.specs.Output.{body_text}
 use Rattle.pictures.specs.Scanner.{Reading, Between, form_feed, scan_from, tokens, IsComplete}
 
 -- what the reader is in behind a text

@@ -3,7 +3,7 @@
 -- machine.
 use Rattle.std.specs.List.{list_all, range_with_len}
 use Rattle.std.specs.Char.{is_ascii_digit}
-use Rattle.profile.specs.Numbers.{number_of}
+use Rattle.rules.specs.Numbers.{number_of}
 use Rattle.std.specs.Prelude.{ℕ, zero, suc, ◌+◌, List, [], ◌∷◌, ◌++◌, map, flat_map, length, Bool, true, false, not}
 use Rattle.std.specs.Prelude.{◌&&◌, ◌||◌, ◌==◌, nat_lt, if◌then◌else◌, Option, Some, None, ℤ, pos, ◌+ℤ◌, ◌*ℤ◌, decimal}
 use Rattle.std.specs.Prelude.{◌-◌, ◌%◌, negsuc, nat_le, take, drop}

@@ -4,8 +4,8 @@
 use Rattle.std.specs.Prelude.{◌≡◌, ℕ, zero, suc, List, [], ◌∷◌, ◌++◌, reverse, Bool, true, false, ◌&&◌, ◌||◌, ◌==◌}
 use Rattle.std.specs.Prelude.{if◌then◌else◌, nat_lt}
 use Rattle.std.specs.Char.{is_ascii_digit}
-use Rattle.profile.specs.Bytes.{tab, line_feed, carriage_return, space, opening_parenthesis, closing_parenthesis}
-use Rattle.profile.specs.Bytes.{plus_sign, minus_sign, dot}
+use Rattle.rules.specs.Bytes.{tab, line_feed, carriage_return, space, opening_parenthesis, closing_parenthesis}
+use Rattle.rules.specs.Bytes.{plus_sign, minus_sign, dot}
 use Rattle.pictures.specs.Objects.{Token, Number, Name, Literal, Text, Hexadecimal, Opens, Closes, Unknown}
 
 -- Bytes by name, as ASCII numbers them.

@@ -1,10 +1,10 @@
 -- A page that the document itself prints, and that asks for none of the names that the sheet's text puts.
 use Rattle.std.specs.Prelude.{◌≡◌, ℕ, zero, suc, List, [], ◌∷◌, Bool, true, false, not, ◌&&◌, ◌||◌, ◌==◌, if◌then◌else◌}
 use Rattle.std.specs.Prelude.{nat_lt, Option, Some, None, Ok, codes}
-use Rattle.profile.specs.Specification.{Spec}
-use Rattle.profile.specs.Parts.{NestedUnit, preamble, bytes_of}
-use Rattle.profile.specs.Run.{document_of}
-use Rattle.profile.specs.Output.{Frame}
+use Rattle.rules.specs.Specification.{Spec}
+use Rattle.rules.specs.Parts.{NestedUnit, preamble, bytes_of}
+use Rattle.rules.specs.Run.{document_of}
+use Rattle.rules.specs.Output.{Frame}
 use Rattle.pictures.specs.Scanner.{tokens, IsComplete}
 use Rattle.pictures.specs.Documents.{page_of, PreambleRuns, OnSheets, all_sheets, IsPrinted}
 use Rattle.pictures.specs.DocumentRun.{PrintsSheet, OnPages, PagesAreIndependent, DocumentPrints}

@@ -1,10 +1,10 @@
 -- Texts that were appended part by part, as wholes.
 use Rattle.std.proofs.Common.{◌≡◌, ℕ, List, [], ◌∷◌, ◌++◌, ℤ, ◌∙◌, ap, append_assoc}
 use Rattle.std.specs.Prelude.{codes}
-use Rattle.profile.specs.Numbers.{points_text}
-use Rattle.profile.specs.Papers.{Paper}
-use Rattle.profile.specs.Placement.{spaced}
-use Rattle.profile.specs.Output.{edge_text}
+use Rattle.rules.specs.Numbers.{points_text}
+use Rattle.rules.specs.Papers.{Paper}
+use Rattle.rules.specs.Placement.{spaced}
+use Rattle.rules.specs.Output.{edge_text}
 
 pub scales_joined :
     (o a b c d v1 v2 v3 : List ℕ) → v1 ≡ o ++ (codes "[" ++ a) → v2 ≡ v1 ++ (codes " " ++ b) → v3 ≡ v2 ++ (codes " " ++ c)

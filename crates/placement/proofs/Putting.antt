@@ -1,9 +1,9 @@
 -- What puts a page by the matrix of an item puts it where the item does.
 use Rattle.std.proofs.Common.{◌≡◌, ◌∙◌, ap}
-use Rattle.profile.specs.Papers.{Paper}
-use Rattle.profile.specs.Specification.{Item}
-use Rattle.profile.specs.Placement.{Point, Matrix, put, applied, matrix_of}
-use Rattle.profile.proofs.Turns.{matrix_puts}
+use Rattle.rules.specs.Papers.{Paper}
+use Rattle.rules.specs.Specification.{Item}
+use Rattle.rules.specs.Placement.{Point, Matrix, put, applied, matrix_of}
+use Rattle.rules.proofs.Turns.{matrix_puts}
 
 pub puts : (paper : Paper) (item : Item) (m : Matrix) → m ≡ matrix_of paper item → (p : Point) → applied m p ≡ put paper item p
 puts paper item m is p = ap (λ n. applied n p) is ∙ matrix_puts paper item p

@@ -3,11 +3,11 @@ use Rattle.std.proofs.Common.{arith, ◌≡◌, ◌≢◌, ℕ, ◌*◌, ◌^◌
 use Rattle.std.specs.Prelude.{ℤ, pos, negsuc, nat_abs, ◌*ℤ◌, codes}
 use Rattle.std.proofs.lemmas.Int.{ints}
 use Rattle.std.proofs.lemmas.List.{append_cancel_left, append_cancel_right}
-use Rattle.profile.specs.Bytes.{space}
-use Rattle.profile.specs.Numbers.{IsNumber, is_negative, sign_text, fraction_text, signed, decimals_value, printed, points_text, rounded}
-use Rattle.profile.specs.Specification.{IsJoined}
-use Rattle.profile.proofs.Printed.{fraction_is, sign_is, printed_is_number, printed_is_printed}
-use Rattle.profile.proofs.OneNumber.{one_number}
+use Rattle.rules.specs.Bytes.{space}
+use Rattle.rules.specs.Numbers.{IsNumber, is_negative, sign_text, fraction_text, signed, decimals_value, printed, points_text, rounded}
+use Rattle.rules.specs.Specification.{IsJoined}
+use Rattle.rules.proofs.Printed.{fraction_is, sign_is, printed_is_number, printed_is_printed}
+use Rattle.rules.proofs.OneNumber.{one_number}
 use Rattle.placement.specs.Printed.{nearest, PrintedIsRow, OneRow}
 
 -- five decimals at most, in 10^-9

@@ -1,10 +1,10 @@
 -- How the text of a matrix, and the text before a placed page, begin.
 use Rattle.std.specs.Prelude.{ℕ, List, ◌++◌, codes}
-use Rattle.profile.specs.Bytes.{line}
-use Rattle.profile.specs.Numbers.{scale_text}
-use Rattle.profile.specs.Papers.{Paper}
-use Rattle.profile.specs.Specification.{Item}
-use Rattle.profile.specs.Placement.{Matrix, matrix_of, matrix_text}
+use Rattle.rules.specs.Bytes.{line}
+use Rattle.rules.specs.Numbers.{scale_text}
+use Rattle.rules.specs.Papers.{Paper}
+use Rattle.rules.specs.Specification.{Item}
+use Rattle.rules.specs.Placement.{Matrix, matrix_of, matrix_text}
 
 -- the opening bracket and the first four numbers
 abbrev pub scales_text : Matrix → List ℕ

@@ -1,10 +1,10 @@
 -- What the matrices of the code stand for, and the points that they send pages to.
 use Rattle.std.specs.Prelude.{ℤ}
-use Rattle.profile.specs.Placement as profile
+use Rattle.rules.specs.Placement as rules
 use Rattle.placement.specs.declared.matrix.Matrix.{Matrix}
 
-abbrev pub numbers_of : Matrix → profile.Matrix
+abbrev pub numbers_of : Matrix → rules.Matrix
 numbers_of m = record { a = m.a; b = m.b; c = m.c; d = m.d; tx = m.tx; ty = m.ty }
 
-abbrev pub point : ℤ → ℤ → profile.Point
+abbrev pub point : ℤ → ℤ → rules.Point
 point x y = record { x = x; y = y }

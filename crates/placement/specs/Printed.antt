@@ -1,9 +1,9 @@
 -- What is read of a printed matrix, and how far that is from the matrix.
 use Rattle.std.specs.Prelude.{◌≡◌, ℕ, ◌≤◌, ℤ, pos, nat_abs, ◌*ℤ◌, ◌-ℤ◌, List, [], ◌∷◌, ◌++◌, codes}
-use Rattle.profile.specs.Bytes.{space}
-use Rattle.profile.specs.Numbers.{IsNumber, rounded}
-use Rattle.profile.specs.Specification.{IsJoined}
-use Rattle.profile.specs.Placement.{Point, Matrix, applied, matrix_text}
+use Rattle.rules.specs.Bytes.{space}
+use Rattle.rules.specs.Numbers.{IsNumber, rounded}
+use Rattle.rules.specs.Specification.{IsJoined}
+use Rattle.rules.specs.Placement.{Point, Matrix, applied, matrix_text}
 use Rattle.lengths.specs.Ranges.{FitsNumber, FitsGrains}
 
 -- the text is these numbers, in 10^-9, in brackets and with a space between them

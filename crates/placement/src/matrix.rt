@@ -1,8 +1,8 @@
 //! The matrix by which a page is placed.
 ghost use Rattle.std.specs.Prelude.{◌≡◌, ◌≤◌, ◌*◌, ◌^◌, ◌+ℤ◌, ◌*ℤ◌, pos, nat_abs};
-ghost use Rattle.profile.specs.Papers.{Paper as Size};
-ghost use Rattle.profile.specs.Specification.{Item as Taken};
-ghost use Rattle.profile.specs.Placement.{put, applied, matrix_of};
+ghost use Rattle.rules.specs.Papers.{Paper as Size};
+ghost use Rattle.rules.specs.Specification.{Item as Taken};
+ghost use Rattle.rules.specs.Placement.{put, applied, matrix_of};
 
 use lengths::{Grains, Number};
 

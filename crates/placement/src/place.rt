@@ -1,6 +1,6 @@
 //! The matrix of an item.
 ghost use Rattle.std.specs.Prelude.{◌≡◌};
-ghost use Rattle.profile.specs.Placement.{Point, put, applied, matrix_of as matrix_for};
+ghost use Rattle.rules.specs.Placement.{Point, put, applied, matrix_of as matrix_for};
 ghost use Rattle.pagespec.specs.Items.{item_of};
 ghost use Rattle.placement.specs.Matrices.{numbers_of};
 

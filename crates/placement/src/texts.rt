@@ -1,8 +1,8 @@
 //! The texts round a placed page. Each is appended whole or not at all.
 ghost use Rattle.std.specs.Prelude.{◌≡◌, ◌+◌, ◌<◌, ◌≤◌, ◌++◌, length, OnOk, OnErr, vec_len, vec_capacity, take};
-ghost use Rattle.profile.specs.Numbers.{scale_text, points_text};
-ghost use Rattle.profile.specs.Placement.{matrix_text as text_of};
-ghost use Rattle.profile.specs.Output.{Frame, edge_text, border_text, opening_text as opening, closing_text as closing};
+ghost use Rattle.rules.specs.Numbers.{scale_text, points_text};
+ghost use Rattle.rules.specs.Placement.{matrix_text as text_of};
+ghost use Rattle.rules.specs.Output.{Frame, edge_text, border_text, opening_text as opening, closing_text as closing};
 ghost use Rattle.pagespec.specs.Items.{item_of};
 ghost use Rattle.placement.specs.Kept.{Keeps};
 ghost use Rattle.placement.specs.Matrices.{numbers_of};

@@ -4,7 +4,7 @@ use Rattle.std.specs.Prelude.{codes}
 use Rattle.clap.specs.Words.{fault_of, first_of, matches_of}
 use Rattle.clap.specs.declared.error.kind.ErrorKind.TheVariants.{ArgumentConflict, InvalidValue, MissingRequiredArgument, UnknownArgument, ValueValidation}
 use Rattle.lengths.specs.Reading.{number_at}
-use Rattle.profile.specs.Papers.{points}
+use Rattle.rules.specs.Papers.{points}
 use Rattle.clap.proofs.OnLiterals.{clap_on_literals}
 use Rattle.pstops_cli.specs.Command.{Takes, options_found, pstops, sides_found, workers_found}
 use Rattle.pstops_cli.specs.Values.{letter_d, letter_h, letter_w, options_named, paper_or_a4}

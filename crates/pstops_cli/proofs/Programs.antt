@@ -3,7 +3,7 @@ use Rattle.std.proofs.Common.{◌≡◌, ◌∙◌, ℕ, List, [], Bool, Option,
 use Rattle.std.specs.Prelude.{◌⊎◌, IsOk, option_map, string_bytes}
 use Rattle.std.specs.Io.KnownBytes.{Appends}
 use Rattle.std.proofs.KnownBytes.{Appends-kept}
-use Rattle.profile.specs.Output.{output}
+use Rattle.rules.specs.Output.{output}
 use Rattle.imposer.specs.Runs.{Accepted, frame_of}
 use Rattle.imposer.specs.declared.outcome.Report.{Report}
 use Rattle.imposer.specs.declared.outcome.RunError.{RunError}

@@ -1,7 +1,7 @@
 -- Status 0 is that of a finished run alone.
 use Rattle.std.proofs.Common.{◌≡◌, ℕ, List, Option, Result, Ok, Err, IfOk, arith}
 use Rattle.std.specs.Io.KnownBytes.{Appends}
-use Rattle.profile.specs.Output.{output}
+use Rattle.rules.specs.Output.{output}
 use Rattle.imposer.specs.Runs.{Accepted, Reports, Request, frame_of}
 use Rattle.imposer.specs.declared.outcome.Report.{Report}
 use Rattle.imposer.specs.declared.outcome.RunError.{RunError}

@@ -1,6 +1,6 @@
 -- What is said on standard error, and with which exit status the program ends.
 use Rattle.std.specs.Prelude.{◌++◌, ℕ, List, codes, decimal, encode_utf8}
-use Rattle.profile.specs.Bytes.{line}
+use Rattle.rules.specs.Bytes.{line}
 use Rattle.pagespec.specs.declared.error.SpecError.{SpecError}
 use Rattle.pagespec.specs.declared.error.SpecError.TheVariants as spec
 use Rattle.dsc.specs.declared.errors.DscError.{DscError}

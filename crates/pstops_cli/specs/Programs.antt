@@ -3,7 +3,7 @@ use Rattle.std.specs.Prelude.{◌≡◌, ◌⊎◌, ℕ, List, [], Bool, true, f
 use Rattle.std.specs.Prelude.{string_bytes}
 use Rattle.std.specs.Io.KnownBytes.{Appends, Keeps}
 use Rattle.clap.specs.Words.{Text, matches_of}
-use Rattle.profile.specs.Output.{output}
+use Rattle.rules.specs.Output.{output}
 use Rattle.imposer.specs.Runs.{Accepted, frame_of}
 use Rattle.imposer.specs.declared.outcome.Report.{Report}
 use Rattle.imposer.specs.declared.outcome.RunError.{RunError}

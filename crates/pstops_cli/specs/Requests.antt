@@ -2,7 +2,7 @@
 use Rattle.std.specs.Prelude.{◌≡◌, ◌⊎◌, ℕ, Bool, false, if◌then◌else◌, List, [], Option, Result, Ok, Err, IfOk, IfErr}
 use Rattle.std.specs.Prelude.{OnOk, string_bytes}
 use Rattle.std.specs.Io.KnownBytes.{Appends}
-use Rattle.profile.specs.Output.{output}
+use Rattle.rules.specs.Output.{output}
 use Rattle.imposer.specs.Runs.{Accepted, FailedIn, HasWritten, IsRefusal, Reports, frame_of, request}
 use Rattle.imposer.specs.Runs as runs
 use Rattle.imposer.specs.declared.outcome.Report.{Report}

@@ -1,8 +1,8 @@
 -- What the values of the options stand for.
 use Rattle.std.specs.Prelude.{⊤, ◌≤◌, ℕ, unwrap_or, ok_or, option_and_then, if◌then◌else◌}
 use Rattle.std.specs.Prelude.{List, Option, Some, None, Result, Ok, Err, codes}
-use Rattle.profile.specs.Signatures.{most_sides}
-use Rattle.profile.specs.Papers.{Paper, is_side, paper_named}
+use Rattle.rules.specs.Signatures.{most_sides}
+use Rattle.rules.specs.Papers.{Paper, is_side, paper_named}
 use Rattle.lengths.specs.Lengths.{length_named}
 use Rattle.imposer.specs.declared.options.Options.{Options}
 use Rattle.imposer.specs.declared.options.Workers.{Workers}

@@ -1,7 +1,7 @@
 //! The run of a request, and what is said of how it ended.
 ghost use Rattle.std.specs.Prelude.{◌≡◌, ◌<◌, ◌^◌, [], false, Option, Result, IfOk, OnErr, string_bytes};
 ghost use Rattle.std.specs.Io.KnownBytes.{Appends};
-ghost use Rattle.profile.specs.Output.{output};
+ghost use Rattle.rules.specs.Output.{output};
 ghost use Rattle.imposer.specs.Runs.{Accepted, frame_of};
 ghost use Rattle.imposer.specs.declared.outcome.Report.{Report as ReportValue};
 ghost use Rattle.imposer.specs.declared.outcome.RunError.{RunError as RunErrorValue};

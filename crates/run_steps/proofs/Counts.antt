@@ -3,7 +3,7 @@ use Rattle.std.proofs.Common.{◌≡◌, ◌≢◌, ◌⊎◌, inl, inr, ⊎_eli
 use Rattle.std.specs.Prelude.{Option, Some, None, slice_get, slice_index_or}
 use mathlib.Core.Logic.{dite}
 use native.Mathlib.Decide.{ℕ_discrete}
-use Rattle.profile.specs.Sheets.{Plan, Layout, layout}
+use Rattle.rules.specs.Sheets.{Plan, Layout, layout}
 use Rattle.histories.specs.Seats.{whole_share, total}
 use Rattle.sheet_plan.specs.Places.{has_page, places_in, places_from, places_of}
 use Rattle.sheet_plan.specs.Plans.{IsSound}

@@ -2,7 +2,7 @@
 use Rattle.std.proofs.Common.{◌≡◌, ℕ, zero, suc, ◌+◌, ◌<◌, ◌≤◌, List, [], ◌∷◌, ◌++◌, Option, Some, length, take, drop, refl, sym, ap, ◌∙◌, subst, arith, length-append}
 use Rattle.std.specs.Prelude.{None, slice_get}
 use Rattle.std.proofs.lemmas.List.{take_all}
-use Rattle.profile.specs.Sheets.{Layout, Plan, layout}
+use Rattle.rules.specs.Sheets.{Layout, Plan, layout}
 use Rattle.sheet_plan.specs.Plans.{pages_on}
 use Rattle.gather_table.specs.Table.{slots}
 use Rattle.gather_table.specs.History.{Entry, PageAt, IsLegal, IsComplete, after_history}

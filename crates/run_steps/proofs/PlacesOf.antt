@@ -5,7 +5,7 @@ use mathlib.Core.Logic.{dite}
 use native.Mathlib.Decide.{ℕ_discrete}
 use Rattle.gather_table.specs.declared.answers.Published.{Published}
 use Rattle.gather_table.specs.History.{Publish}
-use Rattle.profile.specs.Sheets.{Layout}
+use Rattle.rules.specs.Sheets.{Layout}
 use Rattle.gather_table.specs.Shared.{SeatView, Made}
 use Rattle.gather_table.proofs.Calls.{published_may_be_marked}
 use Rattle.sheet_plan.specs.Places.{has_page, places_in, places_from, places_of}

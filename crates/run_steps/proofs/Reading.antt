@@ -1,6 +1,6 @@
 -- What only reads adds nothing.
 use Rattle.std.proofs.Common.{◌≡◌, ℕ, List, [], ◌∷◌, ◌++◌, refl, subst, arith}
-use Rattle.profile.specs.Sheets.{Layout}
+use Rattle.rules.specs.Sheets.{Layout}
 use Rattle.histories.specs.Seats.{total}
 use Rattle.histories.proofs.Totals.{total-append}
 use Rattle.gather_table.specs.History.{Look, IsComplete}

@@ -1,7 +1,7 @@
 -- What the delivery of a page calls, and what it hands on.
 use Rattle.std.specs.Prelude.{◌≡◌, ◌⊎◌, ℕ, ◌<◌, Bool, true, false, List, [], ◌∷◌, ◌++◌, length, filter}
 use Rattle.std.specs.Prelude.{Option, Some, None, if◌then◌else◌}
-use Rattle.profile.specs.Sheets.{Layout}
+use Rattle.rules.specs.Sheets.{Layout}
 use Rattle.histories.specs.Seats.{whole_share, times}
 use Rattle.sheet_plan.specs.Places.{places_of}
 use Rattle.gather_table.specs.declared.answers.Published.{Published}

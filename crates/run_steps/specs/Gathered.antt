@@ -2,7 +2,7 @@
 use Rattle.std.specs.Prelude.{◌≡◌, ℕ, ◌+◌, ◌<◌, ◌≤◌, ◌==◌, ◌&&◌, Bool, true, false, if◌then◌else◌, List, [], ◌++◌, length}
 use Rattle.std.specs.Prelude.{Option, Some, slice_get}
 use mathlib.Core.List.{IsPrefix}
-use Rattle.profile.specs.Sheets.{Layout}
+use Rattle.rules.specs.Sheets.{Layout}
 use Rattle.histories.specs.Seats.{total, times, whole_share}
 use Rattle.gather_table.specs.Table.{slots, is_blank, is_full, HasGroup}
 use Rattle.gather_table.specs.History.{Entry, PageAt, IsLegal, IsComplete}

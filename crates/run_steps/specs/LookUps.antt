@@ -1,6 +1,6 @@
 -- The calls by which a sheet's pages are found.
 use Rattle.std.specs.Prelude.{◌≡◌, ℕ, ◌<◌, ◌≤◌, List, [], ◌∷◌, length, Option, Some, None}
-use Rattle.profile.specs.Sheets.{Layout}
+use Rattle.rules.specs.Sheets.{Layout}
 use Rattle.gather_table.specs.Table.{slots}
 use Rattle.gather_table.specs.History.{Entry, PageAt, after_history}
 use Rattle.gather_table.specs.Shared.{SeatView, Made, Makes}

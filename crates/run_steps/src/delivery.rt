@@ -1,7 +1,7 @@
 //! A page is put on the shelf, published and marked.
 ghost use Rattle.std.specs.Prelude.{◌≡◌, ℕ, ◌<◌, ◌≤◌, ◌+◌, ◌++◌, [], ◌∷◌, List, length, All, filter};
 ghost use Rattle.std.specs.Prelude.{IfOk, IfErr, MatchResult, vec_capacity, if◌then◌else◌};
-ghost use Rattle.profile.specs.Sheets.{layout};
+ghost use Rattle.rules.specs.Sheets.{layout};
 ghost use Rattle.gather_table.specs.Shared.{IsSeatOf, Makes};
 ghost use Rattle.handover.specs.Passes.{IsPassOf};
 ghost use Rattle.handover.specs.Shelves.{IsOn};

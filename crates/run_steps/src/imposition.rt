@@ -1,9 +1,9 @@
 //! A sheet is made of the pages that are shelved.
 ghost use Rattle.std.specs.Prelude.{◌≡◌, ℕ, ◌+◌, ◌-◌, ◌<◌, ◌≤◌, ◌++◌, ◌∷◌, [], IfOk, OnOk, OnErr, MatchResult, length};
 ghost use Rattle.std.specs.Prelude.{Some, slice_get, slice_index_or, true};
-ghost use Rattle.profile.specs.Parts.{pages};
-ghost use Rattle.profile.specs.Sheets.{Slot, layout};
-ghost use Rattle.profile.specs.Output.{slot_text};
+ghost use Rattle.rules.specs.Parts.{pages};
+ghost use Rattle.rules.specs.Sheets.{Slot, layout};
+ghost use Rattle.rules.specs.Output.{slot_text};
 ghost use Rattle.sheet_plan.specs.Plans.{pages_on};
 ghost use Rattle.gather_table.specs.History.{PageAt, IsComplete};
 ghost use Rattle.gather_table.specs.Shared.{IsSeatOf, Made};

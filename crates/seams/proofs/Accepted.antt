@@ -3,9 +3,9 @@ use Rattle.std.specs.Prelude.{Result, Ok, Err, codes, not, nat_lt}
 use Rattle.std.specs.List.{starts_with}
 use Rattle.std.proofs.Common.{nat_eq, ◌==◌, Bool, true, false, ◌≡◌, ℕ, zero, suc, ◌<◌, ◌≤◌, List, length, refl, ap, arith, sym, ◌∙◌, subst}
 use Rattle.std.proofs.lemmas.Bool.{le-ltb, ltb-false, eqb-true}
-use Rattle.profile.specs.Units.{TextUnit, FaultyBlock, AreUnits, cut, ◌>>=◌}
-use Rattle.profile.specs.Parts.{NestedUnit, nested, pages}
-use Rattle.profile.specs.Run.{DocumentFault, InputTooLong, NotPostScript, InputTooManyPages, NoPages, document_of, most_input_bytes, most_pages, with_pages, refuse_if, of_block}
+use Rattle.rules.specs.Units.{TextUnit, FaultyBlock, AreUnits, cut, ◌>>=◌}
+use Rattle.rules.specs.Parts.{NestedUnit, nested, pages}
+use Rattle.rules.specs.Run.{DocumentFault, InputTooLong, NotPostScript, InputTooManyPages, NoPages, document_of, most_input_bytes, most_pages, with_pages, refuse_if, of_block}
 use Rattle.dsc.specs.Units.{or_none, units_of}
 use Rattle.dsc.proofs.Cases.{by_test}
 use Rattle.seams.proofs.Texts.{units_are}

@@ -5,8 +5,8 @@ use Rattle.std.proofs.Common.{nat_eq, ◌==◌, ◌||◌, ◌&&◌, cond, Bool, 
 use Rattle.std.proofs.lemmas.List.{take-append-drop}
 use Rattle.std.proofs.lemmas.List.Sums.{take_while-cons}
 use Rattle.std.proofs.lemmas.Slice.Eq.{bytes_eq-Decides}
-use Rattle.profile.specs.Units.{TextUnit, is_end, is_blank, first_unit, content_of, line_len, key, has_key, is_comment}
-use Rattle.profile.specs.Parts.{NestedUnit, begins_page, is_outermost_line}
+use Rattle.rules.specs.Units.{TextUnit, is_end, is_blank, first_unit, content_of, line_len, key, has_key, is_comment}
+use Rattle.rules.specs.Parts.{NestedUnit, begins_page, is_outermost_line}
 use Rattle.dsc.proofs.Rows.{unit-front}
 use Rattle.seams.proofs.Keys.{key_is}
 use Rattle.seams.proofs.LinesMeet.{go_line}

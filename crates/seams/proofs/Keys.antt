@@ -2,7 +2,7 @@
 use Rattle.std.specs.Str.{bytes_eq}
 use Rattle.std.proofs.Common.{◌||◌, Bool, true, false, ◌≡◌, ℕ, List, [], ◌∷◌, refl, ap, ◌∙◌}
 use Rattle.std.proofs.lemmas.Slice.Eq.{bytes_eq-Decides}
-use Rattle.profile.specs.Units.{key, has_key}
+use Rattle.rules.specs.Units.{key, has_key}
 use Rattle.dsc.proofs.Cases.{by_test}
 use Rattle.seams.proofs.LinesMeet.{clash}
 

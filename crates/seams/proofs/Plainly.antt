@@ -3,8 +3,8 @@ use Rattle.std.specs.Prelude.{ℤ, nat_abs, nat_lt, decimal, not, if◌then◌el
 use Rattle.std.specs.Fmt.{digits, digits_onto, digit_glyph}
 use Rattle.std.proofs.Common.{Bool, true, false, ◌==◌, ◌||◌, ◌&&◌, ◌≡◌, ℕ, zero, suc, ◌+◌, ◌/◌, ◌%◌, ◌^◌, ◌≤◌, List, [], ◌∷◌, ◌++◌, length, drop, refl, ap, arith, ◌∙◌}
 use Rattle.std.proofs.lemmas.Bool.{ne_eqb}
-use Rattle.profile.specs.Units.{is_end}
-use Rattle.profile.specs.Numbers.{without_last_zeros, decimals_of, fraction_text, sign_text, printed, is_negative, scale_text, points_text, rounded}
+use Rattle.rules.specs.Units.{is_end}
+use Rattle.rules.specs.Numbers.{without_last_zeros, decimals_of, fraction_text, sign_text, printed, is_negative, scale_text, points_text, rounded}
 use Rattle.seams.specs.Seams.{no_ends}
 
 both : (a b : Bool) → a ≡ true → b ≡ true → (a && b) ≡ true

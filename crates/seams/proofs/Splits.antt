@@ -1,8 +1,8 @@
 -- Units that pass a test, and the parts of a document.
 use Rattle.std.specs.Prelude.{Option, Some, None, map, if◌then◌else◌}
 use Rattle.std.proofs.Common.{Bool, true, false, cond, ◌≡◌, ℕ, List, [], ◌∷◌, ◌++◌, refl, ap, sym, ◌∙◌}
-use Rattle.profile.specs.Units.{TextUnit}
-use Rattle.profile.specs.Parts.{NestedUnit, depth_after, nested_from, nested, begins_page, begins_trailer, up_to, starting_at, split_pages, bytes_of}
+use Rattle.rules.specs.Units.{TextUnit}
+use Rattle.rules.specs.Parts.{NestedUnit, depth_after, nested_from, nested, begins_page, begins_trailer, up_to, starting_at, split_pages, bytes_of}
 use Rattle.dsc.proofs.Cases.{by_test}
 use Rattle.dsc.proofs.PartMarks.{before-cons, from-cons}
 use Rattle.seams.specs.Seams.{passes, PagesStay}

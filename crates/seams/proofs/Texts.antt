@@ -6,10 +6,10 @@ use Rattle.dsc.proofs.Cases.{by_test}
 use Rattle.std.proofs.Common.{eqb, ◌&&◌, true, false, append_assoc, ◌≡◌, ℕ, ◌<◌, List, [], ◌∷◌, ◌++◌, length, drop, refl, ap, arith, length-append, sym, ◌∙◌, subst}
 use Rattle.std.proofs.lemmas.List.{append-nil}
 use Rattle.std.proofs.Math.Seq.{drop-append_seam}
-use Rattle.profile.specs.Bytes.{line}
-use Rattle.profile.specs.Units.{is_end, TextUnit, first_unit, cut, AreUnits}
-use Rattle.profile.proofs.CutUnits.{cut_is_units, unit_some}
-use Rattle.profile.proofs.Whole.{units_make_text}
+use Rattle.rules.specs.Bytes.{line}
+use Rattle.rules.specs.Units.{is_end, TextUnit, first_unit, cut, AreUnits}
+use Rattle.rules.proofs.CutUnits.{cut_is_units, unit_some}
+use Rattle.rules.proofs.Whole.{units_make_text}
 use Rattle.seams.specs.Seams.{joined, no_ends, IsLine, line_unit, AreLines, LinesPutIn, UnitsJoin, UnitStays, lf, ends}
 use Rattle.seams.proofs.LinesMeet.{ends_drop, clash}
 use Rattle.seams.proofs.UnitsMeet.{not_end, unit_same, first_line}

@@ -6,10 +6,10 @@ use Rattle.std.specs.Char.{is_ascii_digit}
 use Rattle.std.proofs.Common.{Bool, true, false, ltb, append_assoc, ◌&&◌, ◌≡◌, ℕ, zero, suc, ◌+◌, ◌<◌, ◌≤◌, List, [], ◌∷◌, ◌++◌, length, take, drop, refl, ap, arith, length-append, length-drop, length-take, sym, ◌∙◌, subst}
 use Rattle.std.proofs.lemmas.Bool.{ltb-false, le-ltb}
 use Rattle.std.proofs.Math.Seq.{drop-append-le, take-append-le}
-use Rattle.profile.specs.Numbers.{number_of}
-use Rattle.profile.specs.Bytes.{line}
+use Rattle.rules.specs.Numbers.{number_of}
+use Rattle.rules.specs.Bytes.{line}
 use Rattle.seams.specs.Seams.{no_ends, IsLine, line_unit, lf, ends}
-use Rattle.profile.specs.Units.{is_end, TextUnit, BlockFault, content_of, line_len, lines_len, begins_block, fields, counts_lines, or_short, data_len, block, first_unit}
+use Rattle.rules.specs.Units.{is_end, TextUnit, BlockFault, content_of, line_len, lines_len, begins_block, fields, counts_lines, or_short, data_len, block, first_unit}
 use Rattle.dsc.specs.Fields.{counted}
 use Rattle.dsc.proofs.Cases.{by_test}
 use Rattle.dsc.proofs.LineLengths.{line_len-within, lines_len-least}

@@ -2,9 +2,9 @@
 use Rattle.std.specs.Prelude.{◌≡◌, ℕ, ◌<◌, ◌≤◌, Bool, true, false, not, ◌&&◌, if◌then◌else◌, List, [], ◌∷◌, ◌++◌}
 use Rattle.std.specs.Prelude.{length, map, flat_map, nat_eq, Option, Some, None, Ok}
 use Rattle.std.specs.List.{starts_with}
-use Rattle.profile.specs.Bytes.{line, line_feed}
-use Rattle.profile.specs.Units.{TextUnit, is_end, begins_block, first_unit, cut}
-use Rattle.profile.specs.Parts.{NestedUnit, depth_after, nested, begins_page, pages, trailer}
+use Rattle.rules.specs.Bytes.{line, line_feed}
+use Rattle.rules.specs.Units.{TextUnit, is_end, begins_block, first_unit, cut}
+use Rattle.rules.specs.Parts.{NestedUnit, depth_after, nested, begins_page, pages, trailer}
 
 -- the bytes of units, one behind the other
 abbrev pub joined : List TextUnit → List ℕ

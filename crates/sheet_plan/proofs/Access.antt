@@ -9,11 +9,11 @@ use Rattle.std.proofs.lemmas.Nat.{mul-le}
 use Rattle.std.proofs.lemmas.Option.{slice_get-map, get_or_from_slice_get, slice_get_within}
 use Rattle.pagespec.specs.declared.item.Item.{Item as PageItem}
 use Rattle.pagespec.specs.Items.{groups_of, item_of}
-use Rattle.profile.specs.Admissible.{most_groups, most_slots}
-use Rattle.profile.specs.Specification.{Spec, Item}
-use Rattle.profile.specs.Sheets.{Plan, place, blocks}
-use Rattle.profile.specs.Signatures.{entry_in, row_len, sheets_in}
-use Rattle.profile.proofs.Counts.{sheet_count}
+use Rattle.rules.specs.Admissible.{most_groups, most_slots}
+use Rattle.rules.specs.Specification.{Spec, Item}
+use Rattle.rules.specs.Sheets.{Plan, place, blocks}
+use Rattle.rules.specs.Signatures.{entry_in, row_len, sheets_in}
+use Rattle.rules.proofs.Counts.{sheet_count}
 use Rattle.sheet_plan.specs.Plans.{planned_in, pages_on, items_on, IsSound, IsOfSpec}
 use Rattle.sheet_plan.specs.Refusals.{IsAccepted}
 use Rattle.sheet_plan.proofs.Admitted.{IsBounded, bounded}

@@ -5,9 +5,9 @@ use Rattle.std.proofs.lemmas.Bool.Decides.{nat_tests}
 use Rattle.std.proofs.lemmas.List.{length-map, get_or_append_left, get_or-append-add, length-append}
 use Rattle.std.proofs.lemmas.List.Sums.{fails_before_first}
 use Rattle.std.proofs.lemmas.List.Elements.{All-nil, All-cons, All-map}
-use Rattle.profile.specs.Bytes.{comma, plus_sign}
-use Rattle.profile.specs.Specification.{IsJoined, IsItem, IsSpec, AreGroups, WrittenSpec, WrittenItem, Spec, settled, settled_item}
-use Rattle.profile.specs.Admissible.{Takes, Fault, TooLarge, ModuloZero, PageOutOfBlock, ScaleZero, Repeated, TooManySlots, TooManyGroups, IsAdmissible, fault_of, else_first, only_if, at_lowest, any_too_large, has_large, items, repeats, is_flat, most_slots, most_groups}
+use Rattle.rules.specs.Bytes.{comma, plus_sign}
+use Rattle.rules.specs.Specification.{IsJoined, IsItem, IsSpec, AreGroups, WrittenSpec, WrittenItem, Spec, settled, settled_item}
+use Rattle.rules.specs.Admissible.{Takes, Fault, TooLarge, ModuloZero, PageOutOfBlock, ScaleZero, Repeated, TooManySlots, TooManyGroups, IsAdmissible, fault_of, else_first, only_if, at_lowest, any_too_large, has_large, items, repeats, is_flat, most_slots, most_groups}
 use Rattle.std.specs.List.{list_any, position_or_len}
 
 -- a list of checks without a fault

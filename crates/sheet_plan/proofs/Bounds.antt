@@ -3,10 +3,10 @@ use Rattle.std.proofs.Common.{arith, ◌≡◌, ℕ, zero, suc, ◌+◌, ◌-◌
 use Rattle.std.specs.Prelude.{Bool, true, false, if◌then◌else◌, slice_get, option_map}
 use Rattle.std.proofs.lemmas.Nat.{div-add-mod', mod_below, div_below, div-mul-add, mul-le}
 use Rattle.std.proofs.lemmas.Option.{slice_get-map, same_Some, none-some}
-use Rattle.profile.specs.Specification.{Spec, Item}
-use Rattle.profile.specs.Sheets.{place, blocks}
-use Rattle.profile.specs.Signatures.{AreSidesIfGiven, entry_in, row_len, sheets_in}
-use Rattle.profile.proofs.Signatures.{entry_named, row_holds}
+use Rattle.rules.specs.Specification.{Spec, Item}
+use Rattle.rules.specs.Sheets.{place, blocks}
+use Rattle.rules.specs.Signatures.{AreSidesIfGiven, entry_in, row_len, sheets_in}
+use Rattle.rules.proofs.Signatures.{entry_named, row_holds}
 use Rattle.sheet_plan.specs.Plans.{planned_in, pages_on, IsSound, IsOfSpec}
 use Rattle.sheet_plan.specs.Refusals.{IsAccepted}
 use Rattle.sheet_plan.proofs.Admitted.{bounded}

@@ -1,8 +1,8 @@
 -- The page at an entry, by the page that the entry names.
 use Rattle.std.proofs.Common.{◌≡◌, ℕ, ◌<◌, ◌≤◌, refl, ap, ◌∙◌, sym, Option, Some, None}
-use Rattle.profile.specs.Sheets.{page_at}
-use Rattle.profile.specs.Signatures.{AreSidesIfGiven, entry_in}
-use Rattle.profile.proofs.Signatures.{entry_at, page_hidden, page_of_entry, page_shown}
+use Rattle.rules.specs.Sheets.{page_at}
+use Rattle.rules.specs.Signatures.{AreSidesIfGiven, entry_in}
+use Rattle.rules.proofs.Signatures.{entry_at, page_hidden, page_of_entry, page_shown}
 
 -- the page that an entry names
 abbrev pub page_named : (sides : Option ℕ) → (e : ℕ) → ℕ

@@ -3,7 +3,7 @@ use Rattle.std.proofs.Common.{arith, ◌≡◌, ◌⊎◌, inl, inr, ℕ, zero, 
 use Rattle.std.specs.Prelude.{◌==◌, is_none, filter, slice_get, slice_index_or, if◌then◌else◌}
 use Rattle.std.specs.List.{AllByRecursion, list_all, range_with_len}
 use Rattle.std.proofs.lemmas.Grind.{common_steps}
-use Rattle.profile.specs.Sheets.{Layout}
+use Rattle.rules.specs.Sheets.{Layout}
 use Rattle.sheet_plan.specs.Places.{has_page, places_in, places_from, places_of, is_blank, born_complete}
 use Rattle.sheet_plan.specs.Laws.{IsAmong, Ascend, IsLower, ArePlaces, PlacesAreExact, AreWithoutPages, BornCompleteAreWithoutPages}
 

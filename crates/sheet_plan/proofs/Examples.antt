@@ -1,8 +1,8 @@
 -- Two pages on three sheets, the second of which is blank; and sheets on both sides of a slot group's end.
 use Rattle.std.proofs.Common.{◌≡◌, ℕ, [], ◌∷◌, Option, Some, None, refl, true, false}
 use Rattle.std.specs.Prelude.{pos, replicate}
-use Rattle.profile.specs.Specification.{Item, Upright, zero_points}
-use Rattle.profile.specs.Sheets.{Layout, Plan}
+use Rattle.rules.specs.Specification.{Item, Upright, zero_points}
+use Rattle.rules.specs.Sheets.{Layout, Plan}
 use Rattle.sheet_plan.specs.Plans.{slot_groups, needs_page}
 use Rattle.sheet_plan.specs.Places.{places_of, is_blank, born_complete}
 

@@ -7,12 +7,12 @@ use Rattle.std.proofs.lemmas.Bool.Decides.{nat_tests}
 use Rattle.std.proofs.lemmas.List.{length-map}
 use Rattle.pagespec.specs.declared.item.Item.{Item as PageItem}
 use Rattle.pagespec.specs.Items.{groups_of, item_of}
-use Rattle.profile.specs.Specification.{Spec}
-use Rattle.profile.specs.Admissible.{IsAdmissible, most_slots, most_groups}
-use Rattle.profile.specs.Sheets.{Slot, blocks}
-use Rattle.profile.specs.Signatures.{AreSidesIfGiven, entry_in, row_len, sheets_in}
-use Rattle.profile.specs.Run.{plan_in, refuse_if, PlanFault, PlanTooManyPages, TooManySheets, TooManyPlaces}
-use Rattle.profile.proofs.Counts.{sheet_count, place_count}
+use Rattle.rules.specs.Specification.{Spec}
+use Rattle.rules.specs.Admissible.{IsAdmissible, most_slots, most_groups}
+use Rattle.rules.specs.Sheets.{Slot, blocks}
+use Rattle.rules.specs.Signatures.{AreSidesIfGiven, entry_in, row_len, sheets_in}
+use Rattle.rules.specs.Run.{plan_in, refuse_if, PlanFault, PlanTooManyPages, TooManySheets, TooManyPlaces}
+use Rattle.rules.proofs.Counts.{sheet_count, place_count}
 use Rattle.sheet_plan.specs.Refusals.{IsAccepted}
 use Rattle.sheet_plan.proofs.Admitted.{bounded}
 use Rattle.sheet_plan.proofs.Bounds.{blocks_ceil, blocks_le}

@@ -2,10 +2,10 @@
 use Rattle.std.proofs.Common.{arith, ◌≡◌, ℕ, zero, suc, ◌*◌, ◌/◌, ◌%◌, ◌<◌, List, [], ◌∷◌, length, map, get_or, Option, refl, sym, ap, ◌∙◌}
 use Rattle.std.proofs.lemmas.Nat.{div-add-mod', mod_below, div_below}
 use Rattle.std.proofs.lemmas.List.{length-map, get_or-map}
-use Rattle.profile.specs.Specification.{Spec, Item}
-use Rattle.profile.specs.Sheets.{Slot, place, blocks}
-use Rattle.profile.specs.Signatures.{entry_in, row_len, sheets_in}
-use Rattle.profile.proofs.Counts.{row_at, sheet_count}
+use Rattle.rules.specs.Specification.{Spec, Item}
+use Rattle.rules.specs.Sheets.{Slot, place, blocks}
+use Rattle.rules.specs.Signatures.{entry_in, row_len, sheets_in}
+use Rattle.rules.proofs.Counts.{row_at, sheet_count}
 use Rattle.sheet_plan.specs.Plans.{planned_in, pages_on, items_on}
 
 map_map : {X Y Z : Type 0} (f : Y → Z) (h : X → Y) (xs : List X) → map f (map h xs) ≡ map (λ x. f (h x)) xs

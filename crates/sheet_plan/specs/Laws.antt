@@ -1,7 +1,7 @@
 -- What holds of the places of a page and of the sheets without pages, said as relations.
 use Rattle.std.specs.Prelude.{⊤, ◌≡◌, ◌↔◌, ◌⊎◌, ℕ, ◌<◌, List, [], ◌∷◌, length, Some, slice_get, slice_index_or}
 use Rattle.std.specs.List.{AllByRecursion}
-use Rattle.profile.specs.Sheets.{Layout}
+use Rattle.rules.specs.Sheets.{Layout}
 use Rattle.sheet_plan.specs.Places.{places_of, born_complete}
 
 -- it is one of them

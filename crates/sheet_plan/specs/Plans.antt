@@ -1,11 +1,11 @@
 -- What is read off a plan, and what every plan keeps to.
 use Rattle.std.specs.Prelude.{◌≡◌, ℕ, ◌+◌, ◌/◌, ◌<◌, ◌≤◌, Bool, true, false, List, [], length, map, Option, Some, None}
 use Rattle.std.specs.Prelude.{slice_get, slice_index_or, sum_by}
-use Rattle.profile.specs.Specification.{Spec, Item}
-use Rattle.profile.specs.Admissible.{IsAdmissible, most_slots}
-use Rattle.profile.specs.Sheets.{Plan, sheets, layout}
-use Rattle.profile.specs.Signatures.{AreSidesIfGiven, sheets_in}
-use Rattle.profile.specs.Run.{most_pages, most_sheets, most_places}
+use Rattle.rules.specs.Specification.{Spec, Item}
+use Rattle.rules.specs.Admissible.{IsAdmissible, most_slots}
+use Rattle.rules.specs.Sheets.{Plan, sheets, layout}
+use Rattle.rules.specs.Signatures.{AreSidesIfGiven, sheets_in}
+use Rattle.rules.specs.Run.{most_pages, most_sheets, most_places}
 
 -- the plan of a specification on n pages
 abbrev pub planned : Spec → ℕ → Plan

@@ -1,10 +1,10 @@
 -- Which specifications are planned, and why the others are refused.
 use Rattle.std.specs.Prelude.{◌≡◌, ℕ, ◌<◌, ◌≤◌, Ok, Err, length, sum_by, All, Option, None}
-use Rattle.profile.specs.Specification.{Spec}
-use Rattle.profile.specs.Admissible.{IsAdmissible, most_slots}
-use Rattle.profile.specs.Signatures.{AreSidesIfGiven, row_len, sheets_in}
-use Rattle.profile.specs.Run.{most_pages, most_sheets, most_places, plan_in, PlanTooManyPages}
-use Rattle.profile.specs.Run as profile
+use Rattle.rules.specs.Specification.{Spec}
+use Rattle.rules.specs.Admissible.{IsAdmissible, most_slots}
+use Rattle.rules.specs.Signatures.{AreSidesIfGiven, row_len, sheets_in}
+use Rattle.rules.specs.Run.{most_pages, most_sheets, most_places, plan_in, PlanTooManyPages}
+use Rattle.rules.specs.Run as rules
 use Rattle.sheet_plan.specs.declared.error.PlanError.{PlanError}
 use Rattle.sheet_plan.specs.declared.error.PlanError.TheVariants.{TooManyPages, TooManySheets, TooManyPlaces, NoMemory}
 
@@ -12,8 +12,8 @@ use Rattle.sheet_plan.specs.declared.error.PlanError.TheVariants.{TooManyPages, 
 -- that is passed, or, at NoMemory, that none is
 abbrev pub RefusesIn : (sides : Option ℕ) → Spec → ℕ → PlanError → Type 0
 RefusesIn sides spec n TooManyPages = plan_in sides spec n ≡ Err PlanTooManyPages
-RefusesIn sides spec n TooManySheets = plan_in sides spec n ≡ Err profile.TooManySheets
-RefusesIn sides spec n TooManyPlaces = plan_in sides spec n ≡ Err profile.TooManyPlaces
+RefusesIn sides spec n TooManySheets = plan_in sides spec n ≡ Err rules.TooManySheets
+RefusesIn sides spec n TooManyPlaces = plan_in sides spec n ≡ Err rules.TooManyPlaces
 RefusesIn sides spec n NoMemory = plan_in sides spec n ≡ Ok (sheets_in sides spec n)
 
 abbrev pub Refuses : Spec → ℕ → PlanError → Type 0

@@ -1,6 +1,6 @@
 //! The sheets that wait for no page.
 ghost use Rattle.std.specs.Prelude.{◌≡◌, ◌<◌, length, IsTrue, ◌↔◌, IfOk};
-ghost use Rattle.profile.specs.Sheets.{layout};
+ghost use Rattle.rules.specs.Sheets.{layout};
 ghost use Rattle.sheet_plan.specs.Plans.{pages_on};
 ghost use Rattle.sheet_plan.specs.Places.{is_blank, born_complete};
 

@@ -2,10 +2,10 @@
 //! computed.
 ghost use Rattle.std.specs.Prelude.{◌≡◌, ◌≢◌, ℕ, ◌+◌, ◌-◌, ◌*◌, ◌^◌, ◌<◌, ◌≤◌, length, map, Some, Err, IfOk, IfErr};
 ghost use Rattle.std.specs.Prelude.{slice_get, slice_index_or, sum_by, [], ◌%◌};
-ghost use Rattle.profile.specs.Admissible.{most_groups, most_slots};
-ghost use Rattle.profile.specs.Run.{plan_in};
-ghost use Rattle.profile.specs.Sheets.{blocks as blocks_of, place};
-ghost use Rattle.profile.specs.Signatures.{AreSidesIfGiven};
+ghost use Rattle.rules.specs.Admissible.{most_groups, most_slots};
+ghost use Rattle.rules.specs.Run.{plan_in};
+ghost use Rattle.rules.specs.Sheets.{blocks as blocks_of, place};
+ghost use Rattle.rules.specs.Signatures.{AreSidesIfGiven};
 ghost use Rattle.pagespec.specs.Items.{item_of, groups_of};
 ghost use Rattle.sheet_plan.specs.Plans.{planned_in, pages_on, items_on, IsSound, IsOfSpec};
 ghost use Rattle.sheet_plan.specs.Refusals.{RefusesIn};
@@ -32,12 +32,12 @@ pub struct Expansion<'s> {
 
 impl<'s> Model for Expansion<'s> {
     ghost use Rattle.std.specs.Prelude.{◌≡◌};
-    ghost use Rattle.profile.specs.Sheets.{Plan, blocks as blocks_of};
+    ghost use Rattle.rules.specs.Sheets.{Plan, blocks as blocks_of};
 
     ghost Value = { Plan };
 
     ghost use Rattle.pagespec.specs.Items.{groups_of};
-    ghost use Rattle.profile.specs.Signatures.{row_len};
+    ghost use Rattle.rules.specs.Signatures.{row_len};
     ghost use Rattle.sheet_plan.specs.Plans.{planned_in};
     ghost use Rattle.sheet_plan.specs.Refusals.{IsAccepted};
 

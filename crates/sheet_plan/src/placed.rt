@@ -1,6 +1,6 @@
 //! The pages that stand on the sheets, listed sheet by sheet and slot by slot.
 ghost use Rattle.std.specs.Prelude.{◌≡◌, ◌<◌, ◌++◌, length, OnOk, IfOk};
-ghost use Rattle.profile.specs.Sheets.{layout};
+ghost use Rattle.rules.specs.Sheets.{layout};
 ghost use Rattle.sheet_plan.specs.Plans.{pages_on};
 ghost use Rattle.sheet_plan.specs.Placed.{placed_in, placed_from};
 

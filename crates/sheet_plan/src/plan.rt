@@ -3,10 +3,10 @@ ghost use Rattle.std.specs.Prelude.{◌≡◌, ℕ, ◌+◌, ◌*◌, ◌<◌, �
 ghost use Rattle.std.specs.Prelude.{Some, slice_get};
 ghost use Rattle.std.specs.Int.{bit_at};
 ghost use Rattle.std.specs.List.{range_with_len};
-ghost use Rattle.profile.specs.Admissible.{most_slots};
-ghost use Rattle.profile.specs.Run.{plan_of, plan_in};
-ghost use Rattle.profile.specs.Sheets.{layout, sheets};
-ghost use Rattle.profile.specs.Signatures.{AreSides, AreSidesIfGiven, sheets_in};
+ghost use Rattle.rules.specs.Admissible.{most_slots};
+ghost use Rattle.rules.specs.Run.{plan_of, plan_in};
+ghost use Rattle.rules.specs.Sheets.{layout, sheets};
+ghost use Rattle.rules.specs.Signatures.{AreSides, AreSidesIfGiven, sheets_in};
 ghost use Rattle.pagespec.specs.Items.{item_of};
 ghost use Rattle.sheet_plan.specs.Plans.{planned, planned_in, pages_on, items_on, slot_groups, needs_page, IsSound};
 ghost use Rattle.sheet_plan.specs.Plans.{IsOfSpec};
@@ -40,13 +40,13 @@ pub struct Plan<'s> {
 }
 
 impl<'s> Model for Plan<'s> {
-    ghost use Rattle.profile.specs.Sheets.{Plan};
+    ghost use Rattle.rules.specs.Sheets.{Plan};
 
     ghost Value = { Plan };
 
     ghost use Rattle.std.specs.Prelude.{◌≡◌, map};
     ghost use Rattle.std.specs.List.{range_with_len};
-    ghost use Rattle.profile.specs.Sheets.{layout};
+    ghost use Rattle.rules.specs.Sheets.{layout};
     ghost use Rattle.sheet_plan.specs.Places.{places_of, born_complete};
 
     ghost view = { λ p. p.expansion };

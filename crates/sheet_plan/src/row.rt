@@ -1,6 +1,6 @@
 //! The row of pages that a specification is laid out on.
 ghost use Rattle.std.specs.Prelude.{◌≡◌, ◌+◌, ◌*◌, ◌/◌, ◌%◌, ◌^◌, ◌<◌, ◌↔◌, IsTrue, Some};
-ghost use Rattle.profile.specs.Signatures.{AreSides, AreSidesIfGiven, entry_in, row_len, page_in_signature as page_in};
+ghost use Rattle.rules.specs.Signatures.{AreSides, AreSidesIfGiven, entry_in, row_len, page_in_signature as page_in};
 
 const MOST_SIDES: u32 = 1_000_000;
 

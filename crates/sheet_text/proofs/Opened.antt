@@ -9,11 +9,11 @@ use denote.Enum.Bare.{sameb, same_true}
 use Rattle.lengths.specs.contracts.unit.Unit.{the_type}
 use Rattle.lengths.specs.declared.unit.Unit.{Unit}
 use Rattle.pagespec.specs.declared.item.Measure as code
-use Rattle.profile.specs.Bytes.{line}
-use Rattle.profile.specs.Papers.{Paper, grains}
-use Rattle.profile.specs.Specification.{Item, Turn, Measure}
-use Rattle.profile.specs.Placement.{Matrix, matrix, matrix_text}
-use Rattle.profile.specs.Output.{Frame, edge_text, border_text, opening_text}
+use Rattle.rules.specs.Bytes.{line}
+use Rattle.rules.specs.Papers.{Paper, grains}
+use Rattle.rules.specs.Specification.{Item, Turn, Measure}
+use Rattle.rules.specs.Placement.{Matrix, matrix, matrix_text}
+use Rattle.rules.specs.Output.{Frame, edge_text, border_text, opening_text}
 
 -- a text of a matrix, with the lines round it
 around : Frame → Matrix → List ℕ

@@ -5,11 +5,11 @@ use Rattle.std.proofs.Math.ListN.{get_or, get_or-map}
 use Rattle.std.proofs.Math.Seq.{take-suc}
 use Rattle.std.proofs.lemmas.Option.{slice_get-map, get_or_from_slice_get, slice_get_within}
 use Rattle.std.proofs.lemmas.List.{flat_map_more, length-map}
-use Rattle.profile.specs.Specification.{Item}
-use Rattle.profile.specs.Sheets.{Slot, Plan}
-use Rattle.profile.specs.Parts.{pages}
-use Rattle.profile.specs.Filters.{prepared}
-use Rattle.profile.specs.Output.{Frame, opening_text, body_text, closing_text, slot_text}
+use Rattle.rules.specs.Specification.{Item}
+use Rattle.rules.specs.Sheets.{Slot, Plan}
+use Rattle.rules.specs.Parts.{pages}
+use Rattle.rules.specs.Filters.{prepared}
+use Rattle.rules.specs.Output.{Frame, opening_text, body_text, closing_text, slot_text}
 use Rattle.sheet_plan.specs.Plans.{pages_on, items_on}
 use Rattle.sheet_text.specs.Jobs.{JobView, slots_of, slots_text}
 

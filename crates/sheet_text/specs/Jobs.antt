@@ -2,11 +2,11 @@
 use Rattle.std.specs.Prelude.{ℕ, ◌+◌, List, [], ◌++◌, length, flat_map, slice_index_or, codes, decimal, ℤ, pos, int_lt}
 use Rattle.std.specs.Prelude.{Bool, true, Option, Some, None}
 use Rattle.std.specs.List.{enumerate_from}
-use Rattle.profile.specs.Bytes.{line}
-use Rattle.profile.specs.Sheets.{Slot, Plan}
-use Rattle.profile.specs.Parts.{NestedUnit, pages}
-use Rattle.profile.specs.Filters.{preamble_text, trailer_text}
-use Rattle.profile.specs.Output.{Frame, sheet_text, slot_text}
+use Rattle.rules.specs.Bytes.{line}
+use Rattle.rules.specs.Sheets.{Slot, Plan}
+use Rattle.rules.specs.Parts.{NestedUnit, pages}
+use Rattle.rules.specs.Filters.{preamble_text, trailer_text}
+use Rattle.rules.specs.Output.{Frame, sheet_text, slot_text}
 
 pub record JobView : Type 0 where
   pub plan : Plan

@@ -1,6 +1,6 @@
 //! What is to be imposed.
 ghost use Rattle.std.specs.Prelude.{◌≡◌, length, IsTrue};
-ghost use Rattle.profile.specs.Parts.{pages};
+ghost use Rattle.rules.specs.Parts.{pages};
 ghost use Rattle.sheet_plan.specs.Plans.{IsSound};
 ghost use Rattle.sheet_text.specs.Jobs.{JobView, is_border};
 

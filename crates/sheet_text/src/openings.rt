@@ -1,6 +1,6 @@
 //! The texts before placed pages, each printed once and kept.
 ghost use Rattle.std.specs.Prelude.{◌≡◌, ◌++◌, OnOk, IfOk, IfSome, true, false};
-ghost use Rattle.profile.specs.Output.{Frame, opening_text as opening};
+ghost use Rattle.rules.specs.Output.{Frame, opening_text as opening};
 ghost use Rattle.pagespec.specs.Items.{item_of};
 
 use crate::job::Job;

@@ -1,6 +1,6 @@
 //! A text in pieces.
 ghost use Rattle.std.specs.Prelude.{◌≡◌, ◌+◌, ◌<◌, ◌≤◌, ◌++◌, [], length, IfOk, IfSome, IsNone, OnOk, OnErr};
-ghost use Rattle.profile.specs.Output.{closing_text as closing};
+ghost use Rattle.rules.specs.Output.{closing_text as closing};
 
 use placement::closing_text;
 use std::alloc::{AllocError, Global};

@@ -1,10 +1,10 @@
 //! The text of a sheet.
 ghost use Rattle.std.specs.Prelude.{◌≡◌, ℕ, ◌+◌, ◌<◌, ◌++◌, List, IfOk, OnOk, codes, decimal, length, Some, slice_get};
-ghost use Rattle.profile.specs.Bytes.{line};
-ghost use Rattle.profile.specs.Parts.{pages};
-ghost use Rattle.profile.specs.Sheets.{Slot};
-ghost use Rattle.profile.specs.Filters.{prepared};
-ghost use Rattle.profile.specs.Output.{slot_text, opening_text as opening, closing_text as closing};
+ghost use Rattle.rules.specs.Bytes.{line};
+ghost use Rattle.rules.specs.Parts.{pages};
+ghost use Rattle.rules.specs.Sheets.{Slot};
+ghost use Rattle.rules.specs.Filters.{prepared};
+ghost use Rattle.rules.specs.Output.{slot_text, opening_text as opening, closing_text as closing};
 ghost use Rattle.sheet_plan.specs.Plans.{pages_on};
 ghost use Rattle.sheet_text.specs.Jobs.{page_line, slots_of, slots_text, text_of};
 

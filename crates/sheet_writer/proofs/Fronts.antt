@@ -7,10 +7,10 @@ use Rattle.std.proofs.KnownBytes.{Appends-trans, Appends-kept, Keeps-refl}
 use Rattle.std.proofs.Math.Seq.{take-append-add, take-append_seam}
 use Rattle.std.proofs.lemmas.List.{take-append-drop, length-append, take-append-le}
 use Rattle.std.proofs.lemmas.Grind.{flat_map-append}
-use Rattle.profile.specs.Sheets.{Slot}
-use Rattle.profile.specs.Parts.{pages}
-use Rattle.profile.specs.Filters.{preamble_text, trailer_text}
-use Rattle.profile.specs.Output.{sheet_text}
+use Rattle.rules.specs.Sheets.{Slot}
+use Rattle.rules.specs.Parts.{pages}
+use Rattle.rules.specs.Filters.{preamble_text, trailer_text}
+use Rattle.rules.specs.Output.{sheet_text}
 use Rattle.sheet_text.specs.Jobs.{JobView, text_of, output_of}
 use Rattle.sheet_writer.specs.Writing.{front_text, WroteFirst, StandsAt, EndsAt, HandedAt, AreEarly}
 use Rattle.sheet_writer.specs.declared.early.Imposed.{Imposed}

@@ -7,10 +7,10 @@ use Rattle.std.proofs.Math.ListN.{get_or}
 use Rattle.std.proofs.lemmas.List.FromFn.{length-enumerate_from, get_or-enumerate_from}
 use Rattle.std.proofs.lemmas.Option.{get_or_from_slice_get, slice_get_within, slice_get-get_or}
 use Rattle.std.proofs.lemmas.List.{flat_map_more, take_all}
-use Rattle.profile.specs.Sheets.{Slot}
-use Rattle.profile.specs.Parts.{pages}
-use Rattle.profile.specs.Filters.{preamble_text, trailer_text}
-use Rattle.profile.specs.Output.{Frame, sheet_text}
+use Rattle.rules.specs.Sheets.{Slot}
+use Rattle.rules.specs.Parts.{pages}
+use Rattle.rules.specs.Filters.{preamble_text, trailer_text}
+use Rattle.rules.specs.Output.{Frame, sheet_text}
 use Rattle.sheet_text.specs.Jobs.{JobView, slots_of, text_of, output_of}
 
 -- the texts of the first n sheets

@@ -2,9 +2,9 @@
 use Rattle.std.specs.Prelude.{◌≡◌, ℕ, ◌+◌, ◌≤◌, List, ◌++◌, length, take, flat_map, slice_get, Option, Some, None}
 use Rattle.std.specs.List.{enumerate_from}
 use Rattle.std.specs.Io.KnownBytes.{Appends, Keeps}
-use Rattle.profile.specs.Parts.{pages}
-use Rattle.profile.specs.Filters.{preamble_text}
-use Rattle.profile.specs.Output.{sheet_text}
+use Rattle.rules.specs.Parts.{pages}
+use Rattle.rules.specs.Filters.{preamble_text}
+use Rattle.rules.specs.Output.{sheet_text}
 use Rattle.sheet_text.specs.Jobs.{JobView, text_of, output_of}
 use Rattle.sheet_writer.specs.declared.early.Imposed.{Imposed}
 use Rattle.sheet_writer.specs.declared.writing.Halt.{Halt}

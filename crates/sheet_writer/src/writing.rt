@@ -1,7 +1,7 @@
 //! Writes the output of a job: each sheet when its turn has come, and at the end what is left.
 ghost use Rattle.std.specs.Prelude.{◌≡◌, ℕ, ◌+◌, ◌<◌, ◌≤◌, None, Some, IfOk, IfErr, OnOk, length};
 ghost use Rattle.sheet_text.specs.Jobs.{text_of};
-ghost use Rattle.profile.specs.Filters.{trailer_text};
+ghost use Rattle.rules.specs.Filters.{trailer_text};
 ghost use Rattle.sheet_writer.specs.declared.writing.Halt.TheVariants.{Failed};
 ghost use Rattle.sheet_writer.specs.Writing.{Handed, GoesOn, AreEarly, EndsAfter};
 

@@ -1,8 +1,8 @@
 -- What an application of the laws to a document needs: its units, the state behind its preamble, its pages' own runs.
 use Rattle.std.proofs.Common.{◌≡◌, ℕ, List, [], ◌∷◌, refl, ap, Some, None, true}
 use Rattle.std.specs.Prelude.{codes, Result, Ok, Err}
-use Rattle.profile.specs.Parts.{NestedUnit}
-use Rattle.profile.specs.Run.{document_of, DocumentFault}
+use Rattle.rules.specs.Parts.{NestedUnit}
+use Rattle.rules.specs.Run.{document_of, DocumentFault}
 use Rattle.pictures.specs.Objects.{Name, Call}
 use Rattle.pictures.specs.Dictionaries.{Entry, meaning, system, entry_of}
 use Rattle.pictures.specs.Machine.{State, Graphics, Painting}

@@ -3,7 +3,7 @@
 use Rattle.std.proofs.Common.{ℕ, zero, suc, List, [], ◌∷◌, refl, Some, None}
 use Rattle.std.specs.Prelude.{codes, Option}
 use Rattle.std.specs.Fmt.{digits}
-use Rattle.profile.specs.Parts.{NestedUnit, preamble, bytes_of}
+use Rattle.rules.specs.Parts.{NestedUnit, preamble, bytes_of}
 use Rattle.pictures.specs.Objects.{Name, Procedure}
 use Rattle.pictures.specs.Machine.{State, Painting, shipped}
 use Rattle.pictures.specs.Scanner.{tokens}

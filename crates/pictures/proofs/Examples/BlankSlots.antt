@@ -2,8 +2,8 @@
 use Rattle.std.proofs.Common.{◌≡◌, ℕ, List, [], ◌∷◌, refl, Some, None, false}
 use Rattle.std.specs.Prelude.{codes, Ok}
 use Rattle.std.specs.Fmt.{digits}
-use Rattle.profile.specs.Specification.{Spec, settled}
-use Rattle.profile.proofs.Examples.Written.{item, written}
+use Rattle.rules.specs.Specification.{Spec, settled}
+use Rattle.rules.proofs.Examples.Written.{item, written}
 use Rattle.pictures.specs.Objects.{Call}
 use Rattle.pictures.specs.Machine.{Painting}
 use Rattle.pictures.proofs.Examples.TwoUp.{lines}

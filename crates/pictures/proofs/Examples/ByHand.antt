@@ -2,13 +2,13 @@
 -- what is run to compare with them.
 use Rattle.std.proofs.Common.{ℕ, ◌*◌, List, [], ◌∷◌, map, reverse, Some, None, ◌==◌}
 use Rattle.std.specs.Prelude.{codes, Result, Ok, pos, Option, option_map, if◌then◌else◌}
-use Rattle.profile.specs.Bytes.{space}
-use Rattle.profile.specs.Papers.{Pt, points}
-use Rattle.profile.specs.Specification.{Modifier, Moved, Spec}
-use Rattle.profile.specs.Units.{◌>>=◌}
-use Rattle.profile.specs.Run.{document_of, DocumentFault}
-use Rattle.profile.specs.Output.{Frame, output}
-use Rattle.profile.proofs.Examples.Written.{measure}
+use Rattle.rules.specs.Bytes.{space}
+use Rattle.rules.specs.Papers.{Pt, points}
+use Rattle.rules.specs.Specification.{Modifier, Moved, Spec}
+use Rattle.rules.specs.Units.{◌>>=◌}
+use Rattle.rules.specs.Run.{document_of, DocumentFault}
+use Rattle.rules.specs.Output.{Frame, output}
+use Rattle.rules.proofs.Examples.Written.{measure}
 use Rattle.pictures.specs.Objects.{Number, Plain, Array, Call}
 use Rattle.pictures.specs.Machine.{Segment, Clip, Painting}
 use Rattle.pictures.specs.Scanner.{tokens}

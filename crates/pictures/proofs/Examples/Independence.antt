@@ -4,8 +4,8 @@ use Rattle.std.proofs.Common.{◌≡◌, ℕ, zero, suc, ◌<◌, List, [], ◌�
 use Rattle.std.proofs.Common.{◌&&◌, true≢false, map, length, arith}
 use Rattle.std.specs.Prelude.{codes, Ok, Option, option_map, bytes_eq}
 use Rattle.std.specs.Fmt.{digits}
-use Rattle.profile.specs.Units.{◌>>=◌}
-use Rattle.profile.specs.Parts.{NestedUnit, pages, preamble, bytes_of}
+use Rattle.rules.specs.Units.{◌>>=◌}
+use Rattle.rules.specs.Parts.{NestedUnit, pages, preamble, bytes_of}
 use Rattle.pictures.specs.Objects.{Token, Name, Procedure, Call}
 use Rattle.pictures.specs.Machine.{State, Painting, step}
 use Rattle.pictures.specs.Scanner.{tokens}

@@ -3,9 +3,9 @@
 use Rattle.std.proofs.Common.{◌≡◌, ℕ, List, [], ◌∷◌, ◌++◌, refl, Some, None, map}
 use Rattle.std.specs.Prelude.{codes, Result, Ok, Option, option_map}
 use Rattle.std.specs.Fmt.{digits}
-use Rattle.profile.specs.Run.{document_of, DocumentFault}
-use Rattle.profile.specs.Units.{◌>>=◌}
-use Rattle.profile.specs.Output.{output}
+use Rattle.rules.specs.Run.{document_of, DocumentFault}
+use Rattle.rules.specs.Units.{◌>>=◌}
+use Rattle.rules.specs.Output.{output}
 use Rattle.pictures.specs.Objects.{Object, Plain, Text}
 use Rattle.pictures.specs.Machine.{Painting}
 use Rattle.pictures.specs.Scanner.{IsComplete}

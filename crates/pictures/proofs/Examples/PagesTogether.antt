@@ -2,7 +2,7 @@
 use Rattle.std.proofs.Common.{◌≡◌, ℕ, List, [], ◌∷◌, ◌++◌, refl, Some, None, map}
 use Rattle.std.specs.Prelude.{codes, Ok, option_map}
 use Rattle.std.specs.Fmt.{digits}
-use Rattle.profile.specs.Units.{◌>>=◌}
+use Rattle.rules.specs.Units.{◌>>=◌}
 use Rattle.pictures.specs.Machine.{Painting}
 use Rattle.pictures.proofs.Examples.Premises.{half, own, own_sheets, imposed, sheets_by, not_placed}
 

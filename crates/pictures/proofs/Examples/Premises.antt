@@ -2,12 +2,12 @@
 use Rattle.std.proofs.Common.{◌≡◌, ℕ, zero, suc, List, [], ◌∷◌, ◌++◌, refl, Some, None, true, false, map}
 use Rattle.std.specs.Prelude.{codes, Result, Ok, pos, Option, option_map}
 use Rattle.std.specs.Fmt.{digits}
-use Rattle.profile.specs.Papers.{points}
-use Rattle.profile.specs.Specification.{Scaled, Spec, settled}
-use Rattle.profile.specs.Units.{◌>>=◌}
-use Rattle.profile.specs.Run.{document_of, DocumentFault}
-use Rattle.profile.specs.Output.{Frame, output}
-use Rattle.profile.proofs.Examples.Written.{item, written}
+use Rattle.rules.specs.Papers.{points}
+use Rattle.rules.specs.Specification.{Scaled, Spec, settled}
+use Rattle.rules.specs.Units.{◌>>=◌}
+use Rattle.rules.specs.Run.{document_of, DocumentFault}
+use Rattle.rules.specs.Output.{Frame, output}
+use Rattle.rules.proofs.Examples.Written.{item, written}
 use Rattle.pictures.specs.Objects.{Token}
 use Rattle.pictures.specs.Machine.{State, Painting, step, and_then}
 use Rattle.pictures.specs.Scanner.{tokens}

@@ -3,10 +3,10 @@
 use Rattle.std.proofs.Common.{◌≡◌, ℕ, zero, suc, List, [], ◌∷◌, refl, Some, None, false, ◌∙◌}
 use Rattle.std.specs.Prelude.{codes, Ok, pos}
 use Rattle.std.specs.Fmt.{digits}
-use Rattle.profile.specs.Parts.{NestedUnit, preamble, bytes_of}
-use Rattle.profile.specs.Specification.{Scaled, Spec, settled}
-use Rattle.profile.specs.Signatures.{sheets_in}
-use Rattle.profile.proofs.Examples.Written.{item, written}
+use Rattle.rules.specs.Parts.{NestedUnit, preamble, bytes_of}
+use Rattle.rules.specs.Specification.{Scaled, Spec, settled}
+use Rattle.rules.specs.Signatures.{sheets_in}
+use Rattle.rules.proofs.Examples.Written.{item, written}
 use Rattle.pictures.specs.Objects.{Number, Name, Bound, Procedure, Call}
 use Rattle.pictures.specs.Dictionaries.{Entry}
 use Rattle.pictures.specs.Machine.{State, Graphics, Clip, Painting}

@@ -2,9 +2,9 @@
 use Rattle.std.proofs.Common.{◌≡◌, ℕ, List, [], ◌∷◌, refl, Some, None, false}
 use Rattle.std.specs.Prelude.{codes, Ok, pos}
 use Rattle.std.specs.Fmt.{digits}
-use Rattle.profile.specs.Papers.{Cm, In, Width, Height}
-use Rattle.profile.specs.Specification.{Quarters, Scaled, Moved, Spec, settled}
-use Rattle.profile.proofs.Examples.Written.{item, measure, written}
+use Rattle.rules.specs.Papers.{Cm, In, Width, Height}
+use Rattle.rules.specs.Specification.{Quarters, Scaled, Moved, Spec, settled}
+use Rattle.rules.proofs.Examples.Written.{item, measure, written}
 use Rattle.pictures.specs.Objects.{Call}
 use Rattle.pictures.specs.Machine.{Painting}
 use Rattle.pictures.proofs.Examples.TwoUp.{lines}

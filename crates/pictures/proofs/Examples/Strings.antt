@@ -3,10 +3,10 @@
 use Rattle.std.proofs.Common.{◌≡◌, ℕ, List, [], ◌∷◌, refl, Some, None, false, reverse}
 use Rattle.std.specs.Prelude.{codes, Ok}
 use Rattle.std.specs.Fmt.{digits}
-use Rattle.profile.specs.Parts.{NestedUnit, preamble, bytes_of}
-use Rattle.profile.specs.Specification.{Spec, settled}
-use Rattle.profile.specs.Signatures.{sheets_in}
-use Rattle.profile.proofs.Examples.Written.{item, written}
+use Rattle.rules.specs.Parts.{NestedUnit, preamble, bytes_of}
+use Rattle.rules.specs.Specification.{Spec, settled}
+use Rattle.rules.specs.Signatures.{sheets_in}
+use Rattle.rules.proofs.Examples.Written.{item, written}
 use Rattle.pictures.specs.Objects.{Text, Plain, Call}
 use Rattle.pictures.specs.Machine.{State, Segment, Clip, Graphics, Painting}
 use Rattle.pictures.specs.Sheets.{IsGround}

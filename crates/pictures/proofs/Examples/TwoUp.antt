@@ -2,13 +2,13 @@
 use Rattle.std.proofs.Common.{◌≡◌, ℕ, zero, suc, List, [], ◌∷◌, refl, Some, None, false, flat_map}
 use Rattle.std.specs.Prelude.{codes, Result, Ok, pos, Option, option_map}
 use Rattle.std.specs.Fmt.{digits}
-use Rattle.profile.specs.Bytes.{line}
-use Rattle.profile.specs.Papers.{Pt, points}
-use Rattle.profile.specs.Specification.{Scaled, Moved, Spec, settled}
-use Rattle.profile.specs.Units.{◌>>=◌}
-use Rattle.profile.specs.Run.{document_of, DocumentFault}
-use Rattle.profile.specs.Output.{Frame, output}
-use Rattle.profile.proofs.Examples.Written.{item, measure, written}
+use Rattle.rules.specs.Bytes.{line}
+use Rattle.rules.specs.Papers.{Pt, points}
+use Rattle.rules.specs.Specification.{Scaled, Moved, Spec, settled}
+use Rattle.rules.specs.Units.{◌>>=◌}
+use Rattle.rules.specs.Run.{document_of, DocumentFault}
+use Rattle.rules.specs.Output.{Frame, output}
+use Rattle.rules.proofs.Examples.Written.{item, measure, written}
 use Rattle.pictures.specs.Objects.{Token, Number, Text, Literal, Plain, Object, Array, Font, Call}
 use Rattle.pictures.specs.Machine.{State, Segment, Clip, Painting, step, and_then}
 use Rattle.pictures.specs.Scanner.{tokens}

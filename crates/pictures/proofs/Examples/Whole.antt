@@ -2,11 +2,11 @@
 use Rattle.std.proofs.Common.{◌≡◌, ℕ, zero, suc, List, [], ◌∷◌, refl, Some, None, true, length}
 use Rattle.std.specs.Prelude.{codes, Result, Ok, Err, Option}
 use Rattle.std.specs.Fmt.{digits}
-use Rattle.profile.specs.Parts.{NestedUnit, pages, preamble, bytes_of}
+use Rattle.rules.specs.Parts.{NestedUnit, pages, preamble, bytes_of}
 use Rattle.pictures.proofs.Kept.{kept_runs_alike}
-use Rattle.profile.specs.Signatures.{sheets_in}
-use Rattle.profile.specs.Filters.{preamble_text}
-use Rattle.profile.specs.Run.{document_of, DocumentFault}
+use Rattle.rules.specs.Signatures.{sheets_in}
+use Rattle.rules.specs.Filters.{preamble_text}
+use Rattle.rules.specs.Run.{document_of, DocumentFault}
 use Rattle.pictures.specs.Objects.{Procedure, Bound}
 use Rattle.pictures.specs.Machine.{State, Painting, step, and_then}
 use Rattle.pictures.specs.Scanner.{tokens}

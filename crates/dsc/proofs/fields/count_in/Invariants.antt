@@ -1,7 +1,7 @@
 use Rattle.std.specs.List.{list_all}
 use Rattle.std.specs.Char.{is_ascii_digit}
 use Rattle.std.proofs.Common.{◌≡◌, ◌-◌, ◌^◌, take, min, true}
-use Rattle.profile.specs.Numbers.{number_of}
+use Rattle.rules.specs.Numbers.{number_of}
 use Rattle.dsc.proofs.fields.count_in.Given as goal
 
 abbrev pub invariant-loop-b : goal.invariant-loop-b

@@ -1,5 +1,5 @@
 use Rattle.std.proofs.Common.{rules, arith, ◌≡◌, ◌<◌, length, drop, ap, sym, ◌∙◌, true, false}
-use Rattle.profile.specs.Units.{content_of, line_len}
+use Rattle.rules.specs.Units.{content_of, line_len}
 use Rattle.dsc.specs.Header.{stays, is_last, header_run}
 use Rattle.dsc.proofs.HeaderRun.{run_none, run_last, run_more}
 use Rattle.dsc.proofs.header.header_run.Goals as goal

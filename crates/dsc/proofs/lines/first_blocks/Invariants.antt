@@ -1,6 +1,6 @@
 use Rattle.std.specs.Prelude.{option_map}
 use Rattle.std.proofs.Common.{◌≡◌, ◌+◌, ◌-◌, ◌≤◌, drop, length}
-use Rattle.profile.specs.Units.{lines_len}
+use Rattle.rules.specs.Units.{lines_len}
 use Rattle.dsc.proofs.lines.first_blocks.Given as goal
 
 abbrev pub invariant-loop-rest : goal.invariant-loop-rest

@@ -1,4 +1,4 @@
-use Rattle.profile.specs.Sheets.{layout}
+use Rattle.rules.specs.Sheets.{layout}
 use Rattle.gather_table.proofs.Together.{stand_together}
 use Rattle.gather_table.proofs.laws.seats_stand_together.Goals as goal
 

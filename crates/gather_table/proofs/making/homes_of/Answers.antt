@@ -1,5 +1,5 @@
 use Rattle.std.proofs.Common.{arith, ◌+◌, ◌<◌, List, length, sym, ◌∙◌, subst}
-use Rattle.profile.specs.Sheets.{layout}
+use Rattle.rules.specs.Sheets.{layout}
 use Rattle.gather_table.specs.declared.lane.Home.{Home}
 use Rattle.gather_table.proofs.Blanks.{sheets_of, sound_of}
 use Rattle.gather_table.proofs.Placing.{Placed, more_placed, may_fit, lane_low, wide_fits, word_below}

@@ -1,4 +1,4 @@
-use Rattle.profile.specs.Sheets.{layout}
+use Rattle.rules.specs.Sheets.{layout}
 use Rattle.gather_table.proofs.Placing.{Placed}
 use Rattle.gather_table.proofs.making.homes_of.Given as goal
 

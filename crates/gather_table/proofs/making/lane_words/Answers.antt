@@ -1,5 +1,5 @@
 use Rattle.std.proofs.Common.{arith, ◌<◌, ◌≤◌, length, sym, ap, ◌∙◌}
-use Rattle.profile.specs.Sheets.{layout}
+use Rattle.rules.specs.Sheets.{layout}
 use Rattle.gather_table.specs.declared.lane.Lane.{Lane}
 use Rattle.gather_table.proofs.Blanks.{sheets_of, sound_of}
 use Rattle.gather_table.proofs.Placing.{may_fit, word_below}

@@ -1,6 +1,6 @@
 use Rattle.std.proofs.Common.{arith, refl, sym, ap, ◌∙◌, subst, ◌+◌, ◌-◌, ◌*◌, nat_lt, if◌then◌else◌, ℕ}
 use mir.Val.{bool_byte}
-use Rattle.profile.specs.Sheets.{layout}
+use Rattle.rules.specs.Sheets.{layout}
 use Rattle.gather_table.specs.Plain.{AreBlanks}
 use Rattle.gather_table.proofs.Stored.{group_more, blank_group_more}
 use Rattle.gather_table.proofs.plain.mark_blanks.Goals as goal

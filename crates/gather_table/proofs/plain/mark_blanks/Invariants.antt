@@ -1,5 +1,5 @@
 use Rattle.std.specs.Prelude.{◌≡◌}
-use Rattle.profile.specs.Sheets.{layout}
+use Rattle.rules.specs.Sheets.{layout}
 use Rattle.gather_table.specs.Plain.{blank_groups, AreBlanks}
 use Rattle.gather_table.proofs.plain.mark_blanks.Given as goal
 

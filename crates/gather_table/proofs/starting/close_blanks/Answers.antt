@@ -1,5 +1,5 @@
 use Rattle.std.proofs.Common.{arith, ◌≡◌, ◌+◌, ◌<◌, length, ℕ, suc, sym, ◌∙◌, subst}
-use Rattle.profile.specs.Sheets.{layout}
+use Rattle.rules.specs.Sheets.{layout}
 use Rattle.gather_table.specs.Homes.{closed_to}
 use Rattle.gather_table.specs.Rule.{WordsHold}
 use Rattle.gather_table.proofs.Blanks.{sheets_of}

@@ -1,4 +1,4 @@
-use Rattle.profile.specs.Sheets.{layout}
+use Rattle.rules.specs.Sheets.{layout}
 use Rattle.gather_table.specs.Homes.{closed_to}
 use Rattle.gather_table.specs.Rule.{WordsHold}
 use Rattle.gather_table.proofs.starting.close_blanks.Given as goal

@@ -1,6 +1,6 @@
 use Rattle.std.proofs.Common.{rules, arith, refl}
 use Rattle.std.proofs.lemmas.Nat.{one_shl}
-use Rattle.profile.specs.Sheets.{layout}
+use Rattle.rules.specs.Sheets.{layout}
 use Rattle.gather_table.proofs.FirstClosings.{groups_in, full_closed, open_kept}
 use Rattle.gather_table.proofs.Sheets.{few_groups}
 use Rattle.gather_table.proofs.starting.close_full.Goals as goal

@@ -1,5 +1,5 @@
 use Rattle.std.proofs.Common.{ap, ◌∙◌, ◌+◌, ◌-◌, ◌*◌, nat_lt, if◌then◌else◌, ℕ}
-use Rattle.profile.specs.Sheets.{layout}
+use Rattle.rules.specs.Sheets.{layout}
 use Rattle.gather_table.proofs.Blanks.{blanks_left}
 use Rattle.gather_table.proofs.words.blank_bits.Goals as goal
 

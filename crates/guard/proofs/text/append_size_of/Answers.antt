@@ -1,5 +1,5 @@
 use Rattle.std.proofs.Common.{◌++◌, ap, ◌∙◌}
-use Rattle.profile.specs.Numbers.{points_text}
+use Rattle.rules.specs.Numbers.{points_text}
 use Rattle.guard.proofs.Gluing.{size_glued}
 use Rattle.guard.proofs.text.append_size_of.Goals as goal
 

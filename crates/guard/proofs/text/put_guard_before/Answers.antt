@@ -2,8 +2,8 @@ use Rattle.std.proofs.Common.{◌≡◌, ◌∙◌, ◌+◌, ◌-◌, ap, sym, m
 use Rattle.std.specs.Prelude.{option_map, flat_map}
 use Rattle.std.proofs.lemmas.Iterator.{items_from_drains}
 use Rattle.std.proofs.lemmas.Iterator.Adapters.{YieldsList-from_vec}
-use Rattle.profile.specs.Bytes.{line}
-use Rattle.profile.specs.Filters.{ended}
+use Rattle.rules.specs.Bytes.{line}
+use Rattle.rules.specs.Filters.{ended}
 use Rattle.dsc.specs.Header.{header_len}
 use Rattle.guard.specs.Guard.{guard_lines}
 use Rattle.guard.proofs.Gluing.{put_before, front_grows}

@@ -1,5 +1,5 @@
 use Rattle.std.proofs.Common.{◌≡◌, refl, subst, inl, inr}
-use Rattle.profile.specs.Papers.{Paper}
+use Rattle.rules.specs.Papers.{Paper}
 use Rattle.impose_cli.specs.Tasks.{page_found, sheet_found}
 use Rattle.impose_cli.specs.Refusals.{RefusesLayout}
 use Rattle.impose_cli.specs.declared.task.PaperOrigin.{PaperOrigin}

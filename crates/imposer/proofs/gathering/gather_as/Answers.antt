@@ -1,6 +1,6 @@
 use Rattle.std.proofs.Common.{rules, arith, None, ◌≡◌, ◌≤◌, ◌∙◌, sym, subst, ap}
 use Rattle.histories.specs.Seats.{whole_share, times}
-use Rattle.profile.specs.Sheets.{layout}
+use Rattle.rules.specs.Sheets.{layout}
 use Rattle.sheet_plan.specs.Places.{born_complete}
 use Rattle.imposer.specs.Tokens as tokens
 use Rattle.imposer.specs.Tokens.{AreTokens}

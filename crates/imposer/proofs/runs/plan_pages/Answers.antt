@@ -1,7 +1,7 @@
 use Rattle.std.proofs.Common.{◌≡◌, sym, subst}
 use Rattle.std.specs.Prelude.{IfOk, OnOk, Ok}
-use Rattle.profile.specs.Run.{plan_in}
-use Rattle.profile.specs.Signatures.{sheets_in}
+use Rattle.rules.specs.Run.{plan_in}
+use Rattle.rules.specs.Signatures.{sheets_in}
 use Rattle.sheet_plan.specs.Plans.{planned_in}
 use Rattle.imposer.proofs.runs.plan_pages.Goals as goal
 

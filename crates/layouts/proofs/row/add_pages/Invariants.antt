@@ -1,6 +1,6 @@
 use Rattle.std.proofs.Common.{◌≡◌, ◌≤◌, ◌++◌, length, map}
 use Rattle.std.specs.List.{range_with_len}
-use Rattle.profile.specs.Admissible.{most_groups}
+use Rattle.rules.specs.Admissible.{most_groups}
 use Rattle.layouts.specs.Selections.{kept, behind}
 use Rattle.layouts.proofs.row.add_pages.Given as goal
 

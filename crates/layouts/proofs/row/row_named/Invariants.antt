@@ -1,5 +1,5 @@
 use Rattle.std.proofs.Common.{◌≡◌, ◌≤◌, take, length}
-use Rattle.profile.specs.Admissible.{most_groups}
+use Rattle.rules.specs.Admissible.{most_groups}
 use Rattle.layouts.specs.Selections.{row_of}
 use Rattle.layouts.specs.Reading.{ranges_of}
 use Rattle.layouts.proofs.row.row_named.Given as goal

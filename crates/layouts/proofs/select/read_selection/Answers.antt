@@ -1,6 +1,6 @@
 use Rattle.std.proofs.Common.{arith, rules, ◌≡◌, ◌<◌, [], None, false, length, sym, ◌∙◌}
 use Rattle.std.proofs.lemmas.List.{nil_from_length}
-use Rattle.profile.specs.Admissible.{most_groups}
+use Rattle.rules.specs.Admissible.{most_groups}
 use Rattle.layouts.specs.Selections.{row_of, misses}
 use Rattle.layouts.specs.Reading.{ranges_at, ranges_of}
 use Rattle.layouts.proofs.ReadRanges.{no_ranges}

@@ -1,5 +1,5 @@
 use Rattle.std.proofs.Common.{arith, rules, ◌≡◌, subst, sym}
-use Rattle.profile.specs.Admissible.{most_slots}
+use Rattle.rules.specs.Admissible.{most_slots}
 use Rattle.pagespec.specs.Items.{groups_of}
 use Rattle.pagespec.specs.Made.{IsWritable}
 use Rattle.layouts.specs.Selections.{Selects, selected}

@@ -1,6 +1,6 @@
 use Rattle.std.proofs.Common.{arith, rules, ◌≡◌, subst, sym, ◌∙◌, true, false}
 use Rattle.std.specs.Prelude.{IsTrue}
-use Rattle.profile.specs.Admissible.{most_slots}
+use Rattle.rules.specs.Admissible.{most_slots}
 use Rattle.pagespec.specs.Made.{IsWritable}
 use Rattle.layouts.specs.Grids.{scale_in, Grid}
 use Rattle.layouts.specs.Laws.{IsBooklet}

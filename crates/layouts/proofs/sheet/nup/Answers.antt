@@ -1,6 +1,6 @@
 use Rattle.std.proofs.Common.{arith, rules, ◌≡◌, ◌*◌, ap, subst, sym, ◌∙◌, true}
 use Rattle.std.specs.Prelude.{IsTrue}
-use Rattle.profile.specs.Admissible.{most_slots}
+use Rattle.rules.specs.Admissible.{most_slots}
 use Rattle.pagespec.specs.Made.{IsWritable}
 use Rattle.layouts.specs.Grids.{best_grid, scale_in, Grid, n_up}
 use Rattle.layouts.specs.Laws.{IsNUp}

@@ -1,6 +1,6 @@
 use Rattle.std.proofs.Common.{◌≡◌, drop}
 use Rattle.std.specs.Prelude.{map}
-use Rattle.profile.specs.Papers.{paper_named, paper_among}
+use Rattle.rules.specs.Papers.{paper_named, paper_among}
 use Rattle.lengths.proofs.Table.{entry}
 use Rattle.lengths.proofs.named.paper_by_name.Given as goal
 

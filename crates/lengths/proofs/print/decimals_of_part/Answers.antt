@@ -1,5 +1,5 @@
 use Rattle.std.proofs.Common.{arith, ◌≡◌, ◌∙◌, ap, sym}
-use Rattle.profile.specs.Numbers.{decimals_of}
+use Rattle.rules.specs.Numbers.{decimals_of}
 use Rattle.lengths.proofs.WholeNumbers.{no_decimals}
 use Rattle.lengths.proofs.print.decimals_of_part.Goals as goal
 

@@ -2,7 +2,7 @@ use Rattle.std.proofs.Common.{arith, [], ◌∷◌, sym, ap, ◌∙◌}
 use Rattle.std.specs.Prelude.{Some, None}
 use Rattle.std.proofs.lemmas.Bool.Decides.{Decides-eqb}
 use Rattle.std.proofs.lemmas.Slice.Eq.{strip_suffix_is}
-use Rattle.profile.specs.Numbers.{without_last_zeros}
+use Rattle.rules.specs.Numbers.{without_last_zeros}
 use Rattle.lengths.proofs.LastZeros.{without_last_zeros-zero, without_last_zeros-same}
 use Rattle.lengths.proofs.print.strip_zeros.Goals as goal
 

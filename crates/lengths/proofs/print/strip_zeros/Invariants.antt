@@ -1,5 +1,5 @@
 use Rattle.std.proofs.Common.{◌≡◌, ◌≤◌, length}
-use Rattle.profile.specs.Numbers.{without_last_zeros}
+use Rattle.rules.specs.Numbers.{without_last_zeros}
 use Rattle.lengths.proofs.print.strip_zeros.Given as goal
 
 abbrev pub invariant-loop-front : goal.invariant-loop-front

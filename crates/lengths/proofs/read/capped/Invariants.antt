@@ -1,5 +1,5 @@
 use Rattle.std.proofs.Common.{◌≡◌, take, min}
-use Rattle.profile.specs.Numbers.{number_of}
+use Rattle.rules.specs.Numbers.{number_of}
 use Rattle.lengths.specs.Reading.{least_large}
 use Rattle.lengths.proofs.read.capped.Given as goal
 

@@ -1,6 +1,6 @@
 use Rattle.std.proofs.Common.{◌≡◌, ◌++◌, ◌<◌, ◌^◌, take}
 use Rattle.std.specs.Prelude.{replicate}
-use Rattle.profile.specs.Numbers.{number_of}
+use Rattle.rules.specs.Numbers.{number_of}
 use Rattle.lengths.proofs.read.nine.Given as goal
 
 abbrev pub invariant-loop-i : goal.invariant-loop-i

@@ -1,5 +1,5 @@
 use Rattle.std.proofs.Common.{arith, ◌≡◌, ◌≤◌}
-use Rattle.profile.specs.Numbers.{number_of}
+use Rattle.rules.specs.Numbers.{number_of}
 use Rattle.lengths.proofs.Scans.{IsCut, scan_none, scan_some, whole_pass, fraction_pass, large_value, put_together}
 use Rattle.lengths.proofs.read.scan.Goals.{After-split_decimals}
 use Rattle.lengths.proofs.read.scan.Goals as goal

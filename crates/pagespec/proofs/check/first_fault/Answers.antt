@@ -1,6 +1,6 @@
 use Rattle.std.proofs.Common.{rules, ◌≡◌, length, position, nat_lt, nat_le, option_map}
 use Rattle.std.specs.Prelude.{◌==◌}
-use Rattle.profile.specs.Admissible.{most_slots, most_groups}
+use Rattle.rules.specs.Admissible.{most_slots, most_groups}
 use Rattle.pagespec.specs.Faults.{has_too_large, fault_if}
 use Rattle.pagespec.specs.declared.error.SpecError.TheVariants.{TooLarge, ModuloZero, PageOutOfBlock, ScaleZero, Repeated, TooManySlots, TooManyGroups}
 use Rattle.pagespec.specs.declared.parsed.ParsedItem.{ParsedItem}

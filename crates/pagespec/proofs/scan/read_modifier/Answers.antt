@@ -1,7 +1,7 @@
 use Rattle.std.proofs.Common.{refl, sym, subst, ◌≡◌, Some, None, List, ℕ, Option}
 use Rattle.std.specs.Prelude.{MatchResult}
 use Rattle.std.proofs.lemmas.List.{nil_from_length}
-use Rattle.profile.specs.Specification.{Modifier}
+use Rattle.rules.specs.Specification.{Modifier}
 use Rattle.pagespec.specs.Views.{Stands}
 use Rattle.pagespec.proofs.Scans.{at_nothing, at_scale, at_offset, at_letter, at_other}
 use Rattle.pagespec.proofs.scan.read_modifier.Goals as goal

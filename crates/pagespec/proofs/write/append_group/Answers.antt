@@ -1,5 +1,5 @@
 use Rattle.std.proofs.Common.{◌∙◌, ◌++◌, ap, sym, map}
-use Rattle.profile.specs.Specification.{item_text}
+use Rattle.rules.specs.Specification.{item_text}
 use Rattle.pagespec.specs.Items.{item_of, group_text}
 use Rattle.pagespec.proofs.Joining.{joined_text, on_ok}
 use Rattle.pagespec.proofs.write.append_group.Goals as goal

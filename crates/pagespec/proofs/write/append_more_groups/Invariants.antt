@@ -1,6 +1,6 @@
 use Rattle.std.proofs.Common.{◌≡◌, ◌++◌, ◌∷◌, take}
 use Rattle.std.specs.Prelude.{flat_map}
-use Rattle.profile.specs.Bytes.{comma}
+use Rattle.rules.specs.Bytes.{comma}
 use Rattle.pagespec.specs.Items.{groups_of, group_text}
 use Rattle.pagespec.proofs.write.append_more_groups.Given as goal
 

@@ -1,7 +1,7 @@
 use Rattle.std.proofs.Common.{◌≡◌, ◌++◌, ◌∷◌, take, map}
 use Rattle.std.specs.Prelude.{flat_map}
-use Rattle.profile.specs.Bytes.{plus_sign}
-use Rattle.profile.specs.Specification.{item_text}
+use Rattle.rules.specs.Bytes.{plus_sign}
+use Rattle.rules.specs.Specification.{item_text}
 use Rattle.pagespec.specs.Items.{item_of}
 use Rattle.pagespec.proofs.write.append_more_items.Given as goal
 

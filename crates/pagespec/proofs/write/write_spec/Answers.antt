@@ -1,5 +1,5 @@
 use Rattle.std.proofs.Common.{subst, sym, ◌∙◌}
-use Rattle.profile.specs.Admissible.{Takes, most_slots}
+use Rattle.rules.specs.Admissible.{Takes, most_slots}
 use Rattle.pagespec.proofs.Canonical.{canonical_taken}
 use Rattle.std.specs.Str.{IsAscii}
 use Rattle.pagespec.proofs.Ascii.{canonical_ascii}

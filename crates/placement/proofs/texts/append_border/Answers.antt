@@ -1,6 +1,6 @@
 use Rattle.std.proofs.lemmas.Result.{IfOk-equal}
-use Rattle.profile.specs.Numbers.{points_text}
-use Rattle.profile.specs.Output.{edge_text}
+use Rattle.rules.specs.Numbers.{points_text}
+use Rattle.rules.specs.Output.{edge_text}
 use Rattle.placement.proofs.Joining.{border_joined}
 use Rattle.std.proofs.lemmas.Result.{on_err_weaker}
 use Rattle.placement.proofs.Keeping.{keeps_more, full_behind}

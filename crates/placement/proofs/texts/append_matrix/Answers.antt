@@ -1,5 +1,5 @@
 use Rattle.std.proofs.lemmas.Result.{IfOk-equal}
-use Rattle.profile.specs.Numbers.{scale_text, points_text}
+use Rattle.rules.specs.Numbers.{scale_text, points_text}
 use Rattle.placement.proofs.Joining.{matrix_joined}
 use Rattle.std.proofs.lemmas.Result.{on_err_weaker}
 use Rattle.placement.proofs.Keeping.{keeps_more, full_behind}

@@ -1,5 +1,5 @@
 use Rattle.std.proofs.lemmas.Result.{IfOk-equal}
-use Rattle.profile.specs.Output.{edge_text, border_text}
+use Rattle.rules.specs.Output.{edge_text, border_text}
 use Rattle.pagespec.specs.Items.{item_of}
 use Rattle.placement.specs.Fronts.{placing_text}
 use Rattle.placement.proofs.Joining.{opening_joined}

@@ -1,6 +1,6 @@
 use Rattle.std.proofs.Common.{ap, ◌∙◌, ◌++◌}
 use Rattle.std.proofs.lemmas.Result.{IfOk-equal}
-use Rattle.profile.specs.Placement.{matrix_of, matrix_text}
+use Rattle.rules.specs.Placement.{matrix_of, matrix_text}
 use Rattle.pagespec.specs.Items.{item_of}
 use Rattle.placement.proofs.Joining.{placing_joined}
 use Rattle.std.proofs.lemmas.Result.{on_err_weaker}

@@ -1,5 +1,5 @@
 use Rattle.std.proofs.Common.{◌∷◌, sym, ap, ◌∙◌}
-use Rattle.profile.specs.Sheets.{Layout}
+use Rattle.rules.specs.Sheets.{Layout}
 use Rattle.sheet_plan.specs.Places.{places_of}
 use Rattle.gather_table.specs.History.{Publish}
 use Rattle.run_steps.specs.Delivery.{place_calls}

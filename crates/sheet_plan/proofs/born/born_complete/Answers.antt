@@ -2,7 +2,7 @@ use Rattle.std.proofs.Common.{◌++◌, ◌∷◌, [], sym, ap, ◌∙◌}
 use Rattle.std.specs.declared.vec.Vec.{Vec}
 use Rattle.std.specs.declared.alloc.Global.{Global}
 use Rattle.std.specs.Prelude.{ℕ}
-use Rattle.profile.specs.Sheets.{layout}
+use Rattle.rules.specs.Sheets.{layout}
 use Rattle.sheet_plan.specs.Places.{is_blank}
 use Rattle.sheet_plan.proofs.Blanks.{filter_next_yes, filter_next_no}
 use Rattle.sheet_plan.proofs.born.born_complete.Goals as goal

@@ -1,5 +1,5 @@
 use Rattle.std.proofs.Common.{◌≡◌, take}
-use Rattle.profile.specs.Sheets.{layout}
+use Rattle.rules.specs.Sheets.{layout}
 use Rattle.sheet_plan.specs.Placed.{placed_from}
 use Rattle.sheet_plan.proofs.placed.placed_pages.Given as goal
 

@@ -1,6 +1,6 @@
 use Rattle.std.proofs.Common.{◌*◌, sym, ap, ◌∙◌}
-use Rattle.profile.specs.Sheets.{blocks}
-use Rattle.profile.proofs.Signatures.{whole_signatures}
+use Rattle.rules.specs.Sheets.{blocks}
+use Rattle.rules.proofs.Signatures.{whole_signatures}
 use Rattle.sheet_plan.proofs.Bounds.{blocks_ceil}
 use Rattle.sheet_plan.proofs.row.filled_len.Goals as goal
 

@@ -1,5 +1,5 @@
 use Rattle.std.proofs.Common.{ap, ◌++◌, ◌∙◌, refl}
-use Rattle.profile.specs.Output.{opening_text, closing_text}
+use Rattle.rules.specs.Output.{opening_text, closing_text}
 use Rattle.sheet_text.proofs.sheet.append_slot.Goals as goal
 use Rattle.sheet_text.proofs.Slots.{slot_placed, placed_is}
 

@@ -1,9 +1,9 @@
 use Rattle.std.specs.Prelude.{Ok, codes, decimal}
 use Rattle.std.proofs.Common.{ap, sym, subst, ◌∙◌, ◌≡◌, ◌≤◌, ◌-◌, ◌++◌, length, take, List, ℕ}
-use Rattle.profile.specs.Bytes.{line}
-use Rattle.profile.specs.Units.{cut}
-use Rattle.profile.specs.Parts.{bytes_of}
-use Rattle.profile.specs.Filters.{kept, drops_in_header, ended, preamble_text}
+use Rattle.rules.specs.Bytes.{line}
+use Rattle.rules.specs.Units.{cut}
+use Rattle.rules.specs.Parts.{bytes_of}
+use Rattle.rules.specs.Filters.{kept, drops_in_header, ended, preamble_text}
 use Rattle.dsc.specs.Units.{or_none, units_of}
 use Rattle.dsc.proofs.Preambles.{PreambleFound, preamble_at}
 use Rattle.dsc.proofs.document.Document.preamble_text.Goals as goal

@@ -1,5 +1,5 @@
 use Rattle.std.proofs.Common.{arith, sym, ◌∙◌, ◌≤◌, length}
-use Rattle.profile.specs.Run.{most_pages}
+use Rattle.rules.specs.Run.{most_pages}
 use Rattle.dsc.proofs.Reading.{Opens, fault_read, checks_passed, many_read, none_read, good_read, some_of, none_of}
 use Rattle.dsc.proofs.document.Document.read.Goals as goal
 

@@ -1,6 +1,6 @@
 use Rattle.std.proofs.Common.{◌∙◌, ◌++◌, ap}
-use Rattle.profile.specs.Parts.{bytes_of, trailer}
-use Rattle.profile.specs.Filters.{kept, drops_in_header}
+use Rattle.rules.specs.Parts.{bytes_of, trailer}
+use Rattle.rules.specs.Filters.{kept, drops_in_header}
 use Rattle.dsc.specs.Units.{units_of}
 use Rattle.dsc.proofs.Cases.{if_ok}
 use Rattle.dsc.proofs.Trailers.{trailer_found, stop_within}

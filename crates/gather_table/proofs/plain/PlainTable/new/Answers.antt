@@ -1,7 +1,7 @@
 use Rattle.std.proofs.Common.{rules, arith, replicate, ap, sym, ◌∙◌, subst, ◌+◌, List, ℕ}
 use Rattle.std.specs.Prelude.{None}
 use Rattle.gather_table.proofs.Blanks.{sheets_of, sound_of}
-use Rattle.profile.specs.Sheets.{layout}
+use Rattle.rules.specs.Sheets.{layout}
 use Rattle.gather_table.specs.Plain.{first_group, blank_groups}
 use Rattle.gather_table.specs.Table.{group_count}
 use Rattle.gather_table.proofs.Stored.{AreFirst, plain_made, state_made, one_more}

@@ -1,4 +1,4 @@
-use Rattle.profile.specs.Sheets.{layout}
+use Rattle.rules.specs.Sheets.{layout}
 use Rattle.gather_table.proofs.Stored.{AreStarts}
 use Rattle.gather_table.proofs.plain.PlainTable.new.Given as goal
 

@@ -1,7 +1,7 @@
 use Rattle.std.proofs.Common.{◌≡◌, ℕ, List, sym, ap, subst}
 use mathlib.Core.Option.{some}
 use lib.ListN.{get_elem?}
-use Rattle.profile.specs.Sheets.{Layout, layout as layout_of}
+use Rattle.rules.specs.Sheets.{Layout, layout as layout_of}
 use Rattle.histories.proofs.Shares.{whole_front}
 use Rattle.gather_table.specs.History.{Entry}
 use Rattle.gather_table.specs.Rule.{IsLeft}

@@ -1,5 +1,5 @@
 use Rattle.std.proofs.Common.{arith, sym, ap, ◌∙◌, subst, ◌+◌, ◌-◌, ◌*◌, ◌^◌, nat_lt, if◌then◌else◌}
-use Rattle.profile.specs.Sheets.{Layout, layout as layout_of}
+use Rattle.rules.specs.Sheets.{Layout, layout as layout_of}
 use Rattle.gather_table.specs.Table.{HasGroup}
 use Rattle.gather_table.specs.Homes.{IsHome}
 use Rattle.gather_table.specs.History.{IsLegal}

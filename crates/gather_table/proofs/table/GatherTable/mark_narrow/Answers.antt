@@ -1,6 +1,6 @@
 use Rattle.std.proofs.Common.{arith, false, sym, ap, ◌∙◌, subst, ◌≡◌, ◌<◌, ◌+◌, ◌-◌, ◌^◌, length}
 use Rattle.std.proofs.lemmas.Nat.{one_shl}
-use Rattle.profile.specs.Sheets.{Layout, layout as layout_of}
+use Rattle.rules.specs.Sheets.{Layout, layout as layout_of}
 use Rattle.gather_table.specs.Table.{slot_count, is_wide, IsMarkable}
 use Rattle.gather_table.specs.Lanes.{lane}
 use Rattle.gather_table.specs.Homes.{IsHome}

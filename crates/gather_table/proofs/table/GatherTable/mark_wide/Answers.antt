@@ -1,6 +1,6 @@
 use Rattle.std.proofs.Common.{rules, arith, true, sym, ap, ◌∙◌, subst, ◌≡◌, ◌<◌, ◌+◌, ◌-◌, ◌*◌, ◌/◌, ◌%◌, ◌^◌, length, nat_lt, if◌then◌else◌}
 use Rattle.std.proofs.lemmas.Nat.{one_shl}
-use Rattle.profile.specs.Sheets.{Layout, layout as layout_of}
+use Rattle.rules.specs.Sheets.{Layout, layout as layout_of}
 use Rattle.gather_table.specs.Table.{slot_count, is_wide, IsMarkable}
 use Rattle.gather_table.specs.Homes.{IsHome}
 use Rattle.gather_table.specs.History.{after_history, IsLegal}

@@ -1,5 +1,5 @@
 use Rattle.std.proofs.Common.{arith, ◌≡◌, length, refl, sym, ap, ◌∙◌, subst}
-use Rattle.profile.specs.Sheets.{Layout, layout as layout_of}
+use Rattle.rules.specs.Sheets.{Layout, layout as layout_of}
 use Rattle.gather_table.specs.Counts.{KeepsCounts}
 use Rattle.gather_table.specs.History.{IsLegal}
 use Rattle.gather_table.proofs.Placing.{opens}

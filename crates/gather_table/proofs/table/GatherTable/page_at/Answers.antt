@@ -1,5 +1,5 @@
 use Rattle.std.proofs.Common.{arith, sym, ap, ◌∙◌, subst, ◌<◌, length}
-use Rattle.profile.specs.Sheets.{layout as layout_of}
+use Rattle.rules.specs.Sheets.{layout as layout_of}
 use Rattle.gather_table.specs.History.{PageAt, IsLegal}
 use Rattle.gather_table.proofs.Lanes.{at_least}
 use Rattle.histories.proofs.Views.{made, stands_after}

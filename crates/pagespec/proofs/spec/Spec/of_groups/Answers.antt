@@ -1,4 +1,4 @@
-use Rattle.profile.specs.Admissible.{most_slots}
+use Rattle.rules.specs.Admissible.{most_slots}
 use Rattle.pagespec.proofs.Making.{made_admissible}
 use Rattle.pagespec.proofs.spec.Spec.of_groups.Goals as goal
 

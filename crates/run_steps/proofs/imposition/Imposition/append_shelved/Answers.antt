@@ -1,5 +1,5 @@
 use Rattle.std.proofs.Common.{ap, ◌++◌, ◌∙◌}
-use Rattle.profile.specs.Output.{opening_text, closing_text}
+use Rattle.rules.specs.Output.{opening_text, closing_text}
 use Rattle.run_steps.proofs.imposition.Imposition.append_shelved.Goals as goal
 use Rattle.run_steps.proofs.LookUps.{has_index, page_in, same_job}
 use Rattle.sheet_text.proofs.Slots.{slot_placed}

@@ -1,8 +1,8 @@
 use Rattle.std.proofs.Common.{arith, ◌*◌, length, sym, ap, ◌∙◌, Ok}
 use Rattle.std.proofs.lemmas.Nat.{mul-le}
-use Rattle.profile.specs.Admissible.{most_groups, most_slots}
-use Rattle.profile.specs.Specification.{Spec}
-use Rattle.profile.specs.Signatures.{sheets_in}
+use Rattle.rules.specs.Admissible.{most_groups, most_slots}
+use Rattle.rules.specs.Specification.{Spec}
+use Rattle.rules.specs.Signatures.{sheets_in}
 use Rattle.sheet_plan.proofs.Admitted.{filled}
 use Rattle.sheet_plan.proofs.Limits.{counted, accepted_fields, accepted, too_many_sheets, too_many_places}
 use Rattle.sheet_plan.proofs.expansion.Expansion.new.Goals as goal

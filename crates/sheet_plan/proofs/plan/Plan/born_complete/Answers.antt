@@ -1,5 +1,5 @@
 use Rattle.std.proofs.Common.{ap, ◌∙◌}
-use Rattle.profile.specs.Sheets.{Plan, layout}
+use Rattle.rules.specs.Sheets.{Plan, layout}
 use Rattle.sheet_plan.specs.Places.{born_complete}
 use Rattle.sheet_plan.proofs.Exact.{blank_listed}
 use Rattle.sheet_plan.proofs.plan.Plan.born_complete.Goals as goal

@@ -1,7 +1,7 @@
 use Rattle.std.proofs.Common.{arith, length, ap, ◌∙◌, []}
 use Rattle.std.specs.Prelude.{slice_index_or}
 use Rattle.std.proofs.lemmas.List.FromFn.{length-map-range_with_len, get_or-map-range_with_len}
-use Rattle.profile.specs.Sheets.{Plan, layout}
+use Rattle.rules.specs.Sheets.{Plan, layout}
 use Rattle.sheet_plan.specs.Places.{places_of}
 use Rattle.sheet_plan.proofs.Exact.{places_listed}
 use Rattle.sheet_plan.proofs.plan.Plan.slots_of_page.Goals as goal

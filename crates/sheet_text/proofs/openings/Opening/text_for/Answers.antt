@@ -1,6 +1,6 @@
 use Rattle.std.proofs.Common.{rules, ap, sym, ◌∙◌}
 use denote.Enum.Bare.{same_true}
-use Rattle.profile.specs.Output.{opening_text}
+use Rattle.rules.specs.Output.{opening_text}
 use Rattle.pagespec.specs.Items.{item_of, measure_of, turn_of}
 use Rattle.pagespec.specs.contracts.item.Turn.{the_type}
 use Rattle.sheet_text.proofs.Opened.{alike, int_same, option_same, paper_same}

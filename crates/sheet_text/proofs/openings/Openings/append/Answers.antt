@@ -1,5 +1,5 @@
 use Rattle.std.proofs.Common.{ap, ◌∙◌, ◌++◌}
-use Rattle.profile.specs.Output.{opening_text}
+use Rattle.rules.specs.Output.{opening_text}
 use Rattle.pagespec.specs.Items.{item_of}
 use Rattle.sheet_text.proofs.openings.Openings.append.Goals as goal
 

@@ -1,5 +1,0 @@
-use Rattle.profile.proofs.Signatures.{each_page_once}
-use Rattle.profile.proofs.laws.each_page_once.Goals as goal
-
-pub returns : goal.returns
-returns c = each_page_once

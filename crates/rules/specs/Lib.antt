@@ -1,0 +1,17 @@
+-- Read in this order: bytes, numbers and papers; what a specification says; which pages stand on which sheets and
+-- where; how a document is cut and what is kept of it; what is written; what is refused. The sources are pstops(1) of
+-- psutils 1, the Document Structuring Conventions 3.0 (DSC below) and the PostScript Language Reference. Each file says
+-- first what it takes from them; the rest is this project's own rules.
+pub mod Bytes
+pub mod Numbers
+pub mod Papers
+pub mod Specification
+pub mod Admissible
+pub mod Sheets
+pub mod Signatures
+pub mod Placement
+pub mod Units
+pub mod Parts
+pub mod Filters
+pub mod Output
+pub mod Run

@@ -1,0 +1,74 @@
+-- What a run writes, if specification, document and plan are accepted. The texts are this project's own rules; their
+-- operators (save, restore, concat, clip, showpage) are of the PostScript Language Reference, and the clipping path and
+-- the border, which are placed with the page, are of pstops(1), options -w, -h, -p and -d.
+use Rattle.std.specs.Prelude.{ℕ, ◌+◌, List, [], ◌++◌, length, flat_map, codes, decimal, Option, Some, None, ℤ}
+use Rattle.std.specs.Prelude.{slice_index_or, Result, Ok, Err}
+use Rattle.std.specs.List.{enumerate_from}
+use Rattle.rules.specs.Bytes.{line}
+use Rattle.rules.specs.Numbers.{points_text}
+use Rattle.rules.specs.Papers.{Paper}
+use Rattle.rules.specs.Specification.{Item, Spec}
+use Rattle.rules.specs.Sheets.{Slot}
+use Rattle.rules.specs.Signatures.{sheets_in}
+use Rattle.rules.specs.Placement.{matrix_of, matrix_text}
+use Rattle.rules.specs.Units.{FaultyBlock}
+use Rattle.rules.specs.Parts.{NestedUnit, pages}
+use Rattle.rules.specs.Filters.{preamble_text, trailer_text, prepared}
+
+-- the paper, and how wide a border is drawn round each placed page, if there is one, in grains
+pub record Frame : Type 0 where
+  pub paper : Paper
+  pub border : Option ℤ
+
+-- a path round the paper
+abbrev pub edge_text : Paper → List ℕ
+edge_text paper =
+    let w = points_text paper.width in
+    let h = points_text paper.height in
+    codes "newpath 0 0 moveto " ++ w ++ codes " 0 lineto " ++ w ++ codes " " ++ h ++ codes " lineto 0 " ++ h
+    ++ codes " lineto closepath"
+
+-- the line that draws a border
+abbrev pub border_text : Paper → Option ℤ → List ℕ
+border_text paper None = []
+border_text paper (Some width) =
+    line (codes "gsave " ++ points_text width ++ codes " setlinewidth " ++ edge_text paper ++ codes " stroke grestore")
+
+-- before a placed page: what it changes will be restored, its showpage does nothing, and it is placed and clipped
+abbrev pub opening_text : Frame → Item → List ℕ
+opening_text frame item =
+    line (codes "userdict /ImposeSave save put")
+    ++ line (codes "userdict /showpage {} put")
+    ++ line (matrix_text (matrix_of frame.paper item) ++ codes " concat")
+    ++ line (edge_text frame.paper ++ codes " clip newpath")
+    ++ border_text frame.paper frame.border
+
+-- behind a placed page
+abbrev pub closing_text : List ℕ
+closing_text = line (codes "ImposeSave restore")
+
+-- the body of a page; each page of an accepted document has one
+abbrev pub body_text : Result (List ℕ) FaultyBlock → List ℕ
+body_text (Ok body) = body
+body_text (Err fault) = []
+
+-- a slot, of a document with these pages; a blank one writes nothing
+abbrev pub slot_text : Frame → List (List ℕ) → Option ℕ → Item → List ℕ
+slot_text frame pages None item = []
+slot_text frame pages (Some p) item =
+    opening_text frame item ++ body_text (prepared (slice_index_or pages p [])) ++ closing_text
+
+-- sheet s: its page line, in which sheets are counted from 1, its placed pages, and the showpage that prints it
+abbrev pub sheet_text : Frame → List (List ℕ) → (s : ℕ) → List Slot → List ℕ
+sheet_text frame pages s slots =
+    line (codes "%%Page: " ++ decimal (s + 1) ++ codes " " ++ decimal (s + 1))
+    ++ flat_map (λ slot. slot_text frame pages slot.page slot.item) slots
+    ++ line (codes "showpage")
+
+-- the preamble with the number of sheets, the sheets in order, the trailer; in signatures if a number of sides is given
+abbrev pub output : Frame → (sides : Option ℕ) → Spec → List NestedUnit → List ℕ
+output frame sides spec us =
+    let all = sheets_in sides spec (length (pages us)) in
+    preamble_text (length all) us
+    ++ flat_map (λ (s, slots). sheet_text frame (pages us) s slots) (enumerate_from 0 all)
+    ++ trailer_text us

@@ -1,0 +1,83 @@
+//! Laws of the definitions. The functions do nothing.
+ghost use Rattle.rules.specs.Admissible.{OneAnswer, OneReading};
+ghost use Rattle.rules.specs.Numbers.{NumberIsPrinted, NumberWithoutZero, PrintedIsPrinted};
+ghost use Rattle.rules.specs.Parts.{PartsMakeText};
+ghost use Rattle.rules.specs.Placement.{MatrixPuts};
+ghost use Rattle.rules.specs.Sheets.{SheetCount};
+ghost use Rattle.rules.specs.Signatures.{EachPageOnce, IsPermutation, WholeSignatures, WithoutSides};
+ghost use Rattle.rules.specs.Units.{CutFaults, CutIsUnits, UnitsMakeText};
+
+/// What is printed of a number is the one text of the printed form with its value.
+pub fn printed_is_printed()
+    ensures { PrintedIsPrinted }
+{}
+
+/// What is printed of a number in a specification is the one text of its printed form with its value.
+pub fn number_is_printed()
+    ensures { NumberIsPrinted }
+{}
+
+/// The text of a number in a specification is that of a scale without the 0 before a dot.
+pub fn number_without_zero()
+    ensures { NumberWithoutZero }
+{}
+
+/// A text stands for one specification at most.
+pub fn one_reading()
+    ensures { OneReading }
+{}
+
+/// A text is taken as one specification at most, or refused with one fault, and never both.
+pub fn one_answer()
+    ensures { OneAnswer }
+{}
+
+/// There is a sheet for each group in each block.
+pub fn sheet_count()
+    ensures { SheetCount }
+{}
+
+/// Without signatures the sheets are those of the pages in their order.
+pub fn without_sides()
+    ensures { WithoutSides }
+{}
+
+/// Signatures are filled up.
+pub fn whole_signatures()
+    ensures { WholeSignatures }
+{}
+
+/// The order of a signature is a permutation of its positions.
+pub fn is_permutation()
+    ensures { IsPermutation }
+{}
+
+/// Each page stands in exactly one entry of the row of signatures.
+pub fn each_page_once()
+    ensures { EachPageOnce }
+{}
+
+/// A matrix sends each whole point where its item puts it.
+pub fn matrix_puts()
+    ensures { MatrixPuts }
+{}
+
+/// What a text is cut into are its units, and nothing else is.
+pub fn cut_is_units()
+    ensures { CutIsUnits }
+{}
+
+/// A text is refused for its first faulty block, and for nothing else.
+pub fn cut_faults()
+    ensures { CutFaults }
+{}
+
+/// The units of a text, one behind the other, are the text.
+pub fn units_make_text()
+    ensures { UnitsMakeText }
+{}
+
+/// Preamble, pages and trailer, one behind the other, are the text.
+pub fn parts_make_text()
+    ensures { PartsMakeText }
+{}
