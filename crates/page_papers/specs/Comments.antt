@@ -8,7 +8,7 @@ use Rattle.std.specs.Str.{bytes_eq}
 use Rattle.rules.specs.Papers.{Paper}
 use Rattle.rules.specs.Units.{content_of, line_len, key, has_key, is_comment, is_blank, fields}
 use Rattle.rules.specs.Parts.{NestedUnit, is_outermost_line, trailer}
-use Rattle.guard.specs.Header.{is_header}
+use Rattle.dsc.specs.Header.{is_header}
 use Rattle.document_paper.specs.Media.{comment_fields, media_paper, box_paper}
 
 -- the first of two, if there is one, and else the second
