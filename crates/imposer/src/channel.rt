@@ -5,7 +5,7 @@ ghost use Rattle.sheet_text.specs.Jobs.{text_of};
 use crossbeam_channel::protocol::{Lesson, Outcome, Protocol, Split};
 use crossbeam_channel::{Pass, RuledReceiver, RuledSender};
 use sheet_text::Job;
-use sheet_writer::Imposed;
+use sheet_writer::FinishedSheet;
 use std::marker::{Brand, PhantomData};
 
 /// Ghost parameter, chosen in the proof of each call; no code: the text that each sheet of the run's job has.
@@ -22,17 +22,17 @@ pub(crate) struct SheetRule<T: Texts> {
     of: PhantomData<T>,
 }
 
-impl<'r, T: Texts> Protocol<Imposed<'r>, ()> for SheetRule<T> {
+impl<'r, T: Texts> Protocol<FinishedSheet<'r>, ()> for SheetRule<T> {
     ghost holds = { λ items views. All (λ m. m.text ≡ T.text m.sheet) items };
 
     ghost first = { tt };
 }
 
-impl<'r, T: Texts> Outcome<Imposed<'r>, ()> for SheetRule<T> {
+impl<'r, T: Texts> Outcome<FinishedSheet<'r>, ()> for SheetRule<T> {
     ghost then = { λ v m w. m.text ≡ T.text m.sheet };
 }
 
-impl<'r, T: Texts> Lesson<Imposed<'r>, ()> for SheetRule<T> {
+impl<'r, T: Texts> Lesson<FinishedSheet<'r>, ()> for SheetRule<T> {
     ghost fact = { λ v items. ⊤ };
 }
 
@@ -51,8 +51,8 @@ pub(crate) struct RuledJob<'s, 'j, 'd, T: Texts> {
 }
 
 /// What a thread needs to send or to receive.
-pub(crate) type Ticket<'r> = Pass<Imposed<'r>, ()>;
+pub(crate) type Ticket<'r> = Pass<FinishedSheet<'r>, ()>;
 
-pub(crate) type SheetSender<'r, T> = RuledSender<Imposed<'r>, (), SheetRule<T>>;
+pub(crate) type SheetSender<'r, T> = RuledSender<FinishedSheet<'r>, (), SheetRule<T>>;
 
-pub(crate) type SheetReceiver<'r, T> = RuledReceiver<Imposed<'r>, (), SheetRule<T>>;
+pub(crate) type SheetReceiver<'r, T> = RuledReceiver<FinishedSheet<'r>, (), SheetRule<T>>;

@@ -15,9 +15,16 @@ ghost use Rattle.run_steps.specs.LookUps.{pages_of, LooksUp, LooksUpUntil, Looks
 use gather_table::{GatherTable, Seat};
 use handover::{Prepared, Shelf};
 use sheet_text::{Job, Openings, Rope, append_placed, begin_sheet, end_sheet};
-use sheet_writer::Imposed;
+use sheet_writer::FinishedSheet;
 use std::alloc::Global;
 use thiserror::Error;
+
+/// An imposed sheet, counted from 0, with its text.
+#[derive(Drop)]
+pub struct Imposed {
+    pub sheet: u32,
+    pub text: Vec<u8>,
+}
 
 /// Why a sheet wasn't imposed.
 #[derive(Debug, Drop, Error)]
@@ -33,19 +40,19 @@ pub enum ImposeError {
 /// `sheet_text`. The table is one for the job's plan, and the seat has seen the sheet complete: a look that was
 /// answered 0 shows it. Each page of the sheet is looked up in slot order. After a refusal some of the first were, and
 /// at `NotShown` one at least.
-pub fn impose<'r, 'd>(
+pub fn impose<'d>(
     alloc: Global,
     seat: &mut Seat,
     job: &Job<'_, 'd>,
     table: &GatherTable<'_>,
-    shelf: &'r Shelf<'d>,
+    shelf: &Shelf<'d>,
     sheet: u32,
-) -> Result<Imposed<'r>, ImposeError>
+) -> Result<Imposed, ImposeError>
     requires seat { IsSeatOf table.now seat.old }
     requires table { table.now.layout ≡ layout job.now.plan }
     requires sheet { sheet < length job.now.plan.sheets }
     requires complete { IsComplete table.now.layout seat.old.front sheet }
-    ensures text { IfOk result (λ m. (m.sheet ≡ sheet) × (m.text ≡ text_of job.now sheet)) }
+    ensures text { IfOk result (λ m. (m.sheet ≡ sheet) × (m.text.items ≡ text_of job.now sheet)) }
     ensures looked_up { MatchResult result
         (λ m. LooksUp (pages_of table.now.layout sheet) (length (pages_of table.now.layout sheet)) seat.old seat.new)
         (λ e. LooksUpUntil (pages_of table.now.layout sheet) e seat.old seat.new) }
@@ -55,7 +62,19 @@ pub fn impose<'r, 'd>(
         table: &*table,
         shelf,
     };
-    imposition.impose(Rope::new(alloc), &mut Openings::new(alloc), seat, sheet)
+    let finished = match imposition.impose(
+        Rope::new(alloc),
+        &mut Openings::new(alloc),
+        seat,
+        sheet,
+    ) {
+        Ok(finished) => finished,
+        Err(error) => return Err(error),
+    };
+    let Ok(text) = finished.text.to_vec(alloc) else {
+        return Err(ImposeError::NoMemory);
+    };
+    Ok(Imposed { sheet, text })
 }
 
 /// What sheets are imposed of: a job, the table of its plan, and the shelf on which the pages stand. The texts of the
@@ -77,7 +96,7 @@ impl<'s, 'r, 'j, 't, 'd> Imposition<'s, 'r, 'j, 't, 'd> {
         openings: &mut Openings,
         seat: &mut Seat,
         sheet: u32,
-    ) -> Result<Imposed<'r>, ImposeError>
+    ) -> Result<FinishedSheet<'r>, ImposeError>
         requires seat { IsSeatOf self.now.table.now seat.old }
         requires sheet { sheet < length self.now.job.now.plan.sheets }
         requires complete { IsComplete self.now.table.now.layout seat.old.front sheet }
@@ -98,7 +117,7 @@ impl<'s, 'r, 'j, 't, 'd> Imposition<'s, 'r, 'j, 't, 'd> {
         let Ok(()) = end_sheet(&mut text) else {
             return Err(ImposeError::NoMemory);
         };
-        Ok(Imposed { sheet, text })
+        Ok(FinishedSheet { sheet, text })
     }
 
     /// Looks up the pages of all slots of a sheet, in order, and appends the slots' texts.

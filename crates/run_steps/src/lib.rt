@@ -7,4 +7,4 @@ mod imposition;
 pub mod laws;
 
 pub use delivery::{DeliverError, Delivered, deliver};
-pub use imposition::{ImposeError, Imposition, impose, is_complete};
+pub use imposition::{ImposeError, Imposed, Imposition, impose, is_complete};

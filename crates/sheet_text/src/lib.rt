@@ -9,4 +9,4 @@ mod sheet;
 pub use job::Job;
 pub use openings::Openings;
 pub use rope::{Pieces, Rope};
-pub use sheet::{append_placed, begin_sheet, end_sheet, sheet_text};
+pub use sheet::{append_placed, begin_sheet, end_sheet, sheet_rope, sheet_text};

@@ -16,7 +16,16 @@ use std::alloc::{AllocError, Global};
 
 /// The text of a sheet, counted from 0: its page line, each slot's page in order, placed on the sheet, and one
 /// `showpage`. The bodies are prepared anew from the document.
-pub fn sheet_text<'r>(alloc: Global, job: &Job<'_, '_>, sheet: u32) -> Result<Rope<'r>, AllocError>
+pub fn sheet_text(alloc: Global, job: &Job<'_, '_>, sheet: u32) -> Result<Vec<u8>, AllocError>
+    requires { sheet < length job.now.plan.sheets }
+    ensures { IfOk result (λ text. text.items ≡ text_of job.now sheet) }
+{
+    let text = sheet_rope(alloc, job, sheet)?;
+    text.to_vec(alloc)
+}
+
+/// The same text in pieces.
+pub fn sheet_rope<'r>(alloc: Global, job: &Job<'_, '_>, sheet: u32) -> Result<Rope<'r>, AllocError>
     requires { sheet < length job.now.plan.sheets }
     ensures { IfOk result (λ text. text ≡ text_of job.now sheet) }
 {

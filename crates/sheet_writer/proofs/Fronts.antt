@@ -13,7 +13,7 @@ use Rattle.rules.specs.Filters.{preamble_text, trailer_text}
 use Rattle.rules.specs.Output.{sheet_text}
 use Rattle.sheet_text.specs.Jobs.{JobView, text_of, output_of}
 use Rattle.sheet_writer.specs.Writing.{front_text, WroteFirst, StandsAt, EndsAt, HandedAt, AreEarly}
-use Rattle.sheet_writer.specs.declared.early.Imposed.{Imposed}
+use Rattle.sheet_writer.specs.declared.early.FinishedSheet.{FinishedSheet}
 use Rattle.sheet_writer.specs.declared.writing.Halt.{Halt}
 use Rattle.sheet_writer.specs.declared.writing.Halt.TheVariants.{Failed, NoMemory}
 use Rattle.sheet_writer.proofs.Sheets.{job_sheet_more, output_is}
@@ -115,12 +115,12 @@ some_inside {A = A} x y e = ap (λ o. inside o) e
     inside (Some z) = z
 
 -- a sheet's place was emptied
-pub early_taken : (job : JobView) (places : List (Option Imposed)) (j : ℕ) (x : Option Imposed) → x ≡ None → AreEarly job places → AreEarly job (slice_set places j x)
+pub early_taken : (job : JobView) (places : List (Option FinishedSheet)) (j : ℕ) (x : Option FinishedSheet) → x ≡ None → AreEarly job places → AreEarly job (slice_set places j x)
 early_taken job places j x none early k m at =
     ⊎_elim (λ p. absurd (cc (none, p.1))) (λ p. early k m p) (found_after places j k x (Some m) at)
 
 -- a sheet's place was filled
-pub early_filled : (job : JobView) (places : List (Option Imposed)) (j : ℕ) (new : Imposed) → new.text ≡ text_of job new.sheet → AreEarly job places → AreEarly job (slice_set places j (Some new))
+pub early_filled : (job : JobView) (places : List (Option FinishedSheet)) (j : ℕ) (new : FinishedSheet) → new.text ≡ text_of job new.sheet → AreEarly job places → AreEarly job (slice_set places j (Some new))
 early_filled job places j new is early k m at = ⊎_elim
     (λ p. let same : new ≡ m = some_inside new m (some_inside (Some new) (Some m) p.1) in subst (λ t. t.text ≡ text_of job t.sheet) same is)
     (λ p. early k m p)
@@ -160,10 +160,10 @@ trailer_handed job start old new first before after n written written' text (Som
     (subst (WroteFirst job start new) (sym (more ∙ count)) (wrote_front job start old new n so_far same), steady ∙ kept)
 
 -- no sheet came yet
-abbrev pub AreNone : List (Option Imposed) → Type 0
-AreNone places = (k : ℕ) (m : Imposed) → slice_get places k ≡ Some (Some m) → ⊥
+abbrev pub AreNone : List (Option FinishedSheet) → Type 0
+AreNone places = (k : ℕ) (m : FinishedSheet) → slice_get places k ≡ Some (Some m) → ⊥
 
-pub none_pushed : (places : List (Option Imposed)) → AreNone places → AreNone (places ++ None ∷ [])
+pub none_pushed : (places : List (Option FinishedSheet)) → AreNone places → AreNone (places ++ None ∷ [])
 none_pushed [] none zero m at = absurd (cc (at))
 none_pushed [] none (suc k) m at = absurd (cc (at))
 none_pushed (x ∷ places) none zero m at = none zero m at

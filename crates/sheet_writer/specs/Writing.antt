@@ -6,7 +6,7 @@ use Rattle.rules.specs.Parts.{pages}
 use Rattle.rules.specs.Filters.{preamble_text}
 use Rattle.rules.specs.Output.{sheet_text}
 use Rattle.sheet_text.specs.Jobs.{JobView, text_of, output_of}
-use Rattle.sheet_writer.specs.declared.early.Imposed.{Imposed}
+use Rattle.sheet_writer.specs.declared.early.FinishedSheet.{FinishedSheet}
 use Rattle.sheet_writer.specs.declared.writing.Halt.{Halt}
 use Rattle.sheet_writer.specs.declared.writing.Halt.TheVariants.{Failed, NoMemory}
 use Rattle.sheet_writer.specs.declared.writing.Progress.{Progress}
@@ -79,5 +79,5 @@ Handed told failures text old new written written' halt =
     HandedAt text (told old) (told new) (failures old) (failures new) written written' halt
 
 -- each sheet that came before its turn has its text
-abbrev pub AreEarly : JobView → List (Option Imposed) → Type 0
-AreEarly job places = (k : ℕ) (m : Imposed) → slice_get places k ≡ Some (Some m) → m.text ≡ text_of job m.sheet
+abbrev pub AreEarly : JobView → List (Option FinishedSheet) → Type 0
+AreEarly job places = (k : ℕ) (m : FinishedSheet) → slice_get places k ≡ Some (Some m) → m.text ≡ text_of job m.sheet

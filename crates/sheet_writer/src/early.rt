@@ -2,7 +2,7 @@
 ghost use Rattle.std.specs.Prelude.{◌≡◌, ◌≢◌, ℕ, Option, Some, None, length, slice_get, IfOk, IfSome};
 ghost use Rattle.sheet_text.specs.Jobs.{JobView, text_of};
 ghost use Rattle.sheet_writer.specs.Writing.{AreEarly};
-ghost use Rattle.sheet_writer.specs.declared.early.Imposed.{Imposed};
+ghost use Rattle.sheet_writer.specs.declared.early.FinishedSheet.{FinishedSheet};
 ghost use Rattle.sheet_writer.specs.Places.{place_of, in_place};
 
 use sheet_text::Rope;
@@ -10,7 +10,7 @@ use std::alloc::{AllocError, Global};
 
 /// A finished sheet, counted from 0, with its text.
 #[derive(Drop)]
-pub struct Imposed<'r> {
+pub struct FinishedSheet<'r> {
     pub sheet: u32,
     pub text: Rope<'r>,
 }
@@ -25,7 +25,7 @@ pub trait Spent<'r> {
 /// their count, so the sheets of one window have places of their own.
 #[derive(Drop)]
 pub struct Early<'r> {
-    pub places: Vec<Option<Imposed<'r>>>,
+    pub places: Vec<Option<FinishedSheet<'r>>>,
 }
 
 impl<'r> Early<'r> {
@@ -43,7 +43,7 @@ impl<'r> Early<'r> {
 
     /// Puts a sheet in its place. If another sheet is there, the new one is dropped: a sheet that never came is made
     /// anew.
-    pub fn put(&mut self, imposed: Imposed<'r>)
+    pub fn put(&mut self, imposed: FinishedSheet<'r>)
         ensures early { (job : JobView) → imposed.entry.text ≡ text_of job imposed.entry.sheet
             → AreEarly job self.old.places.items → AreEarly job self.new.places.items }
         ensures count { length self.new.places.items ≡ length self.old.places.items }
@@ -51,7 +51,7 @@ impl<'r> Early<'r> {
             → in_place self.new.places.items imposed.entry.sheet ≡ Some (Some imposed.entry) }
         ensures others { (k : ℕ) → k ≢ place_of self.old.places.items imposed.entry.sheet
             → slice_get self.new.places.items k ≡ slice_get self.old.places.items k }
-        ensures dropped { (other : Imposed) → in_place self.old.places.items imposed.entry.sheet ≡ Some (Some other)
+        ensures dropped { (other : FinishedSheet) → in_place self.old.places.items imposed.entry.sheet ≡ Some (Some other)
             → self.new.places.items ≡ self.old.places.items }
     {
         let place = imposed.sheet as usize % self.places.len().max(1);
@@ -65,9 +65,9 @@ impl<'r> Early<'r> {
         ensures text { (job : JobView) → AreEarly job self.old.places.items
             → IfSome result (λ text. text ≡ text_of job sheet) }
         ensures left { (job : JobView) → AreEarly job self.old.places.items → AreEarly job self.new.places.items }
-        ensures found { (imposed : Imposed) → in_place self.old.places.items sheet ≡ Some (Some imposed)
+        ensures found { (imposed : FinishedSheet) → in_place self.old.places.items sheet ≡ Some (Some imposed)
             → imposed.sheet ≡ sheet → result ≡ Some imposed.text }
-        ensures other { (imposed : Imposed) → in_place self.old.places.items sheet ≡ Some (Some imposed)
+        ensures other { (imposed : FinishedSheet) → in_place self.old.places.items sheet ≡ Some (Some imposed)
             → imposed.sheet ≢ sheet → self.new.places.items ≡ self.old.places.items }
     {
         let place = sheet as usize % self.places.len().max(1);

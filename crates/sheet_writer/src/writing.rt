@@ -7,7 +7,7 @@ ghost use Rattle.sheet_writer.specs.Writing.{Handed, GoesOn, AreEarly, EndsAfter
 
 use crate::early::{Early, Spent};
 use crate::sink::{Sink, Stopped, write_all, write_pieces};
-use sheet_text::{Job, Rope, sheet_text};
+use sheet_text::{Job, Rope, sheet_rope};
 use std::alloc::{AllocError, Global};
 
 /// Why nothing more is written.
@@ -205,5 +205,5 @@ fn next_text<'r>(
         return Ok(text);
     }
     *swept += 1;
-    sheet_text(alloc, job, sheet)
+    sheet_rope(alloc, job, sheet)
 }

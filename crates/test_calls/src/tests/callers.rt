@@ -9,10 +9,9 @@ use dsc::Document;
 use gather_table::{GatherTable, Seat};
 use handover::{Pass, Prepared, Ready, Shelf};
 use pagespec::read_spec;
-use run_steps::{DeliverError, Delivered, ImposeError, deliver, impose, is_complete};
+use run_steps::{DeliverError, Delivered, ImposeError, Imposed, deliver, impose, is_complete};
 use sheet_plan::Plan;
 use sheet_text::{Job, sheet_text};
-use sheet_writer::Imposed;
 use std::alloc::{AllocError, Global};
 use std::process::Abort;
 use std::sync::Wait;
@@ -181,11 +180,7 @@ impl<'s, 'j, 't, 'd> Caller<'s, 'j, 't, 'd> {
     }
 
     /// Imposes a sheet. None for one that isn't complete or that the job doesn't have.
-    pub(super) fn impose(
-        self,
-        alloc: Global,
-        sheet: u32,
-    ) -> Option<Result<Imposed<'s>, ImposeError>> {
+    pub(super) fn impose(self, alloc: Global, sheet: u32) -> Option<Result<Imposed, ImposeError>> {
         let Caller {
             job,
             table,
@@ -227,7 +222,6 @@ pub(super) fn assert_imposed<R: Abort>(
         panic!(rt; "sheet {sheet} isn't imposed");
     };
     let text = sheet_text(alloc, job, sheet)?;
-    let imposed = imposed.text.to_vec(alloc)?;
-    assert!(rt; imposed.as_slice() == text.to_vec(alloc)?.as_slice());
+    assert!(rt; imposed.text.as_slice() == text.as_slice());
     Ok(())
 }

@@ -6,7 +6,7 @@ use dsc::Document;
 use lengths::{Grains, Paper, paper_by_name};
 use pagespec::read_spec;
 use sheet_plan::Plan;
-use sheet_text::{Job, Rope, sheet_text};
+use sheet_text::{Job, Rope, sheet_rope};
 use std::alloc::Global;
 use std::process::Abort;
 use std::test::Fail;
@@ -54,7 +54,7 @@ fn text_of_one<R: Abort>(
         panic!(rt; "one page stands on {} sheets", plan.sheets());
     }
     let job = Job::new(&plan, &document, paper, border);
-    Ok(sheet_text(alloc, &job, 0)?)
+    Ok(sheet_rope(alloc, &job, 0)?)
 }
 
 #[test]

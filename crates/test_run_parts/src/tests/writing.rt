@@ -6,10 +6,10 @@ use dsc::Document;
 use lengths::paper_by_name;
 use pagespec::read_spec;
 use sheet_plan::Plan;
-use sheet_text::{Job, Rope, sheet_text};
+use sheet_text::{Job, Rope, sheet_rope};
 use sheet_writer::{
-    Early, Imposed, MemorySink, Progress, Rest, Sink, SinkFault, Spent, WriteSink, write_early,
-    write_rest,
+    Early, FinishedSheet, MemorySink, Progress, Rest, Sink, SinkFault, Spent, WriteSink,
+    write_early, write_rest,
 };
 use std::alloc::{AllocError, Global};
 use std::io::{self, ErrorKind, Write};
@@ -167,10 +167,10 @@ fn a_sheet_waits_in_its_place(rt: HostRuntime) -> Result<(), Fail> {
     let mut early = Early::new(rt.alloc(), 2)?;
     assert_eq!(rt; early.places.len(), 2);
     let text = rope_of(rt.alloc(), b"a")?;
-    early.put(Imposed { sheet: 1, text });
+    early.put(FinishedSheet { sheet: 1, text });
     // Another sheet has the same place: it is dropped, and asking for it leaves the first one there.
     let text = rope_of(rt.alloc(), b"b")?;
-    early.put(Imposed { sheet: 3, text });
+    early.put(FinishedSheet { sheet: 3, text });
     assert!(rt; early.take(3).is_none());
     assert!(rt; early.take(0).is_none());
     let Some(text) = early.take(1) else {
@@ -204,8 +204,8 @@ fn put_sheet(
     requires early { AreEarly job.now early.old.places.items }
     ensures { AreEarly job.now early.new.places.items }
 {
-    let text = sheet_text(alloc, job, sheet)?;
-    early.put(Imposed { sheet, text });
+    let text = sheet_rope(alloc, job, sheet)?;
+    early.put(FinishedSheet { sheet, text });
     Ok(())
 }
 

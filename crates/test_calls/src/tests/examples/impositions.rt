@@ -10,10 +10,9 @@ use dsc::Document;
 use gather_table::{GatherTable, Published, Reply, Seat};
 use handover::{Prepared, Shelf};
 use pagespec::read_spec;
-use run_steps::{ImposeError, impose, is_complete};
+use run_steps::{ImposeError, Imposed, impose, is_complete};
 use sheet_plan::Plan;
 use sheet_text::{Job, sheet_text};
-use sheet_writer::Imposed;
 use std::alloc::{AllocError, Global};
 use std::process::Abort;
 use std::sync::Wait;
@@ -46,27 +45,6 @@ fn bring_first(
     Some((published, marked))
 }
 
-// An imposed sheet with its text in one piece.
-#[derive(Drop)]
-struct Copied {
-    sheet: u32,
-    text: Vec<u8>,
-}
-
-// Copies what was imposed, which has slices of the shelf.
-fn copy_of(
-    alloc: Global,
-    answer: Result<Imposed<'_>, ImposeError>,
-) -> Result<Result<Copied, ImposeError>, AllocError> {
-    match answer {
-        Ok(imposed) => Ok(Ok(Copied {
-            sheet: imposed.sheet,
-            text: imposed.text.to_vec(alloc)?,
-        })),
-        Err(error) => Ok(Err(error)),
-    }
-}
-
 // Imposes the first sheet, if this page stands on the shelf at the index of the sheet's own page.
 fn impose_beside<'d, R: Abort + Wait>(
     rt: &R,
@@ -74,7 +52,7 @@ fn impose_beside<'d, R: Abort + Wait>(
     plan: &Plan,
     job: &Job<'_, 'd>,
     prepared: Prepared<'d>,
-) -> Result<Result<Copied, ImposeError>, AllocError>
+) -> Result<Result<Imposed, ImposeError>, AllocError>
     requires job { job.now.plan ≡ plan.now }
     requires sheet { 0 < length plan.now.sheets }
 {
@@ -87,7 +65,7 @@ fn impose_beside<'d, R: Abort + Wait>(
         panic!(rt; "the sheet is not complete")
     };
     assert_eq!(rt; answers, (Published::Stored, Reply::Completing));
-    copy_of(alloc, impose(alloc, &mut seat, job, &table, &shelf, 0))
+    Ok(impose(alloc, &mut seat, job, &table, &shelf, 0))
 }
 
 // The same if the page has this number; and the sheet's text.
@@ -97,7 +75,7 @@ fn impose_page<R: Abort + Wait>(
     plan: &Plan,
     job: &Job<'_, '_>,
     page: u32,
-) -> Result<(Result<Copied, ImposeError>, Vec<u8>), Fail>
+) -> Result<(Result<Imposed, ImposeError>, Vec<u8>), Fail>
     requires job { job.now.plan ≡ plan.now }
 {
     let document = job.document();
@@ -105,7 +83,7 @@ fn impose_page<R: Abort + Wait>(
     assert!(rt; 0 < plan.sheets());
     let prepared = Prepared::new(alloc, page, document.page(page))?;
     let answer = impose_beside(rt, alloc, plan, job, prepared)?;
-    Ok((answer, sheet_text(alloc, job, 0)?.to_vec(alloc)?))
+    Ok((answer, sheet_text(alloc, job, 0)?))
 }
 
 // The same of the first of two sheets.
@@ -113,7 +91,7 @@ fn impose_first<R: Abort + Wait>(
     rt: &R,
     alloc: Global,
     page: u32,
-) -> Result<(Result<Copied, ImposeError>, Vec<u8>), Fail> {
+) -> Result<(Result<Imposed, ImposeError>, Vec<u8>), Fail> {
     let spec = read_spec(alloc, "0")?;
     let document = Document::read(alloc, TWO_PAGES.as_bytes())?;
     let plan = Plan::new(alloc, &spec, document.pages())?;
@@ -142,7 +120,7 @@ fn impose_untouched(
     alloc: Global,
     plan: &Plan,
     job: &Job<'_, '_>,
-) -> Result<Option<Result<Copied, ImposeError>>, AllocError>
+) -> Result<Option<Result<Imposed, ImposeError>>, AllocError>
     requires job { job.now.plan ≡ plan.now }
     requires sheet { 0 < length plan.now.sheets }
 {
@@ -151,8 +129,7 @@ fn impose_untouched(
     if !is_complete(&mut seat, &table, 0) {
         return Ok(None);
     }
-    let answer = impose(alloc, &mut seat, job, &table, &shelf, 0);
-    Ok(Some(copy_of(alloc, answer)?))
+    Ok(Some(impose(alloc, &mut seat, job, &table, &shelf, 0)))
 }
 
 #[test]

@@ -89,7 +89,7 @@ fn impose_first<R: Abort>(
     match answer {
         Some(Ok(imposed)) => {
             assert!(rt; !is_refused);
-            Ok(Some(imposed.text.to_vec(alloc)?))
+            Ok(Some(imposed.text))
         }
         Some(Err(ImposeError::NoMemory)) => {
             assert!(rt; is_refused);
@@ -108,7 +108,7 @@ fn impose_again<R: Abort>(
     caller: &mut Caller<'_, '_, '_, '_>,
 ) -> Result<bool, AllocError> {
     assert!(rt; 0 < caller.job.sheets());
-    let text = sheet_text(alloc, caller.job, 0)?.to_vec(alloc)?;
+    let text = sheet_text(alloc, caller.job, 0)?;
     let index = caller.page_at(0);
     let first = impose_first(rt, alloc, number, caller)?;
     assert_eq!(rt; (caller.look(0), caller.page_at(0)), (Some(0), index));
@@ -137,9 +137,9 @@ fn make_text<R: Abort>(
     let answer = sheet_text(alloc, job, 0);
     let is_refused = has_refused(alloc);
     assert_eq!(rt; answer.is_err(), is_refused);
-    let text = sheet_text(alloc, job, 0)?.to_vec(alloc)?;
+    let text = sheet_text(alloc, job, 0)?;
     if let Ok(made) = answer {
-        assert!(rt; made.to_vec(alloc)?.as_slice() == text.as_slice());
+        assert!(rt; made.as_slice() == text.as_slice());
     }
     Ok(is_refused)
 }
