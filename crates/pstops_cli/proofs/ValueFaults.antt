@@ -4,9 +4,10 @@ use Rattle.std.specs.Prelude.{codes, ⊤}
 use Rattle.clap.specs.Words.{Row, Text, first_of, matches_of}
 use Rattle.imposer.specs.declared.options.Options.{Options}
 use Rattle.imposer.specs.declared.options.Workers.{Workers}
+use Rattle.command_words.specs.Borders.{border_named}
 use Rattle.pstops_cli.specs.declared.command.CommandFault.{CommandFault}
 use Rattle.pstops_cli.specs.declared.command.CommandFault.TheVariants.{BadLength, BadWords, NoMemory, UnknownPaper}
-use Rattle.pstops_cli.specs.Values.{and_then, border_named, letter_d, letter_h, letter_w, options_named, paper_or_a4, with_height, with_width}
+use Rattle.pstops_cli.specs.Values.{and_then, letter_d, letter_h, letter_w, options_named, paper_or_a4, with_height, with_width}
 use Rattle.pstops_cli.specs.Command.{Refuses, RefusesFound, Takes, options_found, pstops, sides_found, workers_found}
 
 abbrev IsOfValue : CommandFault → Type 0

@@ -1,9 +1,10 @@
 use Rattle.std.proofs.Common.{◌≡◌, ◌∙◌, ap, refl, sym, ok_or, ℕ, ℤ, List, Option, Ok, Err}
 use Rattle.rules.specs.Papers.{Paper}
 use Rattle.imposer.specs.declared.options.Workers.{Workers}
+use Rattle.command_words.specs.Borders.{border_named}
 use Rattle.pstops_cli.specs.declared.command.CommandFault.{CommandFault}
 use Rattle.pstops_cli.specs.declared.command.CommandFault.TheVariants.{BadLength, UnknownPaper}
-use Rattle.pstops_cli.specs.Values.{border_named, letter_d, letter_h, letter_w, options_named, paper_or_a4, with_height, with_width}
+use Rattle.pstops_cli.specs.Values.{letter_d, letter_h, letter_w, options_named, paper_or_a4, with_height, with_width}
 use Rattle.pstops_cli.proofs.ValueFaults.{handed_on}
 use Rattle.pstops_cli.proofs.values.options_named.Goals as goal
 
