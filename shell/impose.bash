@@ -1,0 +1,74 @@
+# bash completion for impose and impose-pdf: commands, options, names of papers, files. No function of others is needed.
+
+# The words that can stand in a place; `checks/options` compares them with `impose --help`.
+_impose_commands='nup booklet select spec help'
+_impose_papers='a3 a4 a5 letter legal tabloid statement 10x14'
+_impose_options_of() {
+    local all='--paper --sheet --border --unguarded --print-spec --quiet --help -p -q -h'
+    case "$1" in
+        '') echo '--help --version -h -V' ;;
+        nup | spec) echo "$all" ;;
+        booklet) echo "--signature --long-edge $all" ;;
+        select) echo "--odd --even $all" ;;
+    esac
+}
+
+# The values of an option; its status is 1 for one that takes none.
+_impose_values_of() {
+    case "$1" in
+        --paper | --sheet | -p) echo "$_impose_papers" ;;
+        --border) echo '.5pt 1pt .5mm' ;;
+        --signature) echo '4 8 12 16 20 24 28 32' ;;
+        *) return 1 ;;
+    esac
+}
+
+# The files whose names fit one of these patterns, and folders; if there is none, all files.
+_impose_files() {
+    local IFS=$'\n' pattern
+    compopt -o filenames 2>/dev/null
+    COMPREPLY=($(compgen -d -- "$cur"))
+    for pattern; do COMPREPLY+=($(compgen -f -X "!$pattern" -- "$cur")); done
+    [ ${#COMPREPLY[@]} != 0 ] || COMPREPLY=($(compgen -f -- "$cur"))
+}
+
+_impose() {
+    local cur=${COMP_WORDS[COMP_CWORD]} before=${COMP_WORDS[COMP_CWORD - 1]} command='' is_behind='' number=0 at word values
+    local patterns=('*.[pP][sS]' '*.[eE][pP][sS]')
+    [ "${1##*/}" != impose-pdf ] || patterns=('*.[pP][dD][fF]')
+    COMPREPLY=()
+    # A specification with a colon comes as several words.
+    [ "$before" != : ] && [ "$cur" != : ] || return 0
+    # `--paper=a4` comes as three words.
+    if [ "$cur" = = ]; then cur='' before=${COMP_WORDS[COMP_CWORD - 1]}
+    elif [ "$before" = = ] && [ "$COMP_CWORD" -gt 2 ]; then before=${COMP_WORDS[COMP_CWORD - 2]}
+    fi
+    # The command, how many words are its own, and whether two dashes stand before the one that is typed.
+    for ((at = 1; at < COMP_CWORD; at++)); do
+        word=${COMP_WORDS[at]}
+        if [ "$word" = = ]; then at=$((at + 1))
+        elif [ -z "$is_behind" ] && [ "$word" = -- ]; then is_behind=yes
+        elif [ -z "$is_behind" ] && [ "${word:0:1}" = - ] && [ "$word" != - ]; then
+            ! _impose_values_of "$word" >/dev/null || [ "${COMP_WORDS[at + 1]}" = = ] || at=$((at + 1))
+        elif [ -z "$command" ]; then command=$word
+        else number=$((number + 1))
+        fi
+    done
+    if [ -z "$is_behind" ] && values=$(_impose_values_of "$before"); then
+        COMPREPLY=($(compgen -W "$values" -- "$cur"))
+    elif [ -z "$is_behind" ] && [ "${cur:0:1}" = - ]; then
+        COMPREPLY=($(compgen -W "$(_impose_options_of "$command")" -- "$cur"))
+    elif [ -z "$command" ]; then
+        COMPREPLY=($(compgen -W "$_impose_commands" -- "$cur"))
+    else
+        case "$command:$number" in
+            help:0) COMPREPLY=($(compgen -W "$_impose_commands" -- "$cur")) ;;
+            help:*) ;;
+            nup:0) COMPREPLY=($(compgen -W '1 2 4 6 8 9 16' -- "$cur")) ;;
+            select:0 | spec:0) ;;
+            *) _impose_files "${patterns[@]}" ;;
+        esac
+    fi
+}
+
+complete -F _impose impose impose-pdf
