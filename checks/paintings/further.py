@@ -890,7 +890,10 @@ def select_font(m):
 
 OVER.update({b"findfont": find_font, b"scalefont": scale_font, b"makefont": make_font, b"setfont": set_font, b"selectfont": select_font})
 # Here systemdict is a dictionary, an array may be changed while it is run through, and a loop be left.
-OVER.update({name: FURTHER[name] for name in (b"where", b"known", b"get", b"put", b"for", b"forall")})
+OVER.update({name: FURTHER[name] for name in (b"where", b"known", b"get", b"put", b"for", b"forall", b"exec", b"cvx")})
+# A matrix is an array of numbers.
+OVER.update({name: FURTHER[name] for name in (b"matrix", b"currentmatrix", b"setmatrix", b"defaultmatrix")})
+OVER.update({name: FURTHER[name] for name in (b"grestoreall", b"setpagedevice", b"copypage")})
 
 
 @operator("definefont", Dictionary, is_key)

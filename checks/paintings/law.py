@@ -9,12 +9,14 @@ from parts import Document, comments_apart, drops_in_header, drops_in_page, firs
 # `sheet_names` of specs/Sheets; `restore` is asked of each page, behind it.
 SHEET_NAMES = b"showpage userdict save put [ ] concat newpath moveto lineto closepath clip gsave setlinewidth stroke grestore".split()
 PUT_NAMES = {b"showpage", b"ImposeSave"}
+LOOKING = set(b"""initgraphics currentmatrix setmatrix defaultmatrix initmatrix initclip clippath pathforall setpagedevice erasepage
+copypage""".split())
 NAMES = f"uses the machine's {len(PROVED) + len(ALWAYS)} names alone"
 # The premises on each page.
 USES = f"each page {NAMES}"
 CALLS = "each page calls showpage by its name, when it runs"
 BEHIND = "what stands behind showpage paints and prints nothing"
-RESETS = "no page runs initgraphics"
+RESETS = "no page runs initgraphics, or another operator that looks at where it is or puts it back"
 TAKES_BACK = "no page takes back what it didn't push or save"
 LEAVES = "each page leaves both stacks as they were"
 ASKS = "no page defines showpage or ImposeSave, or asks what they mean in another way; and restore means the operator behind it"
@@ -91,9 +93,9 @@ def newer(m):
 def stopped_at(m, stopped, where=""):
     """Which premise of a page isn't met, if it stops so."""
     why = f"{where}it stops at {stopped}"
-    if m.called == b"initgraphics":
+    if m.called in LOOKING:
         return RESETS, why
-    if m.called in (b"grestore", b"restore"):
+    if m.called in (b"grestore", b"grestoreall", b"restore"):
         return TAKES_BACK, why
     if m.called == b"showpage":
         return BEHIND if where else CALLS, why

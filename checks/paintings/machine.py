@@ -139,6 +139,18 @@ class Dictionary:
 
 
 @dataclass(frozen=True)
+class SystemDictionary:
+    pass
+
+
+@dataclass(frozen=True)
+class Matrix:
+    """What `matrix` makes. It is known by its number, as a dictionary is, and holds the transformation that fills it in."""
+
+    number: int
+
+
+@dataclass(frozen=True)
 class Saved:
     level: int
 
@@ -424,7 +436,7 @@ USERDICT, SYSTEMDICT, GLOBALDICT, STATUSDICT, ERRORDICT, FONTDIRECTORY = 0, -1, 
 MISSING = object()
 # Steps after which a run is given up. The longest one, of a page whose fonts are procedures, takes 2 500 000.
 MOST = 5_000_000
-ALWAYS = {b"userdict": Dictionary(USERDICT), b"true": Truth(True), b"false": Truth(False)}
+ALWAYS = {b"userdict": Dictionary(USERDICT), b"systemdict": SystemDictionary(), b"true": Truth(True), b"false": Truth(False)}
 # What graphics operators want, the topmost first, and their effect: systemdict of specs/Dictionaries.
 N, TEXT, ARRAY, MATRIX, FONT, NAME, TRUTH = "number", "text", "array", "matrix", "font", "name", "truth"
 DRAWS = {
@@ -498,6 +510,8 @@ class Machine:
     dictionaries: list = field(default_factory=lambda: [USERDICT])
     entries: dict = field(default_factory=lambda: {USERDICT: {}})
     made: int = 0
+    # the transformations that matrices hold
+    kept: dict = field(default_factory=dict)
     level: int = 0
     graphics: Graphics = Graphics()
     stacked: list = field(default_factory=list)
@@ -603,6 +617,8 @@ class Machine:
         return self.system(key)
 
     def system(self, key):
+        if self.further and key == b"systemdict":
+            return Dictionary(SYSTEMDICT)
         if key in ALWAYS:
             return ALWAYS[key]
         if key in PROVED:
@@ -665,6 +681,10 @@ class Machine:
         self.journal.append((entries, key, entries.get(key, MISSING)))
         entries[key] = value
 
+    def fill(self, number, chain):
+        self.journal.append((self.kept, number, self.kept.get(number, MISSING)))
+        self.kept[number] = chain
+
     def go_back(self, journal):
         while len(self.journal) > journal:
             entries, key, value = self.journal.pop()
@@ -711,7 +731,7 @@ class Machine:
         self.graphics = graphics
 
     def is_old(self, shot, o):
-        if isinstance(o, Dictionary):
+        if isinstance(o, (Dictionary, Matrix)):
             return o.number <= shot.made
         if isinstance(o, Saved):
             return o.level < shot.level
@@ -750,7 +770,7 @@ def dup(m):
 def close_array(m):
     at = len(m.operands) - 1
     while at >= 0 and not isinstance(m.operands[at], Mark):
-        if not isinstance(m.operands[at], (Number, Literal, String)):
+        if not is_token(m.operands[at]):
             raise Operands
         at -= 1
     if at < 0:
@@ -806,62 +826,74 @@ def bind(m):
 
 
 def known(m):
-    key, d = m.taken(Literal, Dictionary)
+    key, d = m.taken(Literal, lambda o: type(o) in (Dictionary, SystemDictionary))
     m.asked.add(key.name)
-    m.operands.append(Truth(key.name in m.entries[d.number]))
+    if isinstance(d, Dictionary):
+        m.operands.append(Truth(key.name in m.entries[d.number]))
+    elif m.system(key.name) is None and key.name in LACKED:
+        refused(m, key, d)
+    else:
+        m.operands.append(Truth(m.system(key.name) is not None))
 
 
 # What an interpreter's systemdict has, and this machine lacks.
 LACKED = frozenset(b"""
-clear count counttomark idiv mod abs ceiling floor round truncate sqrt atan cos sin exp ln log rand srand rrand array
-getinterval putinterval astore packedarray setpacking currentpacking maxlength store undef currentdict errordict
-$error systemdict globaldict statusdict countdictstack cleardictstack dictstack string anchorsearch search token xor
-bitshift loop exit stop stopped countexecstack execstack quit start type cvlit cvx xcheck executeonly noaccess
-readonly rcheck wcheck cvi cvn cvr cvrs cvs file filter closefile read write readhexstring writehexstring readstring
-writestring readline bytesavailable flush flushfile resetfile status run currentfile deletefile renamefile
-filenameforall setfileposition fileposition print = == stack pstack printobject writeobject setobjectformat
-currentobjectformat defineresource undefineresource findresource findcolorrendering resourcestatus resourceforall
-setglobal currentglobal gcheck startjob defineuserobject execuserobject undefineuserobject null version realtime
-usertime languagelevel product revision serialnumber executive echo prompt clipsave cliprestore grestoreall gstate
-setgstate currentgstate currentlinewidth currentlinecap currentlinejoin currentmiterlimit setstrokeadjust
-currentstrokeadjust currentdash setcolorspace currentcolorspace setcolor currentcolor currentgray sethsbcolor
-currenthsbcolor currentrgbcolor currentcmykcolor sethalftone currenthalftone setscreen currentscreen setcolorscreen
-currentcolorscreen settransfer currenttransfer setcolortransfer currentcolortransfer setblackgeneration
+clear counttomark idiv mod abs ceiling floor round truncate sqrt atan cos sin exp ln log rand srand rrand array
+getinterval putinterval astore packedarray setpacking currentpacking maxlength store undef currentdict errordict $error
+globaldict statusdict countdictstack cleardictstack dictstack string anchorsearch search token xor bitshift loop exit
+stop stopped countexecstack execstack quit start type cvlit xcheck executeonly noaccess readonly rcheck cvi cvn cvr cvrs
+cvs file filter closefile read write readhexstring writehexstring readstring writestring readline bytesavailable flush
+flushfile resetfile status run currentfile deletefile renamefile filenameforall setfileposition fileposition print = ==
+stack pstack printobject writeobject setobjectformat currentobjectformat defineresource undefineresource findresource
+findcolorrendering resourcestatus resourceforall setglobal currentglobal gcheck startjob defineuserobject execuserobject
+undefineuserobject null version realtime usertime languagelevel product revision serialnumber executive echo prompt
+clipsave cliprestore gstate setgstate currentgstate currentlinewidth currentlinecap currentlinejoin currentmiterlimit
+setstrokeadjust currentstrokeadjust currentdash setcolorspace currentcolorspace setcolor currentcolor currentgray
+sethsbcolor currenthsbcolor currentrgbcolor currentcmykcolor sethalftone currenthalftone setscreen currentscreen
+setcolorscreen currentcolorscreen settransfer currenttransfer setcolortransfer currentcolortransfer setblackgeneration
 currentblackgeneration setundercolorremoval currentundercolorremoval setcolorrendering currentcolorrendering setflat
-currentflat setoverprint currentoverprint setsmoothness currentsmoothness matrix initmatrix identmatrix defaultmatrix
-currentmatrix setmatrix concatmatrix transform dtransform itransform idtransform invertmatrix currentpoint arct arcto
-flattenpath reversepath strokepath ustrokepath charpath uappend clippath setbbox pathbbox pathforall upath initclip
-rectclip ucache erasepage ustroke ufill ueofill shfill colorimage infill ineofill inufill inueofill instroke inustroke
-makepattern setpattern execform copypage setpagedevice currentpagedevice nulldevice definefont composefont
-undefinefont makefont rootfont currentfont xshow xyshow yshow glyphshow stringwidth cshow kshow FontDirectory
-GlobalFontDirectory StandardEncoding ISOLatin1Encoding findencoding setcachedevice setcachedevice2 setcharwidth eexec
-internaldict settrapparams currenttrapparams settrapzone setsystemparams currentsystemparams setuserparams
-currentuserparams setdevparams currentdevparams vmreclaim setvmthreshold vmstatus cachestatus setcachelimit
-setcacheparams currentcacheparams setucacheparams ucachestatus
+currentflat setoverprint currentoverprint setsmoothness currentsmoothness identmatrix concatmatrix transform dtransform
+itransform idtransform invertmatrix currentpoint arct arcto flattenpath reversepath strokepath ustrokepath charpath
+uappend setbbox pathbbox upath rectclip ucache ustroke ufill ueofill shfill colorimage infill ineofill inufill inueofill
+instroke inustroke makepattern setpattern execform currentpagedevice nulldevice definefont composefont undefinefont
+makefont rootfont currentfont xshow xyshow yshow glyphshow stringwidth cshow kshow FontDirectory GlobalFontDirectory
+StandardEncoding ISOLatin1Encoding findencoding setcachedevice setcachedevice2 setcharwidth eexec internaldict
+settrapparams currenttrapparams settrapzone setsystemparams currentsystemparams setuserparams currentuserparams
+setdevparams currentdevparams vmreclaim setvmthreshold vmstatus cachestatus setcachelimit setcacheparams
+currentcacheparams setucacheparams ucachestatus
 """.split())
 
 
 def where(m):
-    """The topmost dictionary on the stack that has the name. It stops at a name that an interpreter's systemdict alone has."""
+    """The topmost dictionary on the stack that has the name, systemdict below them all. It stops at a name that an interpreter's
+    systemdict alone has."""
     (key,) = m.taken(Literal)
     m.asked.add(key.name)
     for d in reversed(m.dictionaries):
         if key.name in m.entries[d]:
             m.operands += [Dictionary(d), Truth(True)]
             return
-    if m.system(key.name) is not None or key.name in LACKED:
+    if m.system(key.name) is not None:
+        m.operands += [SystemDictionary(), Truth(True)]
+    elif key.name in LACKED:
         refused(m, key)
-    m.operands.append(Truth(False))
+    else:
+        m.operands.append(Truth(False))
 
 
 def is_token(o):
-    """What an array may have: a number, a literal name, a string."""
-    return isinstance(o, (Number, Literal, String))
+    """What an array may have: a number, a name, a string."""
+    return isinstance(o, (Number, Literal, Name, String))
 
 
 def get(m):
-    key, o = m.taken(lambda o: isinstance(o, Literal) or is_count(o), lambda o: type(o) in (Dictionary, Array))
-    if isinstance(o, Dictionary) and isinstance(key, Literal):
+    key, o = m.taken(lambda o: isinstance(o, Literal) or is_count(o), lambda o: type(o) in (Dictionary, SystemDictionary, Array))
+    if isinstance(o, SystemDictionary) and isinstance(key, Literal):
+        m.asked.add(key.name)
+        if m.system(key.name) is None:
+            refused(m, key, o)
+        m.operands.append(m.system(key.name))
+    elif isinstance(o, Dictionary) and isinstance(key, Literal):
         m.asked.add(key.name)
         if key.name not in m.entries[o.number]:
             refused(m, key, o)
@@ -907,6 +939,13 @@ def index(m):
 
 
 def copy(m):
+    if [type(o) for o in m.operands[-2:]] == [Matrix, Matrix]:
+        o, full = m.taken(Matrix, Matrix)
+        if full.number not in m.kept:
+            raise Stopped("a matrix that nothing has filled in")
+        m.fill(o.number, m.kept[full.number])
+        m.operands.append(o)
+        return
     (count,) = m.taken(is_count)
     if count.whole > len(m.operands):
         refused(m, count)
@@ -940,8 +979,17 @@ COMPARED = {
 }
 
 
+def sort_of(o):
+    """What `eq` tells apart whatever the value."""
+    if isinstance(o, (Name, Literal, String)):
+        return "name or string"
+    if isinstance(o, (Array, Matrix)):
+        return "array"
+    return "dictionary" if isinstance(o, (Dictionary, SystemDictionary, Font)) else type(o)
+
+
 def compares(name):
-    """Whole numbers; and by `eq` and `ne` literal names."""
+    """Whole numbers; and by `eq` and `ne` literal names, dictionaries, and objects of two sorts."""
 
     def perform(m):
         b, a = m.taken(anything, anything)
@@ -949,6 +997,10 @@ def compares(name):
             m.operands.append(Truth(COMPARED[name](a.whole, b.whole)))
         elif isinstance(a, Literal) and isinstance(b, Literal) and name in (b"eq", b"ne"):
             m.operands.append(Truth(COMPARED[name](a.name, b.name)))
+        elif {type(a), type(b)} <= {Dictionary, SystemDictionary} and name in (b"eq", b"ne"):
+            m.operands.append(Truth(COMPARED[name](a, b)))
+        elif sort_of(a) != sort_of(b) and name in (b"eq", b"ne"):
+            m.operands.append(Truth(name == b"ne"))
         else:
             refused(m, b, a)
 
@@ -990,8 +1042,32 @@ def scale_font(m):
 
 
 def execute(m):
-    (procedure,) = m.taken(Procedure)
-    m.done(procedure)
+    (o,) = m.taken(lambda o: isinstance(o, (Procedure, Operator, Number, Name, Literal, String)))
+    m.frames.append(Frame([o])) if isinstance(o, (Operator, Name)) else m.done(o)
+
+
+def count(m):
+    m.operands.append(whole(len(m.operands)))
+
+
+def make_executable(m):
+    (o,) = m.taken(lambda o: isinstance(o, Literal) or type(o) in (Array, Procedure))
+    if isinstance(o, Literal):
+        m.operands.append(Name(o.name))
+    elif isinstance(o, Procedure):
+        m.operands.append(o)
+    else:
+        m.operands.append(m.own(Procedure(list(o.items))))
+
+
+def is_writable(m):
+    (o,) = m.taken(lambda o: type(o) in (Dictionary, SystemDictionary))
+    m.operands.append(Truth(isinstance(o, Dictionary)))
+
+
+def make_matrix(m):
+    m.made += 1
+    m.operands.append(Matrix(m.made))
 
 
 def if_true(m):
@@ -1030,6 +1106,8 @@ def for_each_number(m):
 
 def for_all(m):
     procedure, o = m.taken(Procedure, Array)
+    if any(isinstance(item, Name) for item in o.items):
+        refused(m, procedure, o)
     run_all(m, [(item,) for item in o.items], procedure)
 
 
@@ -1044,6 +1122,13 @@ def grestore(m):
         m.back_to(m.saves[-1].graphics)
     else:
         raise Stopped("grestore below all that was pushed")
+
+
+def grestoreall(m):
+    if not m.saves:
+        raise Stopped("grestoreall without a save")
+    m.back_to(m.saves[-1].graphics)
+    m.stacked = []
 
 
 def save(m):
@@ -1081,6 +1166,91 @@ def initgraphics(m):
     m.reset()
 
 
+def looks(perform):
+    """Operators that look at where the machine is, or put it back to where it began."""
+
+    def if_free(m):
+        if m.held:
+            raise Stopped(f"{m.called.decode()} in a page that is held")
+        perform(m)
+
+    return if_free
+
+
+@looks
+def take_matrix(m):
+    (o,) = m.taken(Matrix)
+    m.fill(o.number, m.graphics.chain)
+    m.operands.append(o)
+
+
+@looks
+def set_matrix(m):
+    (o,) = m.taken(Matrix)
+    if o.number not in m.kept:
+        raise Stopped("a matrix that nothing has filled in")
+    m.set_to(chain=m.kept[o.number])
+
+
+@looks
+def default_matrix(m):
+    (o,) = m.taken(Matrix)
+    m.fill(o.number, ())
+    m.operands.append(o)
+
+
+@looks
+def initial_matrix(m):
+    m.set_to(chain=())
+
+
+@looks
+def initial_clip(m):
+    m.set_to(clip=())
+
+
+@looks
+def clip_outline(m):
+    if m.graphics.clip:
+        raise Stopped("clippath behind a clip")
+    m.set_to(path=(Segment(Call(b"clippath", ()), ()),))
+
+
+ELEMENTS = (b"closepath", b"curveto", b"lineto", b"moveto")
+
+
+@looks
+def path_elements(m):
+    """Of a path of `moveto`, `lineto`, `curveto` and `closepath` under the current transformation."""
+    procedures = dict(zip(ELEMENTS, m.taken(Procedure, Procedure, Procedure, Procedure)))
+    path, items = m.graphics.path, []
+    for segment, following in zip(path, [*(s.call.name for s in path[1:]), b""]):
+        name = segment.call.name
+        twice = name == b"moveto" and following == b"moveto"
+        goes_on = name == b"closepath" and following not in (b"moveto", b"")
+        if name not in procedures or segment.chain != m.graphics.chain or twice or goes_on:
+            raise Stopped(f"pathforall at {name.decode()}")
+        items += [*reversed(segment.call.operands), *procedures[name].items]
+    m.frames.append(Frame(items))
+
+
+@looks
+def set_device(m):
+    m.taken(Dictionary)
+    m.reset()
+    m.painted = []
+
+
+@looks
+def erase_page(m):
+    m.painted = []
+
+
+@looks
+def copy_page(m):
+    raise Stopped("copypage")
+
+
 def mark(m):
     m.operands.append(Mark())
 
@@ -1092,6 +1262,10 @@ PROVED = {
     b"if": if_true, b"ifelse": if_else, b"repeat": repeat, b"for": for_each_number, b"forall": for_all,
     **{name: calculates(name) for name in VALUES}, **{name: compares(name) for name in COMPARED},
     b"and": both, b"or": either, b"not": opposite, b"where": where, b"get": get, b"length": length, b"aload": load_array, b"<<": mark,
+    b"count": count, b"cvx": make_executable, b"wcheck": is_writable, b"matrix": make_matrix, b"grestoreall": grestoreall,
+    b"currentmatrix": take_matrix, b"setmatrix": set_matrix, b"defaultmatrix": default_matrix, b"initmatrix": initial_matrix,
+    b"initclip": initial_clip, b"clippath": clip_outline, b"pathforall": path_elements, b"setpagedevice": set_device,
+    b"erasepage": erase_page, b"copypage": copy_page,
     b">>": close_dictionary, b"gsave": gsave, b"grestore": grestore, b"save": save, b"restore": restore, b"showpage": showpage,
     b"initgraphics": initgraphics,
     **{name: (lambda m, name=name, wants=wants_of(wants), effect=effect: m.draw(name, wants, effect)) for name, (wants, effect) in DRAWS.items()},

@@ -11,6 +11,9 @@ use Rattle.rules.specs.Bytes.{line}
 use Rattle.rules.specs.Units.{TextUnit, BlockFault, is_end, is_blank, content_of, line_len, key, begins_block, fields, data_len, block, first_unit, cut, BeginsWith}
 use Rattle.rules.specs.Parts.{NestedUnit, depth_after, nested_from, nested, begins_page, up_to, preamble, bytes_of}
 use Rattle.rules.specs.Filters.{kept_after, kept, drops_in_header, ended, with_count, preamble_text, continues}
+use Rattle.made_sheets.specs.Dress.{lines_text}
+use Rattle.made_sheets.specs.MadeOutput.{with_lines, dressed_preamble}
+use Rattle.std.proofs.lemmas.List.{append-nil}
 use Rattle.dsc.specs.Units.{or_none, units_of}
 use Rattle.dsc.specs.Documents.{HasItsParts}
 use Rattle.dsc.specs.Marks.{end_of}
@@ -96,7 +99,7 @@ abbrev pub PreambleFound : List ℕ → (n start sheets : ℕ) → Type 0
 PreambleFound text n start sheets =
     let rest = take (start - n) (drop n text) in
     (n ≤ start) × (start - n ≤ length (drop n text)) × (cut rest ≡ Ok (or_none (cut rest)))
-    × (ended ((take n text ++ line (codes "%%Pages: " ++ decimal sheets)) ++ bytes_of (kept drops_in_header (units_of rest))) ≡ preamble_text sheets (units_of text))
+    × ((rows : List (List ℕ)) → ended (((take n text ++ line (codes "%%Pages: " ++ decimal sheets)) ++ lines_text rows) ++ bytes_of (kept drops_in_header (units_of rest))) ≡ dressed_preamble sheets rows (units_of text))
 
 preamble_found : (text : List ℕ) (start sheets : ℕ) → starts_with nat_eq text (codes "%!") ≡ true → cut text ≡ Ok (or_none (cut text))
     → start ≡ length (bytes_of (preamble (units_of text))) → PreambleFound text (line_len text) start sheets
@@ -131,9 +134,10 @@ preamble_found text start sheets s c e =
       omega (arith, size),
       omega (arith, left, more),
       found ∙ ap (λ r. Ok (or_none r)) (sym found),
-      ap (λ vs. ended ((take n text ++ line (codes "%%Pages: " ++ decimal sheets)) ++ bytes_of (kept drops_in_header vs))) units
-          ∙ ap (λ vs. ended (with_count sheets vs)) (sym (first_kept content (take n text) (nested hs) w))
-          ∙ ap (λ vs. ended (with_count sheets (kept drops_in_header vs))) (sym head),
+      (λ rows.
+          ap (λ vs. ended (((take n text ++ line (codes "%%Pages: " ++ decimal sheets)) ++ lines_text rows) ++ bytes_of (kept drops_in_header vs))) units
+          ∙ ap (λ vs. ended (with_lines sheets rows vs)) (sym (first_kept content (take n text) (nested hs) w))
+          ∙ ap (λ vs. ended (with_lines sheets rows (kept drops_in_header vs))) (sym head)),
     )
 
 -- the same from what a document keeps true
@@ -147,3 +151,11 @@ preamble_at text starts items stop n start sheets i e r s =
     any_default : (xs : List ℕ) (a b : ℕ) → 0 < length xs → get_or xs 0 a ≡ get_or xs 0 b
     any_default [] a b h = absurd (omega (arith, h))
     any_default (x ∷ xs) a b h = refl
+
+-- no lines change nothing
+counted : (n : ℕ) (us : List NestedUnit) → with_lines n [] us ≡ with_count n us
+counted n [] = refl
+counted n (u ∷ us) = ap (λ t. t ++ bytes_of us) (append-nil (u.unit.bytes ++ line (codes "%%Pages: " ++ decimal n)))
+
+pub undressed : (n : ℕ) (us : List NestedUnit) → dressed_preamble n [] us ≡ preamble_text n us
+undressed n us = ap ended (counted n (kept drops_in_header (preamble us)))

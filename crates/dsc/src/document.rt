@@ -1,9 +1,11 @@
 //! A document with its parts.
-ghost use Rattle.std.specs.Prelude.{◌≡◌, ◌+◌, ◌-◌, ◌<◌, ◌≤◌, [], length, take, drop, slice_index_or};
+ghost use Rattle.std.specs.Prelude.{◌≡◌, ℕ, ◌+◌, ◌-◌, ◌<◌, ◌≤◌, List, [], length, take, drop, slice_index_or};
 ghost use Rattle.std.specs.Prelude.{IfOk, IfErr, IfSome, Ok};
 ghost use Rattle.rules.specs.Parts.{pages};
 ghost use Rattle.rules.specs.Filters.{preamble_text, trailer_text, prepared};
 ghost use Rattle.rules.specs.Run.{document_of};
+ghost use Rattle.made_sheets.specs.Dress.{lines_text};
+ghost use Rattle.made_sheets.specs.MadeOutput.{dressed_preamble};
 ghost use Rattle.dsc.specs.Views.{Gives};
 ghost use Rattle.dsc.specs.Faults.{fault_told, PassedFirstChecks};
 ghost use Rattle.dsc.specs.Laws.{HasBody};
@@ -135,11 +137,20 @@ impl<'d> Document<'d> {
     pub fn preamble_text(&self, sheets: u32) -> Result<Vec<u8>, AllocError>
         ensures text { IfOk result (λ v. v.items ≡ preamble_text sheets self.now) }
     {
+        let text = self.dressed_preamble(sheets, &[])?;
+        Ok(text)
+    }
+
+    /// The same, with lines behind the number of sheets, each with its line end.
+    pub fn dressed_preamble(&self, sheets: u32, lines: &[u8]) -> Result<Vec<u8>, AllocError>
+        ensures text { IfOk result (λ v. (rows : List (List ℕ)) → lines.now ≡ lines_text rows →
+            v.items ≡ dressed_preamble sheets rows self.now) }
+    {
         let line_len = line_end_after(self.text, content_end(self.text));
         let (line, behind) = self.text.split_at(line_len);
         let (rest, _) = behind.split_at(entry(self.starts.as_slice(), 0) - line_len);
         let alloc = *self.starts.allocator();
-        let header = with_count(alloc, line, sheets)?;
+        let header = with_count(alloc, line, sheets, lines)?;
         let mut text = filter_header(header, rest)?;
         end_line(&mut text)?;
         Ok(text)

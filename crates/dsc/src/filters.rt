@@ -183,15 +183,22 @@ pub fn filter_header(front: Vec<u8>, text: &[u8]) -> Result<Vec<u8>, AllocError>
     }
 }
 
-/// A document's first line, and the count of its sheets on a line behind it.
-pub fn with_count(alloc: Global, first: &[u8], sheets: u32) -> Result<Vec<u8>, AllocError>
-    ensures { IfOk result (λ v. v.items ≡ first.now ++ line (codes "%%Pages: " ++ decimal sheets)) }
+/// A document's first line, the count of its sheets on a line behind it, and more lines behind that.
+pub fn with_count(
+    alloc: Global,
+    first: &[u8],
+    sheets: u32,
+    lines: &[u8],
+) -> Result<Vec<u8>, AllocError>
+    ensures { IfOk result (λ v.
+        v.items ≡ (first.now ++ line (codes "%%Pages: " ++ decimal sheets)) ++ lines.now) }
 {
     let mut digits = Buffer::new();
     let mut text = Vec::from_slice(alloc, first)?;
     text.extend_from_slice(b"%%Pages: ")?;
     text.extend_from_slice(digits.format(sheets).as_bytes())?;
     text.push(b'\n')?;
+    text.extend_from_slice(lines)?;
     Ok(text)
 }
 

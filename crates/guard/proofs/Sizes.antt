@@ -97,10 +97,10 @@ size_line p h =
     let f = length-append (codes "/setpagedevice where {pop 1 dict dup /PageSize [") (points_text p.width ++ (codes " " ++ two)) in
     omega (arith, a, b, c, d, e, f)
 
-sizes : (sheet : Option Paper) → IfSome sheet (λ p. IsTrue (is_paper p.width p.height)) → AreShort 255 (page_size_lines sheet)
+sizes : (sheet_paper : Option Paper) → IfSome sheet_paper (λ p. IsTrue (is_paper p.width p.height)) → AreShort 255 (page_size_lines sheet_paper)
 sizes None h = tt
 sizes (Some p) h = (size_line p h, tt)
 
 pub guard_is_short : GuardIsShort
-guard_is_short sheet h =
-    short_append 255 first_lines (page_size_lines sheet ++ other_lines) (told 255 first_lines refl) (short_append 255 (page_size_lines sheet) other_lines (sizes sheet h) (told 255 other_lines refl))
+guard_is_short sheet_paper h =
+    short_append 255 first_lines (page_size_lines sheet_paper ++ other_lines) (told 255 first_lines refl) (short_append 255 (page_size_lines sheet_paper) other_lines (sizes sheet_paper h) (told 255 other_lines refl))

@@ -44,21 +44,21 @@ is_size p =
     let rest : no_ends (w ++ (codes " " ++ (h ++ two))) ≡ true = no_ends_append w (codes " " ++ (h ++ two)) (no_ends_points p.width) more in
     (no_ends_append (codes "/setpagedevice where {pop 1 dict dup /PageSize [") (w ++ (codes " " ++ (h ++ two))) refl rest, refl)
 
-are_sizes : (sheet : Option Paper) → AreLines (page_size_lines sheet)
+are_sizes : (sheet_paper : Option Paper) → AreLines (page_size_lines sheet_paper)
 are_sizes None = tt
 are_sizes (Some p) = (is_size p, tt)
 
-pass : (sheet : Option Paper) → passes begins_page 0 (map line_unit (guard_lines sheet)) ≡ Some 0
+pass : (sheet_paper : Option Paper) → passes begins_page 0 (map line_unit (guard_lines sheet_paper)) ≡ Some 0
 pass None = refl
 pass (Some p) = refl
 
-pub can_be_put_in : (sheet : Option Paper) → CanBePutIn (guard_lines sheet)
-can_be_put_in sheet = (
+pub can_be_put_in : (sheet_paper : Option Paper) → CanBePutIn (guard_lines sheet_paper)
+can_be_put_in sheet_paper = (
   omega arith,
-  lines_append first_lines (page_size_lines sheet ++ other_lines) (told first_lines refl)
-      (lines_append (page_size_lines sheet) other_lines (are_sizes sheet) (told other_lines refl)),
-  pass sheet,
+  lines_append first_lines (page_size_lines sheet_paper ++ other_lines) (told first_lines refl)
+      (lines_append (page_size_lines sheet_paper) other_lines (are_sizes sheet_paper) (told other_lines refl)),
+  pass sheet_paper,
 )
 
 pub guard_stays : GuardStays
-guard_stays sheet text us = lines_stay (guard_lines sheet) text us (can_be_put_in sheet)
+guard_stays sheet_paper text us = lines_stay (guard_lines sheet_paper) text us (can_be_put_in sheet_paper)

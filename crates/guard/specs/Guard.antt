@@ -56,8 +56,8 @@ other_lines =
     ∷ []
 
 abbrev pub guard_lines : Option Paper → List (List ℕ)
-guard_lines sheet = first_lines ++ (page_size_lines sheet ++ other_lines)
+guard_lines sheet_paper = first_lines ++ (page_size_lines sheet_paper ++ other_lines)
 
 -- a document with the guard put in
 abbrev pub guarded : Option Paper → List ℕ → List ℕ
-guarded sheet text = put_in (guard_lines sheet) text
+guarded sheet_paper text = put_in (guard_lines sheet_paper) text

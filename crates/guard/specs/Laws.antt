@@ -39,10 +39,10 @@ LinesStay =
 -- so it is with the guard, for every paper of the sheet
 abbrev pub GuardStays : Type 0
 GuardStays =
-    (sheet : Option Paper) (text : List ℕ) (us : List NestedUnit)
-    → document_of text ≡ Ok us → length (guarded sheet text) ≤ most_input_bytes
-    → (document_of (guarded sheet text) ≡ Ok (units_of (guarded sheet text)))
-    × ChangesPreambleAlone (guard_lines sheet) text us (units_of (guarded sheet text))
+    (sheet_paper : Option Paper) (text : List ℕ) (us : List NestedUnit)
+    → document_of text ≡ Ok us → length (guarded sheet_paper text) ≤ most_input_bytes
+    → (document_of (guarded sheet_paper text) ≡ Ok (units_of (guarded sheet_paper text)))
+    × ChangesPreambleAlone (guard_lines sheet_paper) text us (units_of (guarded sheet_paper text))
 
 -- each line has at most so many bytes
 abbrev pub AreShort : ℕ → List (List ℕ) → Type 0
@@ -52,4 +52,5 @@ AreShort most (l ∷ ls) = (length l ≤ most) × AreShort most ls
 -- DSC allows 255 bytes
 abbrev pub GuardIsShort : Type 0
 GuardIsShort =
-    (sheet : Option Paper) → IfSome sheet (λ p. IsTrue (is_paper p.width p.height)) → AreShort 255 (guard_lines sheet)
+    (sheet_paper : Option Paper) → IfSome sheet_paper (λ p. IsTrue (is_paper p.width p.height))
+    → AreShort 255 (guard_lines sheet_paper)

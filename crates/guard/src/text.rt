@@ -50,22 +50,26 @@ const ROOM: usize = 2_048;
 /// `%%EndComments`. With a sheet's paper the guard first sets the device's page size to it, if the interpreter has
 /// `setpagedevice`. Any text is taken; whether it is a document is for whoever reads it to say.
 /// Refused for memory alone.
-pub fn guarded(alloc: Global, text: &[u8], sheet: Option<&Paper>) -> Result<Vec<u8>, AllocError>
-    ensures put_in { IfOk result (λ v. v.items ≡ guarded (option_map (λ p. p.now) sheet.entry) text.now) }
+pub fn guarded(
+    alloc: Global,
+    text: &[u8],
+    sheet_paper: Option<&Paper>,
+) -> Result<Vec<u8>, AllocError>
+    ensures put_in { IfOk result (λ v. v.items ≡ guarded (option_map (λ p. p.now) sheet_paper.entry) text.now) }
 {
     let (header, rest) = text.split_at(header_len(text));
     let mut out = Vec::with_capacity(alloc, text.len() + ROOM)?;
     out.extend_from_slice(header)?;
     end_line(&mut out)?;
-    append_guard(sheet, &mut out)?;
+    append_guard(sheet_paper, &mut out)?;
     out.extend_from_slice(rest)?;
     Ok(out)
 }
 
 /// Puts the guard into a text in its place, as `guarded` does into a copy of it. Refused for memory alone; the text is
 /// as it was then.
-pub fn put_guard(text: &mut Vec<u8>, sheet: Option<&Paper>) -> Result<(), AllocError>
-    ensures put_in { OnOk result (text.new.items ≡ guarded (option_map (λ p. p.now) sheet.entry) text.old.items) }
+pub fn put_guard(text: &mut Vec<u8>, sheet_paper: Option<&Paper>) -> Result<(), AllocError>
+    ensures put_in { OnOk result (text.new.items ≡ guarded (option_map (λ p. p.now) sheet_paper.entry) text.old.items) }
     ensures unchanged { OnErr result (text.new.items ≡ text.old.items) }
 {
     let end = header_len(text.as_slice());
@@ -74,7 +78,7 @@ pub fn put_guard(text: &mut Vec<u8>, sheet: Option<&Paper>) -> Result<(), AllocE
     let mut lines = Vec::with_capacity(*text.allocator(), ROOM)?;
     lines.extend_from_slice(&text[start..end])?;
     end_line(&mut lines)?;
-    append_guard(sheet, &mut lines)?;
+    append_guard(sheet_paper, &mut lines)?;
     text.splice(start..end, lines)?;
     Ok(())
 }
@@ -85,19 +89,19 @@ pub fn put_guard(text: &mut Vec<u8>, sheet: Option<&Paper>) -> Result<(), AllocE
 pub fn put_guard_before(
     bytes: &mut Vec<u8>,
     start: usize,
-    sheet: Option<&Paper>,
+    sheet_paper: Option<&Paper>,
 ) -> Result<usize, AllocError>
     requires { start ≤ vec_len bytes.old }
     ensures begin { IfOk result (λ begin. begin ≤ start) }
     ensures within { IfOk result (λ begin. begin ≤ vec_len bytes.new) }
     ensures put_in { IfOk result (λ begin. drop begin bytes.new.items
-        ≡ guarded (option_map (λ p. p.now) sheet.entry) (drop start bytes.old.items)) }
+        ≡ guarded (option_map (λ p. p.now) sheet_paper.entry) (drop start bytes.old.items)) }
     ensures unchanged { OnErr result (bytes.new.items ≡ bytes.old.items) }
 {
     let (_, text) = bytes.as_slice().split_at(start);
     let len = header_len(text);
     let (header, _) = text.split_at(len);
-    let front = guarded_header(*bytes.allocator(), header, sheet)?;
+    let front = guarded_header(*bytes.allocator(), header, sheet_paper)?;
     let end = start + len;
     if front.len() <= end {
         let begin = end - front.len();
@@ -112,15 +116,15 @@ pub fn put_guard_before(
 fn guarded_header(
     alloc: Global,
     header: &[u8],
-    sheet: Option<&Paper>,
+    sheet_paper: Option<&Paper>,
 ) -> Result<Vec<u8>, AllocError>
     ensures { IfOk result (λ v. v.items
-        ≡ ended header.now ++ flat_map line (guard_lines (option_map (λ p. p.now) sheet.entry))) }
+        ≡ ended header.now ++ flat_map line (guard_lines (option_map (λ p. p.now) sheet_paper.entry))) }
 {
     let mut front = Vec::with_capacity(alloc, header.len().saturating_add(ROOM))?;
     front.extend_from_slice(header)?;
     end_line(&mut front)?;
-    append_guard(sheet, &mut front)?;
+    append_guard(sheet_paper, &mut front)?;
     Ok(front)
 }
 
@@ -135,22 +139,22 @@ fn overwrite(bytes: &mut Vec<u8>, begin: usize, front: &[u8])
 }
 
 /// Appends the guard.
-fn append_guard(sheet: Option<&Paper>, out: &mut Vec<u8>) -> Result<(), AllocError>
+fn append_guard(sheet_paper: Option<&Paper>, out: &mut Vec<u8>) -> Result<(), AllocError>
     ensures { OnOk result (out.new.items ≡
-        out.old.items ++ flat_map line (guard_lines (option_map (λ p. p.now) sheet.entry))) }
+        out.old.items ++ flat_map line (guard_lines (option_map (λ p. p.now) sheet_paper.entry))) }
 {
     out.extend_from_slice(FIRST_LINES)?;
-    append_page_size(sheet, out)?;
+    append_page_size(sheet_paper, out)?;
     out.extend_from_slice(OTHER_LINES)?;
     Ok(())
 }
 
 /// Appends the line that sets the page size to a paper, if there is one.
-fn append_page_size(sheet: Option<&Paper>, out: &mut Vec<u8>) -> Result<(), AllocError>
+fn append_page_size(sheet_paper: Option<&Paper>, out: &mut Vec<u8>) -> Result<(), AllocError>
     ensures { OnOk result (out.new.items ≡
-        out.old.items ++ flat_map line (page_size_lines (option_map (λ p. p.now) sheet.entry))) }
+        out.old.items ++ flat_map line (page_size_lines (option_map (λ p. p.now) sheet_paper.entry))) }
 {
-    match sheet {
+    match sheet_paper {
         None => Ok(()),
         Some(paper) => append_size_of(paper, out),
     }

@@ -1,4 +1,5 @@
 pub mod Histories
+pub mod Rooms
 mod RuleKept
 mod Views
 pub mod Moves

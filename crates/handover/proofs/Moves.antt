@@ -5,7 +5,7 @@ use Rattle.histories.proofs.Calls.{calls_stand, own_entries_are_kept, whole_seat
 use Rattle.histories.proofs.Courses.{courses_stand}
 use Rattle.histories.proofs.Totals.{total-append}
 use Rattle.handover.specs.Queue.{Move, Put, Take, content, IsQueueHistory, sheets_put, sheets_taken}
-use Rattle.handover.specs.Passes.{own_moves}
+use Rattle.handover.specs.Passes.{PassView, Makes, seat_of, own_moves}
 use Rattle.handover.specs.Laws.{MovesStandInOneHistory, SplitMovesStandInOneHistory, OwnMovesAreKept, WholePassMadeAll, WholePassLosesNone}
 use Rattle.handover.proofs.Histories.{first_put_is_first_taken}
 
@@ -17,6 +17,12 @@ split_moves_stand_in_one_history = courses_stand IsQueueHistory
 
 pub own_moves_are_kept : OwnMovesAreKept
 own_moves_are_kept = own_entries_are_kept IsQueueHistory
+
+-- moves of a pass are moves of the seat that it is
+pub seats_make : (old new : PassView) (moves : List Move) → Makes old moves new
+    → Rattle.histories.specs.Calls.Makes IsQueueHistory (seat_of old) moves (seat_of new)
+seats_make old new [] made = ap seat_of made
+seats_make old new (m ∷ moves) made = (seat_of made.0, made.1.0, seats_make made.0 new moves made.2)
 
 pub whole_pass_made_all : WholePassMadeAll
 whole_pass_made_all = whole_seat_made_all IsQueueHistory
@@ -34,8 +40,8 @@ take_weight s (Take x ∷ log) = let r = take_weight s log in omega arith
 
 pub whole_pass_loses_none : WholePassLosesNone
 whole_pass_loses_none pass s k whole =
-    let puts : total (λ m. times s (sheets_put (m ∷ []))) (own_moves pass) ≡ total (λ m. times s (sheets_put (m ∷ []))) pass.front = whole_pass_made_all pass (λ m. times s (sheets_put (m ∷ []))) k whole in
-    let takes : total (λ m. times s (sheets_taken (m ∷ []))) (own_moves pass) ≡ total (λ m. times s (sheets_taken (m ∷ []))) pass.front = whole_pass_made_all pass (λ m. times s (sheets_taken (m ∷ []))) k whole in
+    let puts : total (λ m. times s (sheets_put (m ∷ []))) (own_moves pass) ≡ total (λ m. times s (sheets_put (m ∷ []))) pass.front = whole_pass_made_all (seat_of pass) (λ m. times s (sheets_put (m ∷ []))) k whole in
+    let takes : total (λ m. times s (sheets_taken (m ∷ []))) (own_moves pass) ≡ total (λ m. times s (sheets_taken (m ∷ []))) pass.front = whole_pass_made_all (seat_of pass) (λ m. times s (sheets_taken (m ∷ []))) k whole in
     let sums : times s (sheets_taken pass.front ++ content pass.front) ≡ times s (sheets_taken pass.front) + times s (content pass.front) = total-append _ (sheets_taken pass.front) (content pass.front) in
     let order : times s (sheets_taken pass.front ++ content pass.front) ≡ times s (sheets_put pass.front) = ap (times s) (first_put_is_first_taken pass.key pass.front k.legal) in
     omega (arith, put_weight s (own_moves pass), put_weight s pass.front, take_weight s (own_moves pass), take_weight s pass.front)

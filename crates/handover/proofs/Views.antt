@@ -1,32 +1,92 @@
--- What a put and a take tell, as clauses see it.
-use Rattle.std.proofs.Common.{◌≡◌, ℕ, refl, sym, subst}
-use Rattle.std.specs.Prelude.{Option, Some, None, Result, Ok, Err, IfSome, MatchOption, MatchResult}
+-- What each step tells, as clauses see it, and that a pass between two calls stays one.
+use Rattle.std.proofs.Common.{◌≡◌, inl, inr, ℕ, zero, suc, ◌+◌, ◌-◌, ◌<◌, [], Option, Some, None, refl, sym, ap, ◌∙◌, subst, arith}
+use Rattle.std.specs.Prelude.{Result, Ok, Err, IfSome, MatchOption, MatchResult}
 use Rattle.atomic_table.specs.Seated.{TableId}
-use Rattle.histories.specs.Calls.{seat_view}
-use Rattle.histories.proofs.Views.{stands_after, made}
+use Rattle.histories.specs.Seats.{Learned, whole_share}
 use Rattle.handover.specs.Queue.{Move, Take, IsQueueHistory}
-use Rattle.handover.specs.Passes.{PassView, Made}
-use Rattle.handover.specs.Rule.{Sight, StandsAlone}
-use Rattle.handover.specs.Steps.{Adds}
+use Rattle.handover.specs.Passes.{PassView, seat_of, puts_in, Made, Joined, opening_pass, room_after, room_kept, room_given, both_rooms}
+use Rattle.handover.specs.Rule.{Sight, StandsAlone, pass_view}
+use Rattle.handover.specs.Steps.{Adds, keeps_of, gets_of, both_of, opened}
+use Rattle.handover.proofs.RuleKept.{MayTry}
 
 abbrev pub Held : Sight → Type 0
-Held = Rattle.histories.proofs.Views.Held IsQueueHistory
+Held v = Rattle.histories.proofs.Views.Held IsQueueHistory v.seat
 
--- after a put the pass stands alone, whether it was accepted or not
-pub put_stands : {A B : Type 0} (r : Result A B) (v w : Sight) (share : ℕ) (m : Move) (P Q : B → Type 0) → MatchResult r (λ _. Adds v m w) (λ y. P y × (w ≡ v) × Q y) → StandsAlone v share → StandsAlone w share
-put_stands (Ok a) v w share m P Q is s = stands_after IsQueueHistory v w share m is s
-put_stands (Err e) v w share m P Q is s = subst (λ (u : Sight). StandsAlone u share) (sym is.1) s
+-- a move
+pub stands_after : (v w : Sight) (share : ℕ) (room left : Option ℕ) (m : Move) → Adds v m w → left ≡ room_after m room → StandsAlone v share room → StandsAlone w share left
+stands_after v w share room left m is after s = record {
+  seat = Rattle.histories.proofs.Views.stands_after IsQueueHistory v.seat w.seat share m is.seat s.seat;
+  room = after ∙ ap (room_after m) s.room ∙ sym is.room;
+}
 
--- and after a take
-pub take_stands : (r : Option ℕ) (v w : Sight) (share : ℕ) (P : Type 0) → MatchOption r ((w ≡ v) × P) (λ x. Adds v (Take x) w) → StandsAlone v share → StandsAlone w share
-take_stands None v w share P is s = subst (λ (u : Sight). StandsAlone u share) (sym is.0) s
-take_stands (Some x) v w share P is s = stands_after IsQueueHistory v w share (Take x) is s
+pub made : (t t' : TableId) (v w : Sight) (m : Move) (old : PassView) → Adds v m w → Held v → t' ≡ t → pass_view t v ≡ old → Made old m (pass_view t' w)
+made t t' v w m old is h same is_old = (
+  Rattle.histories.proofs.Views.made IsQueueHistory t t' v.seat w.seat m m (seat_of old) is.seat h same refl (ap seat_of is_old),
+  is.room ∙ ap (λ (p : PassView). room_after m p.room) is_old,
+)
+
+-- after a take the pass stands alone, whether it gave a sheet or not
+pub take_stands : (r : Option ℕ) (v w : Sight) (share : ℕ) (room : Option ℕ) (P : Type 0) → MatchOption r ((w ≡ v) × P) (λ x. Adds v (Take x) w) → StandsAlone v share room → StandsAlone w share room
+take_stands None v w share room P is s = subst (λ (u : Sight). StandsAlone u share room) (sym is.0) s
+take_stands (Some x) v w share room P is s = stands_after v w share room room (Take x) is refl s
 
 -- a sheet that was taken is a move
-pub take_made : (r : Option ℕ) (t t' : TableId) (v w : Sight) (old : PassView) (P : Type 0) → MatchOption r ((w ≡ v) × P) (λ x. Adds v (Take x) w) → Held v → t' ≡ t → seat_view t v ≡ old → IfSome r (λ x. Made old (Take x) (seat_view t' w))
+pub take_made : (r : Option ℕ) (t t' : TableId) (v w : Sight) (old : PassView) (P : Type 0) → MatchOption r ((w ≡ v) × P) (λ x. Adds v (Take x) w) → Held v → t' ≡ t → pass_view t v ≡ old → IfSome r (λ x. Made old (Take x) (pass_view t' w))
 take_made None t t' v w old P is h same is_old = tt
-take_made (Some x) t t' v w old P is h same is_old = made IsQueueHistory t t' v w (Take x) (Take x) old is h same refl is_old
+take_made (Some x) t t' v w old P is h same is_old = made t t' v w (Take x) old is h same is_old
 
--- and so is a put that was accepted
-pub put_made : {A B : Type 0} (r : Result A B) (a : A) (t t' : TableId) (v w : Sight) (m : Move) (old : PassView) (P : B → Type 0) → MatchResult r (λ _. Adds v m w) P → r ≡ Ok a → Held v → t' ≡ t → seat_view t v ≡ old → Made old m (seat_view t' w)
-put_made r a t t' v w m old P is ok h same is_old = made IsQueueHistory t t' v w m m old (subst (λ x. MatchResult x (λ _. Adds v m w) P) ok is) h same refl is_old
+-- an accepted put, and one that was refused
+pub put_accepted : {A B : Type 0} (r : Result A B) (a : A) (v w : Sight) (m : Move) (P : B → Type 0) → MatchResult r (λ _. Adds v m w) P → r ≡ Ok a → Adds v m w
+put_accepted r a v w m P is ok = subst (λ x. MatchResult x (λ _. Adds v m w) P) ok is
+
+pub put_refused : {A B : Type 0} (r : Result A B) (b : B) (Q : A → Type 0) (P : B → Type 0) → MatchResult r Q P → r ≡ Err b → P b
+put_refused r b Q P is err = subst (λ x. MatchResult x Q P) err is
+
+-- a put may be tried
+pub may_try : (v : Sight) (share : ℕ) (room : Option ℕ) → StandsAlone v share room → (room ≡ Some 0 → share ≡ whole_share) → MayTry v
+may_try v share room s may = by_room v.room refl
+  where
+    by_room : (r : Option ℕ) → v.room ≡ r → MayTry v
+    by_room None e = inr (inl e)
+    by_room (Some zero) e = inr (inr (sym s.seat.share ∙ may (s.room ∙ e), ap puts_in e))
+    by_room (Some (suc n)) e = inl (let some : puts_in v.room ≡ suc n = ap puts_in e in omega (arith, some))
+
+-- the pass that a queue is made with
+pub view_opens : (t t' : TableId) (v : Sight) (key key' : ℕ) (room : Option ℕ) → t ≡ t' → v ≡ opened key room → key ≡ key'
+    → pass_view t v ≡ record (opening_pass (record { queue = t'; capacity = key' })) { room = room }
+view_opens t t' v key key' room same is same_key = (λ i. pass_view (same i) (is i)) ∙ (λ i. record (opening_pass (record { queue = t'; capacity = same_key i })) { room = room })
+
+pub stands_open : (w : Sight) (key share : ℕ) (room its : Option ℕ) → w ≡ opened key room → share ≡ 4_294_967_296 → its ≡ room → StandsAlone w share its
+stands_open w key share room its is all same = record {
+  seat = Rattle.histories.proofs.Views.stands_open IsQueueHistory w.seat key share tt (ap (λ (u : Sight). u.seat) is) all;
+  room = same ∙ sym (ap (λ (u : Sight). u.room) is);
+}
+
+-- a split
+pub stands_kept : (v w : Sight) (share rest give room : ℕ) (its left : Option ℕ) → w ≡ keeps_of give room v → 0 < give → give < v.seat.share → rest ≡ share - give → left ≡ room_kept room its
+    → StandsAlone v share its → StandsAlone w rest left
+stands_kept v w share rest give room its left is some less is_rest is_left s = record {
+  seat = Rattle.histories.proofs.Views.stands_kept IsQueueHistory v.seat w.seat share rest give (ap (λ (u : Sight). u.seat) is) some less is_rest s.seat;
+  room = is_left ∙ ap (room_kept room) s.room ∙ sym (ap (λ (u : Sight). u.room) is);
+}
+
+pub stands_given : (v w : Sight) (share give room : ℕ) (its got : Option ℕ) → w ≡ gets_of give room v → 0 < give → give < v.seat.share → got ≡ room_given room its
+    → StandsAlone v share its → StandsAlone w give got
+stands_given v w share give room its got is some less is_got s = record {
+  seat = Rattle.histories.proofs.Views.stands_given IsQueueHistory v.seat w.seat share give (ap (λ (u : Sight). u.seat) is) some less s.seat;
+  room = is_got ∙ ap (room_given room) s.room ∙ sym (ap (λ (u : Sight). u.room) is);
+}
+
+-- a join
+pub stands_joined : (v w u : Sight) (share part sum : ℕ) (one two all : Option ℕ) → u ≡ both_of v w → Learned u.seat → w.seat.key ≡ v.seat.key → sum ≡ share + part → all ≡ both_rooms one two
+    → StandsAlone v share one → StandsAlone w part two → StandsAlone u sum all
+stands_joined v w u share part sum one two all is l key is_sum is_all sv sw = record {
+  seat = Rattle.histories.proofs.Views.stands_joined IsQueueHistory v.seat w.seat u.seat share part sum (ap (λ (z : Sight). z.seat) is) l key is_sum sv.seat sw.seat;
+  room = is_all ∙ (λ i. both_rooms (sv.room i) (sw.room i)) ∙ sym (ap (λ (z : Sight). z.room) is);
+}
+
+pub joined : (t tw t' : TableId) (v w u : Sight) (a b : PassView) → pass_view t v ≡ a → pass_view tw w ≡ b → u ≡ both_of v w → Learned u.seat → t' ≡ t → w.seat.key ≡ v.seat.key → Held v → Held w → Joined a b (pass_view t' u)
+joined t tw t' v w u a b is_a is_b is l same key hv hw = (
+  Rattle.histories.proofs.Views.joined IsQueueHistory t tw t' v.seat w.seat u.seat (seat_of a) (seat_of b) (ap seat_of is_a) (ap seat_of is_b) (ap (λ (z : Sight). z.seat) is) l same key hv hw,
+  ap (λ (z : Sight). z.room) is ∙ (λ i. both_rooms (ap (λ (p : PassView). p.room) is_a i) (ap (λ (p : PassView). p.room) is_b i)),
+)

@@ -1,9 +1,10 @@
--- What holds of every history of the queue, and of every pass by the contracts of its calls.
-use Rattle.std.specs.Prelude.{◌≡◌, ℕ, ◌+◌, ◌≤◌, List, ◌++◌, length}
+-- What holds of every history of the queue, and of every pass by the contracts of its calls. Those that are laws of
+-- histories speak of a pass as the seat that it is (`seat_of`).
+use Rattle.std.specs.Prelude.{◌≡◌, ℕ, ◌+◌, ◌-◌, ◌≤◌, List, ◌++◌, length}
 use Rattle.histories.specs.Seats.{whole_share, times}
 use Rattle.histories.specs.Laws.{CallsStandInOneHistory, CoursesStandInOneHistory, OwnEntriesAreKept, WholeSeatMadeAll}
 use Rattle.handover.specs.Queue.{Move, content, IsQueueHistory, sheets_put, sheets_taken}
-use Rattle.handover.specs.Passes.{PassView, IsPass, own_moves}
+use Rattle.handover.specs.Passes.{PassView, IsPass, Joined, Makes, own_moves, puts_in}
 
 -- sheets are taken in the order in which they were put: those taken, and behind them those left, are those put
 abbrev pub FirstPutIsFirstTaken : Type 0
@@ -36,3 +37,9 @@ MovesStandInOneHistory = CallsStandInOneHistory IsQueueHistory
 -- and so do those of a caller that splits its pass, makes moves with both parts, and joins them again
 abbrev pub SplitMovesStandInOneHistory : Type 0
 SplitMovesStandInOneHistory = CoursesStandInOneHistory IsQueueHistory
+
+-- moves lower the room of a pass by one for each put, as long as there is any; a joined pass has the room of both
+abbrev pub RoomIsUsedUp : Type 0
+RoomIsUsedUp = ((old new : PassView) (moves : List Move) → Makes old moves new
+    → puts_in new.room ≡ puts_in old.room - length (sheets_put moves))
+    × ((one two new : PassView) → Joined one two new → puts_in new.room ≡ puts_in one.room + puts_in two.room)

@@ -1,9 +1,10 @@
--- What clauses see of the ready queue and of its passes. A pass is a seat of the queue's history; what is said of seats
--- of any history stands in the crate histories.
-use Rattle.std.specs.Prelude.{ℕ, List}
+-- What clauses see of the ready queue and of its passes. A pass is a seat of the queue's history, with room; what is said
+-- of seats of any history stands in the crate histories.
+use Rattle.std.specs.Prelude.{◌≡◌, ℕ, ◌+◌, ◌-◌, List, [], ◌∷◌, Option, Some, None}
 use Rattle.atomic_table.specs.Seated.{TableId}
-use Rattle.histories.specs.Calls.{SeatView, IsOf, IsSeat, opening, own_entries}
-use Rattle.handover.specs.Queue.{Move, IsQueueHistory}
+use Rattle.histories.specs.Seats.{whole_share}
+use Rattle.histories.specs.Calls.{SeatView, IsOf, IsSeat, own_entries}
+use Rattle.handover.specs.Queue.{Move, Put, Take, IsQueueHistory}
 
 -- a queue and the number of sheets that it has room for
 pub record QueueView : Type 0 where
@@ -11,35 +12,81 @@ pub record QueueView : Type 0 where
   pub capacity : ℕ
 
 -- a pass: its queue, the capacity (its key), the history that its caller has seen, the places in it of the caller's own
--- moves, and its share
-abbrev pub PassView : Type 0
-PassView = SeatView ℕ Move
+-- moves, its share, and its room
+pub record PassView : Type 0 where
+  pub table : TableId
+  pub key : ℕ
+  pub front : List Move
+  pub own : List ℕ
+  pub share : ℕ
+  -- how many puts it may make that aren't refused, of a queue in which puts are made by right
+  pub room : Option ℕ
+
+-- the same without its room: a seat of the queue's history
+abbrev pub seat_of : PassView → SeatView ℕ Move
+seat_of p = record { table = p.table; key = p.key; front = p.front; own = p.own; share = p.share }
 
 abbrev pub IsPassOf : QueueView → PassView → Type 0
-IsPassOf q pass = IsOf q.queue q.capacity pass
+IsPassOf q pass = IsOf q.queue q.capacity (seat_of pass)
 
 -- the pass that a queue is made with: it has all shares, and has seen nothing yet
 abbrev pub opening_pass : QueueView → PassView
-opening_pass q = opening q.queue q.capacity
+opening_pass q =
+    record { table = q.queue; key = q.capacity; front = []; own = []; share = whole_share; room = None }
+
+-- the same of a queue in which puts are made by right: it has room for as many as the queue
+abbrev pub opening_pass_by_right : QueueView → PassView
+opening_pass_by_right q = record (opening_pass q) { room = Some q.capacity }
 
 -- what every pass keeps to: its front is a history of the queue, its own places lie in it, each once, and if it has all
 -- shares they are all places of it
 abbrev pub IsPass : PassView → Type 0
-IsPass = IsSeat IsQueueHistory
+IsPass pass = IsSeat IsQueueHistory (seat_of pass)
 
 -- the pass's own moves
 abbrev pub own_moves : PassView → List Move
-own_moves pass = own_entries pass
+own_moves pass = own_entries (seat_of pass)
+
+-- how many puts may be made by right with such a room
+abbrev pub puts_in : Option ℕ → ℕ
+puts_in None = 0
+puts_in (Some n) = n
+
+-- the room that is left after a move: a put by right lowers it by one
+abbrev pub room_after : Move → Option ℕ → Option ℕ
+room_after (Take s) room = room
+room_after (Put s) None = None
+room_after (Put s) (Some n) = Some (n - 1)
+
+-- the room that is kept if so much is given away, and the room that is given
+abbrev pub room_kept : ℕ → Option ℕ → Option ℕ
+room_kept give None = None
+room_kept give (Some n) = Some (n - give)
+
+abbrev pub room_given : ℕ → Option ℕ → Option ℕ
+room_given give None = None
+room_given give (Some n) = Some give
+
+-- the room of two passes together
+abbrev pub both_rooms : Option ℕ → Option ℕ → Option ℕ
+both_rooms None room = room
+both_rooms (Some n) None = Some n
+both_rooms (Some n) (Some m) = Some (n + m)
 
 -- the move was made: the new front begins with the old one, goes on with what others did meanwhile, and ends with this
--- move, whose place is one more own place. If the pass has all shares there are no others
+-- move, whose place is one more own place. If the pass has all shares there are no others. A put by right lowers the room
 abbrev pub Made : PassView → Move → PassView → Type 0
-Made = Rattle.histories.specs.Calls.Made IsQueueHistory
+Made old m new =
+    Rattle.histories.specs.Calls.Made IsQueueHistory (seat_of old) m (seat_of new)
+    × (new.room ≡ room_after m old.room)
 
 -- these moves were made, one after the other, and no others
 abbrev pub Makes : PassView → List Move → PassView → Type 0
-Makes = Rattle.histories.specs.Calls.Makes IsQueueHistory
+Makes old [] new = old ≡ new
+Makes old (m ∷ ms) new = (mid : PassView) × Made old m mid × Makes mid ms new
 
--- one pass with the longer front, the own places of both, of which none is shared, and both shares
+-- one pass with the longer front, the own places of both, of which none is shared, both shares and the room of both
 abbrev pub Joined : PassView → PassView → PassView → Type 0
-Joined = Rattle.histories.specs.Calls.Joined IsQueueHistory
+Joined a b new =
+    Rattle.histories.specs.Calls.Joined IsQueueHistory (seat_of a) (seat_of b) (seat_of new)
+    × (new.room ≡ both_rooms a.room b.room)

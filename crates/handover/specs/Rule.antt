@@ -1,34 +1,83 @@
 -- The rule of the ready queue, and what its passes know.
-use Rattle.std.specs.Prelude.{◌≡◌, ℕ, List}
-use Rattle.histories.specs.Seats.{AreSeats}
+use Rattle.std.specs.Prelude.{◌≡◌, ℕ, ◌+◌, ◌<◌, ◌≤◌, Bool, List, [], ◌∷◌, length, Option, None, is_some}
+use mathlib.Core.Option.{some}
+use lib.ListN.{get_elem?}
+use Rattle.histories.specs.Seats.{AreSeats, total}
 use Rattle.histories.specs.Laws.{StandTogether}
+use Rattle.histories.specs.Seats as sights
 use Rattle.handover.specs.Queue.{Move, content, IsQueueHistory}
+use Rattle.atomic_table.specs.Seated.{TableId}
+use Rattle.handover.specs.Passes.{PassView, puts_in}
 
--- what a pass knows: its seat of the queue's history, whose capacity is the key
-abbrev pub Sight : Type 0
-Sight = Rattle.histories.specs.Seats.Sight ℕ Move
+-- what a pass knows as a seat of the queue's history, whose capacity is the key
+abbrev pub SeatSight : Type 0
+SeatSight = Rattle.histories.specs.Seats.Sight ℕ Move
+
+-- what a pass knows: its seat, and its room
+pub record Sight : Type 0 where
+  pub seat : SeatSight
+  pub room : Option ℕ
+
+abbrev pub seats_of : List Sight → List SeatSight
+seats_of [] = []
+seats_of (v ∷ vs) = v.seat ∷ seats_of vs
 
 -- a pass that was joined into another
 abbrev pub spent : Sight
-spent = Rattle.histories.specs.Seats.spent 0
+spent = record { seat = sights.spent 0; room = None }
 
--- a pass between two calls: it has this share, and keeps what every pass keeps
-abbrev pub StandsAlone : Sight → ℕ → Type 0
-StandsAlone = Rattle.histories.specs.Own.StandsAlone IsQueueHistory
+-- the pass that a queue is made with, before it is told the capacity
+abbrev pub opening : Sight
+opening = record { seat = sights.opening_sight 0; room = None }
+
+-- how many puts it may make by right
+abbrev pub room_of : Sight → ℕ
+room_of v = puts_in v.room
+
+-- what is seen of a pass of this queue that knows this
+abbrev pub pass_view : TableId → Sight → PassView
+pass_view table v = record {
+  table = table;
+  key = v.seat.key;
+  front = v.seat.front;
+  own = v.seat.own;
+  share = v.seat.share;
+  room = v.room;
+}
+
+-- a pass between two calls: it has this share and this room, and keeps what every pass keeps
+pub record StandsAlone (v : Sight) (its_share : ℕ) (its_room : Option ℕ) : Type 0 where
+  pub seat : Rattle.histories.specs.Own.StandsAlone IsQueueHistory v.seat its_share
+  pub room : its_room ≡ v.room
+
+-- a pass has room if puts are made by right, and else none; one without a share may make none by right
+pub record IsRoomed (by_right : Bool) (v : Sight) : Type 0 where
+  pub alike : 0 < v.seat.share → is_some v.room ≡ by_right
+  pub idle : v.seat.share ≡ 0 → room_of v ≡ 0
+
+-- the rooms of all passes, and the sheets that the queue holds, are never more than its capacity
+pub record AreRooms (by_right : Bool) (capacity held : ℕ) (views : List Sight) : Type 0 where
+  pub each : (id : ℕ) (v : Sight) → get_elem? views id ≡ some v → IsRoomed by_right v
+  pub enough : total room_of views + held ≤ capacity
 
 -- between any two steps there is one history, whose content is what the queue holds, and of which each pass has seen a
--- beginning
+-- beginning; and there is room for all puts that may be made by right
 pub record IsKept (items : List ℕ) (views : List Sight) (capacity : ℕ) (log : List Move) : Type 0 where
   pub legal : IsQueueHistory capacity log
   pub holds : content log ≡ items
-  pub seats : AreSeats capacity log views
+  pub seats : AreSeats capacity log (seats_of views)
+  pub small : capacity ≤ 4_294_967_295
+  pub by_right : Bool
+  pub rooms : AreRooms by_right capacity (length items) views
 
 abbrev pub Kept : List ℕ → List Sight → Type 0
 Kept items views = (capacity : ℕ) × (log : List Move) × IsKept items views capacity log
 
 -- all passes of a queue at one moment, whether they ever met or not: their moves stand in one history, whose content is
--- what the queue holds, and no move is an own move of two of them. So it is between any two steps of a queue with this
--- rule
+-- what the queue holds, and no move is an own move of two of them; and the puts that they may still make by right fit in
+-- beside that content. So it is between any two steps of a queue with this rule
 abbrev pub PassesStandTogether : (rule : List ℕ → List Sight → Type 0) → Type 0
 PassesStandTogether rule = (items : List ℕ) (views : List Sight) → rule items views
-    → (capacity : ℕ) × (log : List Move) × (content log ≡ items) × StandTogether IsQueueHistory capacity log views
+    → (capacity : ℕ) × (log : List Move) × (content log ≡ items)
+    × StandTogether IsQueueHistory capacity log (seats_of views)
+    × (total room_of views + length items ≤ capacity)

@@ -1,18 +1,42 @@
 -- What each step tells.
-use Rattle.std.specs.Prelude.{◌≡◌, ℕ, List}
-use Rattle.histories.specs.Seats.{Learned, whole_share}
+use Rattle.std.specs.Prelude.{◌≡◌, ℕ, ◌<◌, ◌≤◌, List, [], length, Option, None}
+use Rattle.histories.specs.Seats.{Learned, whole_share, keeps_back, given, absorbed, opening_sight}
+use Rattle.histories.specs.Seats as sights
 use Rattle.handover.specs.Queue.{Move, content, IsQueueHistory}
-use Rattle.handover.specs.Rule.{Sight}
+use Rattle.handover.specs.Passes.{room_after, room_kept, room_given, both_rooms}
+use Rattle.handover.specs.Rule.{Sight, room_of}
 
 -- the move was made
-abbrev pub Adds : Sight → Move → Sight → Type 0
-Adds = Rattle.histories.specs.Seats.Adds IsQueueHistory
+pub record Adds (v : Sight) (m : Move) (w : Sight) : Type 0 where
+  pub seat : Rattle.histories.specs.Seats.Adds IsQueueHistory v.seat m w.seat
+  pub room : w.room ≡ room_after m v.room
 
 -- a step that changes no pass: the front of a pass that has all shares is the whole history, and its content is what
--- the queue held
-abbrev pub Sees : Sight → List ℕ → Type 0
-Sees v items = v.share ≡ whole_share → content v.front ≡ items
+-- the queue held; and a pass that may put by right finds room
+pub record Sees (v : Sight) (items : List ℕ) : Type 0 where
+  pub whole : v.seat.share ≡ whole_share → content v.seat.front ≡ items
+  pub by_right : 0 < room_of v → length items < v.seat.key
 
 -- a look that tells a pass what the rule says of it
-abbrev pub Learns : Sight → List ℕ → Type 0
-Learns v items = Learned v
+pub record Learns (v : Sight) (items : List ℕ) : Type 0 where
+  pub seat : Learned v.seat
+  pub few : room_of v ≤ 4_294_967_295
+
+-- a pass that gives this share and this room away, and the pass that gets them
+abbrev pub keeps_of : (share room : ℕ) → Sight → Sight
+keeps_of share room v = record { seat = keeps_back v.seat.own share v.seat; room = room_kept room v.room }
+
+abbrev pub gets_of : (share room : ℕ) → Sight → Sight
+gets_of share room v = record { seat = given [] share v.seat; room = room_given room v.room }
+
+-- two passes in one
+abbrev pub both_of : Sight → Sight → Sight
+both_of v w = record { seat = absorbed v.seat w.seat; room = both_rooms v.room w.room }
+
+-- the first pass, once it is told the capacity, and its room
+abbrev pub opened : ℕ → Option ℕ → Sight
+opened capacity room = record { seat = opening_sight capacity; room = room }
+
+-- a pass that nobody has
+abbrev pub spent_of : ℕ → Sight
+spent_of capacity = record { seat = sights.spent capacity; room = None }

@@ -1,6 +1,7 @@
 //! Laws: what holds of every history of the queue, and of every pass. Each is a function that does nothing.
 ghost use Rattle.handover.specs.Laws.{FirstPutIsFirstTaken, NeverOverfull, WholePassMadeAll, WholePassLosesNone};
 ghost use Rattle.handover.specs.Laws.{OwnMovesAreKept, MovesStandInOneHistory, SplitMovesStandInOneHistory};
+ghost use Rattle.handover.specs.Laws.{RoomIsUsedUp};
 ghost use Rattle.handover.specs.Rule.{PassesStandTogether};
 
 use crate::rule::{OneHistory, View};
@@ -43,8 +44,14 @@ pub fn split_moves_stand_in_one_history()
     ensures { SplitMovesStandInOneHistory }
 {}
 
+/// A put lowers the room of its pass by one, as long as there is any, and a take leaves it; a joined pass has the room of
+/// both.
+pub fn room_is_used_up()
+    ensures { RoomIsUsedUp }
+{}
+
 /// The moves of all passes of a queue, whether they ever met or not, stand in one history at every moment, whose content is
-/// what the queue holds: no move is that of two passes.
+/// what the queue holds: no move is that of two passes. The puts that they may still make by right fit in beside it.
 pub fn passes_stand_together()
     ensures { PassesStandTogether ⟦<OneHistory as Protocol<u32, View>>⟧.holds }
 {}

@@ -6,6 +6,7 @@ mod pass;
 mod prepared;
 mod ready;
 mod receipts;
+mod room;
 mod rule;
 mod shelf;
 mod steps;

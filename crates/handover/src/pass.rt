@@ -1,29 +1,33 @@
 //! A caller's token for the ready queue.
 ghost use Rattle.std.specs.Prelude.{◌≡◌};
-ghost use Rattle.handover.specs.Passes.{IsPass};
+ghost use Rattle.handover.specs.Passes.{IsPass, puts_in};
 
 use crate::rule::View;
 use std::marker::Model;
 
+/// How many shares there are of a queue.
+pub(crate) const WHOLE_SHARE: u64 = 4_294_967_296;
+
 /// A caller's token for one queue. It stands for a history of the queue that the caller has seen, its front, and for
-/// the caller's own puts and takes in it. Neither is stored: a pass is eight bytes, its share.
+/// the caller's own puts and takes in it. Neither is stored: a pass is its share and its room.
 #[derive(Drop)]
 pub struct Pass {
     pub(crate) token: crossbeam_queue::Pass<u32, View>,
     pub(crate) share: u64,
+    /// How many puts it may make that aren't refused. None if puts aren't made by right.
+    pub(crate) room: Option<u32>,
 }
 
 impl Model for Pass {
     ghost use Rattle.std.specs.Prelude.{◌≡◌, []};
-    ghost use Rattle.histories.specs.Calls.{seat_view};
     ghost use Rattle.handover.specs.Passes.{PassView};
-    ghost use Rattle.handover.specs.Rule.{StandsAlone};
+    ghost use Rattle.handover.specs.Rule.{StandsAlone, pass_view};
 
     ghost Value = { PassView };
 
-    ghost view = { λ p. seat_view p.token.table_id p.token.me.0.client };
+    ghost view = { λ p. pass_view p.token.table_id p.token.me.0.client };
 
-    ghost invariant = { λ p. (p.token.me.1 ≡ []) × StandsAlone p.token.me.0.client p.share };
+    ghost invariant = { λ p. (p.token.me.1 ≡ []) × StandsAlone p.token.me.0.client p.share p.room };
 }
 
 impl Pass {
@@ -33,5 +37,15 @@ impl Pass {
         ensures pass { IsPass self.now }
     {
         self.share
+    }
+
+    /// How many puts it may make that aren't refused.
+    pub fn room(&self) -> u32
+        ensures { result ≡ puts_in self.now.room }
+    {
+        match self.room {
+            Some(puts) => puts,
+            None => 0,
+        }
     }
 }

@@ -1,11 +1,15 @@
 //! The queue of sheets that are ready.
-ghost use Rattle.std.specs.Prelude.{◌≡◌, ◌<◌, ◌-◌, [], length, OnOk, OnErr, IfOk, IfErr, IfSome, IfNone};
+ghost use Rattle.std.specs.Prelude.{◌≡◌, ◌<◌, ◌≤◌, ◌-◌, [], length, OnOk, OnErr, IfOk, IfErr, IfSome, IfNone};
 ghost use Rattle.crossbeam_queue.specs.Passes.{view};
-ghost use Rattle.histories.specs.Seats.{whole_share, opening_sight};
+ghost use Rattle.histories.specs.Seats.{whole_share};
 ghost use Rattle.handover.specs.Queue.{Put, Take, content};
-ghost use Rattle.handover.specs.Passes.{IsPass, IsPassOf, Made, Joined, opening_pass};
+ghost use Rattle.handover.specs.Passes.{IsPass, IsPassOf, Made, Joined, opening_pass, opening_pass_by_right};
+ghost use Rattle.handover.specs.Passes.{puts_in, room_kept, room_given};
+ghost use Rattle.handover.specs.Rule.{opening};
+ghost use Rattle.handover.specs.Steps.{opened};
 
-use crate::pass::Pass;
+use crate::pass::{Pass, WHOLE_SHARE};
+use crate::room::{both_rooms, may_put, room_after_put, room_given, room_kept};
 use crate::rule::{OneHistory, View};
 use crate::steps::{Both, Cut, Opens, Picks, Puts, Takes};
 use crossbeam_queue::RuledArrayQueue;
@@ -20,9 +24,6 @@ use thiserror::Error;
 pub struct Full(pub u32);
 
 type Line = RuledArrayQueue<u32, View, OneHistory>;
-
-/// How many shares there are of a queue.
-const WHOLE_SHARE: u64 = 4_294_967_296;
 
 /// The sheets that are ready, oldest first: a bounded queue for many threads, without a lock.
 ///
@@ -55,12 +56,35 @@ impl Ready {
         let pass = Pass {
             token,
             share: WHOLE_SHARE,
+            room: None,
+        };
+        Ok((ready, pass))
+    }
+
+    /// The same of a queue in which puts are made by right: the pass has room for as many puts as the queue has, which can
+    /// be split among others. A put of a pass with room isn't refused, and lowers it. One of a pass without room is
+    /// refused, but for a pass that has all shares: what room there is may belong to others.
+    ///
+    /// No take gives room back: the capacity is that of all puts that are ever made by right.
+    pub fn by_right(alloc: Global, capacity: u32) -> Result<(Ready, Pass), AllocError>
+        requires { 0 < capacity }
+        ensures capacity { IfOk result (λ made. made.0.capacity ≡ capacity) }
+        ensures pass { IfOk result (λ made. made.1 ≡ opening_pass_by_right made.0) }
+    {
+        let (line, mut token) = Line::ruled(alloc, capacity as usize)?;
+        open::<Brand>(&line, &mut token);
+        let ready = Ready { line };
+        let pass = Pass {
+            token,
+            share: WHOLE_SHARE,
+            room: Some(capacity),
         };
         Ok((ready, pass))
     }
 
     /// Puts a sheet behind all others. It may wait for another thread that is in the way.
-    /// Refused with Full, which hands the sheet back, only if the queue was full at some moment of the call.
+    /// Refused with Full, which hands the sheet back, only if the queue was full at some moment of the call; or, if puts
+    /// are made by right, only if the pass has no room.
     pub fn put<R: Wait>(&self, rt: &R, pass: &mut Pass, sheet: u32) -> Result<(), Full>
         requires { IsPassOf self.now pass.old }
         ensures pass { IsPassOf self.now pass.new }
@@ -70,9 +94,18 @@ impl Ready {
         // A pass that has all shares has seen the whole history.
         ensures full_only_at_capacity { OnErr result (pass.old.share ≡ whole_share
             → length (content pass.old.front) ≡ self.now.capacity) }
+
+        // A put by right isn't refused.
+        ensures by_right { OnErr result (puts_in pass.old.room ≡ 0) }
     {
+        if !may_put(pass.room, pass.share) {
+            return Err(Full(sheet));
+        }
         match self.line.push_as::<Puts, R>(rt, &mut pass.token, sheet) {
-            Ok(()) => Ok(()),
+            Ok(()) => {
+                pass.room = room_after_put(pass.room);
+                Ok(())
+            }
             Err(sheet) => Err(Full(sheet)),
         }
     }
@@ -91,55 +124,87 @@ impl Ready {
         self.line.pop_as::<Takes, R>(rt, &mut pass.token)
     }
 
-    /// A new pass with the same front, no moves of its own and `give` of the share.
+    /// A new pass with the same front, no moves of its own, `give` of the share and no room.
     pub fn split(&self, pass: &mut Pass, give: u64) -> Pass
         requires pass { IsPassOf self.now pass.old }
         requires share { (0 < give) × (give < pass.old.share) }
         ensures kept { pass.new ≡ record pass.old { share = pass.old.share - give } }
-        ensures given { result ≡ record pass.old { own = []; share = give } }
+        ensures given { result ≡ record pass.old { own = []; share = give; room = room_given 0 pass.old.room } }
         ensures passes { IsPass pass.new × IsPass result }
     {
-        self.cut::<Brand>(pass, give)
+        self.split_with_room(pass, give, 0)
     }
 
-    fn cut<N: Picks>(&self, pass: &mut Pass, give: u64) -> Pass
+    /// The same with so much of the room.
+    pub fn split_with_room(&self, pass: &mut Pass, give: u64, room: u32) -> Pass
         requires pass { IsPassOf self.now pass.old }
         requires share { (0 < give) × (give < pass.old.share) }
-        requires number { N.number ≡ give }
-        ensures kept { pass.new ≡ record pass.old { share = pass.old.share - give } }
-        ensures given { result ≡ record pass.old { own = []; share = give } }
+        requires room { room ≤ puts_in pass.old.room }
+        ensures kept { pass.new ≡ record pass.old {
+          share = pass.old.share - give;
+          room = room_kept room pass.old.room;
+        } }
+        ensures given { result ≡ record pass.old { own = []; share = give; room = room_given room pass.old.room } }
+        ensures passes { IsPass pass.new × IsPass result }
+    {
+        self.cut::<Brand>(pass, give, room)
+    }
+
+    fn cut<N: Picks>(&self, pass: &mut Pass, give: u64, room: u32) -> Pass
+        requires pass { IsPassOf self.now pass.old }
+        requires share { (0 < give) × (give < pass.old.share) }
+        requires room { room ≤ puts_in pass.old.room }
+        requires number { (N.number ≡ give) × (puts_in N.room ≡ room) }
+        ensures kept { pass.new ≡ record pass.old {
+          share = pass.old.share - give;
+          room = room_kept room pass.old.room;
+        } }
+        ensures given { result ≡ record pass.old { own = []; share = give; room = room_given room pass.old.room } }
         ensures passes { IsPass pass.new × IsPass result }
     {
         let token = self.line.another::<Cut<N>>(&mut pass.token);
+        let given = room_given(room, pass.room);
+        pass.room = room_kept(room, pass.room);
         pass.share -= give;
-        Pass { token, share: give }
+        Pass {
+            token,
+            share: give,
+            room: given,
+        }
     }
 
-    /// One pass in place of two: it has seen what either had, and has the moves and the shares of both.
+    /// One pass in place of two: it has seen what either had, and has the moves, the shares and the room of both.
     pub fn join(&self, one: Pass, two: Pass) -> Pass
         requires one { IsPassOf self.now one }
         requires two { IsPassOf self.now two }
         ensures { Joined one two result }
     {
-        let Pass { mut token, share } = one;
+        let Pass {
+            mut token,
+            share,
+            room,
+        } = one;
         let Pass {
             token: other,
             share: more,
+            room: more_room,
         } = two;
         self.line.absorb::<Both>(&mut token, other);
         self.line.learn_as::<Both>(&mut token);
         Pass {
             token,
             share: share + more,
+            room: both_rooms(room, more_room),
         }
     }
 }
 
-/// Tells the pass that a queue was made with the queue's capacity.
+/// Tells the pass that a queue was made with the queue's capacity, and its room.
 fn open<N: Picks>(line: &Line, token: &mut crossbeam_queue::Pass<u32, View>)
-    requires { Rattle.crossbeam_queue.specs.Passes.IsPassOf line.now token.old × (view token.old ≡ opening_sight 0) }
+    requires token { Rattle.crossbeam_queue.specs.Passes.IsPassOf line.now token.old × (view token.old ≡ opening) }
+    requires number { (N.number ≤ u32.MAX) × (puts_in N.room ≤ N.number) }
     ensures { Rattle.crossbeam_queue.specs.Passes.IsPassOf line.now token.new
-        × (view token.new ≡ opening_sight N.number) }
+        × (view token.new ≡ opened N.number N.room) }
 {
     drop(line.another::<Opens<N>>(token));
 }

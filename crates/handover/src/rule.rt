@@ -2,7 +2,8 @@
 use crossbeam_queue::protocol::Protocol;
 use std::marker::Model;
 
-/// What a pass knows: a history that its caller has seen, and the caller's own moves in it. No value of it is made.
+/// What a pass knows: a history that its caller has seen, the caller's own moves in it, and how many puts it may make by
+/// right. No value of it is made.
 pub struct View {
     nothing: (),
 }
@@ -16,14 +17,13 @@ impl Model for View {
 }
 
 /// Between any two steps there is one history, whose content the queue holds and which every pass has seen a beginning
-/// of.
+/// of; and the queue has room for what it holds and for all puts that may be made by right.
 pub struct OneHistory;
 
 impl Protocol<u32, View> for OneHistory {
-    ghost use Rattle.histories.specs.Seats.{opening_sight};
-    ghost use Rattle.handover.specs.Rule.{Kept};
+    ghost use Rattle.handover.specs.Rule.{Kept, opening};
 
     ghost holds = { Kept };
 
-    ghost first = { opening_sight 0 };
+    ghost first = { opening };
 }

@@ -35,39 +35,45 @@ impl Lesson<u32, View> for Takes {
     ghost fact = { Sees };
 }
 
-/// Ghost parameter, chosen in the proof of each call; no code: a share to give away, or a capacity.
+/// Ghost parameter, chosen in the proof of each call; no code: a share to give away, or a capacity; and a room.
 pub trait Picks {
-    ghost use Rattle.std.specs.Prelude.{ℕ};
+    ghost use Rattle.std.specs.Prelude.{ℕ, Option};
 
     ghost number: { ℕ };
+
+    ghost room: { Option ℕ };
 }
 
 impl Picks for Brand {
+    ghost use Rattle.std.specs.Prelude.{None};
+
     ghost number = { 1 };
+
+    ghost room = { None };
 }
 
-/// A split: the number is the share that is given.
+/// A split: the number is the share that is given, and the room is given with it.
 pub(crate) struct Cut<N: Picks> {
     of: PhantomData<N>,
 }
 
 impl<N: Picks> Split<View> for Cut<N> {
-    ghost use Rattle.std.specs.Prelude.{[]};
-    ghost use Rattle.histories.specs.Seats.{keeps_back, given};
+    ghost use Rattle.handover.specs.Passes.{puts_in};
+    ghost use Rattle.handover.specs.Steps.{keeps_of, gets_of};
 
-    ghost left = { λ v. keeps_back v.own N.number v };
+    ghost left = { keeps_of N.number (puts_in N.room) };
 
-    ghost right = { given [] N.number };
+    ghost right = { gets_of N.number (puts_in N.room) };
 }
 
 /// A join, and the look behind it, by which the pass learns what the rule says of it.
 pub(crate) struct Both;
 
 impl Join<View> for Both {
-    ghost use Rattle.histories.specs.Seats.{absorbed};
     ghost use Rattle.handover.specs.Rule.{spent};
+    ghost use Rattle.handover.specs.Steps.{both_of};
 
-    ghost both = { absorbed };
+    ghost both = { both_of };
 
     ghost spent = { spent };
 }
@@ -78,15 +84,15 @@ impl Lesson<u32, View> for Both {
     ghost fact = { Learns };
 }
 
-/// Before the first move the pass is told the capacity, which is the number.
+/// Before the first move the pass is told the capacity, which is the number, and its room.
 pub(crate) struct Opens<N: Picks> {
     of: PhantomData<N>,
 }
 
 impl<N: Picks> Split<View> for Opens<N> {
-    ghost use Rattle.histories.specs.Seats.{opening_sight, spent};
+    ghost use Rattle.handover.specs.Steps.{opened, spent_of};
 
-    ghost left = { λ v. opening_sight N.number };
+    ghost left = { λ v. opened N.number N.room };
 
-    ghost right = { λ v. spent N.number };
+    ghost right = { λ v. spent_of N.number };
 }

@@ -16,25 +16,25 @@ fn main(rt: HostRuntime) -> ExitCode {
         Ok(words) => words,
         Err(fault) => {
             let fault = Fault::Command(fault);
-            tell(&rt, &fault, None);
+            say_fault(&rt, &fault, None);
             return ExitCode::from(fault_status(&fault));
         }
     };
     let world = Host::new(&rt, rt.stdin(), rt.stdout());
     let ended = impose(&rt, rt.alloc(), words.as_slice(), world);
     let status = ended.status();
-    let told = match &ended.outcome {
-        Ok(done) => report(&rt, done, &ended.request),
+    let said = match &ended.outcome {
+        Ok(done) => say_report(&rt, done, &ended.request),
         Err(fault) => {
-            tell(&rt, fault, ended.request.as_ref());
+            say_fault(&rt, fault, ended.request.as_ref());
             Ok(())
         }
     };
-    match told {
+    match said {
         Ok(()) => ExitCode::from(status),
         Err(_) => {
             let fault = Fault::no_memory();
-            tell(&rt, &fault, None);
+            say_fault(&rt, &fault, None);
             ExitCode::from(fault_status(&fault))
         }
     }
@@ -50,7 +50,7 @@ fn words(rt: &(impl Env + AllocGlobal)) -> Result<Vec<String>, CommandFault> {
 }
 
 /// Says what was imposed, unless the request is quiet.
-fn report(rt: &HostRuntime, done: &Done, request: &Option<Request>) -> Result<(), AllocError> {
+fn say_report(rt: &HostRuntime, done: &Done, request: &Option<Request>) -> Result<(), AllocError> {
     let is_quiet = matches!(request, Some(request) if request.is_quiet);
     match done {
         Done::Imposed(finished) if !is_quiet => {
@@ -63,7 +63,7 @@ fn report(rt: &HostRuntime, done: &Done, request: &Option<Request>) -> Result<()
 }
 
 /// Says what the fault is.
-fn tell(rt: &HostRuntime, fault: &Fault, request: Option<&Request>) {
+fn say_fault(rt: &HostRuntime, fault: &Fault, request: Option<&Request>) {
     match fault {
         // Clap's own text goes to where it belongs; if it takes none there is nobody to tell.
         Fault::Command(CommandFault::Words(error)) => {

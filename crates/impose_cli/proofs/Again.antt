@@ -7,7 +7,7 @@ use Rattle.rules.specs.Output.{output}
 use Rattle.rules.specs.Run.{most_input_bytes}
 use Rattle.rules.specs.Parts.{NestedUnit}
 use Rattle.imposed_again.proofs.Again.{imposed_again, trailer_shuts}
-use Rattle.impose_cli.specs.Tasks.{Finishes, frame_used, sheets_made, sheet_found, taken_text}
+use Rattle.impose_cli.specs.Tasks.{Finishes, frame_used, sheets_made, sheet_paper_found, taken_text}
 use Rattle.impose_cli.specs.Laws.{IsDocumentAgain, WroteDocument}
 use Rattle.impose_cli.specs.declared.request.Request.{Request}
 use Rattle.impose_cli.specs.declared.task.Finished.{Finished}
@@ -20,7 +20,7 @@ again : (r : Request) (input old text : List ℕ) (done : Finished) (h : Finishe
     → length (output (frame_used r done) h.sides h.spec h.units) ≤ most_input_bytes
     → IsDocumentAgain (frame_used r done) (sheets_made h) h.units (output (frame_used r done) h.sides h.spec h.units)
 again r input old text done h l =
-    let taken = taken_text r.is_guarded (sheet_found r.sheet done.page) input in
+    let taken = taken_text r.is_guarded (sheet_paper_found r.sheet_paper done.page_paper) input in
     let i = imposed_again most_slots (frame_used r done) h.sides h.spec taken h.units (sheets_made h) h.taken h.valid h.admissible h.plan l in
     record {
       accepted = i.0;

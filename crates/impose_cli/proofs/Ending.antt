@@ -31,28 +31,28 @@ one_spec : (text : List ℕ) (one other : Spec) → Takes most_slots text one �
 one_spec text one other h g = ap (read_or one) (one_answer most_slots text (Ok one) (Ok other) h g)
 
 -- what the text of a layout is taken as is the layout's specification
-pub lays_out : (l : Layout) (page sheet : Paper) (pages : ℕ) (text : List ℕ) (sides : Option ℕ) (spec : Spec)
-    → IsPlaced l page sheet pages text sides → Takes most_slots text spec → LaysOut l page sheet pages spec sides
-lays_out (layout.NUp n) page sheet pages text sides spec h g =
-    let e : spec ≡ n_up page sheet n = one_spec text spec _ g h.0.0.1 in
-    ((e, subst (λ s. IsNUp page sheet n s) (sym e) h.0.1), h.1)
-lays_out (layout.Booklet signature long_edge) page sheet pages text sides spec h g =
-    let e : spec ≡ leaves page sheet long_edge = one_spec text spec _ g h.0.0.1 in
-    ((e, subst (λ s. IsBooklet page sheet long_edge s) (sym e) h.0.1), h.1)
-lays_out (layout.Selection ranges which) page sheet pages text sides spec h g =
+pub lays_out : (l : Layout) (page_paper sheet_paper : Paper) (pages : ℕ) (text : List ℕ) (sides : Option ℕ) (spec : Spec)
+    → IsPlaced l page_paper sheet_paper pages text sides → Takes most_slots text spec → LaysOut l page_paper sheet_paper pages spec sides
+lays_out (layout.NUp n) page_paper sheet_paper pages text sides spec h g =
+    let e : spec ≡ n_up page_paper sheet_paper n = one_spec text spec _ g h.0.0.1 in
+    ((e, subst (λ s. IsNUp page_paper sheet_paper n s) (sym e) h.0.1), h.1)
+lays_out (layout.Booklet signature long_edge) page_paper sheet_paper pages text sides spec h g =
+    let e : spec ≡ leaves page_paper sheet_paper long_edge = one_spec text spec _ g h.0.0.1 in
+    ((e, subst (λ s. IsBooklet page_paper sheet_paper long_edge s) (sym e) h.0.1), h.1)
+lays_out (layout.Selection ranges which) page_paper sheet_paper pages text sides spec h g =
     (subst (λ s. IsSelection (string_bytes ranges) which pages s) (one_spec text h.0.0 spec h.0.2.1 g) h.0.1, h.1)
-lays_out (layout.Spec specs) page sheet pages text sides spec h g = (subst (λ t. Takes most_slots t spec) h.0 g, h.1)
+lays_out (layout.Spec specs) page_paper sheet_paper pages text sides spec h g = (subst (λ t. Takes most_slots t spec) h.0 g, h.1)
 
 pub finishes : (r : Request) (input : List ℕ) (task : Task) (old new : Option (List ℕ)) (report : Report) → IsTask r input task
     → Accepted (asked_by task) (λ spec us. Appends old new (output (frame_of task.options) task.options.sides spec us) × Reports (frame_of task.options) task.options.sides spec us report)
-    → Finishes r input old new (record { report = report; page = task.options.paper; origin = task.origin })
+    → Finishes r input old new (record { report = report; page_paper = task.options.paper; origin = task.origin })
 finishes r input task old new report is h =
     let spec = h.0 in
     let units = h.1 in
     let accepted = h.2 in record {
       page_count = is.page_count;
       document = is.document;
-      page = is.page;
+      page_paper = is.page_paper;
       spec = spec;
       sides = task.options.sides;
       layout_is = lays_out r.layout _ _ _ _ _ spec is.placed accepted.takes;

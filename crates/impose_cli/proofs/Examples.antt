@@ -6,7 +6,7 @@ use Rattle.lengths.specs.Reading.{number_at}
 use Rattle.rules.specs.Papers.{points}
 use Rattle.guard.specs.Guard.{guarded}
 use Rattle.layouts.specs.declared.error.LayoutError.TheVariants as layout
-use Rattle.layouts.specs.declared.select.Which.TheVariants.{All, Odd, Even}
+use Rattle.layouts.specs.declared.selections.Which.TheVariants.{All, Odd, Even}
 use Rattle.dsc.specs.declared.errors.DscError.TheVariants.{NoMemory, NoPages, NotPostScript}
 use Rattle.imposer.specs.declared.outcome.RunError.TheVariants as run
 use Rattle.document_paper.specs.declared.media.Comment.TheVariants.{DocumentMedia}
@@ -16,8 +16,8 @@ use Rattle.impose_cli.specs.declared.fault.CommandFault.TheVariants as command
 use Rattle.impose_cli.specs.Sizes.{size_named}
 use Rattle.impose_cli.specs.Words.{which_of, file_asked, is_folded}
 use Rattle.impose_cli.specs.Statuses.{words_status, command_status, layout_status, fault_status}
-use Rattle.impose_cli.specs.Tasks.{own_or_a4, sheet_found, taken_text, fours}
-use Rattle.impose_cli.specs.Telling.{told_of}
+use Rattle.impose_cli.specs.Tasks.{own_or_a4, sheet_paper_found, taken_text, fours}
+use Rattle.impose_cli.specs.Faults.{of_document}
 
 -- Sizes of paper.
 
@@ -92,10 +92,10 @@ own = refl
 assumed : own_or_a4 None ≡ (points 595 842, Assumed)
 assumed = refl
 
-sheet_named : sheet_found (Some (points 1 2)) (points 3 4) ≡ points 1 2
+sheet_named : sheet_paper_found (Some (points 1 2)) (points 3 4) ≡ points 1 2
 sheet_named = refl
 
-sheet_of_the_pages : sheet_found None (points 3 4) ≡ points 3 4
+sheet_of_the_pages : sheet_paper_found None (points 3 4) ≡ points 3 4
 sheet_of_the_pages = refl
 
 unguarded : taken_text false (points 1 2) (codes "%!") ≡ codes "%!"
@@ -107,24 +107,24 @@ with_guard = refl
 
 -- Refused inputs.
 
-empty_input : told_of NotPostScript [] ≡ fault.NoInput
+empty_input : of_document NotPostScript [] ≡ fault.NoInput
 empty_input = refl
 
-pdf : told_of NotPostScript (codes "%PDF-1.4\n") ≡ fault.Pdf
+pdf : of_document NotPostScript (codes "%PDF-1.4\n") ≡ fault.Pdf
 pdf = refl
 
 -- five bytes tell a PDF, and no other ones
-shortest_pdf : told_of NotPostScript (codes "%PDF-") ≡ fault.Pdf
+shortest_pdf : of_document NotPostScript (codes "%PDF-") ≡ fault.Pdf
 shortest_pdf = refl
 
-no_pdf : map (told_of NotPostScript) (codes "%PDF" ∷ codes "%pdf-1.4" ∷ codes " %PDF-1.4" ∷ codes "\n" ∷ []) ≡ fault.Run (run.Document NotPostScript) ∷ fault.Run (run.Document NotPostScript) ∷ fault.Run (run.Document NotPostScript) ∷ fault.Run (run.Document NotPostScript) ∷ []
+no_pdf : map (of_document NotPostScript) (codes "%PDF" ∷ codes "%pdf-1.4" ∷ codes " %PDF-1.4" ∷ codes "\n" ∷ []) ≡ fault.Run (run.Document NotPostScript) ∷ fault.Run (run.Document NotPostScript) ∷ fault.Run (run.Document NotPostScript) ∷ fault.Run (run.Document NotPostScript) ∷ []
 no_pdf = refl
 
--- another reason is told as it is
-no_pages : told_of NoPages (codes "%!") ≡ fault.Run (run.Document NoPages)
+-- another reason is said as it is
+no_pages : of_document NoPages (codes "%!") ≡ fault.Run (run.Document NoPages)
 no_pages = refl
 
-no_memory : told_of NoMemory (codes "%!") ≡ fault.Run (run.NoMemory 0)
+no_memory : of_document NoMemory (codes "%!") ≡ fault.Run (run.NoMemory 0)
 no_memory = refl
 
 -- Exit statuses.

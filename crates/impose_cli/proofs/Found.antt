@@ -70,44 +70,44 @@ is_there : {X : Type 0} (o : Option X) (x : X) → o ≡ Some x → is_some o �
 is_there o x e = ap is_some e
 
 -- the first size is refused
-pub refuses_page : (found : List Row) (f : CommandFault) → RefusesSize OfPages found f → RefusesSizes found f
-refuses_page found (fault.UnknownPaper OfPages text) h = h.1
-refuses_page found (fault.UnknownPaper OfSheets text) h = absurd (unlike h.0)
+pub refuses_page_paper : (found : List Row) (f : CommandFault) → RefusesSize OfPages found f → RefusesSizes found f
+refuses_page_paper found (fault.UnknownPaper OfPages text) h = h.1
+refuses_page_paper found (fault.UnknownPaper OfSheets text) h = absurd (unlike h.0)
   where
     unlike : OfSheets ≡ OfPages → ⊥
     unlike e = cc
-refuses_page found fault.NoMemory h = tt
-refuses_page found fault.Lacking h = h
-refuses_page found fault.OddAndEven h = h
-refuses_page found (fault.BadSignature sides) h = h
-refuses_page found (fault.Words error) h = h
-refuses_page found fault.NoText h = h
-refuses_page found (fault.BadBorder text) h = absurd h
+refuses_page_paper found fault.NoMemory h = tt
+refuses_page_paper found fault.Lacking h = h
+refuses_page_paper found fault.OddAndEven h = h
+refuses_page_paper found (fault.BadSignature sides) h = h
+refuses_page_paper found (fault.Words error) h = h
+refuses_page_paper found fault.NoText h = h
+refuses_page_paper found (fault.BadBorder text) h = absurd h
 
-pub refuses_sheet : (found : List Row) (page : Option Paper) (f : CommandFault) → size_found OfPages found ≡ Some page → RefusesSize OfSheets found f → RefusesSizes found f
-refuses_sheet found page (fault.UnknownPaper OfPages text) p h = absurd (unlike h.0)
+pub refuses_sheet_paper : (found : List Row) (page_paper : Option Paper) (f : CommandFault) → size_found OfPages found ≡ Some page_paper → RefusesSize OfSheets found f → RefusesSizes found f
+refuses_sheet_paper found page_paper (fault.UnknownPaper OfPages text) p h = absurd (unlike h.0)
   where
     unlike : OfPages ≡ OfSheets → ⊥
     unlike e = cc
-refuses_sheet found page (fault.UnknownPaper OfSheets text) p h = (is_there _ page p, h.1)
-refuses_sheet found page fault.NoMemory p h = tt
-refuses_sheet found page fault.Lacking p h = h
-refuses_sheet found page fault.OddAndEven p h = h
-refuses_sheet found page (fault.BadSignature sides) p h = h
-refuses_sheet found page (fault.Words error) p h = h
-refuses_sheet found page fault.NoText p h = h
-refuses_sheet found page (fault.BadBorder text) p h = absurd h
+refuses_sheet_paper found page_paper (fault.UnknownPaper OfSheets text) p h = (is_there _ page_paper p, h.1)
+refuses_sheet_paper found page_paper fault.NoMemory p h = tt
+refuses_sheet_paper found page_paper fault.Lacking p h = h
+refuses_sheet_paper found page_paper fault.OddAndEven p h = h
+refuses_sheet_paper found page_paper (fault.BadSignature sides) p h = h
+refuses_sheet_paper found page_paper (fault.Words error) p h = h
+refuses_sheet_paper found page_paper fault.NoText p h = h
+refuses_sheet_paper found page_paper (fault.BadBorder text) p h = absurd h
 
-pub refuses_border : (found : List Row) (page sheet : Option Paper) (f : CommandFault) → size_found OfPages found ≡ Some page → size_found OfSheets found ≡ Some sheet
+pub refuses_border : (found : List Row) (page_paper sheet_paper : Option Paper) (f : CommandFault) → size_found OfPages found ≡ Some page_paper → size_found OfSheets found ≡ Some sheet_paper
     → RefusesBorder found f → RefusesSizes found f
-refuses_border found page sheet (fault.UnknownPaper option text) p s h = absurd h
-refuses_border found page sheet fault.NoMemory p s h = tt
-refuses_border found page sheet fault.Lacking p s h = h
-refuses_border found page sheet fault.OddAndEven p s h = h
-refuses_border found page sheet (fault.BadSignature sides) p s h = h
-refuses_border found page sheet (fault.Words error) p s h = h
-refuses_border found page sheet fault.NoText p s h = h
-refuses_border found page sheet (fault.BadBorder text) p s h = (record { page = is_there _ page p; sheet = is_there _ sheet s }, h)
+refuses_border found page_paper sheet_paper (fault.UnknownPaper option text) p s h = absurd h
+refuses_border found page_paper sheet_paper fault.NoMemory p s h = tt
+refuses_border found page_paper sheet_paper fault.Lacking p s h = h
+refuses_border found page_paper sheet_paper fault.OddAndEven p s h = h
+refuses_border found page_paper sheet_paper (fault.BadSignature sides) p s h = h
+refuses_border found page_paper sheet_paper (fault.Words error) p s h = h
+refuses_border found page_paper sheet_paper fault.NoText p s h = h
+refuses_border found page_paper sheet_paper (fault.BadBorder text) p s h = (record { page_paper = is_there _ page_paper p; sheet_paper = is_there _ sheet_paper s }, h)
 
 pub refuses_sizes : (name : Text) (found : List Row) (f : CommandFault) → RefusesSizes found f → RefusesFound name found f
 refuses_sizes name found (fault.UnknownPaper OfPages text) h = h
@@ -120,17 +120,17 @@ refuses_sizes name found (fault.BadSignature sides) h = absurd h
 refuses_sizes name found (fault.Words error) h = h
 refuses_sizes name found fault.NoText h = h
 
-has_sizes : (found : List Row) (page sheet : Option Paper) (border : Option ℤ) → ReadsSizes found page sheet border → HasSizes found
-has_sizes found page sheet border r =
-    record { papers = record { page = is_there _ page r.page_is; sheet = is_there _ sheet r.sheet_is }; border = is_there _ border r.border_is }
+has_sizes : (found : List Row) (page_paper sheet_paper : Option Paper) (border : Option ℤ) → ReadsSizes found page_paper sheet_paper border → HasSizes found
+has_sizes found page_paper sheet_paper border r =
+    record { papers = record { page_paper = is_there _ page_paper r.page_paper_is; sheet_paper = is_there _ sheet_paper r.sheet_paper_is }; border = is_there _ border r.border_is }
 
-pub refuses_arguments : (name : Text) (found : List Row) (page sheet : Option Paper) (border : Option ℤ) (f : CommandFault) → ReadsSizes found page sheet border
+pub refuses_arguments : (name : Text) (found : List Row) (page_paper sheet_paper : Option Paper) (border : Option ℤ) (f : CommandFault) → ReadsSizes found page_paper sheet_paper border
     → RefusesArguments name found f → RefusesFound name found f
-refuses_arguments name found page sheet border fault.Lacking r h = (has_sizes found page sheet border r, h)
-refuses_arguments name found page sheet border fault.OddAndEven r h = (has_sizes found page sheet border r, h)
-refuses_arguments name found page sheet border (fault.BadSignature sides) r h = (has_sizes found page sheet border r, h)
-refuses_arguments name found page sheet border fault.NoMemory r h = tt
-refuses_arguments name found page sheet border (fault.Words error) r h = h
-refuses_arguments name found page sheet border fault.NoText r h = h
-refuses_arguments name found page sheet border (fault.UnknownPaper option text) r h = absurd h
-refuses_arguments name found page sheet border (fault.BadBorder text) r h = absurd h
+refuses_arguments name found page_paper sheet_paper border fault.Lacking r h = (has_sizes found page_paper sheet_paper border r, h)
+refuses_arguments name found page_paper sheet_paper border fault.OddAndEven r h = (has_sizes found page_paper sheet_paper border r, h)
+refuses_arguments name found page_paper sheet_paper border (fault.BadSignature sides) r h = (has_sizes found page_paper sheet_paper border r, h)
+refuses_arguments name found page_paper sheet_paper border fault.NoMemory r h = tt
+refuses_arguments name found page_paper sheet_paper border (fault.Words error) r h = h
+refuses_arguments name found page_paper sheet_paper border fault.NoText r h = h
+refuses_arguments name found page_paper sheet_paper border (fault.UnknownPaper option text) r h = absurd h
+refuses_arguments name found page_paper sheet_paper border (fault.BadBorder text) r h = absurd h

@@ -14,7 +14,7 @@ use Rattle.dsc.specs.Units.{units_of}
 use Rattle.guard.specs.Guard.{guarded}
 use Rattle.guard.proofs.TheGuard.{guard_stays}
 use Rattle.layouts.specs.Laws.{ArePages, AreSides as AreLeafSides, IsLike}
-use Rattle.impose_cli.specs.Tasks.{Finishes, LaysOut, fours, sheet_found, taken_text}
+use Rattle.impose_cli.specs.Tasks.{Finishes, LaysOut, fours, sheet_paper_found, taken_text}
 use Rattle.impose_cli.specs.Laws.{PutsPages, SheetsAreOfLayout, in_turn, pages_on}
 use Rattle.impose_cli.specs.declared.request.Layout.{Layout}
 use Rattle.impose_cli.specs.declared.request.Layout.TheVariants as layout
@@ -102,11 +102,11 @@ whole_leaves s n are =
     of_leaves : (b l : ℕ) → b * (4 * l) ≡ 4 * (b * l)
     of_leaves b l = omega arith
 
-sides_in_turn : (page sheet : Paper) (long_edge : Bool) (scale : ℕ) (spec : Spec) (entries q : ℕ) (entry : ℕ → Option ℕ) → entries ≡ 4 * q → AreLeafSides page sheet long_edge scale spec
+sides_in_turn : (page_paper sheet_paper : Paper) (long_edge : Bool) (scale : ℕ) (spec : Spec) (entries q : ℕ) (entry : ℕ → Option ℕ) → entries ≡ 4 * q → AreLeafSides page_paper sheet_paper long_edge scale spec
     → pages_on (sheets_over spec entries entry) ≡ in_turn 2 entries entry
-sides_in_turn page sheet false scale spec entries q entry e h =
+sides_in_turn page_paper sheet_paper false scale spec entries q entry e h =
     ap₂ (λ m gs. shown m gs entries entry) h.1 h.2 ∙ one_group_in_turn 2 entries entry Left scale h.0 h.4.like h.3
-sides_in_turn page sheet true scale spec entries q entry e h =
+sides_in_turn page_paper sheet_paper true scale spec entries q entry e h =
     ap₂ (λ m gs. shown m gs entries entry) h.2 h.3 ∙ two_groups_in_turn entries q entry Left Right scale h.0 h.1 e h.7.like h.8.like h.4 h.5
 
 -- ---- the guard keeps the pages
@@ -122,39 +122,39 @@ accepted_len text us h = ltb-false _ _ (passes_first _ InputTooLong _ us h)
 same_units : (us vs : List NestedUnit) (r : Result (List NestedUnit) DocumentFault) → r ≡ Ok us → r ≡ Ok vs → us ≡ vs
 same_units us vs r e f = cc
 
-same_pages : (is_guarded : Bool) (sheet : Paper) (input : List ℕ) (us vs : List NestedUnit) → document_of input ≡ Ok us → document_of (taken_text is_guarded sheet input) ≡ Ok vs → pages us ≡ pages vs
-same_pages false sheet input us vs d g = ap pages (same_units us vs (document_of input) d g)
-same_pages true sheet input us vs d g =
-    let text = guarded (Some sheet) input in
-    let k = guard_stays (Some sheet) input us d (accepted_len text vs g) in
+same_pages : (is_guarded : Bool) (sheet_paper : Paper) (input : List ℕ) (us vs : List NestedUnit) → document_of input ≡ Ok us → document_of (taken_text is_guarded sheet_paper input) ≡ Ok vs → pages us ≡ pages vs
+same_pages false sheet_paper input us vs d g = ap pages (same_units us vs (document_of input) d g)
+same_pages true sheet_paper input us vs d g =
+    let text = guarded (Some sheet_paper) input in
+    let k = guard_stays (Some sheet_paper) input us d (accepted_len text vs g) in
     sym k.1.same_pages ∙ ap pages (same_units (units_of text) vs (document_of text) k.0 g)
 
 -- what is imposed has as many pages as the document that is given
 pages_made : (r : Request) (input : List ℕ) (old new : Option (List ℕ)) (done : Finished) (h : Finishes r input old new done) → length (pages h.units) ≡ h.page_count
 pages_made r input old new done h =
     let d = h.document in
-    sym (ap length (same_pages r.is_guarded (sheet_found r.sheet done.page) input d.0 h.units d.1 h.taken)) ∙ sym d.2
+    sym (ap length (same_pages r.is_guarded (sheet_paper_found r.sheet_paper done.page_paper) input d.0 h.units d.1 h.taken)) ∙ sym d.2
 
 -- ---- the layouts
 
 -- the sheets of a layout, for so many pages
-laid_out : (l : Layout) (page sheet : Paper) (count : ℕ) (spec : Spec) (sides : Option ℕ) → AreSidesIfGiven sides → LaysOut l page sheet count spec sides
+laid_out : (l : Layout) (page_paper sheet_paper : Paper) (count : ℕ) (spec : Spec) (sides : Option ℕ) → AreSidesIfGiven sides → LaysOut l page_paper sheet_paper count spec sides
     → PutsPages l count (sheets_in sides spec count)
-laid_out (layout.NUp n) page sheet count spec sides valid l =
+laid_out (layout.NUp n) page_paper sheet_paper count spec sides valid l =
     let g = l.0.1 in
     subst (λ s. pages_on (sheets_in s spec count) ≡ in_turn n count (page_at count)) (sym l.1)
     (ap₂ (λ m gs. shown m gs count (page_at count)) g.modulo g.one_group ∙ one_group_in_turn n count (page_at count) g.turn g.scale g.items g.laid_out.like g.pages)
-laid_out (layout.Booklet signature long_edge) page sheet count spec sides valid l =
+laid_out (layout.Booklet signature long_edge) page_paper sheet_paper count spec sides valid l =
     let s = unwrap_or signature (fours count) in
     let row = signature_row s count in
     let leaves = whole_leaves s count (subst AreSidesIfGiven l.1 valid) in
     subst (λ t. pages_on (sheets_in t spec count) ≡ in_turn 2 (length row) (entry_of row)) (sym l.1)
-    (sides_in_turn page sheet long_edge l.0.1.scale spec (length row) _ (entry_of row) leaves l.0.1.sides)
-laid_out (layout.Selection ranges which) page sheet count spec sides valid l =
+    (sides_in_turn page_paper sheet_paper long_edge l.0.1.scale spec (length row) _ (entry_of row) leaves l.0.1.sides)
+laid_out (layout.Selection ranges which) page_paper sheet_paper count spec sides valid l =
     (l.0.row, l.0.selects, ap (λ s. sheets_in s spec count) l.1 ∙ l.0.sheets_are)
-laid_out (layout.Spec specs) page sheet count spec sides valid l = (spec, l.0, ap (λ s. sheets_in s spec count) l.1)
+laid_out (layout.Spec specs) page_paper sheet_paper count spec sides valid l = (spec, l.0, ap (λ s. sheets_in s spec count) l.1)
 
 pub sheets_are_of_layout : SheetsAreOfLayout
 sheets_are_of_layout r input old new done h =
     subst (λ k. PutsPages r.layout h.page_count (sheets_in h.sides h.spec k)) (sym (pages_made r input old new done h))
-    (laid_out r.layout done.page (sheet_found r.sheet done.page) h.page_count h.spec h.sides h.valid h.layout_is)
+    (laid_out r.layout done.page_paper (sheet_paper_found r.sheet_paper done.page_paper) h.page_count h.spec h.sides h.valid h.layout_is)

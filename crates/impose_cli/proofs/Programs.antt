@@ -4,9 +4,10 @@ use Rattle.std.specs.Prelude.{◌⊎◌, if◌then◌else◌, is_some, option_ma
 use Rattle.std.specs.Io.KnownBytes.{Appends, Keeps}
 use Rattle.std.proofs.KnownBytes.{Appends-kept}
 use Rattle.world.specs.Outputs.{IsFrontOf, told_if}
+use Rattle.sheet_writer.specs.Sinks.{SinkView}
 use Rattle.impose_cli.specs.Endings.{Ends}
 use Rattle.input.specs.Input.{IsFirst, most_bytes}
-use Rattle.impose_cli.specs.Programs.{BreaksOff, CarriesOut, Gives, IsReading, IsToldAs, IsToldOf, Prints, RunsInto}
+use Rattle.impose_cli.specs.Programs.{BreaksOff, CarriesOut, Gives, IsReading, IsSaidAs, IsSaidOf, Prints, RunsInto}
 use Rattle.impose_cli.specs.Programs.{TakesInput}
 use Rattle.impose_cli.specs.Unread.{IsPossible, RefusesUnread}
 use Rattle.impose_cli.specs.Tasks.{Finishes, IsTask}
@@ -48,7 +49,7 @@ imposed r input tells start handed finished is_there is_bare written before bega
     subst (λ s. Finishes r input s written finished) began (record {
       page_count = h.page_count;
       document = h.document;
-      page = h.page;
+      page_paper = h.page_paper;
       spec = h.spec;
       sides = h.sides;
       layout_is = h.layout_is;
@@ -62,28 +63,26 @@ imposed r input tells start handed finished is_there is_bare written before bega
     })
 
 -- the run broke off
-pub broke_off : (r : Request) (input : List ℕ) (tells : Bool) (start handed : Option (List ℕ)) (old after : ℕ)
+pub broke_off : (r : Request) (input : List ℕ) (tells : Bool) (start sink : SinkView)
     (ended : Result Finished Fault) (outcome : Result Done Fault) (is_there is_bare : Bool) (written before : Option (List ℕ))
-    → start ≡ told_if tells (option_map string_bytes r.outfile) [] → old ≡ 0 → Ends r input start handed old after ended
-    → IsFrontOf (late_tells is_there is_bare written before) handed → IsToldOf ended outcome is_there
+    → start.bytes ≡ told_if tells (option_map string_bytes r.outfile) [] → start.failures ≡ 0 → Ends r input start sink ended
+    → IsFrontOf (late_tells is_there is_bare written before) sink.bytes → IsSaidOf ended outcome is_there
     → RunsInto r input tells outcome is_there written
-broke_off r input tells start handed old after (Ok finished) (Ok what) is_there is_bare written before began fresh ends part told = absurd told
-broke_off r input tells start handed old after (Err f) (Ok what) is_there is_bare written before began fresh ends part told = absurd told
-broke_off r input tells start handed old after ended (Err f) is_there is_bare written before began fresh ends part told =
+broke_off r input tells start sink (Ok finished) (Ok what) is_there is_bare written before began fresh ends part said = absurd said
+broke_off r input tells start sink (Err f) (Ok what) is_there is_bare written before began fresh ends part said = absurd said
+broke_off r input tells start sink ended (Err f) is_there is_bare written before began fresh ends part said =
     inr (record {
       ended = ended;
-      handed = handed;
-      failures = after;
-      ends = subst (λ b. Ends r input (told_if tells (option_map string_bytes r.outfile) []) handed b after ended) fresh
-          (subst (λ s. Ends r input s handed old after ended) began ends);
-      part = part_of is_there is_bare written before handed part;
-      told = told;
+      sink = sink;
+      ends = subst (λ (s : SinkView). Ends r input s sink ended) (λ i. record { bytes = began i; failures = fresh i }) ends;
+      part = part_of is_there is_bare written before sink.bytes part;
+      said = said;
     })
 
 -- nothing was created: the layout is refused, or the input can't be read
 pub stopped_before : (r : Request) (gives : Gives) (tells : Bool) (f : Fault) (outcome : Result Done Fault)
     (has_output : Bool) (written : Option (List ℕ)) → outcome ≡ Err f → has_output ≡ false
-    → RefusesUnread r.layout r.page r.sheet f ⊎ (IsPossible r.layout r.page r.sheet × IsReading f)
+    → RefusesUnread r.layout r.page_paper r.sheet_paper f ⊎ (IsPossible r.layout r.page_paper r.sheet_paper × IsReading f)
     → CarriesOut r gives tells outcome has_output written
 stopped_before r gives tells f outcome has_output written told none why = inl (f, told, none, why)
 
@@ -91,7 +90,7 @@ stopped_before r gives tells f outcome has_output written told none why = inl (f
 pub took : (r : Request) (gives : Gives) (tells : Bool) (input : List ℕ) (name : Option (List ℕ))
     (outcome : Result Done Fault) (has_output : Bool) (written : Option (List ℕ))
     → name ≡ option_map string_bytes r.infile → IsFirst most_bytes (gives name) input
-    → IsPossible r.layout r.page r.sheet → TakesInput r input tells outcome has_output written
+    → IsPossible r.layout r.page_paper r.sheet_paper → TakesInput r input tells outcome has_output written
     → CarriesOut r gives tells outcome has_output written
 took r gives tells input name outcome has_output written named read possible taken =
     inr (input, subst (λ n. IsFirst most_bytes (gives n) input) named read, possible, taken)

@@ -1,7 +1,6 @@
--- How a request ended: the known bytes of its sink were `old` and are `new`, and the sink had failed `before` times and
--- has failed `after` times.
+-- How a request ended, with what was seen of its sink before and after it.
 use Rattle.std.specs.Prelude.{◌≡◌, ◌⊎◌, ℕ, List, Option, Result, Ok, Err}
-use Rattle.std.specs.Io.KnownBytes.{Keeps}
+use Rattle.sheet_writer.specs.Sinks.{SinkView, IsUntouched}
 use Rattle.imposer.specs.Runs.{FailedIn, HasWritten, IsRefusal}
 use Rattle.imposer.specs.declared.outcome.RunError.{RunError}
 use Rattle.impose_cli.specs.Tasks.{Finishes, IsTask, asked_by}
@@ -12,28 +11,23 @@ use Rattle.impose_cli.specs.declared.fault.Fault.TheVariants as fault
 use Rattle.impose_cli.specs.declared.task.Task.{Task}
 use Rattle.impose_cli.specs.declared.task.Finished.{Finished}
 
--- the fault was told before the run: it is why there is no task. Nothing was written, and no write failed
-pub record EndsBeforeRun (r : Request) (input : List ℕ) (old new : Option (List ℕ)) (before after : ℕ)
-    (f : Fault) : Type 0 where
+-- the fault was found before the run: it is why there is no task. Nothing was written, and no write failed
+pub record EndsBeforeRun (r : Request) (input : List ℕ) (old new : SinkView) (f : Fault) : Type 0 where
   pub refused : RefusesTask r input f
-  pub unwritten : Keeps old new
-  pub steady : after ≡ before
+  pub unwritten : IsUntouched old new
 
 -- the fault is the error of the run of the request's task: it names the first check that fails; as much of the output
 -- was written as it says, which is nothing at a refusal; and the sink failed once if a write did
-pub record EndsInRun (r : Request) (input : List ℕ) (old new : Option (List ℕ)) (before after : ℕ)
-    (f : Fault) : Type 0 where
+pub record EndsInRun (r : Request) (input : List ℕ) (old new : SinkView) (f : Fault) : Type 0 where
   pub task : Task
   pub is_task : IsTask r input task
   pub error : RunError
   pub is_run : f ≡ fault.Run error
   pub refused : IsRefusal (asked_by task) error
   pub written : HasWritten (asked_by task) old new error
-  pub failed : FailedIn error before after
+  pub failed : FailedIn error old new
 
--- the request was carried out and no write failed; or its fault was told before the run, or is the run's
-abbrev pub Ends : Request → (input : List ℕ) → (old new : Option (List ℕ)) → (before after : ℕ)
-    → Result Finished Fault → Type 0
-Ends r input old new before after (Ok done) = Finishes r input old new done × (after ≡ before)
-Ends r input old new before after (Err f) = EndsBeforeRun r input old new before after f
-    ⊎ EndsInRun r input old new before after f
+-- the request was carried out and no write failed; or its fault was found before the run, or is the run's
+abbrev pub Ends : Request → (input : List ℕ) → (old new : SinkView) → Result Finished Fault → Type 0
+Ends r input old new (Ok done) = Finishes r input old.bytes new.bytes done × (new.failures ≡ old.failures)
+Ends r input old new (Err f) = EndsBeforeRun r input old new f ⊎ EndsInRun r input old new f

@@ -1,8 +1,11 @@
 -- What an error of a part makes of a request, before anything was written.
-use Rattle.std.specs.Prelude.{ℕ}
+use Rattle.std.specs.Prelude.{ℕ, ◌==◌, Bool, if◌then◌else◌, List, length, codes, nat_eq}
+use Rattle.std.specs.List.{starts_with}
+use Rattle.dsc.specs.declared.errors.DscError.{DscError}
+use Rattle.dsc.specs.declared.errors.DscError.TheVariants.{NotPostScript}
 use Rattle.layouts.specs.declared.error.LayoutError.{LayoutError}
 use Rattle.layouts.specs.declared.error.LayoutError.TheVariants as layout
-use Rattle.imposer.specs.Outcomes.{no_memory}
+use Rattle.imposer.specs.Outcomes.{no_memory, of_document as of_read}
 use Rattle.impose_cli.specs.declared.fault.Fault.{Fault}
 use Rattle.impose_cli.specs.declared.fault.Fault.TheVariants as fault
 
@@ -18,3 +21,16 @@ abbrev pub of_selection : (pages : ℕ) → LayoutError → Fault
 of_selection pages layout.NoMemory = without_memory
 of_selection pages (layout.PageNotInDocument place) = fault.NoSuchPage place pages
 of_selection pages other = fault.Layout other
+
+abbrev pub is_pdf : (input : List ℕ) → Bool
+is_pdf input = starts_with nat_eq input (codes "%PDF-")
+
+-- of an input that is no PostScript: one that is empty, or a PDF, is called so
+abbrev pub of_other_input : (input : List ℕ) → Fault
+of_other_input input = if length input == 0 then fault.NoInput
+    else (if is_pdf input then fault.Pdf else fault.Run (of_read NotPostScript))
+
+-- of an input that is refused for this reason
+abbrev pub of_document : DscError → (input : List ℕ) → Fault
+of_document NotPostScript input = of_other_input input
+of_document other input = fault.Run (of_read other)

@@ -44,8 +44,8 @@ pages_on all = map (λ slots. map (λ slot. slot.page) slots) all
 abbrev pub in_turn : (n entries : ℕ) → (entry : ℕ → Option ℕ) → List (List (Option ℕ))
 in_turn n entries entry = map (λ k. map entry (range_with_len (k * n) n)) (range_with_len 0 (blocks n entries))
 
--- The sheets on which a layout puts a document of so many pages. N pages on a sheet: the first sheet has the first n, and
--- so on; the last one is filled up with blanks. A booklet: each side of a leaf has two entries of the row of its
+-- The sheets on which a layout puts a document of so many pages. N pages on a sheet: the first sheet has the first n,
+-- and so on; the last one is filled up with blanks. A booklet: each side of a leaf has two entries of the row of its
 -- signatures, in order. A selection: sheet k has the k-th page that is selected, alone and as it is. A specification:
 -- its own sheets.
 abbrev pub PutsPages : Layout → (pages : ℕ) → List (List Slot) → Type 0

@@ -8,7 +8,6 @@ pub mod Faults
 pub mod Tasks
 pub mod Refusals
 pub mod Endings
-pub mod Telling
 pub mod Unread
 pub mod Laws
 pub mod Statuses

@@ -1,9 +1,10 @@
 -- The whole program: what its words ask for, what it reads, what it creates and writes, and how it ends.
-use Rattle.std.specs.Prelude.{⊤, ◌≡◌, ◌⊎◌, ℕ, List, [], Bool, true, false, Option, Some, None, Result, Ok, Err, option_map}
-use Rattle.std.specs.Prelude.{string_bytes}
+use Rattle.std.specs.Prelude.{⊤, ◌≡◌, ◌⊎◌, ℕ, List, [], Bool, true, false, Option, Some, None, Result, Ok, Err}
+use Rattle.std.specs.Prelude.{option_map, string_bytes}
 use Rattle.std.specs.Io.KnownBytes.{Appends}
 use Rattle.clap.specs.Words.{Text}
 use Rattle.imposer.specs.declared.outcome.RunError.TheVariants as run
+use Rattle.sheet_writer.specs.Sinks.{SinkView, fresh_sink}
 use Rattle.world.specs.Outputs.{IsFrontOf, told_if}
 use Rattle.input.specs.Input.{IsFirst, most_bytes}
 use Rattle.impose_cli.specs.Endings.{Ends}
@@ -53,30 +54,29 @@ IsReading other = ⊥
 
 -- ---- the run
 
--- How the fault of a run is told. As it is, and then nothing was created; out of memory, with how much was written; or
--- as a failed write, if one failed: the run says so, or there is an output although the run refused.
-abbrev pub IsToldAs : Fault → Result Done Fault → (has_output : Bool) → Type 0
-IsToldAs f (Ok what) has_output = ⊥
-IsToldAs f (Err told) has_output =
-    ((told ≡ f) × (has_output ≡ false))
-    ⊎ ((IsNoMemory f × IsNoMemory told) ⊎ (IsFailedWrite told × (IsRunWrite f ⊎ (has_output ≡ true))))
+-- What is said of the fault of a run: the fault as it is, and then nothing was created; out of memory, with how much
+-- was written; or a failed write, if one failed: the run says so, or there is an output although the run refused.
+abbrev pub IsSaidAs : Fault → Result Done Fault → (has_output : Bool) → Type 0
+IsSaidAs f (Ok what) has_output = ⊥
+IsSaidAs f (Err said) has_output =
+    ((said ≡ f) × (has_output ≡ false))
+    ⊎ ((IsNoMemory f × IsNoMemory said) ⊎ (IsFailedWrite said × (IsRunWrite f ⊎ (has_output ≡ true))))
 
 -- the same of a run that ended so: if it finished, its last bytes couldn't be written
-abbrev pub IsToldOf : Result Finished Fault → Result Done Fault → (has_output : Bool) → Type 0
-IsToldOf (Ok finished) (Ok what) has_output = ⊥
-IsToldOf (Ok finished) (Err told) has_output = IsFailedWrite told
-IsToldOf (Err f) outcome has_output = IsToldAs f outcome has_output
+abbrev pub IsSaidOf : Result Finished Fault → Result Done Fault → (has_output : Bool) → Type 0
+IsSaidOf (Ok finished) (Ok what) has_output = ⊥
+IsSaidOf (Ok finished) (Err said) has_output = IsFailedWrite said
+IsSaidOf (Err f) outcome has_output = IsSaidAs f outcome has_output
 
 -- The run of a request that didn't come to its end: it ended in some way, with all that a run promises, and that is
--- told. The output has a first part of what the run handed on.
+-- said. The output has a first part of what the run handed on.
 pub record BreaksOff (r : Request) (input : List ℕ) (tells : Bool) (outcome : Result Done Fault) (has_output : Bool)
     (written : Option (List ℕ)) : Type 0 where
   pub ended : Result Finished Fault
-  pub handed : Option (List ℕ)
-  pub failures : ℕ
-  pub ends : Ends r input (told_if tells (option_map string_bytes r.outfile) []) handed 0 failures ended
-  pub part : has_output ≡ true → IsFrontOf written handed
-  pub told : IsToldOf ended outcome has_output
+  pub sink : SinkView
+  pub ends : Ends r input (fresh_sink (told_if tells (option_map string_bytes r.outfile) [])) sink ended
+  pub part : has_output ≡ true → IsFrontOf written sink.bytes
+  pub said : IsSaidOf ended outcome has_output
 
 -- What comes of a request to impose this input. If it was imposed, the output tells its name and exactly the output
 -- that is defined; else there was no memory for a buffer, and nothing was created; or the run broke off.
@@ -113,9 +113,10 @@ abbrev pub CarriesOut : Request → Gives → (tells : Bool) → Result Done Fau
     → (written : Option (List ℕ)) → Type 0
 CarriesOut r gives tells outcome has_output written =
     ((f : Fault) × (outcome ≡ Err f) × (has_output ≡ false)
-    × (RefusesUnread r.layout r.page r.sheet f ⊎ (IsPossible r.layout r.page r.sheet × IsReading f)))
+    × (RefusesUnread r.layout r.page_paper r.sheet_paper f
+    ⊎ (IsPossible r.layout r.page_paper r.sheet_paper × IsReading f)))
     ⊎ ((input : List ℕ) × IsFirst most_bytes (gives (option_map string_bytes r.infile)) input
-    × IsPossible r.layout r.page r.sheet × TakesInput r input tells outcome has_output written)
+    × IsPossible r.layout r.page_paper r.sheet_paper × TakesInput r input tells outcome has_output written)
 
 -- How the program ends: the words are refused, and nothing was created; or they make a request, and this comes of it.
 abbrev pub EndsProgram : (words : List Text) → Gives → (tells : Bool) → Option Request → Result Done Fault

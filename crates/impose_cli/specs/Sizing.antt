@@ -9,9 +9,9 @@ use Rattle.impose_cli.specs.declared.fault.CommandFault.{CommandFault}
 use Rattle.impose_cli.specs.declared.fault.CommandFault.TheVariants as fault
 
 -- these are asked for
-pub record ReadsSizes (found : List Row) (page sheet : Option Paper) (border : Option ℤ) : Type 0 where
-  pub page_is : size_found OfPages found ≡ Some page
-  pub sheet_is : size_found OfSheets found ≡ Some sheet
+pub record ReadsSizes (found : List Row) (page_paper sheet_paper : Option Paper) (border : Option ℤ) : Type 0 where
+  pub page_paper_is : size_found OfPages found ≡ Some page_paper
+  pub sheet_paper_is : size_found OfSheets found ≡ Some sheet_paper
   pub border_is : border_found found ≡ Some border
 
 -- a refusal of an option's value

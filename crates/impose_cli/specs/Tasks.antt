@@ -32,17 +32,17 @@ abbrev pub own_or_a4 : Option (Paper × Comment) → Paper × PaperOrigin
 own_or_a4 None = (a4, Assumed)
 own_or_a4 (Some own) = (own.0, ByComment own.1)
 
-abbrev pub page_found : (named : Option Paper) → (input : List ℕ) → Paper × PaperOrigin
-page_found (Some page) input = (page, Named)
-page_found None input = own_or_a4 (document_paper input)
+abbrev pub page_paper_found : (named : Option Paper) → (input : List ℕ) → Paper × PaperOrigin
+page_paper_found (Some page_paper) input = (page_paper, Named)
+page_paper_found None input = own_or_a4 (document_paper input)
 
 -- the paper of the sheets: the one that is named, else that of the pages
-abbrev pub sheet_found : (named : Option Paper) → (page : Paper) → Paper
-sheet_found named page = unwrap_or named page
+abbrev pub sheet_paper_found : (named : Option Paper) → (page_paper : Paper) → Paper
+sheet_paper_found named page_paper = unwrap_or named page_paper
 
 -- the document, with the guard in it if it is asked for
-abbrev pub taken_text : (is_guarded : Bool) → (sheet : Paper) → List ℕ → List ℕ
-taken_text is_guarded sheet input = if is_guarded then guarded (Some sheet) input else input
+abbrev pub taken_text : (is_guarded : Bool) → (sheet_paper : Paper) → List ℕ → List ℕ
+taken_text is_guarded sheet_paper input = if is_guarded then guarded (Some sheet_paper) input else input
 
 -- the document is accepted and has so many pages
 abbrev pub HasPages : (input : List ℕ) → ℕ → Type 0
@@ -57,24 +57,28 @@ abbrev pub IsWritten : Spec → (text : List ℕ) → Type 0
 IsWritten spec text = (text ≡ canonical spec) × Takes most_slots text spec
 
 -- the text of the specification and the sides of a signature to which a layout comes, for so many pages of a paper
-abbrev pub IsPlaced : Layout → (page sheet : Paper) → (pages : ℕ) → (text : List ℕ) → (sides : Option ℕ) → Type 0
-IsPlaced (layout.NUp n) page sheet pages text sides =
-    (IsWritten (n_up page sheet n) text × IsNUp page sheet n (n_up page sheet n)) × (sides ≡ None)
-IsPlaced (layout.Booklet signature long_edge) page sheet pages text sides =
-    (IsWritten (leaves page sheet long_edge) text × IsBooklet page sheet long_edge (leaves page sheet long_edge))
+abbrev pub IsPlaced : Layout → (page_paper sheet_paper : Paper) → (pages : ℕ) → (text : List ℕ) → (sides : Option ℕ)
+    → Type 0
+IsPlaced (layout.NUp n) page_paper sheet_paper pages text sides =
+    (IsWritten (n_up page_paper sheet_paper n) text × IsNUp page_paper sheet_paper n (n_up page_paper sheet_paper n))
+    × (sides ≡ None)
+IsPlaced (layout.Booklet signature long_edge) page_paper sheet_paper pages text sides =
+    (IsWritten (leaves page_paper sheet_paper long_edge) text
+    × IsBooklet page_paper sheet_paper long_edge (leaves page_paper sheet_paper long_edge))
     × (sides ≡ Some (unwrap_or signature (fours pages)))
-IsPlaced (layout.Selection ranges which) page sheet pages text sides =
+IsPlaced (layout.Selection ranges which) page_paper sheet_paper pages text sides =
     ((spec : Spec) × IsSelection (string_bytes ranges) which pages spec × IsWritten spec text) × (sides ≡ None)
-IsPlaced (layout.Spec specs) page sheet pages text sides = (text ≡ string_bytes specs) × (sides ≡ None)
+IsPlaced (layout.Spec specs) page_paper sheet_paper pages text sides = (text ≡ string_bytes specs) × (sides ≡ None)
 
 -- the task is what the request asks for with this document
 pub record IsTask (request : Request) (input : List ℕ) (task : Task) : Type 0 where
   pub page_count : ℕ
   pub document : HasPages input page_count
-  pub page : (task.options.paper, task.origin) ≡ page_found request.page input
-  pub placed : IsPlaced request.layout task.options.paper (sheet_found request.sheet task.options.paper) page_count
-      (string_bytes task.spec) task.options.sides
-  pub text : task.text.items ≡ taken_text request.is_guarded (sheet_found request.sheet task.options.paper) input
+  pub page_paper : (task.options.paper, task.origin) ≡ page_paper_found request.page_paper input
+  pub placed : IsPlaced request.layout task.options.paper (sheet_paper_found request.sheet_paper task.options.paper)
+      page_count (string_bytes task.spec) task.options.sides
+  pub text : task.text.items
+      ≡ taken_text request.is_guarded (sheet_paper_found request.sheet_paper task.options.paper) input
   pub border : task.options.border ≡ request.border
   pub workers : task.options.workers ≡ record { preparers = 2; imposers = 2 }
 
@@ -85,31 +89,33 @@ asked_by t = runs.request t.options (string_bytes t.spec) t.text.items
 -- ---- what comes of a request
 
 -- the specification to which a layout comes, and the sides of a signature, for so many pages of a paper
-abbrev pub LaysOut : Layout → (page sheet : Paper) → (pages : ℕ) → Spec → (sides : Option ℕ) → Type 0
-LaysOut (layout.NUp n) page sheet pages spec sides =
-    ((spec ≡ n_up page sheet n) × IsNUp page sheet n spec) × (sides ≡ None)
-LaysOut (layout.Booklet signature long_edge) page sheet pages spec sides =
-    ((spec ≡ leaves page sheet long_edge) × IsBooklet page sheet long_edge spec)
+abbrev pub LaysOut : Layout → (page_paper sheet_paper : Paper) → (pages : ℕ) → Spec → (sides : Option ℕ) → Type 0
+LaysOut (layout.NUp n) page_paper sheet_paper pages spec sides =
+    ((spec ≡ n_up page_paper sheet_paper n) × IsNUp page_paper sheet_paper n spec) × (sides ≡ None)
+LaysOut (layout.Booklet signature long_edge) page_paper sheet_paper pages spec sides =
+    ((spec ≡ leaves page_paper sheet_paper long_edge) × IsBooklet page_paper sheet_paper long_edge spec)
     × (sides ≡ Some (unwrap_or signature (fours pages)))
-LaysOut (layout.Selection ranges which) page sheet pages spec sides = IsSelection (string_bytes ranges) which pages spec
-    × (sides ≡ None)
-LaysOut (layout.Spec specs) page sheet pages spec sides = Takes most_slots (string_bytes specs) spec × (sides ≡ None)
+LaysOut (layout.Selection ranges which) page_paper sheet_paper pages spec sides =
+    IsSelection (string_bytes ranges) which pages spec × (sides ≡ None)
+LaysOut (layout.Spec specs) page_paper sheet_paper pages spec sides =
+    Takes most_slots (string_bytes specs) spec × (sides ≡ None)
 
 -- how the pages were placed: by their paper, and with the border that is asked for
 abbrev pub frame_used : Request → Finished → Frame
-frame_used r done = record { paper = done.page; border = r.border }
+frame_used r done = record { paper = done.page_paper; border = r.border }
 
 -- the request was carried out for this document: exactly the output was appended that the rules define for the
 -- layout's specification and the document, with the guard in it if it is asked for
 pub record Finishes (r : Request) (input : List ℕ) (old new : Option (List ℕ)) (done : Finished) : Type 0 where
   pub page_count : ℕ
   pub document : HasPages input page_count
-  pub page : (done.page, done.origin) ≡ page_found r.page input
+  pub page_paper : (done.page_paper, done.origin) ≡ page_paper_found r.page_paper input
   pub spec : Spec
   pub sides : Option ℕ
-  pub layout_is : LaysOut r.layout done.page (sheet_found r.sheet done.page) page_count spec sides
+  pub layout_is : LaysOut r.layout done.page_paper (sheet_paper_found r.sheet_paper done.page_paper) page_count spec
+      sides
   pub units : List NestedUnit
-  pub taken : document_of (taken_text r.is_guarded (sheet_found r.sheet done.page) input) ≡ Ok units
+  pub taken : document_of (taken_text r.is_guarded (sheet_paper_found r.sheet_paper done.page_paper) input) ≡ Ok units
   pub valid : AreSidesIfGiven sides
   pub admissible : IsAdmissible most_slots spec
   pub plan : plan_in sides spec (length (pages units)) ≡ Ok (sheets_in sides spec (length (pages units)))

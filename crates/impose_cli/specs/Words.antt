@@ -7,8 +7,8 @@ use Rattle.rules.specs.Papers.{Paper}
 use Rattle.lengths.specs.Lengths.{a4}
 use Rattle.command_words.specs.Borders.{border_named}
 use Rattle.command_words.specs.Matches.{has_true, number_named}
-use Rattle.layouts.specs.declared.select.Which.{Which}
-use Rattle.layouts.specs.declared.select.Which.TheVariants.{All, Odd, Even}
+use Rattle.layouts.specs.declared.selections.Which.{Which}
+use Rattle.layouts.specs.declared.selections.Which.TheVariants.{All, Odd, Even}
 use Rattle.impose_cli.specs.Command.{impose}
 use Rattle.impose_cli.specs.Sizes.{size_named}
 use Rattle.impose_cli.specs.declared.request.Layout.{Layout}
@@ -84,8 +84,8 @@ AsksFor name found (layout.Spec specs) = (name ≡ codes "spec")
 -- the request is what was found
 pub record Reads (name : Text) (found : List Row) (r : Request) : Type 0 where
   pub layout : AsksFor name found r.layout
-  pub page : size_found OfPages found ≡ Some r.page
-  pub sheet : size_found OfSheets found ≡ Some r.sheet
+  pub page_paper : size_found OfPages found ≡ Some r.page_paper
+  pub sheet_paper : size_found OfSheets found ≡ Some r.sheet_paper
   pub border : border_found found ≡ Some r.border
   pub guarded : r.is_guarded ≡ not (has_flag (codes "unguarded") found)
   pub printed : has_flag (codes "print-spec") found ≡ r.is_printed
@@ -111,8 +111,8 @@ pub record NamesNoSize (option : PaperOption) (found : List Row) (text : Text) :
 
 -- the papers and the border that were asked for are some
 pub record HasPapers (found : List Row) : Type 0 where
-  pub page : is_some (size_found OfPages found) ≡ true
-  pub sheet : is_some (size_found OfSheets found) ≡ true
+  pub page_paper : is_some (size_found OfPages found) ≡ true
+  pub sheet_paper : is_some (size_found OfSheets found) ≡ true
 
 pub record HasSizes (found : List Row) : Type 0 where
   pub papers : HasPapers found

@@ -79,8 +79,8 @@ fn request_of(alloc: Global, name: &str, found: &ArgMatches<'_>) -> Result<Reque
     let outfile = owned(alloc, file_named(text_of(found, "outfile")))?;
     Ok(Request {
         layout,
-        page: sizes.page,
-        sheet: sizes.sheet,
+        page_paper: sizes.page_paper,
+        sheet_paper: sizes.sheet_paper,
         border: sizes.border,
         is_guarded: !is_set(found, "unguarded"),
         is_printed: is_set(found, "print-spec"),
@@ -93,28 +93,28 @@ fn request_of(alloc: Global, name: &str, found: &ArgMatches<'_>) -> Result<Reque
 /// The papers and the border that are asked for.
 #[derive(Clone, Copy, Drop)]
 struct Sizes {
-    page: Option<Paper>,
-    sheet: Option<Paper>,
+    page_paper: Option<Paper>,
+    sheet_paper: Option<Paper>,
     border: Option<Grains>,
 }
 
 fn sizes_of(alloc: Global, found: &ArgMatches<'_>) -> Result<Sizes, CommandFault>
     ensures read { IfOk result (λ sizes.
-        ReadsSizes (rows_of (found_of found.now)) sizes.page sizes.sheet sizes.border) }
+        ReadsSizes (rows_of (found_of found.now)) sizes.page_paper sizes.sheet_paper sizes.border) }
     ensures refused { IfErr result (RefusesSizes (rows_of (found_of found.now))) }
 {
-    let page = match paper_of(alloc, found, PaperOption::Paper) {
-        Ok(page) => page,
+    let page_paper = match paper_of(alloc, found, PaperOption::Paper) {
+        Ok(page_paper) => page_paper,
         Err(fault) => return Err(fault),
     };
-    let sheet = match paper_of(alloc, found, PaperOption::Sheet) {
-        Ok(sheet) => sheet,
+    let sheet_paper = match paper_of(alloc, found, PaperOption::Sheet) {
+        Ok(sheet_paper) => sheet_paper,
         Err(fault) => return Err(fault),
     };
     match border_of(alloc, found) {
         Ok(border) => Ok(Sizes {
-            page,
-            sheet,
+            page_paper,
+            sheet_paper,
             border,
         }),
         Err(fault) => Err(fault),

@@ -45,7 +45,7 @@ pub enum Fault {
         place: usize,
         pages: u32,
     },
-    /// The input couldn't be opened or read, and why, if the system told it.
+    /// The input couldn't be opened or read, and why, if the system said it.
     Read(Option<io::Error>),
     /// The run is refused or failed, but for a failed write.
     Run(RunError),
@@ -53,7 +53,7 @@ pub enum Fault {
     NoInput,
     /// The input is a PDF.
     Pdf,
-    /// The output couldn't be created, or not be written behind so many bytes, and why, if the system told it.
+    /// The output couldn't be created, or not be written behind so many bytes, and why, if the system said it.
     Write {
         written: u64,
         cause: Option<io::Error>,

@@ -1,17 +1,18 @@
 //! The whole program, over the files and standard streams around it.
-ghost use Rattle.std.specs.Prelude.{◌≡◌, false, is_some, map, option_and_then, option_map, string_bytes, Some, Err, IfOk, IfErr};
+ghost use Rattle.std.specs.Prelude.{◌≡◌, false, is_some, map, option_and_then, option_map, string_bytes};
+ghost use Rattle.std.specs.Prelude.{Some, Err, IfOk, IfErr};
 ghost use Rattle.input.specs.Input.{IsFirst, most_bytes};
-ghost use Rattle.impose_cli.specs.Programs.{CarriesOut, EndsProgram, IsFailedWrite, IsReading, IsToldAs, Prints};
+ghost use Rattle.impose_cli.specs.Programs.{CarriesOut, EndsProgram, IsFailedWrite, IsReading, IsSaidAs, Prints};
 ghost use Rattle.impose_cli.specs.Programs.{RunsInto, status_of};
 ghost use Rattle.impose_cli.specs.declared.fault.Fault.TheVariants as faults;
 
 use crate::command::read_command;
 use crate::fault::Fault;
-use crate::heard::Heard;
-use crate::lines::fault_status;
+use crate::keeping_reader::KeepingReader;
+use crate::messages::fault_status;
 use crate::printed::printed_task;
 use crate::request::Request;
-use crate::task::{Finished, check_layout, prepare, run_request};
+use crate::task::{Finished, check_layout, run_request, task_for};
 use command_words::name_of;
 use imposer::RunError;
 use input::{ReadFault, ReadSource, read_input};
@@ -20,7 +21,7 @@ use std::io;
 use std::io::{ErrorKind, Read, Write};
 use std::sync::Wait;
 use std::thread::Threads;
-use world::{Late, World, abandon, created_late, finish};
+use world::{Late, World, abandon, created_late, write_out};
 
 /// What was done.
 #[derive(Clone, Copy, Debug, PartialEq, Eq)]
@@ -64,8 +65,8 @@ struct Left<W: World> {
     output: Option<W::Output>,
 }
 
-/// The program: it reads the words, of which the first is its name, and checks the layout; then it reads its input whole
-/// and closes it; then it prints the specification, or imposes.
+/// The program: it reads the words, of which the first is its name, and checks the layout; then it reads its input
+/// whole and closes it; then it prints the specification, or imposes.
 ///
 /// The output is created when its first byte is to be written, so that a request that is refused creates none, and
 /// input and output may be one file.
@@ -75,8 +76,8 @@ pub fn impose<R: Threads + Wait + Sync, W: World>(
     words: &[String],
     world: W,
 ) -> Ended<W>
-    ensures ended { EndsProgram (map string_bytes words.now) (W.gives world) (W.tells world) result.request result.outcome
-        (is_some result.output) (option_and_then W.Output.contents result.output) }
+    ensures ended { EndsProgram (map string_bytes words.now) (W.gives world) (W.tells world) result.request
+        result.outcome (is_some result.output) (option_and_then W.Output.contents result.output) }
 {
     match read_command(alloc, words) {
         Ok(request) => {
@@ -132,11 +133,12 @@ fn stopped<W: World>(fault: Fault, world: W) -> Left<W>
 
 /// All that the file of this name, or standard input, gives.
 fn input_of<W: World>(alloc: Global, name: Option<&str>, world: &W) -> Result<Vec<u8>, Fault>
-    ensures read { IfOk result (λ input. IsFirst most_bytes (W.gives world.now (option_map (λ n. n.now) name.entry)) input.items) }
+    ensures read { IfOk result (λ input.
+        IsFirst most_bytes (W.gives world.now (option_map (λ n. n.now) name.entry)) input.items) }
     ensures refused { IfErr result IsReading }
 {
     match world.open(name) {
-        Ok(input) => read_from(alloc, Heard::new(input)),
+        Ok(input) => read_from(alloc, KeepingReader::new(input)),
         Err(error) if error.kind() == ErrorKind::OutOfMemory => Err(Fault::no_memory()),
         Err(error) => Err(Fault::Read(Some(error))),
     }
@@ -146,14 +148,14 @@ fn read_from<I: Read + Drop>(alloc: Global, input: I) -> Result<Vec<u8>, Fault>
     ensures read { IfOk result (λ bytes. IsFirst most_bytes (I.remaining input) bytes.items) }
     ensures refused { IfErr result IsReading }
 {
-    let mut heard = Heard::new(input);
-    let mut source = ReadSource::new(&mut heard);
+    let mut reader = KeepingReader::new(input);
+    let mut source = ReadSource::new(&mut reader);
     let read = read_input(alloc, &mut source);
     drop(source);
     match read {
         Ok(bytes) => Ok(bytes),
         Err(ReadFault::NoMemory) => Err(Fault::no_memory()),
-        Err(ReadFault::Device) => Err(Fault::Read(heard.into_cause())),
+        Err(ReadFault::Device) => Err(Fault::Read(reader.into_cause())),
     }
 }
 
@@ -162,7 +164,7 @@ fn print_input<W: World>(alloc: Global, request: &Request, input: Vec<u8>, world
     ensures { Prints request.now input.items (W.tells world) result.outcome (is_some result.output)
         (option_and_then W.Output.contents result.output) }
 {
-    let task = match prepare(alloc, request, input) {
+    let task = match task_for(alloc, request, input) {
         Ok(task) => task,
         Err(fault) => return stopped(fault, world),
     };
@@ -221,7 +223,7 @@ fn run_into<R: Threads + Wait + Sync, W: World>(
     };
     match run_request(rt, alloc, request, input, &mut sink) {
         Ok(done) => {
-            let (is_whole, late) = finish(sink);
+            let (is_whole, late) = write_out(sink);
             // What was written lies in an output.
             if is_whole && late.output.is_some() {
                 close(Ok(Done::Imposed(done)), late)
@@ -235,7 +237,7 @@ fn run_into<R: Threads + Wait + Sync, W: World>(
 
 /// How a run ended that didn't finish, by the fault and by how much of its output was written.
 fn broken_off<W: World>(fault: Fault, late: Late<'_, W>) -> Left<W>
-    ensures told { IsToldAs fault result.outcome (is_some result.output) }
+    ensures said { IsSaidAs fault result.outcome (is_some result.output) }
     ensures output { result.output ≡ late.entry.output }
 {
     match fault {

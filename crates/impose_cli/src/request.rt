@@ -26,9 +26,9 @@ pub enum Layout {
 pub struct Request {
     pub layout: Layout,
     /// The paper of the pages, if it is named.
-    pub page: Option<Paper>,
+    pub page_paper: Option<Paper>,
     /// The paper of the sheets, if it is named; else it is that of the pages.
-    pub sheet: Option<Paper>,
+    pub sheet_paper: Option<Paper>,
     /// The width of a border round each placed page, if one is asked for.
     pub border: Option<Grains>,
     /// Whether the guard is put in.

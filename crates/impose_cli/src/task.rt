@@ -7,15 +7,16 @@ ghost use Rattle.layouts.specs.Grids.{leaves, n_up};
 ghost use Rattle.layouts.specs.Laws.{IsNUp, IsBooklet};
 ghost use Rattle.layouts.specs.Refusals.{why_not, why_no_booklet};
 ghost use Rattle.layouts.specs.Selections.{IsSelection};
+ghost use Rattle.sheet_writer.specs.Sinks.{IsCountable};
 ghost use Rattle.imposer.specs.Runs.{Accepted, FailedIn, HasWritten, IsRefusal, Reports, frame_of};
 ghost use Rattle.rules.specs.Specification.{Spec as SpecValue};
+ghost use Rattle.impose_cli.specs.Faults.{of_document as document_fault, of_other_input};
 ghost use Rattle.impose_cli.specs.Faults.{of_selection as selection_fault, without_memory};
-ghost use Rattle.impose_cli.specs.Tasks.{Finishes, HasPages, IsPlaced, IsTask, IsWritten, asked_by, fours, page_found};
-ghost use Rattle.impose_cli.specs.Tasks.{sheet_found, taken_text};
+ghost use Rattle.impose_cli.specs.Tasks.{Finishes, HasPages, IsPlaced, IsTask, IsWritten, asked_by, fours};
+ghost use Rattle.impose_cli.specs.Tasks.{page_paper_found, sheet_paper_found, taken_text};
 ghost use Rattle.impose_cli.specs.Refusals.{RefusesDocument, RefusesLayout, RefusesRanges, RefusesTask};
 ghost use Rattle.impose_cli.specs.Endings.{Ends};
 ghost use Rattle.impose_cli.specs.Unread.{IsPossible, IsSpecification, RefusesSpecification, RefusesUnread};
-ghost use Rattle.impose_cli.specs.Telling.{of_other_input, told_of};
 ghost use Rattle.impose_cli.specs.declared.request.Layout.TheVariants as layout;
 
 use crate::fault::Fault;
@@ -59,7 +60,7 @@ pub struct Task {
 pub struct Finished {
     pub report: Report,
     /// The paper of the pages.
-    pub page: Paper,
+    pub page_paper: Paper,
     /// Where the paper of the pages was found.
     pub origin: PaperOrigin,
 }
@@ -70,19 +71,29 @@ const WORKERS: Workers = Workers {
     imposers: 2,
 };
 
-/// The checks of a layout that don't ask for the document, so that a mistake is told before a byte is read: those of a
+/// The checks of a layout that don't ask for the document, so that a mistake is found before a byte is read: those of a
 /// specification, and if the paper of the pages is named those of pages on sheets.
 pub fn check_layout(alloc: Global, request: &Request) -> Result<(), Fault>
-    ensures possible { OnOk result (IsPossible request.now.layout request.now.page request.now.sheet) }
-    ensures refused { IfErr result (RefusesUnread request.now.layout request.now.page request.now.sheet) }
+    ensures possible { OnOk result (IsPossible request.now.layout request.now.page_paper request.now.sheet_paper) }
+    ensures refused { IfErr result (RefusesUnread request.now.layout request.now.page_paper request.now.sheet_paper) }
 {
-    match (&request.layout, &request.page) {
+    match (&request.layout, &request.page_paper) {
         (Layout::Spec(specs), _) => check_spec(alloc, specs.as_str()),
-        (Layout::NUp(count), Some(page)) => {
-            check_nup(alloc, *count, page, sheet_of(&request.sheet, page))
+        (Layout::NUp(count), Some(page_paper)) => {
+            check_nup(
+                alloc,
+                *count,
+                page_paper,
+                paper_of_sheets(&request.sheet_paper, page_paper),
+            )
         }
-        (Layout::Booklet { long_edge, .. }, Some(page)) => {
-            check_booklet(alloc, page, sheet_of(&request.sheet, page), *long_edge)
+        (Layout::Booklet { long_edge, .. }, Some(page_paper)) => {
+            check_booklet(
+                alloc,
+                page_paper,
+                paper_of_sheets(&request.sheet_paper, page_paper),
+                *long_edge,
+            )
         }
         _ => Ok(()),
     }
@@ -98,21 +109,31 @@ fn check_spec(alloc: Global, specs: &str) -> Result<(), Fault>
     }
 }
 
-fn check_nup(alloc: Global, count: u32, page: &Paper, sheet: &Paper) -> Result<(), Fault>
-    ensures possible { OnOk result (why_not page.now sheet.now count ≡ None) }
-    ensures refused { IfErr result (RefusesLayout (layout.NUp count) page.now sheet.now 0) }
+fn check_nup(
+    alloc: Global,
+    count: u32,
+    page_paper: &Paper,
+    sheet_paper: &Paper,
+) -> Result<(), Fault>
+    ensures possible { OnOk result (why_not page_paper.now sheet_paper.now count ≡ None) }
+    ensures refused { IfErr result (RefusesLayout (layout.NUp count) page_paper.now sheet_paper.now 0) }
 {
-    match nup(alloc, count, page, sheet) {
+    match nup(alloc, count, page_paper, sheet_paper) {
         Ok(_) => Ok(()),
         Err(error) => Err(Fault::from(error)),
     }
 }
 
-fn check_booklet(alloc: Global, page: &Paper, sheet: &Paper, long_edge: bool) -> Result<(), Fault>
-    ensures possible { OnOk result (why_no_booklet page.now sheet.now ≡ None) }
-    ensures refused { IfErr result (RefusesLayout (layout.Booklet None long_edge) page.now sheet.now 0) }
+fn check_booklet(
+    alloc: Global,
+    page_paper: &Paper,
+    sheet_paper: &Paper,
+    long_edge: bool,
+) -> Result<(), Fault>
+    ensures possible { OnOk result (why_no_booklet page_paper.now sheet_paper.now ≡ None) }
+    ensures refused { IfErr result (RefusesLayout (layout.Booklet None long_edge) page_paper.now sheet_paper.now 0) }
 {
-    match booklet(alloc, page, sheet, long_edge) {
+    match booklet(alloc, page_paper, sheet_paper, long_edge) {
         Ok(_) => Ok(()),
         Err(error) => Err(Fault::from(error)),
     }
@@ -120,27 +141,27 @@ fn check_booklet(alloc: Global, page: &Paper, sheet: &Paper, long_edge: bool) ->
 
 /// The request for this document, and the fault if there is none: a document that is refused, then a layout that there
 /// isn't.
-pub fn prepare(alloc: Global, request: &Request, input: Vec<u8>) -> Result<Task, Fault>
-    ensures prepared { IfOk result (IsTask request.now input.items) }
+pub fn task_for(alloc: Global, request: &Request, input: Vec<u8>) -> Result<Task, Fault>
+    ensures is_task { IfOk result (IsTask request.now input.items) }
     ensures refused { IfErr result (RefusesTask request.now input.items) }
 {
-    // The document is read as it came, so that a fault is told at its place there.
+    // The document is read as it came, so that a fault has its place there.
     let pages = match pages_of(alloc, input.as_slice()) {
         Ok(pages) => pages,
         Err(fault) => return Err(fault),
     };
-    let (page, origin) = page_of(request.page, input.as_slice());
-    let sheet = *sheet_of(&request.sheet, &page);
-    let (spec, sides) = match placing(alloc, &request.layout, &page, &sheet, pages) {
+    let (page_paper, origin) = paper_of_pages(request.page_paper, input.as_slice());
+    let sheet_paper = *paper_of_sheets(&request.sheet_paper, &page_paper);
+    let (spec, sides) = match placing(alloc, &request.layout, &page_paper, &sheet_paper, pages) {
         Ok(placed) => placed,
         Err(fault) => return Err(fault),
     };
-    let text = match text_of(request.is_guarded, &sheet, input) {
+    let text = match text_to_impose(request.is_guarded, &sheet_paper, input) {
         Ok(text) => text,
         Err(_) => return Err(Fault::no_memory()),
     };
     let options = Options {
-        paper: page,
+        paper: page_paper,
         border: request.border,
         sides,
         workers: WORKERS,
@@ -154,36 +175,40 @@ pub fn prepare(alloc: Global, request: &Request, input: Vec<u8>) -> Result<Task,
 }
 
 /// The document, with the guard in it if it is asked for.
-fn text_of(is_guarded: bool, sheet: &Paper, input: Vec<u8>) -> Result<Vec<u8>, AllocError>
-    ensures { IfOk result (λ text. text.items ≡ taken_text is_guarded sheet.now input.items) }
+fn text_to_impose(
+    is_guarded: bool,
+    sheet_paper: &Paper,
+    input: Vec<u8>,
+) -> Result<Vec<u8>, AllocError>
+    ensures { IfOk result (λ text. text.items ≡ taken_text is_guarded sheet_paper.now input.items) }
 {
     let mut text = input;
     if is_guarded {
-        put_guard(&mut text, Some(sheet))?;
+        put_guard(&mut text, Some(sheet_paper))?;
     }
     Ok(text)
 }
 
 /// The paper of the pages: the one that is named, else the document's own, else a4.
-fn page_of(named: Option<Paper>, input: &[u8]) -> (Paper, PaperOrigin)
-    ensures { result ≡ page_found named input.now }
+fn paper_of_pages(named: Option<Paper>, input: &[u8]) -> (Paper, PaperOrigin)
+    ensures { result ≡ page_paper_found named input.now }
 {
     match named {
-        Some(page) => (page, PaperOrigin::Named),
+        Some(page_paper) => (page_paper, PaperOrigin::Named),
         None => match document_paper(input) {
-            Some((page, comment)) => (page, PaperOrigin::ByComment(comment)),
+            Some((page_paper, comment)) => (page_paper, PaperOrigin::ByComment(comment)),
             None => (a4(), PaperOrigin::Assumed),
         },
     }
 }
 
 /// The paper of the sheets, which is that of the pages if none is named.
-fn sheet_of<'p>(named: &'p Option<Paper>, page: &'p Paper) -> &'p Paper
-    ensures { result.now ≡ unwrap_or named.now page.now }
+fn paper_of_sheets<'p>(named: &'p Option<Paper>, page_paper: &'p Paper) -> &'p Paper
+    ensures { result.now ≡ unwrap_or named.now page_paper.now }
 {
     match named {
-        Some(sheet) => sheet,
-        None => page,
+        Some(sheet_paper) => sheet_paper,
+        None => page_paper,
     }
 }
 
@@ -199,9 +224,9 @@ fn pages_of(alloc: Global, input: &[u8]) -> Result<u32, Fault>
     }
 }
 
-/// A document's refusal. What is empty or a PDF is told so.
+/// A document's refusal. What is empty or a PDF is called so.
 fn of_document(error: DscError, input: &[u8]) -> Fault
-    ensures { result ≡ told_of error input.now }
+    ensures { result ≡ document_fault error input.now }
 {
     match error {
         DscError::NotPostScript => not_postscript(input),
@@ -227,23 +252,23 @@ type Placed = (String, Option<u32>);
 fn placing(
     alloc: Global,
     layout: &Layout,
-    page: &Paper,
-    sheet: &Paper,
+    page_paper: &Paper,
+    sheet_paper: &Paper,
     pages: u32,
 ) -> Result<Placed, Fault>
     requires { pages ≤ most_pages }
     ensures placed { IfOk result (λ placed.
-        IsPlaced layout.now page.now sheet.now pages (string_bytes placed.0) placed.1) }
-    ensures refused { IfErr result (RefusesLayout layout.now page.now sheet.now pages) }
+        IsPlaced layout.now page_paper.now sheet_paper.now pages (string_bytes placed.0) placed.1) }
+    ensures refused { IfErr result (RefusesLayout layout.now page_paper.now sheet_paper.now pages) }
 {
     match layout {
-        Layout::NUp(count) => nup_placing(alloc, *count, page, sheet),
+        Layout::NUp(count) => nup_placing(alloc, *count, page_paper, sheet_paper),
         Layout::Booklet {
             signature,
             long_edge,
         } => {
             let sides = signature.unwrap_or(in_fours(pages));
-            booklet_placing(alloc, page, sheet, *long_edge, sides)
+            booklet_placing(alloc, page_paper, sheet_paper, *long_edge, sides)
         }
         Layout::Selection { ranges, which } => {
             selection_placing(alloc, ranges.as_str(), *which, pages)
@@ -255,13 +280,18 @@ fn placing(
     }
 }
 
-fn nup_placing(alloc: Global, count: u32, page: &Paper, sheet: &Paper) -> Result<Placed, Fault>
+fn nup_placing(
+    alloc: Global,
+    count: u32,
+    page_paper: &Paper,
+    sheet_paper: &Paper,
+) -> Result<Placed, Fault>
     ensures placed { IfOk result (λ placed.
-        (IsWritten (n_up page.now sheet.now count) (string_bytes placed.0)
-        × IsNUp page.now sheet.now count (n_up page.now sheet.now count)) × (placed.1 ≡ None)) }
-    ensures refused { IfErr result (RefusesLayout (layout.NUp count) page.now sheet.now 0) }
+        (IsWritten (n_up page_paper.now sheet_paper.now count) (string_bytes placed.0)
+        × IsNUp page_paper.now sheet_paper.now count (n_up page_paper.now sheet_paper.now count)) × (placed.1 ≡ None)) }
+    ensures refused { IfErr result (RefusesLayout (layout.NUp count) page_paper.now sheet_paper.now 0) }
 {
-    match nup(alloc, count, page, sheet) {
+    match nup(alloc, count, page_paper, sheet_paper) {
         Ok(spec) => written(alloc, &spec, None),
         Err(error) => Err(Fault::from(error)),
     }
@@ -269,17 +299,18 @@ fn nup_placing(alloc: Global, count: u32, page: &Paper, sheet: &Paper) -> Result
 
 fn booklet_placing(
     alloc: Global,
-    page: &Paper,
-    sheet: &Paper,
+    page_paper: &Paper,
+    sheet_paper: &Paper,
     long_edge: bool,
     sides: u32,
 ) -> Result<Placed, Fault>
     ensures placed { IfOk result (λ placed.
-        (IsWritten (leaves page.now sheet.now long_edge) (string_bytes placed.0)
-        × IsBooklet page.now sheet.now long_edge (leaves page.now sheet.now long_edge)) × (placed.1 ≡ Some sides)) }
-    ensures refused { IfErr result (RefusesLayout (layout.Booklet None long_edge) page.now sheet.now 0) }
+        (IsWritten (leaves page_paper.now sheet_paper.now long_edge) (string_bytes placed.0)
+        × IsBooklet page_paper.now sheet_paper.now long_edge (leaves page_paper.now sheet_paper.now long_edge))
+        × (placed.1 ≡ Some sides)) }
+    ensures refused { IfErr result (RefusesLayout (layout.Booklet None long_edge) page_paper.now sheet_paper.now 0) }
 {
-    match booklet(alloc, page, sheet, long_edge) {
+    match booklet(alloc, page_paper, sheet_paper, long_edge) {
         Ok(spec) => written(alloc, &spec, Some(sides)),
         Err(error) => Err(Fault::from(error)),
     }
@@ -327,7 +358,7 @@ fn in_fours(pages: u32) -> u32
     (pages + 3) / 4 * 4
 }
 
-/// Carries a request out for this document: what `prepare` says is refused first, and then what the run refuses.
+/// Carries a request out for this document: what `task_for` says is refused first, and then what the run refuses.
 /// Nothing is written before all of it is checked.
 pub fn run_request<R: Threads + Wait + Sync, S: Sink>(
     rt: &R,
@@ -336,15 +367,15 @@ pub fn run_request<R: Threads + Wait + Sync, S: Sink>(
     input: Vec<u8>,
     sink: &mut S,
 ) -> Result<Finished, Fault>
-    requires countable { S.failures sink.old < u64.MAX }
+    requires countable { IsCountable (S.seen sink.old) }
     // Exactly the output was appended that the rules define for the layout's specification and the guarded document.
-    ensures finished { IfOk result (Finishes request.now input.items (S.told sink.old) (S.told sink.new)) }
-    // It was carried out and no write failed; or a fault was told before the run, and nothing was written; or the fault
-    // is the run's, which names the first check that fails, or says after how many bytes memory ran out or a write failed.
-    ensures ended { Ends request.now input.items (S.told sink.old) (S.told sink.new)
-        (S.failures sink.old) (S.failures sink.new) result }
+    ensures finished { IfOk result (Finishes request.now input.items (S.seen sink.old).bytes (S.seen sink.new).bytes) }
+    // It was carried out and no write failed; or a fault was found before the run, and nothing was written; or the fault
+    // is the run's, which names the first check that fails, or says after how many bytes memory ran out or a write
+    // failed.
+    ensures ended { Ends request.now input.items (S.seen sink.old) (S.seen sink.new) result }
 {
-    let task = match prepare(alloc, request, input) {
+    let task = match task_for(alloc, request, input) {
         Ok(task) => task,
         Err(fault) => return Err(fault),
     };
@@ -354,7 +385,7 @@ pub fn run_request<R: Threads + Wait + Sync, S: Sink>(
     };
     Ok(Finished {
         report,
-        page: task.options.paper,
+        page_paper: task.options.paper,
         origin: task.origin,
     })
 }
@@ -366,14 +397,14 @@ fn run_task<R: Threads + Wait + Sync, S: Sink>(
     task: &Task,
     sink: &mut S,
 ) -> Result<Report, RunError>
-    requires countable { S.failures sink.old < u64.MAX }
+    requires countable { IsCountable (S.seen sink.old) }
     ensures finished { IfOk result (λ report. Accepted (asked_by task.now) (λ spec us.
-        Appends (S.told sink.old) (S.told sink.new) (output (frame_of task.now.options) task.now.options.sides spec us)
+        Appends (S.seen sink.old).bytes (S.seen sink.new).bytes (output (frame_of task.now.options) task.now.options.sides spec us)
         × Reports (frame_of task.now.options) task.now.options.sides spec us report)) }
     ensures refused { IfErr result (IsRefusal (asked_by task.now)) }
-    ensures written { IfErr result (HasWritten (asked_by task.now) (S.told sink.old) (S.told sink.new)) }
-    ensures steady { OnOk result (S.failures sink.new ≡ S.failures sink.old) }
-    ensures failed { IfErr result (λ e. FailedIn e (S.failures sink.old) (S.failures sink.new)) }
+    ensures written { IfErr result (HasWritten (asked_by task.now) (S.seen sink.old) (S.seen sink.new)) }
+    ensures steady { OnOk result ((S.seen sink.new).failures ≡ (S.seen sink.old).failures) }
+    ensures failed { IfErr result (λ e. FailedIn e (S.seen sink.old) (S.seen sink.new)) }
 {
     run(
         rt,

@@ -1,7 +1,7 @@
 -- What workers hold, when shares are given away and when all is joined.
 use Rattle.std.proofs.Common.{◌≡◌, ℕ, suc, ◌+◌, ◌<◌, [], Option, Some, None, if◌then◌else◌, refl, sym, ap, ◌∙◌, subst, true≢false, arith}
 use Rattle.std.specs.Option.{option_or}
-use Rattle.std.specs.Prelude.{IfSome, IsNone}
+use Rattle.std.specs.Prelude.{IfSome, IsNone, IsTrue}
 use Rattle.histories.specs.Own.{entries_at}
 use Rattle.histories.specs.Seats.{whole_share}
 use Rattle.gather_table.specs.Laws.{completes}
@@ -18,17 +18,18 @@ use Rattle.imposer.specs.declared.shared.Shared.{Shared}
 use Rattle.imposer.specs.declared.tokens.Tokens.{Tokens}
 use Rattle.imposer.specs.declared.tokens.Holding.{Holding}
 use Rattle.imposer.proofs.Held.{closes_both}
+use Rattle.imposer.proofs.ByRight.{imposers_complete_nothing}
 use Rattle.run_steps.proofs.Shares.{together}
 
 -- a holding of which shares were given away has done the same
-pub given_away : {G : Type 0} (run : Shared G) (first : Tokens) (count joined n m : ℕ) (old : Holding) (seat : SeatView) (pass : PassView)
-    → seat ≡ record old.tokens.seat { share = n } → pass ≡ record old.tokens.pass { share = m }
+pub given_away : {G : Type 0} (run : Shared G) (first : Tokens) (count joined n m : ℕ) (room : Option ℕ) (old : Holding) (seat : SeatView) (pass : PassView)
+    → seat ≡ record old.tokens.seat { share = n } → pass ≡ record old.tokens.pass { share = m; room = room }
     → HasGathered run first count joined old
     → HasGathered run first count joined (record { tokens = record { seat = seat; pass = pass }; unshelved = old.unshelved })
-given_away run first count joined n m old seat pass seat_is pass_is had =
+given_away run first count joined n m room old seat pass seat_is pass_is had =
     subst (λ (s : SeatView). HasGathered run first count joined (record { tokens = record { seat = s; pass = pass }; unshelved = old.unshelved })) (sym seat_is)
     (subst (λ (p : PassView). HasGathered run first count joined (record { tokens = record { seat = record old.tokens.seat { share = n }; pass = p }; unshelved = old.unshelved })) (sym pass_is)
-    (record { work = had.work; order = record { puts = had.order.puts; closes = had.order.closes } }))
+    (record { work = had.work; order = record { puts = had.order.puts; closes = had.order.closes }; puts = had.puts }))
 
 -- what was begun with, before anything was called
 pub begun : {G : Type 0} (run : Shared G) (count : ℕ) (first : Tokens) (seat_unused : first.seat.own ≡ [])
@@ -39,6 +40,9 @@ begun run count first unused = record {
     puts = λ s. omega arith;
     closes = subst (λ own. CloseWhatTheyFill (entries_at first.seat.front own)) (sym unused) (λ s g. refl);
   };
+  puts = λ by_right s.
+      let none : held.completed s first ≡ 0 = ap (λ own. held.completed s (record first { seat = record first.seat { own = own } })) unused in
+      omega (arith, none);
 }
 
 none_of_two : {A : Type 0} (one two new : Option A) → new ≡ option_or one two → IsNone new → IsNone one × IsNone two
@@ -66,6 +70,9 @@ with_prepared run first count k all theirs new both is had did =
             let completions = both.calls (λ e. if completes s e then 1 else 0) in omega arith;
         closes = closes_both all.tokens theirs.tokens new.tokens both had.order.closes did.order.closes;
       };
+      puts = λ by_right s.
+          let one = had.puts by_right s in let two = did.puts by_right s in let puts = both.puts s in
+          let completions = both.calls (λ e. if completes s e then 1 else 0) in omega (arith, one, two, puts, completions);
     }
 
 -- an imposer's holding is joined
@@ -82,6 +89,10 @@ with_imposed run first count k all theirs new both is had did = record {
         let completions = both.calls (λ e. if completes s e then 1 else 0) in omega arith;
     closes = closes_both all.tokens theirs.tokens new.tokens both had.order.closes did.order.closes;
   };
+  puts = λ by_right s.
+      let one = had.puts by_right s in let puts = both.puts s in let few = did.order.puts s in
+      let none = imposers_complete_nothing theirs.tokens did.work did.order.closes s in
+      let completions = both.calls (λ e. if completes s e then 1 else 0) in omega (arith, one, puts, few, none, completions);
 }
 
 -- with all shares again, and all preparers joined
@@ -90,6 +101,7 @@ pub record AllAreBack {G : Type 0} (run : Shared G) (first : Tokens) (h : Holdin
   pub unshelved : IfSome h.unshelved (IsOn run.shelf.now)
   pub work : IsNone h.unshelved → (w : Duty → ℕ) → done w h.tokens ≡ owed w run.table.now.layout run.table.now.layout.pages
   pub order : AreInOrderSince first h.tokens
+  pub puts : IsTrue run.by_right → (s : ℕ) → put s h.tokens ≡ put s first + held.completed s h.tokens
 
 pub whole : {G : Type 0} (run : Shared G) (first : Tokens) (count : ℕ) (h : Holding) → 0 < count
     → IsHeld run h.tokens.seat.share h → h.tokens.seat.share ≡ whole_share → HasGathered run first count count h
@@ -99,6 +111,7 @@ whole run first count h some held all did = record {
   unshelved = held.unshelved;
   work = λ none w. did.work none w ∙ together w run.table.now.layout count some run.table.now.layout.pages;
   order = did.order;
+  puts = did.puts;
 }
 
 pub all_back : {G : Type 0} (run : Shared G) (first : Tokens) (count : ℕ) (ended : Option Holding) → 0 < count → first.seat.share ≡ whole_share

@@ -1,5 +1,5 @@
 -- What the parts of a run make together.
-use Rattle.std.proofs.Common.{ℕ, ◌≤◌, ◌≡◌, ◌∙◌, inl, inr, refl, ap, sym, subst, List, [], ◌∷◌, Bool, true, false, length, take, Option, arith}
+use Rattle.std.proofs.Common.{ℕ, ◌≤◌, ◌≡◌, ◌∙◌, inl, inr, refl, ap, sym, subst, List, [], ◌∷◌, Bool, true, false, length, take, arith}
 use Rattle.std.specs.Prelude.{Result, Ok, Err, IfOk, IfErr, OnOk, filter, if◌then◌else◌}
 use Rattle.std.specs.Io.KnownBytes.{Appends}
 use Rattle.std.proofs.KnownBytes.{Keeps-refl}
@@ -15,11 +15,14 @@ use Rattle.rules.specs.Parts.{NestedUnit, pages}
 use Rattle.rules.specs.Output.{Frame, output}
 use Rattle.sheet_plan.specs.Plans.{planned_in}
 use Rattle.sheet_plan.specs.Places.{born_complete, is_blank}
-use Rattle.sheet_text.specs.Jobs.{JobView, output_of}
+use Rattle.sheet_text.specs.Jobs.{JobView, of_frame, output_of}
+use Rattle.sheet_text.proofs.OnePaper.{output_is}
+use Rattle.imposer.specs.Outcomes.{IsNoRefusal}
 use Rattle.imposer.specs.Workers.{AreOptions}
+use Rattle.sheet_writer.specs.Sinks.{SinkView}
 use Rattle.sheet_writer.specs.Writing.{WroteFirst}
-use Rattle.imposer.specs.Gathering.{AnswersAt}
-use Rattle.imposer.specs.Runs.{Request, frame_of, IsAccepted, Accepted, Reports, IsRefusal, IsUnwritten, HasWritten, WrotePart, FailedIn, IsGiven, AnswersRequestAt}
+use Rattle.imposer.specs.Gathering.{Answers, ReportsOf, WrotePartOf}
+use Rattle.imposer.specs.Runs.{Request, frame_of, IsAccepted, Accepted, Reports, IsRefusal, IsUnwritten, HasWritten, WrotePart, FailedIn, IsGiven, AnswersRequest}
 use Rattle.imposer.specs.declared.options.Options.{Options}
 use Rattle.imposer.specs.declared.runs.Given.{Given}
 use Rattle.imposer.specs.declared.outcome.RunError.{RunError}
@@ -46,32 +49,32 @@ born_few plan =
     omega (arith, all, kept_few (is_blank (layout plan)) (range_with_len 0 (length (layout plan).sheets)))
 
 -- nothing was written, and the sink is as it was
-pub unwritten_kept : (r : Request) (told : Option (List ℕ)) (e : RunError) → IsUnwritten e → HasWritten r told told e
-unwritten_kept r told error.Options none = Keeps-refl told
-unwritten_kept r told (error.Spec e) none = Keeps-refl told
-unwritten_kept r told (error.Document e) none = Keeps-refl told
-unwritten_kept r told (error.Plan e) none = Keeps-refl told
-unwritten_kept r told (error.NoMemory written) none = inl (none, Keeps-refl told)
-unwritten_kept r told (error.Write written) none = absurd none
+pub unwritten_kept : (r : Request) (sink : SinkView) (e : RunError) → IsUnwritten e → HasWritten r sink sink e
+unwritten_kept r sink error.Options none = Keeps-refl sink.bytes
+unwritten_kept r sink (error.Spec e) none = Keeps-refl sink.bytes
+unwritten_kept r sink (error.Document e) none = Keeps-refl sink.bytes
+unwritten_kept r sink (error.Plan e) none = Keeps-refl sink.bytes
+unwritten_kept r sink (error.NoMemory written) none = inl (none, Keeps-refl sink.bytes)
+unwritten_kept r sink (error.Write written) none = absurd none
 
-pub unwritten_steady : (e : RunError) (n : ℕ) → IsUnwritten e → FailedIn e n n
-unwritten_steady error.Options n none = refl
-unwritten_steady (error.Spec e) n none = refl
-unwritten_steady (error.Document e) n none = refl
-unwritten_steady (error.Plan e) n none = refl
-unwritten_steady (error.NoMemory written) n none = inl refl
-unwritten_steady (error.Write written) n none = absurd none
+pub unwritten_steady : (e : RunError) (sink : SinkView) → IsUnwritten e → FailedIn e sink sink
+unwritten_steady error.Options sink none = refl
+unwritten_steady (error.Spec e) sink none = refl
+unwritten_steady (error.Document e) sink none = refl
+unwritten_steady (error.Plan e) sink none = refl
+unwritten_steady (error.NoMemory written) sink none = inl refl
+unwritten_steady (error.Write written) sink none = absurd none
 
 -- a refusal before anything was written
-pub refused_answers : (r : Request) (told : Option (List ℕ)) (n : ℕ) (e : RunError) → IsRefusal r e → IsUnwritten e → AnswersRequestAt r told told n n (Err e)
-refused_answers r told n e refusal none = (refusal, unwritten_kept r told e none, unwritten_steady e n none)
+pub refused_answers : (r : Request) (sink : SinkView) (e : RunError) → IsRefusal r e → IsUnwritten e → AnswersRequest r sink sink (Err e)
+refused_answers r sink e refusal none = (refusal, unwritten_kept r sink e none, unwritten_steady e sink none)
 
 -- what a job that was made of an accepted request answers is the request's answer
-pub job_answers : (r : Request) (chosen : Options) (given : Given) (plan : Plan) (n : ℕ) (job : JobView) (old new : Option (List ℕ)) (before after : ℕ) (result : Result Report RunError)
+pub job_answers : (r : Request) (chosen : Options) (given : Given) (plan : Plan) (n : ℕ) (job : JobView) (old new : SinkView) (result : Result Report RunError)
     → IsGiven r chosen given → n ≡ length (pages given.document) → plan ≡ planned_in chosen.sides given.spec n → plan_in chosen.sides given.spec n ≡ Ok (sheets_in chosen.sides given.spec n)
-    → job ≡ record { plan = plan; units = given.document; frame = frame_of chosen }
-    → AnswersAt job old new before after result → AnswersRequestAt r old new before after result
-job_answers r chosen given plan n job old new before after result is count plan_is accepted job_is = by_result result
+    → job ≡ of_frame plan given.document (frame_of chosen)
+    → Answers job old new result → AnswersRequest r old new result
+job_answers r chosen given plan n job old new result is count plan_is accepted job_is = by_result result
   where
     us : List NestedUnit
     us = given.document
@@ -79,26 +82,26 @@ job_answers r chosen given plan n job old new before after result is count plan_
     frame : Frame
     frame = frame_of r.options
 
-    here : job ≡ record { plan = planned_in r.options.sides given.spec (length (pages us)); units = us; frame = frame }
-    here = job_is ∙ ap (λ p. record { plan = p; units = us; frame = frame_of chosen }) (plan_is ∙ ap (λ k. planned_in chosen.sides given.spec k) count) ∙ ap (λ (o : Options). record { plan = planned_in o.sides given.spec (length (pages us)); units = us; frame = frame_of o }) (sym is.same_options)
+    here : job ≡ of_frame (planned_in r.options.sides given.spec (length (pages us))) us frame
+    here = job_is ∙ ap (λ p. of_frame p us (frame_of chosen)) (plan_is ∙ ap (λ k. planned_in chosen.sides given.spec k) count) ∙ ap (λ (o : Options). of_frame (planned_in o.sides given.spec (length (pages us))) us (frame_of o)) (sym is.same_options)
 
     whole : output_of job ≡ output frame r.options.sides given.spec us
-    whole = ap output_of here
+    whole = ap output_of here ∙ output_is frame r.options.sides given.spec us
 
     taken : IsAccepted r given.spec us
     taken = accepted_of r given.spec us n is.options is.takes is.document count (subst (λ (o : Options). plan_in o.sides given.spec n ≡ Ok (sheets_in o.sides given.spec n)) (sym is.same_options) accepted)
 
     part : (w : ℕ) → WroteFirst job old new w → WrotePart r old new w
-    part w wrote = (given.spec, us, taken, subst (λ t. (w ≤ length t) × Appends old new (take w t)) whole wrote)
+    part w wrote = (given.spec, us, taken, subst (λ t. (w ≤ length t) × Appends old.bytes new.bytes (take w t)) whole wrote)
 
-    by_result : (result : Result Report RunError) → AnswersAt job old new before after result → AnswersRequestAt r old new before after result
+    by_result : (result : Result Report RunError) → Answers job old new result → AnswersRequest r old new result
     by_result (Ok report) answers = (
       (
         given.spec,
         us,
         taken,
         (
-          subst (Appends old new) whole answers.0,
+          subst (Appends old.bytes new.bytes) whole answers.0,
           record {
             page_count = answers.2.page_count ∙ ap (λ j. j.plan.pages) here;
             sheet_count = answers.2.sheet_count ∙ ap (λ j. length j.plan.sheets) here;
@@ -118,23 +121,58 @@ job_answers r chosen given plan n job old new before after result is count plan_
     by_result (Err (error.Write w)) answers = ((given.spec, us, taken, tt), part w answers.0, answers.1)
 
 -- the clauses of a run, one by one
-pub says_finished : (r : Request) (old new : Option (List ℕ)) (before after : ℕ) (result : Result Report RunError) → AnswersRequestAt r old new before after result
-    → IfOk result (λ report. Accepted r (λ spec us. Appends old new (output (frame_of r.options) r.options.sides spec us) × Reports (frame_of r.options) r.options.sides spec us report))
-says_finished r old new before after (Ok report) answers = answers.0
-says_finished r old new before after (Err e) answers = tt
+pub says_finished : (r : Request) (old new : SinkView) (result : Result Report RunError) → AnswersRequest r old new result
+    → IfOk result (λ report. Accepted r (λ spec us. Appends old.bytes new.bytes (output (frame_of r.options) r.options.sides spec us) × Reports (frame_of r.options) r.options.sides spec us report))
+says_finished r old new (Ok report) answers = answers.0
+says_finished r old new (Err e) answers = tt
 
-pub says_refused : (r : Request) (old new : Option (List ℕ)) (before after : ℕ) (result : Result Report RunError) → AnswersRequestAt r old new before after result → IfErr result (λ e. IsRefusal r e)
-says_refused r old new before after (Ok report) answers = tt
-says_refused r old new before after (Err e) answers = answers.0
+pub says_refused : (r : Request) (old new : SinkView) (result : Result Report RunError) → AnswersRequest r old new result → IfErr result (λ e. IsRefusal r e)
+says_refused r old new (Ok report) answers = tt
+says_refused r old new (Err e) answers = answers.0
 
-pub says_written : (r : Request) (old new : Option (List ℕ)) (before after : ℕ) (result : Result Report RunError) → AnswersRequestAt r old new before after result → IfErr result (λ e. HasWritten r old new e)
-says_written r old new before after (Ok report) answers = tt
-says_written r old new before after (Err e) answers = answers.1
+pub says_written : (r : Request) (old new : SinkView) (result : Result Report RunError) → AnswersRequest r old new result → IfErr result (λ e. HasWritten r old new e)
+says_written r old new (Ok report) answers = tt
+says_written r old new (Err e) answers = answers.1
 
-pub says_steady : (r : Request) (old new : Option (List ℕ)) (before after : ℕ) (result : Result Report RunError) → AnswersRequestAt r old new before after result → OnOk result (after ≡ before)
-says_steady r old new before after (Ok report) answers = answers.1
-says_steady r old new before after (Err e) answers = tt
+pub says_steady : (r : Request) (old new : SinkView) (result : Result Report RunError) → AnswersRequest r old new result → OnOk result (new.failures ≡ old.failures)
+says_steady r old new (Ok report) answers = answers.1
+says_steady r old new (Err e) answers = tt
 
-pub says_failed : (r : Request) (old new : Option (List ℕ)) (before after : ℕ) (result : Result Report RunError) → AnswersRequestAt r old new before after result → IfErr result (λ e. FailedIn e before after)
-says_failed r old new before after (Ok report) answers = tt
-says_failed r old new before after (Err e) answers = answers.2
+pub says_failed : (r : Request) (old new : SinkView) (result : Result Report RunError) → AnswersRequest r old new result → IfErr result (λ e. FailedIn e old new)
+says_failed r old new (Ok report) answers = tt
+says_failed r old new (Err e) answers = answers.2
+
+-- the clauses of a run over a job, one by one, and back
+pub job_finished : (job : JobView) (old new : SinkView) (result : Result Report RunError) → Answers job old new result
+    → IfOk result (λ report. Appends old.bytes new.bytes (output_of job) × ReportsOf job report)
+job_finished job old new (Ok report) answers = (answers.0, answers.2)
+job_finished job old new (Err e) answers = tt
+
+pub job_refused : (job : JobView) (old new : SinkView) (result : Result Report RunError) → Answers job old new result → IfErr result IsNoRefusal
+job_refused job old new (Ok report) answers = tt
+job_refused job old new (Err e) answers = late e answers.0
+  where
+    late : (e : RunError) → WrotePartOf job old new e → IsNoRefusal e
+    late error.Options wrote = wrote
+    late (error.Spec x) wrote = wrote
+    late (error.Document x) wrote = wrote
+    late (error.Plan x) wrote = wrote
+    late (error.NoMemory w) wrote = tt
+    late (error.Write w) wrote = tt
+
+pub job_written : (job : JobView) (old new : SinkView) (result : Result Report RunError) → Answers job old new result → IfErr result (WrotePartOf job old new)
+job_written job old new (Ok report) answers = tt
+job_written job old new (Err e) answers = answers.0
+
+pub job_steady : (job : JobView) (old new : SinkView) (result : Result Report RunError) → Answers job old new result → OnOk result (new.failures ≡ old.failures)
+job_steady job old new (Ok report) answers = answers.1
+job_steady job old new (Err e) answers = tt
+
+pub job_failed : (job : JobView) (old new : SinkView) (result : Result Report RunError) → Answers job old new result → IfErr result (λ e. FailedIn e old new)
+job_failed job old new (Ok report) answers = tt
+job_failed job old new (Err e) answers = answers.1
+
+pub job_clauses : (job : JobView) (old new : SinkView) (result : Result Report RunError) → IfOk result (λ report. Appends old.bytes new.bytes (output_of job) × ReportsOf job report)
+    → IfErr result (WrotePartOf job old new) → OnOk result (new.failures ≡ old.failures) → IfErr result (λ e. FailedIn e old new) → Answers job old new result
+job_clauses job old new (Ok report) finished written steady failed = (finished.0, steady, finished.1)
+job_clauses job old new (Err e) finished written steady failed = (written, failed)

@@ -1,5 +1,5 @@
 -- What an error of a part makes of a run, before anything was written; and what holds after an error of a run.
-use Rattle.std.specs.Prelude.{ℕ}
+use Rattle.std.specs.Prelude.{ℕ, ⊤}
 use Rattle.pagespec.specs.declared.error.SpecError.{SpecError}
 use Rattle.pagespec.specs.declared.error.SpecError.TheVariants as spec
 use Rattle.sheet_plan.specs.declared.error.PlanError.{PlanError}
@@ -33,3 +33,7 @@ AfterError (error.Document e) refused spent failed = refused
 AfterError (error.Plan e) refused spent failed = refused
 AfterError (error.NoMemory written) refused spent failed = spent written
 AfterError (error.Write written) refused spent failed = failed written
+
+-- memory ran out or a write failed, once all was read and planned
+abbrev pub IsNoRefusal : RunError → Type 0
+IsNoRefusal e = AfterError e ⊥ (λ written. ⊤) (λ written. ⊤)

@@ -1,8 +1,10 @@
 -- What each worker of a run promises, and what is known of all that are joined.
-use Rattle.std.specs.Prelude.{◌≡◌, ℕ, IfSome, IsNone}
+use Rattle.std.specs.Prelude.{◌≡◌, ℕ, ◌+◌, ◌≤◌, IfSome, IsNone, IsTrue}
+use Rattle.handover.specs.Passes.{puts_in}
 use Rattle.handover.specs.Shelves.{IsOn}
-use Rattle.run_steps.specs.Duty.{Duty, share_below, shares}
-use Rattle.imposer.specs.Tokens.{AreTokens, AreUnused, AreInOrder, done}
+use Rattle.run_steps.specs.Duty.{Duty, share_below, shares, most_puts, most_puts_of}
+use Rattle.imposer.specs.Tokens.{AreTokens, AreUnused, AreInOrder, done, put, completed}
+use Rattle.imposer.specs.Rooms.{PutsAll}
 use Rattle.imposer.specs.Joining.{AreInOrderSince}
 use Rattle.imposer.specs.declared.shared.Shared.{Shared}
 use Rattle.imposer.specs.declared.tokens.Tokens.{Tokens}
@@ -20,12 +22,24 @@ pub record IsNew {G : Type 0} (run : Shared G) (h : Holding) : Type 0 where
   pub unused : AreUnused h.tokens
   pub unshelved : IsNone h.unshelved
 
--- what preparer `number` of `count` promises: if each of its pages got a receipt, exactly their work was done, and all
--- was called and put in order
+-- the same of preparer `number` of `count`: if puts are made by right, there is room for all of its puts
+pub record IsNewPreparer {G : Type 0} (run : Shared G) (count number : ℕ) (h : Holding) : Type 0 where
+  pub new : IsNew run h
+  pub room : IsTrue run.by_right → most_puts run.table.now.layout count number ≤ puts_in h.tokens.pass.room
+
+-- if puts are made by right, there is room for all puts of the preparers from this number on
+abbrev pub IsEnough : {G : Type 0} → Shared G → (count number : ℕ) → Holding → Type 0
+IsEnough run count number h =
+    IsTrue run.by_right → most_puts_of run.table.now.layout count count
+    ≤ most_puts_of run.table.now.layout count number + puts_in h.tokens.pass.room
+
+-- what preparer `number` of `count` promises: if each of its pages got a receipt, exactly their work was done; all was
+-- called and put in order; and if puts are made by right, every sheet that its calls completed was put
 pub record HasPrepared {G : Type 0} (run : Shared G) (count number : ℕ) (h : Holding) : Type 0 where
   pub work : IsNone h.unshelved → (w : Duty → ℕ)
       → done w h.tokens ≡ share_below w run.table.now.layout count number run.table.now.layout.pages
   pub order : AreInOrder h.tokens
+  pub puts : IsTrue run.by_right → PutsAll h.tokens
 
 -- what an imposer promises: it has no page without a receipt, and nothing was published, marked or put
 pub record HasImposed (h : Holding) : Type 0 where
@@ -33,8 +47,10 @@ pub record HasImposed (h : Holding) : Type 0 where
   pub work : (w : Duty → ℕ) → done w h.tokens ≡ 0
   pub order : AreInOrder h.tokens
 
--- what began with these tokens and is joined with those of the first preparers, this number of so many
+-- what began with these tokens and is joined with those of the first preparers, this number of so many; if puts are made
+-- by right, every sheet that calls completed since was put
 pub record HasGathered {G : Type 0} (run : Shared G) (first : Tokens) (count joined : ℕ) (h : Holding) : Type 0 where
   pub work : IsNone h.unshelved → (w : Duty → ℕ)
       → done w h.tokens ≡ shares w run.table.now.layout count run.table.now.layout.pages joined
   pub order : AreInOrderSince first h.tokens
+  pub puts : IsTrue run.by_right → (s : ℕ) → put s h.tokens ≡ put s first + completed s h.tokens

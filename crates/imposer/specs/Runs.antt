@@ -1,6 +1,7 @@
 -- What the answers of a run mean.
 use Rattle.std.specs.Io.KnownBytes.{Appends, Keeps}
 use Rattle.std.specs.Prelude.{Result, Ok, Err, IsSomeAnd, ⊤, ◌⊎◌, ◌≡◌, ℕ, ◌≤◌, ◌+◌, List, length, take, Option}
+use Rattle.sheet_writer.specs.Sinks.{SinkView}
 use Rattle.rules.specs.Specification.{Spec}
 use Rattle.rules.specs.Admissible.{Takes, Refuses, most_slots, most_spec_bytes}
 use Rattle.rules.specs.Sheets.{layout}
@@ -61,21 +62,22 @@ IsRefusal r (error.NoMemory written) = AreOptions r.options × (length r.spec �
 IsRefusal r (error.Write written) = Accepted r (λ spec us. ⊤)
 
 -- the first bytes of the output of an accepted request, as many as were written
-abbrev pub WrotePart : Request → Option (List ℕ) → Option (List ℕ) → ℕ → Type 0
+abbrev pub WrotePart : Request → (old new : SinkView) → ℕ → Type 0
 WrotePart r old new written =
     Accepted r (λ spec us. let whole = output (frame_of r.options) r.options.sides spec us in (written ≤ length whole)
-    × Appends old new (take written whole))
+    × Appends old.bytes new.bytes (take written whole))
 
 -- what the sink has taken after an error
-abbrev pub HasWritten : Request → Option (List ℕ) → Option (List ℕ) → RunError → Type 0
-HasWritten r old new e = AfterError e (Keeps old new)
-    (λ written. ((written ≡ 0) × Keeps old new) ⊎ WrotePart r old new written) (WrotePart r old new)
+abbrev pub HasWritten : Request → (old new : SinkView) → RunError → Type 0
+HasWritten r old new e = AfterError e (Keeps old.bytes new.bytes)
+    (λ written. ((written ≡ 0) × Keeps old.bytes new.bytes) ⊎ WrotePart r old new written) (WrotePart r old new)
 
 -- how often the sink had failed before a run that ended so, and after it: a failed write is one failure, and out of
 -- memory may have met one too
-abbrev pub FailedIn : RunError → (before after : ℕ) → Type 0
-FailedIn e before after = AfterError e (after ≡ before) (λ written. (after ≡ before) ⊎ (after ≡ before + 1))
-    (λ written. after ≡ before + 1)
+abbrev pub FailedIn : RunError → (old new : SinkView) → Type 0
+FailedIn e old new = AfterError e (new.failures ≡ old.failures)
+    (λ written. (new.failures ≡ old.failures) ⊎ (new.failures ≡ old.failures + 1))
+    (λ written. new.failures ≡ old.failures + 1)
 
 -- the numbers of a report
 pub record Reports (frame : Frame) (sides : Option ℕ) (spec : Spec) (us : List NestedUnit)
@@ -98,16 +100,9 @@ pub record IsGiven (r : Request) (chosen : Options) (given : Given) : Type 0 whe
   pub document : document_of r.input ≡ Ok given.document
 
 -- what a run answers: at Ok exactly the output was written; an error names the first check that fails, and as much of
--- the output was written as it says. The sink had these bytes and this many failures
-abbrev pub AnswersRequestAt : Request → (old new : Option (List ℕ)) → (before after : ℕ)
-    → Result Report RunError → Type 0
-AnswersRequestAt r old new before after (Ok report) =
-    Accepted r (λ spec us. Appends old new (output (frame_of r.options) r.options.sides spec us)
-    × Reports (frame_of r.options) r.options.sides spec us report) × (after ≡ before)
-AnswersRequestAt r old new before after (Err e) = IsRefusal r e × HasWritten r old new e × FailedIn e before after
-
--- the same, of a sink that `told` and `failures` see
-abbrev pub AnswersRequest : {S : Type 0} → (told : S → Option (List ℕ)) → (failures : S → ℕ) → Request → (old new : S)
-    → Result Report RunError → Type 0
-AnswersRequest told failures r old new answer =
-    AnswersRequestAt r (told old) (told new) (failures old) (failures new) answer
+-- the output was written as it says
+abbrev pub AnswersRequest : Request → (old new : SinkView) → Result Report RunError → Type 0
+AnswersRequest r old new (Ok report) =
+    Accepted r (λ spec us. Appends old.bytes new.bytes (output (frame_of r.options) r.options.sides spec us)
+    × Reports (frame_of r.options) r.options.sides spec us report) × (new.failures ≡ old.failures)
+AnswersRequest r old new (Err e) = IsRefusal r e × HasWritten r old new e × FailedIn e old new

@@ -1,11 +1,11 @@
-//! The channel of finished sheets, from the imposers to the collector.
+//! The channel of finished sheets, from the imposers to the collector: some of one imposer in each message.
 ghost use Rattle.std.specs.Prelude.{◌≡◌, ℕ, List, [], All, ⊤};
 ghost use Rattle.sheet_text.specs.Jobs.{text_of};
 
+use crate::batch::Batch;
 use crossbeam_channel::protocol::{Lesson, Outcome, Protocol, Split};
 use crossbeam_channel::{Pass, RuledReceiver, RuledSender};
 use sheet_text::Job;
-use sheet_writer::FinishedSheet;
 use std::marker::{Brand, PhantomData};
 
 /// Ghost parameter, chosen in the proof of each call; no code: the text that each sheet of the run's job has.
@@ -17,22 +17,26 @@ impl Texts for Brand {
     ghost text = { λ s. [] };
 }
 
-/// The channel's rule: each message's text is its sheet's.
+/// The channel's rule: each sheet of a message has the text that is its own.
 pub(crate) struct SheetRule<T: Texts> {
     of: PhantomData<T>,
 }
 
-impl<'r, T: Texts> Protocol<FinishedSheet<'r>, ()> for SheetRule<T> {
-    ghost holds = { λ items views. All (λ m. m.text ≡ T.text m.sheet) items };
+impl<'r, T: Texts> Protocol<Batch<'r>, ()> for SheetRule<T> {
+    ghost use Rattle.imposer.specs.Batches.{HaveTexts};
+
+    ghost holds = { λ items views. All (λ m. HaveTexts T.text m.sheets.items) items };
 
     ghost first = { tt };
 }
 
-impl<'r, T: Texts> Outcome<FinishedSheet<'r>, ()> for SheetRule<T> {
-    ghost then = { λ v m w. m.text ≡ T.text m.sheet };
+impl<'r, T: Texts> Outcome<Batch<'r>, ()> for SheetRule<T> {
+    ghost use Rattle.imposer.specs.Batches.{HaveTexts};
+
+    ghost then = { λ v m w. HaveTexts T.text m.sheets.items };
 }
 
-impl<'r, T: Texts> Lesson<FinishedSheet<'r>, ()> for SheetRule<T> {
+impl<'r, T: Texts> Lesson<Batch<'r>, ()> for SheetRule<T> {
     ghost fact = { λ v items. ⊤ };
 }
 
@@ -51,8 +55,8 @@ pub(crate) struct RuledJob<'s, 'j, 'd, T: Texts> {
 }
 
 /// What a thread needs to send or to receive.
-pub(crate) type Ticket<'r> = Pass<FinishedSheet<'r>, ()>;
+pub(crate) type Ticket<'r> = Pass<Batch<'r>, ()>;
 
-pub(crate) type SheetSender<'r, T> = RuledSender<FinishedSheet<'r>, (), SheetRule<T>>;
+pub(crate) type SheetSender<'r, T> = RuledSender<Batch<'r>, (), SheetRule<T>>;
 
-pub(crate) type SheetReceiver<'r, T> = RuledReceiver<FinishedSheet<'r>, (), SheetRule<T>>;
+pub(crate) type SheetReceiver<'r, T> = RuledReceiver<Batch<'r>, (), SheetRule<T>>;

@@ -1,18 +1,21 @@
 //! What the collector needs and keeps, and how it takes what the workers finish.
 ghost use Rattle.std.specs.Prelude.{◌≡◌, ℕ, ◌+◌, ◌<◌, ◌≤◌, None, Some, length, false, IsTrue};
-ghost use Rattle.std.below.core.specs.declared.int.u64.TheConstants.{MAX as most_failures};
+ghost use Rattle.sheet_writer.specs.Sinks.{IsCountable};
 ghost use Rattle.crossbeam_channel.specs.Claims.{IsSeatAt};
 ghost use Rattle.crossbeam_channel.specs.Ends.{receives_on};
-ghost use Rattle.rules.specs.Filters.{preamble_text};
-ghost use Rattle.sheet_writer.specs.Writing.{StandsSince, GoesOn, AreEarly};
+ghost use Rattle.made_sheets.specs.MadeOutput.{dressed_preamble};
+ghost use Rattle.sheet_text.specs.Jobs.{JobView, text_of};
+ghost use Rattle.imposer.specs.Batches.{HaveTexts};
+ghost use Rattle.sheet_writer.specs.Writing.{Stands, GoesOn, AreEarly};
 
+use crate::batch::Batch;
 use crate::channel::{RuledJob, SheetReceiver, SheetRule, Texts, Ticket};
 use crate::gate::{Gate, Look};
-use crate::spent::Returns;
+use crate::spent::{SpentTexts, Written};
 use crate::window::{Idling, Window};
 use crossbeam_queue::ArrayQueue;
-use sheet_text::{Job, Rope};
-use sheet_writer::{Early, Progress, Sink, write_early, write_text};
+use sheet_text::Job;
+use sheet_writer::{Early, FinishedSheet, Progress, Sink, write_early, write_text};
 use std::sync::Wait;
 use std::sync::atomic::AtomicU32;
 use std::sync::atomic::Ordering::SeqCst;
@@ -29,7 +32,7 @@ pub(crate) struct CollectorInput<'s, 'r, 'j, 'd, T: Texts, G> {
     pub(crate) imposers_left: &'s AtomicU32,
     pub(crate) receiver: &'s SheetReceiver<'r, T>,
     /// Where texts go that were written.
-    pub(crate) spent: &'s ArrayQueue<Rope<'r>>,
+    pub(crate) spent: &'s ArrayQueue<SpentTexts<'r>>,
     /// It moves as sheets are written.
     pub(crate) window: &'s Window,
     ghost same_job: { ruled.now.job.now ≡ job.now },
@@ -41,6 +44,7 @@ pub(crate) struct CollectorInput<'s, 'r, 'j, 'd, T: Texts, G> {
 pub(crate) struct CollectorState<'a, 'r, S> {
     pub(crate) sink: &'a mut S,
     pub(crate) early: &'a mut Early<'r>,
+    pub(crate) written: &'a mut Written<'r>,
     pub(crate) header: &'a [u8],
     pub(crate) ticket: &'a mut Ticket<'r>,
     pub(crate) progress: Progress,
@@ -51,13 +55,13 @@ impl<'s, 'r, 'j, 'd, 'a, T: Texts, G: Gate, S: Sink> Collector<CollectorState<'a
     ghost reference = { λ input state. state.sink.ghost_name };
 
     ghost is_ready_to_collect = { λ input state. IsSeatAt (receives_on input.receiver.now) state.ticket.now
-        × (state.header.now ≡ preamble_text (length input.job.now.plan.sheets) input.job.now.units)
+        × (state.header.now ≡ dressed_preamble (length input.job.now.plan.sheets) input.job.now.header input.job.now.units)
         × (state.progress ≡ record { next = 0; written = 0; halted = None })
         × AreEarly input.job.now state.early.now.places.items
-        × (S.failures state.sink.now < most_failures) };
+        × IsCountable (S.seen state.sink.now) };
 
     ghost collected = { λ input old new.
-        StandsSince S.told S.failures input.job.now old.sink.now new.sink.now new.progress
+        Stands input.job.now (S.seen old.sink.now) (S.seen new.sink.now) new.progress
         × AreEarly input.job.now new.early.now.places.items };
 
     fn collect<R: Wait>(&self, rt: &R, state: &mut CollectorState<'a, 'r, S>) {
@@ -74,13 +78,13 @@ fn take_all<'r, R: Wait, T: Texts, G: Gate, S: Sink>(
     input: &CollectorInput<'_, 'r, '_, '_, T, G>,
     state: &mut CollectorState<'_, 'r, S>,
 )
-    requires countable { S.failures state.old.sink.now < u64.MAX }
+    requires countable { IsCountable (S.seen state.old.sink.now) }
     requires ticket { IsSeatAt (receives_on input.now.receiver.now) state.old.ticket.now }
     requires going { state.old.progress.halted ≡ None }
     requires early { AreEarly input.now.job.now state.old.early.now.places.items }
     ensures early { AreEarly input.now.job.now state.new.early.now.places.items }
     ensures same { state.new.sink.ghost_name ≡ state.old.sink.ghost_name }
-    ensures goes_on { GoesOn S.told S.failures input.now.job.now state.old.sink.now state.new.sink.now
+    ensures goes_on { GoesOn input.now.job.now (S.seen state.old.sink.now) (S.seen state.new.sink.now)
         state.old.progress state.new.progress }
 {
     let mut idling = input.window.idling();
@@ -91,7 +95,7 @@ fn take_all<'r, R: Wait, T: Texts, G: Gate, S: Sink>(
     }
 }
 
-/// Takes a sheet if one was finished, and sleeps a little if none was. False if nothing is to come, or nothing more
+/// Takes sheets if some were finished, and sleeps a little if none was. False if nothing is to come, or nothing more
 /// is to be written.
 fn take_turn<'r, R: Wait, T: Texts, G: Gate, S: Sink>(
     rt: &R,
@@ -99,7 +103,7 @@ fn take_turn<'r, R: Wait, T: Texts, G: Gate, S: Sink>(
     idling: &mut Idling,
     state: &mut CollectorState<'_, 'r, S>,
 ) -> bool
-    requires countable { S.failures state.old.sink.now < u64.MAX }
+    requires countable { IsCountable (S.seen state.old.sink.now) }
     requires ticket { IsSeatAt (receives_on input.now.receiver.now) state.old.ticket.now }
     requires going { state.old.progress.halted ≡ None }
     requires early { AreEarly input.now.job.now state.old.early.now.places.items }
@@ -107,9 +111,9 @@ fn take_turn<'r, R: Wait, T: Texts, G: Gate, S: Sink>(
     ensures going { IsTrue result → state.new.progress.halted ≡ None }
     ensures early { AreEarly input.now.job.now state.new.early.now.places.items }
     ensures same { state.new.sink.ghost_name ≡ state.old.sink.ghost_name }
-    ensures goes_on { GoesOn S.told S.failures input.now.job.now state.old.sink.now state.new.sink.now
+    ensures goes_on { GoesOn input.now.job.now (S.seen state.old.sink.now) (S.seen state.new.sink.now)
         state.old.progress state.new.progress }
-    ensures steady { IsTrue result → S.failures state.new.sink.now ≡ S.failures state.old.sink.now }
+    ensures steady { IsTrue result → (S.seen state.new.sink.now).failures ≡ (S.seen state.old.sink.now).failures }
 {
     // Asked before the channel is: what the last imposer sent is there then.
     let is_last = input.imposers_left.load(SeqCst) == 0;
@@ -126,22 +130,22 @@ fn take_turn<'r, R: Wait, T: Texts, G: Gate, S: Sink>(
     true
 }
 
-/// Takes a finished sheet, and writes those whose turn it is now. False if no sheet was there.
+/// Takes a batch of finished sheets, and writes those whose turn it is now. False if none was there.
 fn take_one<'r, R: Wait, T: Texts, G: Gate, S: Sink>(
     rt: &R,
     input: &CollectorInput<'_, 'r, '_, '_, T, G>,
     state: &mut CollectorState<'_, 'r, S>,
 ) -> bool
-    requires countable { S.failures state.old.sink.now < u64.MAX }
+    requires countable { IsCountable (S.seen state.old.sink.now) }
     requires ticket { IsSeatAt (receives_on input.now.receiver.now) state.old.ticket.now }
     requires going { state.old.progress.halted ≡ None }
     requires early { AreEarly input.now.job.now state.old.early.now.places.items }
     ensures ticket { IsSeatAt (receives_on input.now.receiver.now) state.new.ticket.now }
     ensures early { AreEarly input.now.job.now state.new.early.now.places.items }
     ensures same { state.new.sink.ghost_name ≡ state.old.sink.ghost_name }
-    ensures goes_on { GoesOn S.told S.failures input.now.job.now state.old.sink.now state.new.sink.now
+    ensures goes_on { GoesOn input.now.job.now (S.seen state.old.sink.now) (S.seen state.new.sink.now)
         state.old.progress state.new.progress }
-    ensures steady { state.new.progress.halted ≡ None → S.failures state.new.sink.now ≡ S.failures state.old.sink.now }
+    ensures steady { state.new.progress.halted ≡ None → (S.seen state.new.sink.now).failures ≡ (S.seen state.old.sink.now).failures }
     ensures nothing { result ≡ false → state.new.progress.halted ≡ None }
 {
     input.gate.before_look(Look::Channel);
@@ -149,14 +153,29 @@ fn take_one<'r, R: Wait, T: Texts, G: Gate, S: Sink>(
         .receiver
         .try_recv_as::<SheetRule<T>, R>(rt, state.ticket);
     input.gate.after_look(Look::Channel);
-    let Ok(done) = received else {
+    let Ok(batch) = received else {
         return false;
     };
-    state.early.put(done);
-    let returns = Returns {
-        rt,
-        texts: input.spent,
-    };
-    state.progress = write_early(input.job, state.sink, state.progress, state.early, &returns);
+    let Batch { sheets, mut spent } = batch;
+    put_all(state.early, sheets);
+    state.progress = write_early(
+        input.job,
+        state.sink,
+        state.progress,
+        state.early,
+        state.written,
+    );
+    state.written.move_into(&mut spent);
+    let _ = input.spent.push(rt, spent);
     true
+}
+
+/// Puts the sheets in their places.
+fn put_all<'r>(early: &mut Early<'r>, sheets: Vec<FinishedSheet<'r>>)
+    ensures early { (job : JobView) → HaveTexts (text_of job) sheets.entry.items
+        → AreEarly job early.old.places.items → AreEarly job early.new.places.items }
+{
+    for imposed in sheets {
+        early.put(imposed);
+    }
 }

@@ -1,6 +1,6 @@
 //! The part of a run in which all its workers start and end.
-ghost use Rattle.std.specs.Prelude.{◌≡◌, ℕ, ◌<◌, ◌≤◌, List, Option, None, Err, length, IfOk, IfErr, IfSome, IsNone};
-ghost use Rattle.std.specs.Prelude.{IsSome, IsSomeAnd, MatchResult, OnOk, ⊤};
+ghost use Rattle.std.specs.Prelude.{◌≡◌, ℕ, ◌-◌, ◌<◌, ◌≤◌, List, Option, None, Err, length, IfOk, IfErr, IfSome, IsNone};
+ghost use Rattle.std.specs.Prelude.{IsSome, IsSomeAnd, IsTrue, MatchResult, OnOk, ⊤};
 ghost use Rattle.std.specs.Io.KnownBytes.{Appends};
 ghost use Rattle.rules.specs.Sheets.{layout};
 ghost use Rattle.rules.specs.Filters.{trailer_text};
@@ -12,17 +12,21 @@ ghost use Rattle.sheet_text.specs.Jobs.{text_of, output_of};
 ghost use Rattle.imposer.specs.Workers.{AreWorkers};
 ghost use Rattle.imposer.specs.Runs.{FailedIn};
 ghost use Rattle.run_steps.specs.Delivery.{HandedOn};
-ghost use Rattle.sheet_writer.specs.Writing.{AreEarly, EndsAt};
+ghost use Rattle.sheet_writer.specs.Places.{not_come};
+ghost use Rattle.sheet_writer.specs.Sinks.{IsCountable};
+ghost use Rattle.sheet_writer.specs.Writing.{AreEarly};
 ghost use Rattle.imposer.specs.Tokens.{AreTokens, AreUnused};
-ghost use Rattle.run_steps.specs.Gathered.{IsGathered, IsHandedOn};
+ghost use Rattle.run_steps.specs.Gathered.{IsGathered, IsHandedOn, AreAllPut};
+ghost use Rattle.imposer.specs.Rooms.{HasRoomForAll};
 ghost use Rattle.imposer.specs.Gathering.{IsFreshSeat, IsFreshPass, ReportsOf, WrotePartOf, HandsBackTokens, AreWhole};
-ghost use Rattle.imposer.specs.Gathering.{Answers, Concludes, GivesUp, IsUntouched};
+ghost use Rattle.imposer.specs.Gathering.{Answers, Concludes, HandsBack, GivesUp};
 
 use crate::channel::{RuledJob, Texts};
 use crate::collector::{CollectorInput, CollectorState};
 use crate::gate::Gate;
 use crate::options::Workers;
 use crate::outcome::{Report, RunError};
+use crate::rooms::most_puts_in_all;
 use crate::setup::Setup;
 use crate::shared::{Shared, WorkerInput};
 use crate::tokens::{Holding, Tokens};
@@ -37,7 +41,7 @@ use std::marker::{Brand, PhantomData};
 use std::sync::Wait;
 use std::sync::atomic::AtomicU32;
 use std::thread::Threads;
-use workers::gather_by;
+use workers::{Crew, Supplies, gather_by};
 
 /// What a run is when all its workers have ended.
 #[derive(Drop)]
@@ -54,7 +58,8 @@ pub struct Gathered<'d> {
 /// in order, each as soon as all before it are written. What no imposer sent is made at the end, in its place.
 ///
 /// The table is one of the job's plan, seat and pass have seen nothing yet, and the queue has room for every sheet.
-/// Each worker has a seat and a pass of its own, which are joined when it ends.
+/// Each worker has a seat and a pass of its own, which are joined when it ends. If the pass has room by right for all puts
+/// that the preparers may make, each of them gets what it needs of it, and the queue refuses none.
 pub fn gather<'j, 'd, R: Threads + Wait + Sync, G: Gate + Sync, S: Sink>(
     rt: &R,
     alloc: Global,
@@ -73,16 +78,16 @@ pub fn gather<'j, 'd, R: Threads + Wait + Sync, G: Gate + Sync, S: Sink>(
     requires pass { IsFreshPass ready.now pass }
     requires room { length job.now.plan.sheets ≤ ready.now.capacity }
     requires workers { AreWorkers workers }
-    requires countable { S.failures sink.old < u64.MAX }
+    requires countable { IsCountable (S.seen sink.old) }
 
     // At Ok exactly the output was appended, and the report has its numbers.
-    ensures finished { IfOk result.outcome (λ report. Appends (S.told sink.old) (S.told sink.new) (output_of job.now)
+    ensures finished { IfOk result.outcome (λ report. Appends (S.seen sink.old).bytes (S.seen sink.new).bytes (output_of job.now)
         × ReportsOf job.now report) }
 
     // After an error the sink has taken as much of the output as the error says.
-    ensures written { IfErr result.outcome (WrotePartOf job.now (S.told sink.old) (S.told sink.new)) }
-    ensures steady { OnOk result.outcome (S.failures sink.new ≡ S.failures sink.old) }
-    ensures failed { IfErr result.outcome (λ e. FailedIn e (S.failures sink.old) (S.failures sink.new)) }
+    ensures written { IfErr result.outcome (WrotePartOf job.now (S.seen sink.old) (S.seen sink.new)) }
+    ensures steady { OnOk result.outcome ((S.seen sink.new).failures ≡ (S.seen sink.old).failures) }
+    ensures failed { IfErr result.outcome (λ e. FailedIn e (S.seen sink.old) (S.seen sink.new)) }
 
     // Seat and pass come back whole, but after out of memory.
     ensures handed_back { MatchResult result.outcome (λ _. IsSomeAnd result.tokens (λ t. ⊤)) (λ e.
@@ -97,15 +102,18 @@ pub fn gather<'j, 'd, R: Threads + Wait + Sync, G: Gate + Sync, S: Sink>(
     // A token that comes back is that of an entry of this shelf.
     ensures unshelved { IfSome result.unshelved (IsOn shelf.now) }
 
-    // No sheet was put on the queue twice, and what was taken and what is left is what was put.
-    ensures handed_on { IfSome result.tokens (λ t. IsHandedOn t.1.front) }
+    // No sheet was put on the queue twice, and what was taken and what is left is what was put. If the pass has room for
+    // all puts, every complete sheet was put exactly once.
+    ensures handed_on { IfSome result.tokens (λ t. IsHandedOn t.1.front
+        × (HasRoomForAll table.now.layout workers.preparers pass → AreAllPut table.now.layout t.0.front t.1.front)) }
 {
     // Each tells that it keeps what every seat and every pass keeps.
     seat.share();
     pass.share();
+    let by_right = most_puts_in_all(job.plan(), workers.preparers) <= u64::from(pass.room());
     let tokens = Tokens { seat, pass };
-    let bytes = bytes_of_pages(job);
-    let page_len = bytes / (job.plan().pages() as usize).max(1);
+    let (of_pages, of_slots) = bytes_of_pages(job);
+    let page_len = of_pages / (job.plan().pages() as usize).max(1);
     let shared = Shared {
         alloc,
         gate,
@@ -113,9 +121,10 @@ pub fn gather<'j, 'd, R: Threads + Wait + Sync, G: Gate + Sync, S: Sink>(
         table,
         shelf,
         ready,
+        by_right,
         preparers_left: AtomicU32::new(workers.preparers),
         imposers_left: AtomicU32::new(workers.imposers),
-        window: Window::new(job, workers, bytes),
+        window: Window::new(job, workers, of_slots),
         preparing: Turns::new(page_len),
         imposing: Turns::new(page_len),
     };
@@ -133,12 +142,15 @@ fn gather_as<'r, 'd, T: Texts + Send + Sync, R: Threads + Wait + Sync, G: Gate +
     requires texts { (s : ℕ) → T.text s ≡ text_of shared.now.job.now s }
     requires tokens { AreTokens shared.now.table.now shared.now.ready.now whole_share tokens × AreUnused tokens }
     requires workers { AreWorkers workers }
-    requires countable { S.failures sink.old < u64.MAX }
-    ensures outcome { Answers S.told S.failures shared.now.job.now sink.old sink.new result.outcome }
+    requires room { IsTrue shared.now.by_right
+        → HasRoomForAll shared.now.table.now.layout workers.preparers tokens.pass }
+    requires countable { IsCountable (S.seen sink.old) }
+    ensures outcome { Answers shared.now.job.now (S.seen sink.old) (S.seen sink.new) result.outcome }
     ensures tokens { MatchResult result.outcome (λ _. IsSomeAnd result.tokens (λ t. ⊤)) (λ e.
         HandsBackTokens e result.tokens) }
     ensures whole { IfSome result.tokens (λ t. AreWhole shared.now.table.now shared.now.ready.now t.0 t.1
-        × IsHandedOn t.1.front × (IsNone result.unshelved → IsGathered shared.now.table.now.layout t.0.front)) }
+        × IsHandedOn t.1.front × (IsNone result.unshelved → IsGathered shared.now.table.now.layout t.0.front)
+        × (IsTrue shared.now.by_right → AreAllPut shared.now.table.now.layout t.0.front t.1.front)) }
     ensures unshelved { IfSome result.unshelved (IsOn shared.now.shelf.now) }
 {
     let alloc = shared.alloc;
@@ -152,6 +164,7 @@ fn gather_as<'r, 'd, T: Texts + Send + Sync, R: Threads + Wait + Sync, G: Gate +
         header,
         trailer,
         mut early,
+        mut written,
         sender,
         receiver,
         mut receiving,
@@ -180,6 +193,7 @@ fn gather_as<'r, 'd, T: Texts + Send + Sync, R: Threads + Wait + Sync, G: Gate +
     let state = CollectorState {
         sink,
         early: &mut early,
+        written: &mut written,
         header: header.as_slice(),
         ticket: &mut receiving,
         progress: Progress {
@@ -189,19 +203,25 @@ fn gather_as<'r, 'd, T: Texts + Send + Sync, R: Threads + Wait + Sync, G: Gate +
         },
     };
     let mut ended = None;
-    let mut state = gather_by(
-        rt,
+    let crew = Crew {
         alloc,
-        &worker_input,
-        &collector_input,
-        state,
-        Holding {
+        preparers: workers.preparers,
+        imposers: workers.imposers,
+    };
+    let supplies = Supplies {
+        crew,
+        held: Holding {
             tokens,
             unshelved: None,
         },
-        sending,
-        workers.preparers,
-        workers.imposers,
+        ticket: sending,
+    };
+    let mut state = gather_by(
+        rt,
+        &worker_input,
+        &collector_input,
+        supplies,
+        state,
         &mut ended,
     );
     let gathered = finish(alloc, job, &mut state, trailer.as_slice(), ended);
@@ -209,6 +229,7 @@ fn gather_as<'r, 'd, T: Texts + Send + Sync, R: Threads + Wait + Sync, G: Gate +
     let CollectorState {
         sink: _,
         early: _,
+        written: _,
         header: _,
         ticket: _,
         progress: _,
@@ -254,16 +275,17 @@ fn finish<'d, S: Sink>(
     trailer: &[u8],
     ended: Option<Holding<'d>>,
 ) -> Gathered<'d>
-    requires countable { IsSome ended → state.old.progress.halted ≡ None → S.failures state.old.sink.now < u64.MAX }
+    requires countable { IsSome ended → state.old.progress.halted ≡ None → IsCountable (S.seen state.old.sink.now) }
     requires next { IsSome ended → state.old.progress.halted ≡ None
         → state.old.progress.next ≤ length job.now.plan.sheets }
     requires early { IsSome ended → AreEarly job.now state.old.early.now.places.items }
     requires trailer { trailer.now ≡ trailer_text job.now.units }
     ensures same_sink { state.new.sink.ghost_name ≡ state.old.sink.ghost_name }
-    ensures ended { IfSome ended.entry (λ e. Concludes S.told S.failures job.now state.old.sink.now state.new.sink.now
-        state.old.progress e result) }
+    ensures ended { IsSome ended.entry → Concludes job.now (S.seen state.old.sink.now) (S.seen state.new.sink.now)
+        state.old.progress result.outcome }
+    ensures tokens { IfSome ended.entry (λ e. HandsBack e result) }
     ensures missing { IsNone ended.entry → GivesUp state.old.progress.written result
-        × IsUntouched S.told S.failures state.old.sink.now state.new.sink.now }
+        × (S.seen state.new.sink.now ≡ S.seen state.old.sink.now) }
 {
     match ended {
         Some(ended) => conclude(alloc, job, state, trailer, ended),
@@ -279,13 +301,18 @@ fn conclude<'d, S: Sink>(
     trailer: &[u8],
     ended: Holding<'d>,
 ) -> Gathered<'d>
-    requires countable { state.old.progress.halted ≡ None → S.failures state.old.sink.now < u64.MAX }
+    requires countable { state.old.progress.halted ≡ None → IsCountable (S.seen state.old.sink.now) }
     requires next { state.old.progress.halted ≡ None → state.old.progress.next ≤ length job.now.plan.sheets }
     requires early { AreEarly job.now state.old.early.now.places.items }
     requires trailer { trailer.now ≡ trailer_text job.now.units }
     ensures same_sink { state.new.sink.ghost_name ≡ state.old.sink.ghost_name }
-    ensures ended { Concludes S.told S.failures job.now state.old.sink.now state.new.sink.now state.old.progress
-        ended.entry result }
+    ensures ended { Concludes job.now (S.seen state.old.sink.now) (S.seen state.new.sink.now) state.old.progress
+        result.outcome }
+    ensures tokens { HandsBack ended.entry result }
+
+    // The report counts the sheets that hadn't come.
+    ensures swept { IfOk result.outcome (λ report. report.swept ≡ not_come state.old.early.now.places.items
+        state.old.progress.next (length job.now.plan.sheets - state.old.progress.next)) }
 {
     let rest = write_rest(alloc, job, state.sink, state.progress, state.early, trailer);
     let Holding { tokens, unshelved } = ended;

@@ -1,6 +1,7 @@
 //! A run: a document and a page specification in, the sheets out.
 #![tactic(auto)]
 
+mod batch;
 mod channel;
 mod collector;
 mod gate;
@@ -9,6 +10,7 @@ mod imposing;
 mod options;
 mod outcome;
 mod preparing;
+mod rooms;
 mod runs;
 mod setup;
 mod shared;
@@ -23,6 +25,6 @@ pub use gathering::{Gathered, gather};
 pub use options::{Options, Workers};
 pub use outcome::{Report, RunError};
 pub use run_steps::{DeliverError, Delivered, ImposeError, Imposed, deliver, impose, laws};
-pub use runs::run;
-pub use sheet_text::{Job, sheet_text};
+pub use runs::{run, run_plan};
+pub use sheet_text::{Dress, Job, Lines, SheetLines, sheet_text};
 pub use sheet_writer::{MemorySink, Sink, SinkFault, WriteSink};

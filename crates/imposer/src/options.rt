@@ -16,7 +16,7 @@ pub struct Workers {
 
 impl Workers {
     /// Both counts lie from 1 to 16.
-    fn are_valid(self) -> bool
+    pub fn are_valid(self) -> bool
         ensures { IsTrue result ↔ AreWorkers self }
     {
         (1..=16).contains(&self.preparers) && (1..=16).contains(&self.imposers)

@@ -6,7 +6,10 @@ ghost use Rattle.rules.specs.Run.{plan_in};
 ghost use Rattle.rules.specs.Signatures.{AreSidesIfGiven, sheets_in};
 ghost use Rattle.sheet_plan.specs.Plans.{planned_in};
 ghost use Rattle.sheet_plan.specs.Refusals.{RefusesIn};
-ghost use Rattle.imposer.specs.Gathering.{Answers};
+ghost use Rattle.sheet_writer.specs.Sinks.{IsCountable};
+ghost use Rattle.sheet_text.specs.Jobs.{output_of};
+ghost use Rattle.imposer.specs.Gathering.{Answers, ReportsOf, WrotePartOf};
+ghost use Rattle.imposer.specs.Outcomes.{IsNoRefusal};
 ghost use Rattle.imposer.specs.Workers.{AreOptions, AreWorkers};
 ghost use Rattle.imposer.specs.Runs.{Request, request, frame_of, Accepted, IsRefusal, HasWritten, Reports, FailedIn};
 ghost use Rattle.imposer.specs.Runs.{IsUnwritten, IsGiven, AnswersRequest};
@@ -15,6 +18,7 @@ use crate::gate::Gate;
 use crate::gathering::gather;
 use crate::options::{Options, Workers, are_valid};
 use crate::outcome::{Report, RunError};
+use crate::rooms::most_puts_in_all;
 use dsc::Document;
 use gather_table::GatherTable;
 use handover::{Ready, Shelf};
@@ -43,25 +47,53 @@ pub fn run<R: Threads + Wait + Sync, G: Gate + Sync, S: Sink>(
     gate: &G,
     sink: &mut S,
 ) -> Result<Report, RunError>
-    requires countable { S.failures sink.old < u64.MAX }
+    requires countable { IsCountable (S.seen sink.old) }
     // Exactly the output was appended, and the report has its numbers.
     ensures finished { IfOk result (λ report. Accepted (request options.now spec.now input.now) (λ spec us.
-        Appends (S.told sink.old) (S.told sink.new) (output (frame_of options.now) options.now.sides spec us)
+        Appends (S.seen sink.old).bytes (S.seen sink.new).bytes (output (frame_of options.now) options.now.sides spec us)
         × Reports (frame_of options.now) options.now.sides spec us report)) }
     // An error names the first check that fails.
     ensures refused { IfErr result (λ e. IsRefusal (request options.now spec.now input.now) e) }
     // After an error the sink has taken as much of the output as the error says, and nothing after a refusal.
     ensures written { IfErr result (λ e.
-        HasWritten (request options.now spec.now input.now) (S.told sink.old) (S.told sink.new) e) }
+        HasWritten (request options.now spec.now input.now) (S.seen sink.old) (S.seen sink.new) e) }
     // At Ok the sink didn't fail in the call, and after an error as often as the error allows: at Write once.
-    ensures steady { OnOk result (S.failures sink.new ≡ S.failures sink.old) }
-    ensures failed { IfErr result (λ e. FailedIn e (S.failures sink.old) (S.failures sink.new)) }
+    ensures steady { OnOk result ((S.seen sink.new).failures ≡ (S.seen sink.old).failures) }
+    ensures failed { IfErr result (λ e. FailedIn e (S.seen sink.old) (S.seen sink.new)) }
 {
     let read = match read_request(alloc, input, spec, options) {
         Ok(read) => read,
         Err(error) => return Err(error),
     };
     run_read(rt, alloc, &read, options, gate, sink)
+}
+
+/// Hands the sink the sheets of a job, whose document was read and whose sheets were planned before: those of a
+/// specification, or sheets that were made, with the lines of a dress.
+///
+/// The only errors are `NoMemory` and `Write`, after which the sink has taken the first `written` bytes of the output.
+/// The sink isn't flushed. The work is done as `run` does it.
+pub fn run_plan<R: Threads + Wait + Sync, G: Gate + Sync, S: Sink>(
+    rt: &R,
+    alloc: Global,
+    job: &Job<'_, '_>,
+    workers: Workers,
+    gate: &G,
+    sink: &mut S,
+) -> Result<Report, RunError>
+    requires workers { AreWorkers workers }
+    requires countable { IsCountable (S.seen sink.old) }
+    // Exactly the output was appended, and the report has its numbers.
+    ensures finished { IfOk result (λ report.
+        Appends (S.seen sink.old).bytes (S.seen sink.new).bytes (output_of job.now) × ReportsOf job.now report) }
+    ensures refused { IfErr result IsNoRefusal }
+    // After an error the sink has taken as much of the output as the error says.
+    ensures written { IfErr result (WrotePartOf job.now (S.seen sink.old) (S.seen sink.new)) }
+    // At Ok the sink didn't fail in the call, and after an error as often as the error allows: at Write once.
+    ensures steady { OnOk result ((S.seen sink.new).failures ≡ (S.seen sink.old).failures) }
+    ensures failed { IfErr result (λ e. FailedIn e (S.seen sink.old) (S.seen sink.new)) }
+{
+    run_job(rt, alloc, job, workers, gate, sink)
 }
 
 /// What a run was given, once it is read.
@@ -100,16 +132,16 @@ fn run_read<R: Threads + Wait + Sync, G: Gate + Sync, S: Sink>(
     sink: &mut S,
 ) -> Result<Report, RunError>
     requires options { AreOptions options.now }
-    requires countable { S.failures sink.old < u64.MAX }
+    requires countable { IsCountable (S.seen sink.old) }
     ensures { (r : Request) → IsGiven r options.now given.now
-        → AnswersRequest S.told S.failures r sink.old sink.new result }
+        → AnswersRequest r (S.seen sink.old) (S.seen sink.new) result }
 {
     let plan = match plan_pages(alloc, &given.spec, given.document.pages(), options.sides) {
         Ok(plan) => plan,
         Err(error) => return Err(RunError::from(error)),
     };
     let job = Job::new(&plan, &given.document, options.paper, options.border);
-    run_job(rt, alloc, &job, options.workers, gate, sink)
+    run_plan(rt, alloc, &job, options.workers, gate, sink)
 }
 
 /// Plans the pages in their order, or in signatures if a number of sides is given.
@@ -140,8 +172,8 @@ fn run_job<R: Threads + Wait + Sync, G: Gate + Sync, S: Sink>(
     sink: &mut S,
 ) -> Result<Report, RunError>
     requires workers { AreWorkers workers }
-    requires countable { S.failures sink.old < u64.MAX }
-    ensures { Answers S.told S.failures job.now sink.old sink.new result }
+    requires countable { IsCountable (S.seen sink.old) }
+    ensures { Answers job.now (S.seen sink.old) (S.seen sink.new) result }
 {
     let Ok((table, seat)) = GatherTable::new(alloc, job.plan()) else {
         return Err(RunError::NoMemory { written: 0 });
@@ -149,7 +181,9 @@ fn run_job<R: Threads + Wait + Sync, G: Gate + Sync, S: Sink>(
     let Ok(shelf) = Shelf::new(alloc) else {
         return Err(RunError::NoMemory { written: 0 });
     };
-    let Ok((ready, pass)) = Ready::new(alloc, job.sheets().max(1)) else {
+    // Room for all puts, so that none is refused.
+    let room = most_puts_in_all(job.plan(), workers.preparers).min(u64::from(u32::MAX)) as u32;
+    let Ok((ready, pass)) = Ready::by_right(alloc, room.max(job.sheets()).max(1)) else {
         return Err(RunError::NoMemory { written: 0 });
     };
     let gathered = gather(

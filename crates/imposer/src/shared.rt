@@ -3,12 +3,13 @@ ghost use Rattle.std.specs.Prelude.{◌≡◌};
 ghost use Rattle.rules.specs.Sheets.{layout};
 
 use crate::channel::{RuledJob, SheetSender, Texts};
+use crate::spent::SpentTexts;
 use crate::turns::Turns;
 use crate::window::Window;
 use crossbeam_queue::ArrayQueue;
 use gather_table::GatherTable;
 use handover::{Ready, Shelf};
-use sheet_text::{Job, Rope};
+use sheet_text::Job;
 use std::alloc::Global;
 use std::sync::atomic::AtomicU32;
 
@@ -21,6 +22,8 @@ pub(crate) struct Shared<'s, 'r, 'j, 'd, G> {
     pub(crate) table: &'s GatherTable<'j>,
     pub(crate) shelf: &'r Shelf<'d>,
     pub(crate) ready: &'s Ready,
+    /// Whether the queue has room by right for all puts: then it refuses none.
+    pub(crate) by_right: bool,
     /// How many preparers haven't ended.
     pub(crate) preparers_left: AtomicU32,
     /// How many imposers haven't ended.
@@ -39,7 +42,7 @@ pub(crate) struct WorkerInput<'s, 'r, 'j, 'd, T: Texts, G> {
     pub(crate) shared: &'s Shared<'s, 'r, 'j, 'd, G>,
     pub(crate) sender: &'s SheetSender<'r, T>,
     /// Texts that were written, whose memory is used again.
-    pub(crate) spent: &'s ArrayQueue<Rope<'r>>,
+    pub(crate) spent: &'s ArrayQueue<SpentTexts<'r>>,
     /// The same job, with the texts of the channel's rule.
     pub(crate) ruled: &'s RuledJob<'s, 'j, 'd, T>,
     ghost same_job: { ruled.now.job.now ≡ shared.now.job.now },

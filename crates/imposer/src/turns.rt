@@ -11,7 +11,7 @@ const BYTES_OF_A_STINT: usize = 524_288;
 /// About how many bytes the work has that comes with each page, however small.
 const BYTES_BESIDE: usize = 512;
 
-/// How many pages a stint has at most.
+/// How many pages, or batches of sheets, a stint has at most.
 const LONGEST_STINT: usize = 512;
 
 /// With fewer pages in a stint, pages are so large that workers don't get in each other's way.
@@ -30,7 +30,7 @@ const MICROSECONDS_OF_A_SLEEP: u64 = 500;
 pub(crate) struct Turns {
     /// 1 while somebody has the turn.
     taken: CachePadded<AtomicU64>,
-    /// How many pages a stint has.
+    /// How many pages, or batches, a stint has.
     len: u32,
 }
 
@@ -63,7 +63,7 @@ impl Turns {
         }
     }
 
-    /// One page more. If the stint is over, the turn goes to the next worker, and this one waits for it.
+    /// One page more, or one batch of sheets. If the stint is over, the turn goes to the next worker, and this one waits for it.
     pub(crate) fn go_on<R: Wait>(&self, rt: &R, stint: &mut Stint) {
         if stint.left > 0 {
             stint.left -= 1;

@@ -26,6 +26,10 @@ const MOST_SHEETS: usize = 4_096;
 /// once.
 const MANY_SHEETS: u32 = 256;
 
+/// An imposer sends an eighth of a window's sheets together at most, and an eighth of its share of all sheets: so
+/// imposers work beside each other, and beside the collector.
+const BATCHES: u32 = 8;
+
 /// How long the shortest and the longest nap is, in microseconds.
 const SHORTEST_NAP: u64 = 50;
 
@@ -43,26 +47,35 @@ pub(crate) struct Window {
     len: u32,
     /// How many sheets are written before it is told.
     step: u32,
+    /// How many sheets an imposer sends together at most.
+    batch: u32,
 }
 
 impl Window {
-    /// A window of about half a megabyte of text, of a job with so many bytes of pages. Two sheets at least, and one
+    /// A window of about half a megabyte of text, of a job whose slots have so many bytes. Two sheets at least, and one
     /// for each imposer, lie in it.
     pub(crate) fn new(job: &Job<'_, '_>, workers: Workers, bytes: usize) -> Self {
         let text = bytes / (job.sheets() as usize).max(1);
         let fitting = (BYTES_AHEAD / text.saturating_add(BYTES_BESIDE)).min(MOST_SHEETS) as u32;
         let len = fitting.max(workers.imposers).max(2);
+        let share = job.sheets() / workers.imposers.max(1);
         Window {
             next: CachePadded::new(AtomicU64::new(0)),
             lifted: AtomicBool::new(false),
             len,
             step: if len < MANY_SHEETS { 1 } else { len / 4 },
+            batch: (len.min(share) / BATCHES).max(1),
         }
     }
 
     /// How many sheets lie in it.
     pub(crate) fn len(&self) -> u32 {
         self.len
+    }
+
+    /// How many sheets an imposer sends together at most.
+    pub(crate) fn batch(&self) -> u32 {
+        self.batch
     }
 
     /// The first sheet behind it.
@@ -144,13 +157,17 @@ impl Idling {
     }
 }
 
-/// How many bytes all pages have together.
-pub(crate) fn bytes_of_pages(job: &Job<'_, '_>) -> usize {
-    let mut bytes = 0usize;
+/// How many bytes all pages have together, and the pages of all slots.
+pub(crate) fn bytes_of_pages(job: &Job<'_, '_>) -> (usize, usize) {
+    let mut of_pages = 0usize;
+    let mut of_slots = 0usize;
     for page in 0..job.plan().pages() {
-        bytes = bytes.saturating_add(job.document().page(page).len());
+        let bytes = job.document().page(page).len();
+        let slots = job.plan().slots_of_page(page).len();
+        of_pages = of_pages.saturating_add(bytes);
+        of_slots = of_slots.saturating_add(bytes.saturating_mul(slots));
     }
-    bytes
+    (of_pages, of_slots)
 }
 
 /// Sheets that were taken off the queue by an imposer, and lay behind the window then.

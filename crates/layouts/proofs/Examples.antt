@@ -8,7 +8,7 @@ use Rattle.layouts.specs.declared.error.LayoutError.TheVariants.{FoldOnLongEdge,
 use Rattle.layouts.specs.Grids.{n_up, best_grid, scale_in, leaves}
 use Rattle.layouts.specs.Refusals.{is_count, is_reached, is_scale, why_not, why_no_booklet}
 use Rattle.pagespec.specs.Reading.{joined_at}
-use Rattle.layouts.specs.declared.select.Which.TheVariants.{All, Odd, Even}
+use Rattle.layouts.specs.declared.selections.Which.TheVariants.{All, Odd, Even}
 use Rattle.layouts.specs.Selections.{One, FromTo, From, row_of, misses}
 use Rattle.layouts.specs.Reading.{ranges_at, range_at}
 

@@ -10,7 +10,7 @@ use Rattle.lengths.specs.Reading.{digits, past_digits}
 use Rattle.lengths.proofs.Numbers.{taken}
 use Rattle.pagespec.specs.Reading.{byte_at}
 use Rattle.pagespec.proofs.Short.{either}
-use Rattle.layouts.specs.declared.select.Which.{Which}
+use Rattle.layouts.specs.declared.selections.Which.{Which}
 use Rattle.layouts.specs.declared.ranges.Standing.{Standing}
 use Rattle.layouts.specs.declared.ranges.Range.TheVariants as code
 use Rattle.layouts.specs.declared.ranges.Stop.{Stop}

@@ -16,7 +16,7 @@ use Rattle.pagespec.specs.Made.{IsItemOf, IsGroupOf, IsWritable}
 use Rattle.pagespec.proofs.Short.{either}
 use Rattle.pagespec.proofs.MadeShort.{page_few, groups_short}
 use Rattle.layouts.specs.Grids.{alone}
-use Rattle.layouts.specs.declared.select.Which.{Which}
+use Rattle.layouts.specs.declared.selections.Which.{Which}
 use Rattle.layouts.specs.Selections.{Range, One, FromTo, From, first_of, last_of, is_page, has_range, misses, steps, behind, from_to, named, is_kept, kept, row_of, selected, SheetsAreRow, Selects, IsSelection}
 use Rattle.layouts.specs.Reading.{with_cap}
 use Rattle.layouts.proofs.InGrid.{both_true}

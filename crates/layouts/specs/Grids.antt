@@ -15,53 +15,56 @@ pub record Grid : Type 0 where
   pub turned : Bool
 
 -- how wide and how high the sheet is as one holds it, in grains
-abbrev pub held_width : Bool → (sheet : Paper) → ℕ
-held_width false sheet = nat_abs sheet.width
-held_width true sheet = nat_abs sheet.height
+abbrev pub held_width : Bool → (sheet_paper : Paper) → ℕ
+held_width false sheet_paper = nat_abs sheet_paper.width
+held_width true sheet_paper = nat_abs sheet_paper.height
 
-abbrev pub held_height : Bool → (sheet : Paper) → ℕ
-held_height false sheet = nat_abs sheet.height
-held_height true sheet = nat_abs sheet.width
+abbrev pub held_height : Bool → (sheet_paper : Paper) → ℕ
+held_height false sheet_paper = nat_abs sheet_paper.height
+held_height true sheet_paper = nat_abs sheet_paper.width
 
 -- one of so many equal parts of a side of so many grains, in 10^-5 of a point
 abbrev pub part : (side parts : ℕ) → ℕ
 part side parts = side / (1_270_000 * parts)
 
-abbrev pub cell_width : (sheet : Paper) → Grid → ℕ
-cell_width sheet g = part (held_width g.turned sheet) g.columns
+abbrev pub cell_width : (sheet_paper : Paper) → Grid → ℕ
+cell_width sheet_paper g = part (held_width g.turned sheet_paper) g.columns
 
-abbrev pub cell_height : (sheet : Paper) → Grid → ℕ
-cell_height sheet g = part (held_height g.turned sheet) g.rows
+abbrev pub cell_height : (sheet_paper : Paper) → Grid → ℕ
+cell_height sheet_paper g = part (held_height g.turned sheet_paper) g.rows
 
 -- the largest scale, in 10^-9, that brings a side of so many grains into a cell of so many 10^-5 of a point
 abbrev pub fitting : (cell side : ℕ) → ℕ
 fitting cell side = 1_270_000_000_000_000 * cell / side
 
 -- the largest scale that brings a page into a cell
-abbrev pub scale_in : (page sheet : Paper) → Grid → ℕ
-scale_in page sheet g =
-    min (fitting (cell_width sheet g) (nat_abs page.width)) (fitting (cell_height sheet g) (nat_abs page.height))
+abbrev pub scale_in : (page_paper sheet_paper : Paper) → Grid → ℕ
+scale_in page_paper sheet_paper g =
+    min (fitting (cell_width sheet_paper g) (nat_abs page_paper.width))
+    (fitting (cell_height sheet_paper g) (nat_abs page_paper.height))
 
 -- half of what a scaled side leaves of its cell, in 10^-5 of a point
-abbrev pub margin : (cell side scale : ℕ) → ℕ
-margin cell side scale = (1_270_000_000_000_000 * cell - scale * side) / 2_540_000_000_000_000
+abbrev pub slack : (cell side scale : ℕ) → ℕ
+slack cell side scale = (1_270_000_000_000_000 * cell - scale * side) / 2_540_000_000_000_000
 
-abbrev pub margin_x : (page sheet : Paper) → Grid → ℕ
-margin_x page sheet g = margin (cell_width sheet g) (nat_abs page.width) (scale_in page sheet g)
+abbrev pub slack_x : (page_paper sheet_paper : Paper) → Grid → ℕ
+slack_x page_paper sheet_paper g =
+    slack (cell_width sheet_paper g) (nat_abs page_paper.width) (scale_in page_paper sheet_paper g)
 
-abbrev pub margin_y : (page sheet : Paper) → Grid → ℕ
-margin_y page sheet g = margin (cell_height sheet g) (nat_abs page.height) (scale_in page sheet g)
+abbrev pub slack_y : (page_paper sheet_paper : Paper) → Grid → ℕ
+slack_y page_paper sheet_paper g =
+    slack (cell_height sheet_paper g) (nat_abs page_paper.height) (scale_in page_paper sheet_paper g)
 
 -- how far to the right, and how far up, the page in this row and column is moved
-abbrev pub to_right : (page sheet : Paper) → Grid → (row column : ℕ) → ℕ
-to_right page sheet g row column =
-    if g.turned then (row + 1) * cell_height sheet g - margin_y page sheet g
-    else column * cell_width sheet g + margin_x page sheet g
+abbrev pub to_right : (page_paper sheet_paper : Paper) → Grid → (row column : ℕ) → ℕ
+to_right page_paper sheet_paper g row column =
+    if g.turned then (row + 1) * cell_height sheet_paper g - slack_y page_paper sheet_paper g
+    else column * cell_width sheet_paper g + slack_x page_paper sheet_paper g
 
-abbrev pub to_top : (page sheet : Paper) → Grid → (row column : ℕ) → ℕ
-to_top page sheet g row column =
-    if g.turned then column * cell_width sheet g + margin_x page sheet g
-    else (g.rows - (row + 1)) * cell_height sheet g + margin_y page sheet g
+abbrev pub to_top : (page_paper sheet_paper : Paper) → Grid → (row column : ℕ) → ℕ
+to_top page_paper sheet_paper g row column =
+    if g.turned then column * cell_width sheet_paper g + slack_x page_paper sheet_paper g
+    else (g.rows - (row + 1)) * cell_height sheet_paper g + slack_y page_paper sheet_paper g
 
 -- so many 10^-5 of a point
 abbrev pub in_points : ℕ → Measure
@@ -71,45 +74,52 @@ abbrev pub turn_in : Grid → Turn
 turn_in g = if g.turned then Left else Upright
 
 -- page k in its cell: row by row, and from left to right
-abbrev pub item_in : (page sheet : Paper) → Grid → ℕ → Item
-item_in page sheet g k = record {
+abbrev pub item_in : (page_paper sheet_paper : Paper) → Grid → ℕ → Item
+item_in page_paper sheet_paper g k = record {
   page = k;
   from_end = false;
   turn = turn_in g;
-  scale = pos (scale_in page sheet g);
-  x = in_points (to_right page sheet g (k / g.columns) (k % g.columns));
-  y = in_points (to_top page sheet g (k / g.columns) (k % g.columns));
+  scale = pos (scale_in page_paper sheet_paper g);
+  x = in_points (to_right page_paper sheet_paper g (k / g.columns) (k % g.columns));
+  y = in_points (to_top page_paper sheet_paper g (k / g.columns) (k % g.columns));
 }
 
 -- n pages on each sheet, in this grid
-abbrev pub in_grid : (page sheet : Paper) → Grid → ℕ → Spec
-in_grid page sheet g n = record { modulo = n; groups = map (item_in page sheet g) (range_with_len 0 n) ∷ [] }
+abbrev pub in_grid : (page_paper sheet_paper : Paper) → Grid → ℕ → Spec
+in_grid page_paper sheet_paper g n = record {
+  modulo = n;
+  groups = map (item_in page_paper sheet_paper g) (range_with_len 0 n) ∷ [];
+}
 
 -- the grid of n cells with so many columns
 abbrev pub grid : Bool → (n columns : ℕ) → Grid
 grid turned n columns = record { rows = n / columns; columns = columns; turned = turned }
 
 -- the one grid, unless the other has as many cells and a larger scale
-abbrev pub better : (page sheet : Paper) → Bool → (n one other : ℕ) → ℕ
-better page sheet turned n one other =
-    if (n % other == 0) && nat_lt (scale_in page sheet (grid turned n one)) (scale_in page sheet (grid turned n other))
+abbrev pub better : (page_paper sheet_paper : Paper) → Bool → (n one other : ℕ) → ℕ
+better page_paper sheet_paper turned n one other =
+    if (n % other == 0)
+    && nat_lt (scale_in page_paper sheet_paper (grid turned n one))
+    (scale_in page_paper sheet_paper (grid turned n other))
     then other else one
 
 -- of the grids of n cells with so many columns at most, the first with the largest scale
-abbrev pub best_columns : (page sheet : Paper) → Bool → (n most : ℕ) → ℕ
-best_columns page sheet turned n zero = 1
-best_columns page sheet turned n (suc k) = better page sheet turned n (best_columns page sheet turned n k) (suc k)
+abbrev pub best_columns : (page_paper sheet_paper : Paper) → Bool → (n most : ℕ) → ℕ
+best_columns page_paper sheet_paper turned n zero = 1
+best_columns page_paper sheet_paper turned n (suc k) =
+    better page_paper sheet_paper turned n (best_columns page_paper sheet_paper turned n k) (suc k)
 
-abbrev pub best_of : (page sheet : Paper) → Bool → ℕ → Grid
-best_of page sheet turned n = grid turned n (best_columns page sheet turned n n)
+abbrev pub best_of : (page_paper sheet_paper : Paper) → Bool → ℕ → Grid
+best_of page_paper sheet_paper turned n = grid turned n (best_columns page_paper sheet_paper turned n n)
 
 -- upright, unless turned is larger
-abbrev pub larger : (page sheet : Paper) → (upright left : Grid) → Grid
-larger page sheet upright left = if nat_lt (scale_in page sheet upright) (scale_in page sheet left) then left
-    else upright
+abbrev pub larger : (page_paper sheet_paper : Paper) → (upright left : Grid) → Grid
+larger page_paper sheet_paper upright left =
+    if nat_lt (scale_in page_paper sheet_paper upright) (scale_in page_paper sheet_paper left) then left else upright
 
-abbrev pub best_grid : (page sheet : Paper) → ℕ → Grid
-best_grid page sheet n = larger page sheet (best_of page sheet false n) (best_of page sheet true n)
+abbrev pub best_grid : (page_paper sheet_paper : Paper) → ℕ → Grid
+best_grid page_paper sheet_paper n =
+    larger page_paper sheet_paper (best_of page_paper sheet_paper false n) (best_of page_paper sheet_paper true n)
 
 -- a page alone, as it is; it is counted from 0
 abbrev pub alone : ℕ → Item
@@ -122,18 +132,19 @@ alone k = record {
   y = zero_points;
 }
 
-abbrev pub is_same : (page sheet : Paper) → Bool
-is_same page sheet = (nat_abs page.width == nat_abs sheet.width) && (nat_abs page.height == nat_abs sheet.height)
+abbrev pub is_same : (page_paper sheet_paper : Paper) → Bool
+is_same page_paper sheet_paper =
+    (nat_abs page_paper.width == nat_abs sheet_paper.width) && (nat_abs page_paper.height == nat_abs sheet_paper.height)
 
 -- one page stands on a sheet of its own paper
-abbrev pub is_itself : (page sheet : Paper) → ℕ → Bool
-is_itself page sheet n = (n == 1) && is_same page sheet
+abbrev pub is_itself : (page_paper sheet_paper : Paper) → ℕ → Bool
+is_itself page_paper sheet_paper n = (n == 1) && is_same page_paper sheet_paper
 
 -- n pages on each sheet, as large as they can be; on a sheet of its own paper one page is left as it is
-abbrev pub n_up : (page sheet : Paper) → ℕ → Spec
-n_up page sheet n =
-    if is_itself page sheet n then record { modulo = 1; groups = (alone 0 ∷ []) ∷ [] }
-    else in_grid page sheet (best_grid page sheet n) n
+abbrev pub n_up : (page_paper sheet_paper : Paper) → ℕ → Spec
+n_up page_paper sheet_paper n =
+    if is_itself page_paper sheet_paper n then record { modulo = 1; groups = (alone 0 ∷ []) ∷ [] }
+    else in_grid page_paper sheet_paper (best_grid page_paper sheet_paper n) n
 
 -- booklets
 
@@ -152,22 +163,22 @@ half_turned Half = Upright
 half_turned Right = Left
 
 -- the place of page k in its cell, if the whole sheet is turned by half; it is page n + k of a block
-abbrev pub back_in : (page sheet : Paper) → Grid → (n k : ℕ) → Item
-back_in page sheet g n k = record {
+abbrev pub back_in : (page_paper sheet_paper : Paper) → Grid → (n k : ℕ) → Item
+back_in page_paper sheet_paper g n k = record {
   page = n + k;
   from_end = false;
   turn = half_turned (turn_in g);
-  scale = pos (scale_in page sheet g);
-  x = in_points (whole (nat_abs sheet.width) - to_right page sheet g (k / g.columns) (k % g.columns));
-  y = in_points (whole (nat_abs sheet.height) - to_top page sheet g (k / g.columns) (k % g.columns));
+  scale = pos (scale_in page_paper sheet_paper g);
+  x = in_points (whole (nat_abs sheet_paper.width) - to_right page_paper sheet_paper g (k / g.columns) (k % g.columns));
+  y = in_points (whole (nat_abs sheet_paper.height) - to_top page_paper sheet_paper g (k / g.columns) (k % g.columns));
 }
 
 -- the sides of a booklet's leaves, which fold parallel to the shorter edge; for printers that flip a sheet about its
 -- longer edge each second side is turned by half
-abbrev pub leaves : (page sheet : Paper) → (long_edge : Bool) → Spec
-leaves page sheet false = in_grid page sheet (beside true) 2
-leaves page sheet true = record {
+abbrev pub leaves : (page_paper sheet_paper : Paper) → (long_edge : Bool) → Spec
+leaves page_paper sheet_paper false = in_grid page_paper sheet_paper (beside true) 2
+leaves page_paper sheet_paper true = record {
   modulo = 4;
-  groups = map (item_in page sheet (beside true)) (range_with_len 0 2)
-      ∷ map (back_in page sheet (beside true) 2) (range_with_len 0 2) ∷ [];
+  groups = map (item_in page_paper sheet_paper (beside true)) (range_with_len 0 2)
+      ∷ map (back_in page_paper sheet_paper (beside true) 2) (range_with_len 0 2) ∷ [];
 }

@@ -8,7 +8,7 @@ use Rattle.layouts.specs.declared.error.LayoutError.TheVariants.{ScaleOutOfRange
 use Rattle.layouts.specs.declared.error.LayoutError.TheVariants.{PageNotInDocument, TooManyPages, NoPages, NoMemory}
 use Rattle.layouts.specs.declared.ranges.Stop.{Stop}
 use Rattle.layouts.specs.declared.ranges.Stop.TheVariants as stop
-use Rattle.layouts.specs.declared.select.Which.{Which}
+use Rattle.layouts.specs.declared.selections.Which.{Which}
 use Rattle.layouts.specs.Selections.{Range, AreRanges, misses, row_of}
 
 -- the text stands for ranges of which this holds, and no specification is too short for the document

@@ -14,36 +14,37 @@ abbrev pub finer : Point → Point
 finer p = times (pos 1_000_000_000) p
 
 -- where a point of the page, in grains, stands on the sheet: it is scaled, then turned, then moved
-abbrev pub stands : (page : Paper) → Item → Point → Point
-stands page item p = moved (finer (offset page item)) (turned item.turn (times item.scale p))
+abbrev pub stands : (page_paper : Paper) → Item → Point → Point
+stands page_paper item p = moved (finer (offset page_paper item)) (turned item.turn (times item.scale p))
 
 -- a whole point of the page stands where the item puts it: a law
 abbrev pub StandsWherePut : Type 0
-StandsWherePut = (page : Paper) (item : Item) (p : Point)
-    → stands page item (times (pos 127_000_000_000) p) ≡ finer (put page item p)
+StandsWherePut = (page_paper : Paper) (item : Item) (p : Point)
+    → stands page_paper item (times (pos 127_000_000_000) p) ≡ finer (put page_paper item p)
 
 -- the page has this point, in grains
-pub record IsOfPage (page : Paper) (p : Point) : Type 0 where
+pub record IsOfPage (page_paper : Paper) (p : Point) : Type 0 where
   pub left : pos 0 ≤ℤ p.x
-  pub right : p.x ≤ℤ page.width
+  pub right : p.x ≤ℤ page_paper.width
   pub bottom : pos 0 ≤ℤ p.y
-  pub top : p.y ≤ℤ page.height
+  pub top : p.y ≤ℤ page_paper.height
 
 -- the sheet has this point, in 10^-9 of a grain
-pub record LiesOn (sheet : Paper) (p : Point) : Type 0 where
+pub record LiesOn (sheet_paper : Paper) (p : Point) : Type 0 where
   pub left : pos 0 ≤ℤ p.x
-  pub right : p.x ≤ℤ (pos 1_000_000_000 *ℤ sheet.width)
+  pub right : p.x ≤ℤ (pos 1_000_000_000 *ℤ sheet_paper.width)
   pub bottom : pos 0 ≤ℤ p.y
-  pub top : p.y ≤ℤ (pos 1_000_000_000 *ℤ sheet.height)
+  pub top : p.y ≤ℤ (pos 1_000_000_000 *ℤ sheet_paper.height)
 
 -- each point of the placed page, its corners among them, lies on the sheet
-abbrev pub IsInside : (page sheet : Paper) → Item → Type 0
-IsInside page sheet item = (p : Point) → IsOfPage page p → LiesOn sheet (stands page item p)
+abbrev pub IsInside : (page_paper sheet_paper : Paper) → Item → Type 0
+IsInside page_paper sheet_paper item =
+    (p : Point) → IsOfPage page_paper p → LiesOn sheet_paper (stands page_paper item p)
 
 -- measured so, no point of the one page lies behind one of the other
-abbrev pub ComesFirst : (Point → ℤ) → (page : Paper) → (one other : Item) → Type 0
-ComesFirst by page one other = (p q : Point) → IsOfPage page p → IsOfPage page q
-    → by (stands page one p) ≤ℤ by (stands page other q)
+abbrev pub ComesFirst : (Point → ℤ) → (page_paper : Paper) → (one other : Item) → Type 0
+ComesFirst by page_paper one other = (p q : Point) → IsOfPage page_paper p → IsOfPage page_paper q
+    → by (stands page_paper one p) ≤ℤ by (stands page_paper other q)
 
 abbrev pub across : Point → ℤ
 across p = p.x
@@ -52,10 +53,10 @@ abbrev pub up : Point → ℤ
 up p = p.y
 
 -- a line along a side of the sheet parts them, and so they have no inner point in common
-abbrev pub AreApart : (page : Paper) → (one other : Item) → Type 0
-AreApart page one other =
-    (ComesFirst across page one other ⊎ ComesFirst across page other one)
-    ⊎ (ComesFirst up page one other ⊎ ComesFirst up page other one)
+abbrev pub AreApart : (page_paper : Paper) → (one other : Item) → Type 0
+AreApart page_paper one other =
+    (ComesFirst across page_paper one other ⊎ ComesFirst across page_paper other one)
+    ⊎ (ComesFirst up page_paper one other ⊎ ComesFirst up page_paper other one)
 
 -- a point of the sheet as one holds it to read pages of this turn
 abbrev pub held : Turn → Point → Point
@@ -65,8 +66,8 @@ held Half p = record { x = neg_ℤ p.x; y = neg_ℤ p.y }
 held Right p = record { x = neg_ℤ p.y; y = p.x }
 
 -- as one holds the sheet, the one page stands left of the other, or above it
-abbrev pub IsLeftOf : (page : Paper) → (one other : Item) → Type 0
-IsLeftOf page one other = ComesFirst (λ p. across (held one.turn p)) page one other
+abbrev pub IsLeftOf : (page_paper : Paper) → (one other : Item) → Type 0
+IsLeftOf page_paper one other = ComesFirst (λ p. across (held one.turn p)) page_paper one other
 
-abbrev pub IsAbove : (page : Paper) → (one other : Item) → Type 0
-IsAbove page one other = ComesFirst (λ p. up (held one.turn p)) page other one
+abbrev pub IsAbove : (page_paper : Paper) → (one other : Item) → Type 0
+IsAbove page_paper one other = ComesFirst (λ p. up (held one.turn p)) page_paper other one

@@ -34,27 +34,28 @@ abbrev pub is_scale : ℕ → Bool
 is_scale scale = nat_le 1 scale && nat_le scale greatest_scale
 
 -- the first reason why n pages of the one paper can't stand on a sheet of the other, if there is one
-abbrev pub why_not : (page sheet : Paper) → ℕ → Option LayoutError
-why_not page sheet n =
+abbrev pub why_not : (page_paper sheet_paper : Paper) → ℕ → Option LayoutError
+why_not page_paper sheet_paper n =
     if is_count n
-    then (if are_reached page && are_reached sheet
-    then (if is_itself page sheet n || is_scale (scale_in page sheet (best_grid page sheet n))
+    then (if are_reached page_paper && are_reached sheet_paper
+    then (if is_itself page_paper sheet_paper n
+    || is_scale (scale_in page_paper sheet_paper (best_grid page_paper sheet_paper n))
     then None else Some ScaleOutOfRange)
     else Some SideTooLong)
     else Some PagesOutOfRange
 
 -- the sheet is no wider than high, and upright pages side by side would not be larger than turned ones
-abbrev pub folds_short : (page sheet : Paper) → Bool
-folds_short page sheet =
-    nat_le (nat_abs sheet.width) (nat_abs sheet.height)
-    && nat_le (scale_in page sheet (beside false)) (scale_in page sheet (beside true))
+abbrev pub folds_short : (page_paper sheet_paper : Paper) → Bool
+folds_short page_paper sheet_paper =
+    nat_le (nat_abs sheet_paper.width) (nat_abs sheet_paper.height)
+    && nat_le (scale_in page_paper sheet_paper (beside false)) (scale_in page_paper sheet_paper (beside true))
 
 -- the first reason why a booklet can't be made on such sheets, if there is one
-abbrev pub why_no_booklet : (page sheet : Paper) → Option LayoutError
-why_no_booklet page sheet =
-    if are_reached page && are_reached sheet
-    then (if folds_short page sheet
-    then (if is_scale (scale_in page sheet (beside true)) then None else Some ScaleOutOfRange)
+abbrev pub why_no_booklet : (page_paper sheet_paper : Paper) → Option LayoutError
+why_no_booklet page_paper sheet_paper =
+    if are_reached page_paper && are_reached sheet_paper
+    then (if folds_short page_paper sheet_paper
+    then (if is_scale (scale_in page_paper sheet_paper (beside true)) then None else Some ScaleOutOfRange)
     else Some FoldOnLongEdge)
     else Some SideTooLong
 

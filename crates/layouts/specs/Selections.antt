@@ -6,8 +6,8 @@ use Rattle.rules.specs.Bytes.{comma, minus_sign}
 use Rattle.rules.specs.Specification.{IsJoined, IsDigits, Spec}
 use Rattle.rules.specs.Admissible.{most_groups}
 use Rattle.rules.specs.Sheets.{sheets}
-use Rattle.layouts.specs.declared.select.Which.{Which}
-use Rattle.layouts.specs.declared.select.Which.TheVariants.{All, Odd, Even}
+use Rattle.layouts.specs.declared.selections.Which.{Which}
+use Rattle.layouts.specs.declared.selections.Which.TheVariants.{All, Odd, Even}
 use Rattle.layouts.specs.Grids.{alone}
 
 -- one page; from one to another, up or down; from one to the last of the document

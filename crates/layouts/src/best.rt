@@ -9,23 +9,23 @@ use lengths::Paper;
 
 /// The grid of n cells, upright or turned, that takes the largest pages: upright if both take as large ones, and
 /// with the fewest columns if several do.
-pub fn best_grid(page: &Paper, sheet: &Paper, n: u32) -> Grid
+pub fn best_grid(page_paper: &Paper, sheet_paper: &Paper, n: u32) -> Grid
     requires some { 0 < n }
-    ensures { result ≡ best_grid_of page.now sheet.now n }
+    ensures { result ≡ best_grid_of page_paper.now sheet_paper.now n }
 {
     larger(
-        page,
-        sheet,
-        best_of(page, sheet, false, n),
-        best_of(page, sheet, true, n),
+        page_paper,
+        sheet_paper,
+        best_of(page_paper, sheet_paper, false, n),
+        best_of(page_paper, sheet_paper, true, n),
     )
 }
 
 /// Upright, unless turned is larger.
-fn larger(page: &Paper, sheet: &Paper, upright: Grid, left: Grid) -> Grid
-    ensures { result ≡ larger_of page.now sheet.now upright left }
+fn larger(page_paper: &Paper, sheet_paper: &Paper, upright: Grid, left: Grid) -> Grid
+    ensures { result ≡ larger_of page_paper.now sheet_paper.now upright left }
 {
-    if scale_in(page, sheet, upright) < scale_in(page, sheet, left) {
+    if scale_in(page_paper, sheet_paper, upright) < scale_in(page_paper, sheet_paper, left) {
         left
     } else {
         upright
@@ -33,27 +33,34 @@ fn larger(page: &Paper, sheet: &Paper, upright: Grid, left: Grid) -> Grid
 }
 
 /// Of the grids of n cells with pages of this turn, the first that takes the largest pages.
-fn best_of(page: &Paper, sheet: &Paper, turned: bool, n: u32) -> Grid
+fn best_of(page_paper: &Paper, sheet_paper: &Paper, turned: bool, n: u32) -> Grid
     requires some { 0 < n }
-    ensures { result ≡ best_of_turn page.now sheet.now turned n }
+    ensures { result ≡ best_of_turn page_paper.now sheet_paper.now turned n }
 {
     let mut columns = 1;
     for k in 0..n {
-        columns = better(page, sheet, turned, n, columns, k + 1);
+        columns = better(page_paper, sheet_paper, turned, n, columns, k + 1);
     }
     Grid::of(turned, n, columns)
 }
 
 /// The columns of the one grid, unless the other has as many cells and a larger scale.
-fn better(page: &Paper, sheet: &Paper, turned: bool, n: u32, one: u32, other: u32) -> u32
+fn better(
+    page_paper: &Paper,
+    sheet_paper: &Paper,
+    turned: bool,
+    n: u32,
+    one: u32,
+    other: u32,
+) -> u32
     requires one { (0 < one) × (one ≤ n) }
     requires other { (0 < other) × (other ≤ n) }
-    ensures value { result ≡ better_of page.now sheet.now turned n one other }
+    ensures value { result ≡ better_of page_paper.now sheet_paper.now turned n one other }
     ensures in_range { (0 < result) × (result ≤ n) }
 {
     if n % other == 0
-        && scale_in(page, sheet, Grid::of(turned, n, one))
-            < scale_in(page, sheet, Grid::of(turned, n, other))
+        && scale_in(page_paper, sheet_paper, Grid::of(turned, n, one))
+            < scale_in(page_paper, sheet_paper, Grid::of(turned, n, other))
     {
         other
     } else {

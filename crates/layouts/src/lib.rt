@@ -6,12 +6,12 @@ mod error;
 mod grid;
 mod item;
 pub mod laws;
+mod nup_and_booklet;
 mod ranges;
-mod row;
 mod scale;
-mod select;
-mod sheet;
+mod selected_pages;
+mod selections;
 
 pub use error::LayoutError;
-pub use select::{Which, selection};
-pub use sheet::{booklet, nup};
+pub use nup_and_booklet::{booklet, nup};
+pub use selections::{Which, selection};

@@ -34,12 +34,12 @@ fn fitting(cell: u64, side: u64) -> u128
 }
 
 /// The width and the height of a cell, as one holds the sheet, in 10^-5 of a point.
-pub fn cells(sheet: &Paper, grid: Grid) -> (u64, u64)
-    ensures width { result.0 ≡ cell_width sheet.now grid }
-    ensures height { result.1 ≡ cell_height sheet.now grid }
+pub fn cells(sheet_paper: &Paper, grid: Grid) -> (u64, u64)
+    ensures width { result.0 ≡ cell_width sheet_paper.now grid }
+    ensures height { result.1 ≡ cell_height sheet_paper.now grid }
     ensures some { (0 < grid.rows) × (0 < grid.columns) }
 {
-    let (width, height) = (side(sheet.width()), side(sheet.height()));
+    let (width, height) = (side(sheet_paper.width()), side(sheet_paper.height()));
     if grid.turned {
         (part(height, grid.columns), part(width, grid.rows))
     } else {
@@ -48,13 +48,13 @@ pub fn cells(sheet: &Paper, grid: Grid) -> (u64, u64)
 }
 
 /// The largest scale, in 10^-9, that brings a page into a cell of the grid.
-pub fn scale_in(page: &Paper, sheet: &Paper, grid: Grid) -> u128
-    ensures value { result ≡ scale_of page.now sheet.now grid }
-    ensures across { result * nat_abs page.now.width ≤ 1_270_000_000_000_000 * cell_width sheet.now grid }
-    ensures up { result * nat_abs page.now.height ≤ 1_270_000_000_000_000 * cell_height sheet.now grid }
+pub fn scale_in(page_paper: &Paper, sheet_paper: &Paper, grid: Grid) -> u128
+    ensures value { result ≡ scale_of page_paper.now sheet_paper.now grid }
+    ensures across { result * nat_abs page_paper.now.width ≤ 1_270_000_000_000_000 * cell_width sheet_paper.now grid }
+    ensures up { result * nat_abs page_paper.now.height ≤ 1_270_000_000_000_000 * cell_height sheet_paper.now grid }
 {
-    let (width, height) = cells(sheet, grid);
-    fitting(width, side(page.width())).min(fitting(height, side(page.height())))
+    let (width, height) = cells(sheet_paper, grid);
+    fitting(width, side(page_paper.width())).min(fitting(height, side(page_paper.height())))
 }
 
 /// Whether pages can be written with this scale, in 10^-9.

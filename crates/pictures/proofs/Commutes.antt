@@ -1,12 +1,12 @@
 -- A machine in a placed state does what it does in the state, placed.
 use Rattle.std.specs.Prelude.{Option, Some, None}
 use Rattle.std.proofs.Common.{◌≡◌, ℕ, zero, suc, refl, ap, ◌∙◌, sym, subst, ◌==◌, if◌then◌else◌, List, [], ◌∷◌, ◌++◌, map, append_assoc, Bool, true, false}
-use Rattle.pictures.specs.Objects.{Token, Name, Opens, Closes, Bound, Unknown, Object, Procedure}
-use Rattle.pictures.specs.Objects.{Saved, Operator, Kind, Computes, Controls, Draws, PushesGraphics, PopsGraphics, Saves, Restores, Ships, Resets}
+use Rattle.pictures.specs.Objects.{Token, Name, Opens, Closes, Bound, Unknown, Object, Procedure, Plain}
+use Rattle.pictures.specs.Objects.{Saved, Operator, Kind, Computes, Controls, Draws, PushesGraphics, PopsGraphics, PopsAllGraphics, Looks, Saves, Restores, Ships, Resets, Copies, CopyOperands, Matrix, Call}
 use Rattle.pictures.specs.Objects.{Effect, Segments, Transforms, Sets, Paints, PaintsBeside, Shows, Clips, Forgets}
-use Rattle.pictures.specs.Operators.{Work, taken, computed, controlled}
+use Rattle.pictures.specs.Operators.{Work, taken, computed, computed_on, controlled}
 use Rattle.pictures.specs.Dictionaries.{meaning, system}
-use Rattle.pictures.specs.Machine.{State, Graphics, Snapshot, keep, body_of, opened, drawn, worked, running, popped, save_of, back, returned, restored, perform, done, meant, act, step_on, step, steps, and_then, may_go_back}
+use Rattle.pictures.specs.Machine.{State, Graphics, Snapshot, keep, body_of, opened, drawn, worked, running, popped, popped_all, save_of, back, returned, restored, chain_of, filled_from, copied, perform, done, meant, act, step_on, step, steps, and_then, may_go_back}
 use Rattle.pictures.specs.Placing.{Around, state_at, snapshot_at, graphics_at}
 use Rattle.pictures.specs.Pictures.{PlacingCommutes}
 use Rattle.pictures.proofs.Runs.{nothing}
@@ -66,6 +66,11 @@ pops a s (g ∷ gs) shots = refl
 pops a s [] [] = tt
 pops a s [] (shot ∷ shots) = refl
 
+pops_all : (a : Around) (s : State) (shots : List Snapshot) →
+    Follows a (popped_all shots (record s { saves = shots })) (popped_all (map (snapshot_at a.place) shots ++ a.saves) (state_at a (record s { saves = shots })))
+pops_all a s [] = tt
+pops_all a s (shot ∷ shots) = refl
+
 abbrev Finds : Around → Option (Snapshot × List Snapshot) → Option (Snapshot × List Snapshot) → Type 0
 Finds a None y = Unit {0}
 Finds a (Some (shot, shots)) y = y ≡ Some (snapshot_at a.place shot, map (snapshot_at a.place) shots ++ a.saves)
@@ -98,19 +103,31 @@ restores : (a : Around) (os : List Object) (s : State) → Follows a (restored o
 restores a (Saved level ∷ os) s = goes_back a os (save_of level s.saves) (save_of level (state_at a s).saves) s (finds_save a level s.saves)
 restores a os s = tt
 
+fills : (a : Around) (x : Option (List Call)) (n : ℕ) (os : List Object) (s : State) → Follows a (filled_from x n os s) (filled_from x n os (state_at a s))
+fills a None n os s = tt
+fills a (Some chain) n os s = refl
+
+copies : (a : Around) (os : List Object) (s : State) → Follows a (copied os s) (copied os (state_at a s))
+copies a (Matrix n ∷ Matrix m ∷ os) s = fills a (chain_of m s.kept) n os s
+copies a os s = works a (computed_on CopyOperands os s.work) s
+
 performs : (a : Around) (name : List ℕ) (k : Kind) (s : State) → Follows a (perform true name k s) (perform false name k (state_at a s))
 performs a name (Computes c) s = works a (computed c s.work) s
 performs a name (Controls c) s = runs_next a (controlled c s.work) s
 performs a name (Draws wants e) s = draws a e name (taken wants s.work.operands) s
 performs a name PushesGraphics s = refl
 performs a name PopsGraphics s = pops a s s.stacked s.saves
+performs a name PopsAllGraphics s = pops_all a s s.saves
+performs a name (Looks v) s = tt
 performs a name Saves s = refl
 performs a name Restores s = restores a s.work.operands s
 performs a name Ships s = tt
 performs a name Resets s = tt
+performs a name Copies s = copies a s.work.operands s
 
 does : (a : Around) (o : Object) (s : State) → Follows a (done true o s) (done false o (state_at a s))
 does a (Procedure ts) s = goes_before a ts s
+does a (Plain (Name name)) s = refl
 does a (Operator name kind) s = performs a name kind s
 does a o s = refl
 

@@ -23,3 +23,4 @@ pub mod PagesTogether
 pub mod Independence
 pub mod BehindShowpage
 pub mod Calculating
+pub mod Looking

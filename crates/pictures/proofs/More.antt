@@ -1,12 +1,12 @@
 -- More tokens behind those that are left change nothing but that they are left too.
 use Rattle.std.specs.Prelude.{Option, Some, None}
 use Rattle.std.proofs.Common.{◌≡◌, ℕ, zero, suc, refl, ap, ◌∙◌, sym, if◌then◌else◌, List, [], ◌∷◌, ◌++◌, append_assoc, Bool, true, false}
-use Rattle.pictures.specs.Objects.{Token, Name, Opens, Closes, Bound, Unknown, Object, Procedure}
-use Rattle.pictures.specs.Objects.{Saved, Operator, Kind, Computes, Controls, Draws, PushesGraphics, PopsGraphics, Saves, Restores, Ships, Resets}
+use Rattle.pictures.specs.Objects.{Token, Name, Opens, Closes, Bound, Unknown, Object, Procedure, Plain, Matrix, Dictionary, View, TakesMatrix, SetsMatrix, DefaultMatrix, InitialMatrix, InitialClip, ClipOutline, PathElements, SetsDevice, ErasesPage, Call}
+use Rattle.pictures.specs.Objects.{Saved, Operator, Kind, Computes, Controls, Draws, PushesGraphics, PopsGraphics, PopsAllGraphics, Looks, Saves, Restores, Ships, Resets, Copies, CopyOperands}
 use Rattle.pictures.specs.Objects.{Effect}
-use Rattle.pictures.specs.Operators.{Work, taken, computed, controlled}
+use Rattle.pictures.specs.Operators.{Work, with_operands, taken, computed, computed_on, controlled}
 use Rattle.pictures.specs.Dictionaries.{meaning, system}
-use Rattle.pictures.specs.Machine.{State, Graphics, Snapshot, body_of, opened, drawn, worked, running, popped, save_of, back, returned, restored, perform, done, meant, act, step_on, step, steps, and_then, Runs, may_go_back}
+use Rattle.pictures.specs.Machine.{State, Graphics, Snapshot, Clip, body_of, opened, drawn, worked, running, popped, popped_all, viewed, set_to, outlined, traced, chain_of, filled_from, copied, path_tokens, save_of, back, returned, restored, perform, done, meant, act, step_on, step, steps, and_then, Runs, may_go_back}
 use Rattle.pictures.proofs.Runs.{nothing}
 use Rattle.pictures.proofs.Commutes.{Extends, body_goes_on}
 
@@ -43,6 +43,35 @@ pops more s (g ∷ gs) shots = refl
 pops more s [] [] = tt
 pops more s [] (shot ∷ shots) = refl
 
+pops_all : (more : List Token) (s : State) (shots : List Snapshot) → Follows more (popped_all shots s) (popped_all shots (with_more more s))
+pops_all more s [] = tt
+pops_all more s (shot ∷ shots) = refl
+
+sets : (more : List Token) (x : Option (List Call)) (os : List Object) (s : State) → Follows more (set_to x os s) (set_to x os (with_more more s))
+sets more None os s = tt
+sets more (Some chain) os s = refl
+
+outlines : (more : List Token) (name : List ℕ) (cs : List Clip) (s : State) → Follows more (outlined name cs s) (outlined name cs (with_more more s))
+outlines more name [] s = refl
+outlines more name (c ∷ cs) s = tt
+
+traces : (more : List Token) (x : Option (List Token)) (os : List Object) (s : State) → Follows more (traced x os s) (traced x os (with_more more s))
+traces more None os s = tt
+traces more (Some ts) os s = goes_before more ts (record s { work = with_operands s.work os })
+
+looks : (more : List Token) (v : View) (name : List ℕ) (os : List Object) (s : State) → Follows more (viewed v name os s) (viewed v name os (with_more more s))
+looks more TakesMatrix name (Matrix n ∷ os) s = refl
+looks more SetsMatrix name (Matrix n ∷ os) s = sets more (chain_of n s.kept) os s
+looks more DefaultMatrix name (Matrix n ∷ os) s = refl
+looks more InitialMatrix name os s = refl
+looks more InitialClip name os s = refl
+looks more ClipOutline name os s = outlines more name s.graphics.clip s
+looks more PathElements name (Procedure closes ∷ Procedure curves ∷ Procedure lines ∷ Procedure moves ∷ os) s =
+    traces more (path_tokens s.graphics.chain moves lines curves closes s.graphics.path [] []) os s
+looks more SetsDevice name (Dictionary d ∷ os) s = refl
+looks more ErasesPage name os s = refl
+looks more v name os s = tt
+
 goes_back_if : (more : List Token) (may : Bool) (t : State) → Follows more (if may then Some t else None) (if may then Some (with_more more t) else None)
 goes_back_if more true t = refl
 goes_back_if more false t = tt
@@ -55,19 +84,31 @@ restores : (more : List Token) (os : List Object) (s : State) → Follows more (
 restores more (Saved level ∷ os) s = goes_back more os (save_of level s.saves) s
 restores more os s = tt
 
+fills : (more : List Token) (x : Option (List Call)) (n : ℕ) (os : List Object) (s : State) → Follows more (filled_from x n os s) (filled_from x n os (with_more more s))
+fills more None n os s = tt
+fills more (Some chain) n os s = refl
+
+copies : (more : List Token) (os : List Object) (s : State) → Follows more (copied os s) (copied os (with_more more s))
+copies more (Matrix n ∷ Matrix m ∷ os) s = fills more (chain_of m s.kept) n os s
+copies more os s = works more (computed_on CopyOperands os s.work) s
+
 performs : (more : List Token) (name : List ℕ) (k : Kind) (s : State) → Follows more (perform false name k s) (perform false name k (with_more more s))
 performs more name (Computes c) s = works more (computed c s.work) s
 performs more name (Controls c) s = runs_next more (controlled c s.work) s
 performs more name (Draws wants e) s = draws more e name (taken wants s.work.operands) s
 performs more name PushesGraphics s = refl
 performs more name PopsGraphics s = pops more s s.stacked s.saves
+performs more name PopsAllGraphics s = pops_all more s s.saves
+performs more name (Looks v) s = looks more v name s.work.operands s
 performs more name Saves s = refl
 performs more name Restores s = restores more s.work.operands s
 performs more name Ships s = refl
 performs more name Resets s = refl
+performs more name Copies s = copies more s.work.operands s
 
 does : (more : List Token) (o : Object) (s : State) → Follows more (done false o s) (done false o (with_more more s))
 does more (Procedure ts) s = goes_before more ts s
+does more (Plain (Name name)) s = refl
 does more (Operator name kind) s = performs more name kind s
 does more o s = refl
 

@@ -5,17 +5,17 @@ use Rattle.std.specs.Char.{is_ascii_digit}
 use Rattle.std.proofs.lemmas.Slice.Eq.{bytes_eq-Decides}
 use Rattle.std.proofs.Common.{◌≡◌, ℕ, zero, suc, ℤ, ◌+◌, refl, ap, ap₂, ◌∙◌, sym, subst, Bool, true, false, not, ◌&&◌, ◌||◌, ◌==◌, List, [], ◌∷◌, map, true≢false}
 use Rattle.rules.specs.Numbers.{number_of}
-use Rattle.pictures.specs.Objects.{Token, Number, Name, Literal, Object, Plain, Truth, Procedure, Dictionary}
+use Rattle.pictures.specs.Objects.{Token, Number, Name, Literal, Object, Plain, Truth, Procedure, Dictionary, SystemDictionary}
 use Rattle.pictures.specs.Objects.{Saved, Font, Operator, Computation, Computes, Control, Execute, If, IfElse, Repeat}
 use Rattle.pictures.specs.Objects.{Pop, Duplicate, Exchange, OpenArray, CloseArray, Put, Define, Begin, End, MakeDictionary, Load, Bind, Known, Index, ClearToMark, FindFont, ScaleFont}
-use Rattle.pictures.specs.Objects.{Calculate, Negate, Compare, And, Or, Not, Where, Get, Length, LoadArray, CloseDictionary, CopyOperands, Roll, For, ForAll, Array, Mark}
-use Rattle.pictures.specs.Calculations.{whole_of, compared, names_compared, turns}
-use Rattle.pictures.specs.Dictionaries.{Entry, meaning, entry_of, or, has, is_of_the_system}
-use Rattle.std.specs.Prelude.{nat_le}
+use Rattle.pictures.specs.Objects.{Calculate, Negate, Compare, And, Or, Not, Where, Get, Length, LoadArray, CloseDictionary, CopyOperands, Roll, Count, MakeExecutable, IsWritable, MakeMatrix, Comparison, For, ForAll, Array, Mark}
+use Rattle.pictures.specs.Calculations.{whole_of, turns}
+use Rattle.pictures.specs.Dictionaries.{Entry, meaning, system, entry_of, or, has, is_lacked}
+use Rattle.std.specs.Prelude.{nat_le, decimal, flat_map}
 use Rattle.std.specs.List.{take-map, drop-map}
 use Rattle.std.proofs.lemmas.List.{map-append, length-map}
 use Rattle.std.proofs.Common.{◌++◌, take, drop}
-use Rattle.pictures.specs.Operators.{are_there, rolled, rolling, shift, filled, made_of, Work, with_operands, collected, gathered, below_mark, cleared, nth, loaded, bound_to, bound, define, ended, computed_on, controlled_on, times, judged, located, holder, element, turned, counting}
+use Rattle.pictures.specs.Operators.{are_there, rolled, rolling, shift, filled, made_of, Work, with_operands, collected, gathered, below_mark, cleared, nth, loaded, bound_to, bound, define, ended, computed_on, controlled_on, times, judged, located, known_there, sort_of, objects_compared, are_literal, holder, element, turned, counting}
 use Rattle.pictures.specs.Sheets.{among, in_userdict}
 use Rattle.pictures.specs.Unaware.{put_names, names_in, none_among, asked_by}
 use Rattle.pictures.proofs.Tests.{first, second, by_test}
@@ -129,10 +129,26 @@ judged_goes : (n : ℕ) (x : Option Bool) (w : Work) (es : List Entry) → Agree
 judged_goes n None w es a = tt
 judged_goes n (Some test) w es a = (es, refl, a)
 
-located_goes : (n : ℕ) (x : Option ℕ) (b : Bool) (w : Work) (es : List Entry) → Agree n es w.entries → WorkGoes n (located x b w) (located x b (up_work es w))
-located_goes n (Some d) b w es a = (es, refl, a)
-located_goes n None true w es a = tt
-located_goes n None false w es a = (es, refl, a)
+located_goes : (n : ℕ) (x : Option ℕ) (b c : Bool) (w : Work) (es : List Entry) → Agree n es w.entries → WorkGoes n (located x b c w) (located x b c (up_work es w))
+located_goes n (Some d) b c w es a = (es, refl, a)
+located_goes n None true c w es a = (es, refl, a)
+located_goes n None false true w es a = tt
+located_goes n None false false w es a = (es, refl, a)
+
+sort_up : (o : Object) → sort_of (up o) ≡ sort_of o
+sort_up (Saved level) = refl
+sort_up o = refl
+
+compared_up : (c : Comparison) (o p : Object) → objects_compared c (up o) (up p) ≡ objects_compared c o p
+compared_up c (Saved level) (Saved m) = refl
+compared_up c (Saved level) p = refl
+compared_up c (Plain (Number text)) (Saved level) = refl
+compared_up c (Plain (Literal name)) (Saved level) = refl
+compared_up c (Plain t) (Saved level) = refl
+compared_up c (Dictionary d) (Saved level) = refl
+compared_up c SystemDictionary (Saved level) = refl
+compared_up c o (Saved level) = refl
+compared_up c o p = refl
 
 holder_same : (n : ℕ) (ds : List ℕ) (k : List ℕ) (w : Work) (es : List Entry) → Agree n es w.entries → among k put_names ≡ false → holder ds es k ≡ holder ds w.entries k
 holder_same n [] k w es a e = refl
@@ -199,6 +215,7 @@ works_on n name Load (Plain (Literal k) ∷ os) w es a q =
     (loaded_goes n (meaning w.dictionaries w.entries k) (with_operands w os) es a)
 works_on n name Bind (Procedure ts ∷ os) w es a q = (es, ap (λ us. Some (with_operands (up_work es w) (Procedure us ∷ ups os))) (all_bound n w es ts a q), a)
 works_on n name Known (Plain (Literal k) ∷ Dictionary d ∷ os) w es a q = (es, ap (λ b. Some (with_operands (up_work es w) (Truth b ∷ ups os))) (known_goes n d k w es a (one_not k q)), a)
+works_on n name Known (Plain (Literal k) ∷ SystemDictionary ∷ os) w es a q = judged_goes n (known_there (has (system k)) (is_lacked k)) (with_operands w os) es a
 works_on n name Index (Plain (Number text) ∷ os) w es a q =
     if_goes n (list_all is_ascii_digit text) (loaded (nth (number_of text) os) (with_operands w os)) (loaded (nth (number_of text) (ups os)) (up_work es (with_operands w os)))
     (subst (λ x. WorkGoes n (loaded (nth (number_of text) os) (with_operands w os)) (loaded x (up_work es (with_operands w os)))) (sym (nth_up (number_of text) os)) (loaded_goes n (nth (number_of text) os) (with_operands w os) es a))
@@ -208,17 +225,21 @@ works_on n name FindFont (Plain (Literal k) ∷ os) w es a q = (es, refl, a)
 works_on n name ScaleFont (Plain (Number text) ∷ Font ts ∷ os) w es a q = (es, refl, a)
 works_on n name (Calculate c) (Plain (Number y) ∷ Plain (Number x) ∷ os) w es a q = (es, refl, a)
 works_on n name Negate (Plain (Number x) ∷ os) w es a q = (es, refl, a)
-works_on n name (Compare c) (Plain (Number y) ∷ Plain (Number x) ∷ os) w es a q = judged_goes n (compared c x y) (with_operands w os) es a
-works_on n name (Compare c) (Plain (Literal y) ∷ Plain (Literal x) ∷ os) w es a q = judged_goes n (names_compared c x y) (with_operands w os) es a
+works_on n name (Compare c) (y ∷ x ∷ os) w es a q =
+    subst (λ z. WorkGoes n (judged (objects_compared c x y) (with_operands w os)) (judged z (up_work es (with_operands w os)))) (sym (compared_up c x y))
+    (judged_goes n (objects_compared c x y) (with_operands w os) es a)
 works_on n name And (Truth y ∷ Truth x ∷ os) w es a q = (es, refl, a)
 works_on n name Or (Truth y ∷ Truth x ∷ os) w es a q = (es, refl, a)
 works_on n name Not (Truth x ∷ os) w es a q = (es, refl, a)
 works_on n name Where (Plain (Literal k) ∷ os) w es a q =
-    subst (λ x. WorkGoes n (located (holder w.dictionaries w.entries k) (is_of_the_system k) (with_operands w os)) (located x (is_of_the_system k) (up_work es (with_operands w os)))) (sym (holder_same n w.dictionaries k w es a (one_not k q)))
-    (located_goes n (holder w.dictionaries w.entries k) (is_of_the_system k) (with_operands w os) es a)
+    subst (λ x. WorkGoes n (located (holder w.dictionaries w.entries k) (has (system k)) (is_lacked k) (with_operands w os)) (located x (has (system k)) (is_lacked k) (up_work es (with_operands w os)))) (sym (holder_same n w.dictionaries k w es a (one_not k q)))
+    (located_goes n (holder w.dictionaries w.entries k) (has (system k)) (is_lacked k) (with_operands w os) es a)
 works_on n name Get (Plain (Literal k) ∷ Dictionary d ∷ os) w es a q =
     subst (λ x. WorkGoes n (loaded (entry_of d k w.entries) (with_operands w os)) (loaded x (up_work es (with_operands w os)))) (sym (entry_goes n d k w es a (one_not k q)))
     (loaded_goes n (entry_of d k w.entries) (with_operands w os) es a)
+works_on n name Get (Plain (Literal k) ∷ SystemDictionary ∷ os) w es a q =
+    subst (λ x. WorkGoes n (loaded (system k) (with_operands w os)) (loaded x (up_work es (with_operands w os)))) (system_same k)
+    (loaded_goes n (system k) (with_operands w os) es a)
 works_on n name Get (Plain (Number text) ∷ Array ts ∷ os) w es a q =
     if_goes n (list_all is_ascii_digit text) (element (number_of text) ts (with_operands w os)) (element (number_of text) ts (up_work es (with_operands w os)))
     (element_goes n (number_of text) ts (with_operands w os) es a)
@@ -232,6 +253,13 @@ works_on n name CopyOperands (Plain (Number text) ∷ os) w es a q =
 works_on n name Roll (Plain (Number j) ∷ Plain (Number text) ∷ os) w es a q =
     subst (λ b. WorkGoes n (rolling (whole_of j) (number_of text) (are_there text os) os w) (rolling (whole_of j) (number_of text) b (ups os) (up_work es w))) (sym (there_up text os))
     (rolling_goes n (whole_of j) (number_of text) (are_there text os) os w es a)
+works_on n name Count os w es a q = (es, ap (λ m. Some (with_operands (up_work es w) (Plain (Number (decimal m)) ∷ ups os))) (length-map os up), a)
+works_on n name MakeExecutable (Plain (Literal k) ∷ os) w es a q = (es, refl, a)
+works_on n name MakeExecutable (Array ts ∷ os) w es a q = (es, refl, a)
+works_on n name MakeExecutable (Procedure ts ∷ os) w es a q = (es, refl, a)
+works_on n name IsWritable (Dictionary d ∷ os) w es a q = (es, refl, a)
+works_on n name IsWritable (SystemDictionary ∷ os) w es a q = (es, refl, a)
+works_on n name MakeMatrix os w es a q = (es, refl, a)
 works_on n name c os w es a q = tt
 
 abbrev pub ControlGoes : ℕ → Option (List Token × Work) → Option (List Token × Work) → Type 0
@@ -252,11 +280,14 @@ counting_goes n x y z ts w es a = tt
 
 pub controls_on : (n : ℕ) (c : Control) (os : List Object) (w : Work) (es : List Entry) → Agree n es w.entries → ControlGoes n (controlled_on c os w) (controlled_on c (ups os) (up_work es w))
 controls_on n Execute (Procedure ts ∷ os) w es a = (es, refl, a)
+controls_on n Execute (Operator name kind ∷ os) w es a = (es, refl, a)
+controls_on n Execute (Plain t ∷ os) w es a = (es, refl, a)
 controls_on n If (Procedure ts ∷ Truth test ∷ os) w es a = (es, refl, a)
 controls_on n IfElse (Procedure us ∷ Procedure ts ∷ Truth test ∷ os) w es a = (es, refl, a)
 controls_on n Repeat (Procedure ts ∷ Plain (Number text) ∷ os) w es a =
     if_control n (list_all is_ascii_digit text) (Some (times (number_of text) ts, with_operands w os)) (Some (times (number_of text) ts, up_work es (with_operands w os))) (es, refl, a)
 controls_on n For (Procedure ts ∷ Plain (Number limit) ∷ Plain (Number step) ∷ Plain (Number first) ∷ os) w es a =
     counting_goes n (whole_of first) (whole_of step) (whole_of limit) ts (with_operands w os) es a
-controls_on n ForAll (Procedure ts ∷ Array us ∷ os) w es a = (es, refl, a)
+controls_on n ForAll (Procedure ts ∷ Array us ∷ os) w es a =
+    if_control n (are_literal us) (Some (flat_map (λ e. e ∷ ts) us, with_operands w os)) (Some (flat_map (λ e. e ∷ ts) us, up_work es (with_operands w os))) (es, refl, a)
 controls_on n c os w es a = tt

@@ -14,7 +14,7 @@ use Rattle.pictures.specs.Documents.{numbers_of, OpeningIsCut}
 use Rattle.pictures.proofs.NumberTokens.{IsWord, Reads, reads_join, reads_word, word_is, onto, points_word, scale_word}
 
 -- a text, a number, and a text that ends the number
-add_number : (x number behind : List ℕ) (ts us : List Token) (q : Reading) → Reads Between x ts Between → IsWord number
+pub add_number : (x number behind : List ℕ) (ts us : List Token) (q : Reading) → Reads Between x ts Between → IsWord number
     → ((acc : List ℕ) → Reads (InWord acc) behind (word (reverse acc) ∷ us) q) → Reads Between ((x ++ number) ++ behind) (ts ++ (Number number ∷ us)) q
 add_number x number behind ts us q e w f =
     let start : Reads Between (x ++ number) ts (InWord (onto number [])) =

@@ -5,7 +5,7 @@ use Rattle.std.proofs.Common.{◌≡◌, ℕ, ◌+◌, refl, ap, ◌∙◌, sym,
 use Rattle.std.proofs.lemmas.Grind.{flat_map-append}
 use Rattle.std.proofs.lemmas.List.{map-append}
 use Rattle.rules.specs.Bytes.{line, line_feed}
-use Rattle.rules.specs.Specification.{Item}
+use Rattle.rules.specs.Specification.{Item, Spec}
 use Rattle.rules.specs.Sheets.{Slot}
 use Rattle.rules.specs.Signatures.{sheets_in}
 use Rattle.rules.specs.Parts.{NestedUnit, pages}
@@ -17,7 +17,7 @@ use Rattle.pictures.specs.Scanner.{Reading, Between, InComment, scan_from, behin
 use Rattle.pictures.specs.Sheets.{Shown, saving_tokens, placing_tokens, closing_tokens, placed_tokens, sheet_tokens}
 use Rattle.pictures.specs.Pictures.{sheets_tokens, AllSheetsPaint}
 use Rattle.pictures.specs.Sheets.{AllPaint}
-use Rattle.pictures.specs.Documents.{numbers_of, started, body_of_page, shown_slot, shown_sheet, sheet_pictures, PagePaints, OnSlot, OnSlots, OnSheets, OutputIsPrinted}
+use Rattle.pictures.specs.Documents.{numbers_of, started, body_of_page, shown_slot, shown_sheet, sheet_pictures, PagePaints, OnSlot, OnSlots, OnSheets, all_sheets, OutputIsPrinted}
 use Rattle.pictures.proofs.Runs.{runs_join}
 use Rattle.pictures.proofs.More.{runs_with_more}
 use Rattle.pictures.proofs.Sheets.{sheets_are_printed}
@@ -59,50 +59,64 @@ complete_read text e =
 abbrev placed_of : List Shown → List Token
 placed_of xs = flat_map placed_tokens (map (λ x. x.placed) xs)
 
-slot_read : (frame : Frame) (us : List NestedUnit) (picture : ℕ → List Painting) (s : State) (page : Option ℕ) (item : Item) → OnSlot (λ p. PagePaints us s p (picture p)) page
+slot_read : (frame : Frame) (us : List NestedUnit) (picture : ℕ → List Painting) (page : Option ℕ) (item : Item) → OnSlot (λ p. IsComplete (body_of_page us p)) page
     → Reads Between (slot_text frame (pages us) page item) (placed_of (shown_slot frame us picture page item)) Between
-slot_read frame us picture s None item h = refl
-slot_read frame us picture s (Some p) item h =
+slot_read frame us picture None item h = refl
+slot_read frame us picture (Some p) item h =
     let body : List Token = tokens (body_of_page us p) in
     let placing : List Token = placing_tokens (numbers_of frame item) in
     let same : ((saving_tokens ++ placing) ++ body) ++ closing_tokens ≡ (saving_tokens ++ (placing ++ (body ++ closing_tokens))) ++ [] =
     append_assoc (saving_tokens ++ placing) body closing_tokens ∙ append_assoc saving_tokens placing (body ++ closing_tokens) ∙ sym (append-nil (saving_tokens ++ (placing ++ (body ++ closing_tokens)))) in
     subst (λ ts. Reads Between (slot_text frame (pages us) (Some p) item) ts Between) same
     (reads_join Between Between Between (opening_text frame item ++ body_of_page us p) closing_text ((saving_tokens ++ placing) ++ body) closing_tokens
-    (reads_join Between Between Between (opening_text frame item) (body_of_page us p) (saving_tokens ++ placing) body (opening_read frame item) (complete_read (body_of_page us p) h.0))
+    (reads_join Between Between Between (opening_text frame item) (body_of_page us p) (saving_tokens ++ placing) body (opening_read frame item) (complete_read (body_of_page us p) h))
     refl)
 
 placed_append : (xs ys : List Shown) → placed_of (xs ++ ys) ≡ placed_of xs ++ placed_of ys
 placed_append xs ys = ap (flat_map placed_tokens) (map-append (λ x. x.placed) xs ys) ∙ flat_map-append placed_tokens (map (λ x. x.placed) xs) (map (λ x. x.placed) ys)
 
-slots_read : (frame : Frame) (us : List NestedUnit) (picture : ℕ → List Painting) (s : State) (slots : List Slot) → OnSlots (λ p. PagePaints us s p (picture p)) slots
+slots_read : (frame : Frame) (us : List NestedUnit) (picture : ℕ → List Painting) (slots : List Slot) → OnSlots (λ p. IsComplete (body_of_page us p)) slots
     → Reads Between (flat_map (λ slot. slot_text frame (pages us) slot.page slot.item) slots) (placed_of (shown_sheet frame us picture slots)) Between
-slots_read frame us picture s [] h = refl
-slots_read frame us picture s (slot ∷ slots) h =
+slots_read frame us picture [] h = refl
+slots_read frame us picture (slot ∷ slots) h =
     let here : List Shown = shown_slot frame us picture slot.page slot.item in
     let text : List ℕ = flat_map (λ slot. slot_text frame (pages us) slot.page slot.item) (slot ∷ slots) in
     subst (λ ts. Reads Between text ts Between) (sym (placed_append here (shown_sheet frame us picture slots)))
     (reads_join Between Between Between (slot_text frame (pages us) slot.page slot.item) (flat_map (λ slot. slot_text frame (pages us) slot.page slot.item) slots) (placed_of here) (placed_of (shown_sheet frame us picture slots))
-    (slot_read frame us picture s slot.page slot.item h.0)
-    (slots_read frame us picture s slots h.1))
+    (slot_read frame us picture slot.page slot.item h.0)
+    (slots_read frame us picture slots h.1))
 
-sheet_read : (frame : Frame) (us : List NestedUnit) (picture : ℕ → List Painting) (s : State) (k : ℕ) (slots : List Slot) → OnSlots (λ p. PagePaints us s p (picture p)) slots
+sheet_read : (frame : Frame) (us : List NestedUnit) (picture : ℕ → List Painting) (k : ℕ) (slots : List Slot) → OnSlots (λ p. IsComplete (body_of_page us p)) slots
     → Reads Between (sheet_text frame (pages us) k slots) (sheet_tokens (map (λ x. x.placed) (shown_sheet frame us picture slots))) Between
-sheet_read frame us picture s k slots h =
+sheet_read frame us picture k slots h =
     let header : List ℕ = line (codes "%%Page: " ++ decimal (k + 1) ++ codes " " ++ decimal (k + 1)) in
     let middle : List ℕ = flat_map (λ slot. slot_text frame (pages us) slot.page slot.item) slots in
     reads_join Between Between Between (header ++ middle) (line (codes "showpage")) (placed_of (shown_sheet frame us picture slots)) (Name (codes "showpage") ∷ [])
-    (reads_join Between Between Between header middle [] (placed_of (shown_sheet frame us picture slots)) (page_line (k + 1)) (slots_read frame us picture s slots h))
+    (reads_join Between Between Between header middle [] (placed_of (shown_sheet frame us picture slots)) (page_line (k + 1)) (slots_read frame us picture slots h))
     refl
 
-sheets_read : (frame : Frame) (us : List NestedUnit) (picture : ℕ → List Painting) (s : State) (k : ℕ) (all : List (List Slot)) → OnSheets (λ p. PagePaints us s p (picture p)) all
+sheets_read : (frame : Frame) (us : List NestedUnit) (picture : ℕ → List Painting) (k : ℕ) (all : List (List Slot)) → OnSheets (λ p. IsComplete (body_of_page us p)) all
     → Reads Between (flat_map (λ (s, slots). sheet_text frame (pages us) s slots) (enumerate_from k all)) (sheets_tokens (map (shown_sheet frame us picture) all)) Between
-sheets_read frame us picture s k [] h = refl
-sheets_read frame us picture s k (slots ∷ more) h =
+sheets_read frame us picture k [] h = refl
+sheets_read frame us picture k (slots ∷ more) h =
     reads_join Between Between Between (sheet_text frame (pages us) k slots) (flat_map (λ (s, slots). sheet_text frame (pages us) s slots) (enumerate_from (k + 1) more))
     (sheet_tokens (map (λ x. x.placed) (shown_sheet frame us picture slots))) (sheets_tokens (map (shown_sheet frame us picture) more))
-    (sheet_read frame us picture s k slots h.0)
-    (sheets_read frame us picture s (k + 1) more h.1)
+    (sheet_read frame us picture k slots h.0)
+    (sheets_read frame us picture (k + 1) more h.1)
+
+-- what is so of each page, where something else is
+
+on_slot : (P Q : ℕ → Type 0) → ((p : ℕ) → P p → Q p) → (page : Option ℕ) → OnSlot P page → OnSlot Q page
+on_slot P Q f None h = tt
+on_slot P Q f (Some p) h = f p h
+
+on_slots : (P Q : ℕ → Type 0) → ((p : ℕ) → P p → Q p) → (slots : List Slot) → OnSlots P slots → OnSlots Q slots
+on_slots P Q f [] h = tt
+on_slots P Q f (slot ∷ slots) h = (on_slot P Q f slot.page h.0, on_slots P Q f slots h.1)
+
+pub on_sheets : (P Q : ℕ → Type 0) → ((p : ℕ) → P p → Q p) → (all : List (List Slot)) → OnSheets P all → OnSheets Q all
+on_sheets P Q f [] h = tt
+on_sheets P Q f (slots ∷ more) h = (on_slots P Q f slots h.0, on_sheets P Q f more h.1)
 
 -- what is said of slots, said of what they show
 
@@ -119,22 +133,34 @@ sheets_paint : (frame : Frame) (us : List NestedUnit) (picture : ℕ → List Pa
 sheets_paint frame us picture s [] h = tt
 sheets_paint frame us picture s (slots ∷ more) h = (slots_paint frame us picture s slots h.0, sheets_paint frame us picture s more h.1)
 
-pub output_is_printed : OutputIsPrinted
-output_is_printed frame sides spec us picture s (complete, run, nothing_left, nothing_painted, nothing_printed, ground) h =
+-- the tokens of an output
+pub output_cut : (frame : Frame) (sides : Option ℕ) (spec : Spec) (us : List NestedUnit) (picture : ℕ → List Painting)
+    → IsComplete (preamble_text (length (all_sheets sides spec us)) us) → OnSheets (λ p. IsComplete (body_of_page us p)) (all_sheets sides spec us)
+    → tokens (output frame sides spec us)
+    ≡ tokens (preamble_text (length (all_sheets sides spec us)) us) ++ (sheets_tokens (map (shown_sheet frame us picture) (all_sheets sides spec us)) ++ tokens (trailer_text us))
+output_cut frame sides spec us picture complete h =
     let all : List (List Slot) = sheets_in sides spec (length (pages us)) in
     let first : List ℕ = preamble_text (length all) us in
     let middle : List ℕ = flat_map (λ (s, slots). sheet_text frame (pages us) s slots) (enumerate_from 0 all) in
     let shown : List (List Shown) = map (shown_sheet frame us picture) all in
     let last : List Token = tokens (trailer_text us) in
-    let more : List Token = sheets_tokens shown ++ last in
     let both : Reads Between (first ++ middle) (tokens first ++ sheets_tokens shown) Between =
-    reads_join Between Between Between first middle (tokens first) (sheets_tokens shown) (complete_read first complete) (sheets_read frame us picture s 0 all h) in
-    let cut : tokens (output frame sides spec us) ≡ tokens first ++ more =
+    reads_join Between Between Between first middle (tokens first) (sheets_tokens shown) (complete_read first complete) (sheets_read frame us picture 0 all h) in
     tokens_join (first ++ middle) (trailer_text us) (ap (λ x. x.1) both)
     ∙ ap (λ ts. ts ++ last) (ap (λ x. x.0 ++ ended x.1) both ∙ append-nil (tokens first ++ sheets_tokens shown))
-    ∙ append_assoc (tokens first) (sheets_tokens shown) last in
+    ∙ append_assoc (tokens first) (sheets_tokens shown) last
+
+pub output_is_printed : OutputIsPrinted
+output_is_printed frame sides spec us picture s (complete, run, nothing_left, nothing_painted, nothing_printed, ground) h =
+    let all : List (List Slot) = sheets_in sides spec (length (pages us)) in
+    let first : List ℕ = preamble_text (length all) us in
+    let shown : List (List Shown) = map (shown_sheet frame us picture) all in
+    let last : List Token = tokens (trailer_text us) in
+    let more : List Token = sheets_tokens shown ++ last in
+    let complete_pages : OnSheets (λ p. IsComplete (body_of_page us p)) all =
+    on_sheets (λ p. PagePaints us s p (picture p)) (λ p. IsComplete (body_of_page us p)) (λ p q. q.0) all h in
     let end : State = record s { left = last; sheets = sheet_pictures frame us picture s all } in
-    subst (λ ts. Runs false (started ts) end) (sym cut)
+    subst (λ ts. Runs false (started ts) end) (sym (output_cut frame sides spec us picture complete complete_pages))
     (runs_join false (started (tokens first ++ more)) (record s { left = s.left ++ more }) end
     (runs_with_more more (started (tokens first)) s run)
     (subst (λ l. Runs false (record s { left = l ++ more }) end) (sym nothing_left)

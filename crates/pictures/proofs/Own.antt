@@ -2,11 +2,11 @@
 use Rattle.std.specs.Prelude.{nat_lt, Option, Some, None, Ok, if◌then◌else◌, codes, option_map, bytes_eq}
 use Rattle.std.proofs.lemmas.Slice.Eq.{bytes_eq-Decides}
 use Rattle.std.proofs.Common.{◌≡◌, ℕ, zero, suc, refl, ap, ap₂, ◌∙◌, sym, subst, Bool, true, false, not, ◌&&◌, ◌||◌, ◌==◌, List, [], ◌∷◌, true≢false, eqb-true, length, ◌+◌, arith}
-use Rattle.pictures.specs.Objects.{Token, Name, Opens, Closes, Bound, Unknown, Object, Procedure, Saved, Operator, Kind, Effect}
-use Rattle.pictures.specs.Objects.{Computes, Controls, Draws, PushesGraphics, PopsGraphics, Saves, Restores, Ships, Resets}
+use Rattle.pictures.specs.Objects.{Token, Name, Opens, Closes, Bound, Unknown, Object, Plain, Procedure, Saved, Operator, Kind, Effect}
+use Rattle.pictures.specs.Objects.{Computes, Controls, Draws, PushesGraphics, PopsGraphics, PopsAllGraphics, Looks, Saves, Restores, Ships, Resets, Copies, CopyOperands, Matrix, Call}
 use Rattle.pictures.specs.Dictionaries.{Entry, meaning, system, entry_of, or, has}
-use Rattle.pictures.specs.Operators.{Work, taken, computed, controlled}
-use Rattle.pictures.specs.Machine.{State, Graphics, Snapshot, Painting, body_of, opened, drawn, worked, running, popped, save_of, back, returned, restored, perform, done, meant, act, step_on, step, and_then, may_go_back, initial, shipped, Runs}
+use Rattle.pictures.specs.Operators.{Work, taken, computed, computed_on, controlled}
+use Rattle.pictures.specs.Machine.{State, Graphics, Snapshot, Painting, body_of, opened, drawn, worked, running, popped, popped_all, save_of, back, returned, restored, chain_of, filled_from, copied, perform, done, meant, act, step_on, step, and_then, may_go_back, initial, shipped, Runs}
 use Rattle.pictures.specs.Sheets.{run_of, alone, entries_before, PaintsAlone}
 use Rattle.pictures.specs.DocumentRun.{PrintsSheet}
 use Rattle.pictures.specs.Unaware.{put_names, none_among, asked_on, unaware_step, unaware_steps, absent, is_in, IsPlainGround, EndsThePage, PrintsItself, none_before, OwnPicture, PagePrints, SheetsShowThePages}
@@ -18,8 +18,8 @@ use Rattle.rules.specs.Run.{document_of}
 use Rattle.pictures.specs.Kept.{preamble_comments_apart}
 use Rattle.pictures.proofs.Kept.{kept_runs_alike, preamble_runs_alike}
 use Rattle.pictures.specs.Scanner.{tokens}
-use Rattle.pictures.specs.Documents.{started, page_of, PreambleRuns, PagePaints, OnSlot, OnSlots, OnSheets}
-use Rattle.pictures.proofs.Output.{output_is_printed}
+use Rattle.pictures.specs.Documents.{started, page_of, PreambleRuns, PagePaints}
+use Rattle.pictures.proofs.Output.{output_is_printed, on_sheets}
 use Rattle.pictures.proofs.Tests.{first, second}
 use Rattle.pictures.proofs.Runs.{nothing, runs_join, runs_one, runs_none}
 use Rattle.pictures.proofs.Shifted.{up, ups, ups_same, entry_same, system_same}
@@ -54,6 +54,10 @@ keeps_popped (g ∷ gs) shots s = refl
 keeps_popped [] [] s = tt
 keeps_popped [] (shot ∷ shots) s = refl
 
+keeps_popped_all : (shots : List Snapshot) (s : State) → Keeps s (popped_all shots s)
+keeps_popped_all [] s = tt
+keeps_popped_all (shot ∷ shots) s = refl
+
 keeps_if : (b : Bool) (s t : State) → t.sheets ≡ s.sheets → Keeps s (if b then Some t else None)
 keeps_if true s t e = e
 keeps_if false s t e = tt
@@ -66,20 +70,32 @@ keeps_restored : (os : List Object) (s : State) → Keeps s (restored os s)
 keeps_restored (Saved level ∷ os) s = keeps_back os (save_of level s.saves) s
 keeps_restored os s = tt
 
+keeps_filled : (x : Option (List Call)) (n : ℕ) (os : List Object) (s : State) → Keeps s (filled_from x n os s)
+keeps_filled None n os s = tt
+keeps_filled (Some chain) n os s = refl
+
+keeps_copied : (os : List Object) (s : State) → Keeps s (copied os s)
+keeps_copied (Matrix n ∷ Matrix m ∷ os) s = keeps_filled (chain_of m s.kept) n os s
+keeps_copied os s = keeps_worked (computed_on CopyOperands os s.work) s
+
 keeps_performed : (name : List ℕ) (k : Kind) (s : State) → Keeps s (perform true name k s)
 keeps_performed name (Computes c) s = keeps_worked (computed c s.work) s
 keeps_performed name (Controls c) s = keeps_running (controlled c s.work) s
 keeps_performed name (Draws wants e) s = keeps_drawn e name (taken wants s.work.operands) s
 keeps_performed name PushesGraphics s = refl
 keeps_performed name PopsGraphics s = keeps_popped s.stacked s.saves s
+keeps_performed name PopsAllGraphics s = keeps_popped_all s.saves s
+keeps_performed name (Looks v) s = tt
 keeps_performed name Saves s = refl
 keeps_performed name Restores s = keeps_restored s.work.operands s
 keeps_performed name Ships s = tt
 keeps_performed name Resets s = tt
+keeps_performed name Copies s = keeps_copied s.work.operands s
 
 keeps_done : (o : Object) (s : State) → Keeps s (done true o s)
 keeps_done (Operator name k) s = keeps_performed name k s
 keeps_done (Procedure ts) s = refl
+keeps_done (Plain (Name name)) s = refl
 keeps_done o s = refl
 
 keeps_meant : (x : Option Object) (s : State) → Keeps s (meant true x s)
@@ -121,7 +137,7 @@ none_of : (x : Option Object) → not (has x) ≡ true → x ≡ None
 none_of None e = refl
 none_of (Some o) e = absurd (true≢false (sym e))
 
-absent_means : (ds : List ℕ) (es : List Entry) (k : List ℕ) → absent ds es k ≡ true → meaning ds es k ≡ system k
+pub absent_means : (ds : List ℕ) (es : List Entry) (k : List ℕ) → absent ds es k ≡ true → meaning ds es k ≡ system k
 absent_means [] es k e = refl
 absent_means (d ∷ ds) es k e =
     ap₂ or (none_of (entry_of d k es) (first (not (has (entry_of d k es))) (absent ds es k) e)) (absent_means ds es k (second (not (has (entry_of d k es))) (absent ds es k) e))
@@ -250,26 +266,12 @@ nothing_behind s at operands dictionaries saves save_name restore_name = record 
 pub own_picture : OwnPicture
 own_picture s body picture p q = (prints s body picture p q, paints s body picture p q)
 
--- what is so of each page, where something else is
-
-on_slot : (P Q : ℕ → Type 0) → ((p : ℕ) → P p → Q p) → (page : Option ℕ) → OnSlot P page → OnSlot Q page
-on_slot P Q f None h = tt
-on_slot P Q f (Some p) h = f p h
-
-on_slots : (P Q : ℕ → Type 0) → ((p : ℕ) → P p → Q p) → (slots : List Slot) → OnSlots P slots → OnSlots Q slots
-on_slots P Q f [] h = tt
-on_slots P Q f (slot ∷ slots) h = (on_slot P Q f slot.page h.0, on_slots P Q f slots h.1)
-
-on_sheets : (P Q : ℕ → Type 0) → ((p : ℕ) → P p → Q p) → (all : List (List Slot)) → OnSheets P all → OnSheets Q all
-on_sheets P Q f [] h = tt
-on_sheets P Q f (slots ∷ more) h = (on_slots P Q f slots h.0, on_sheets P Q f more h.1)
-
 page_paints : (us : List NestedUnit) (s : State) (p : ℕ) (picture : List Painting) → IsPlainGround s → PagePrints us s p picture → PagePaints us s p picture
 page_paints us s p picture g (complete, apart, q) =
     let alike = kept_runs_alike (page_of us p) apart complete in
     (alike.1, subst (λ ts. PaintsAlone s ts picture) (sym alike.0) (paints s (tokens (page_of us p)) picture g q))
 
-preamble_runs : (sheets : ℕ) (text : List ℕ) (us : List NestedUnit) (s : State) → document_of text ≡ Ok us → preamble_comments_apart us ≡ true
+pub preamble_runs : (sheets : ℕ) (text : List ℕ) (us : List NestedUnit) (s : State) → document_of text ≡ Ok us → preamble_comments_apart us ≡ true
     → PreambleRuns (bytes_of (preamble us)) s → PreambleRuns (preamble_text sheets us) s
 preamble_runs sheets text us s d a (complete, run, left, painted, printed, ground) =
     let alike = preamble_runs_alike sheets text us d a complete in

@@ -13,14 +13,14 @@ use Rattle.pictures.proofs.Commutes.{placing_commutes}
 use Rattle.pictures.proofs.Straight.{Known}
 use Rattle.pictures.proofs.Opening.{opening, around, snapshot_of}
 
-both_true : (a b : Bool) → a ≡ true → b ≡ true → (a && b) ≡ true
+pub both_true : (a b : Bool) → a ≡ true → b ≡ true → (a && b) ≡ true
 both_true a b e f = ap (λ t. t && b) e ∙ f
 
 either_true : (a b : Bool) → b ≡ true → (a || b) ≡ true
 either_true true b e = refl
 either_true false b e = e
 
-pub known_ground : (s : State) → IsGround s → Known s.work
+pub known_ground : (s : State) → IsGround s → Known placing_names s.work
 known_ground s g name h = g.names name (either_true (bytes_eq name (codes "showpage")) (among name placing_names) h)
 
 -- the state behind a placed page, before what is left

@@ -1,14 +1,14 @@
 -- A held machine that asks for none of the names that the sheet's text puts does the same with them, one save further
 -- in, and what a free machine does without them.
-use Rattle.std.specs.Prelude.{Option, Some, None, if◌then◌else◌, option_map}
+use Rattle.std.specs.Prelude.{Option, Some, None, if◌then◌else◌, option_map, codes}
 use Rattle.std.proofs.lemmas.Bool.{ne_eqb}
 use Rattle.std.proofs.lemmas.Bool.Decides.{eqb_tells}
 use Rattle.std.proofs.Common.{◌≡◌, ℕ, zero, suc, ◌+◌, refl, ap, ◌∙◌, sym, subst, Bool, true, false, not, ◌&&◌, ◌==◌, List, [], ◌∷◌, eq-eqb, arith, ⊎_elim}
-use Rattle.pictures.specs.Objects.{Token, Name, Opens, Closes, Bound, Unknown, Object, Procedure}
-use Rattle.pictures.specs.Objects.{Saved, Operator, Kind, Effect, Computes, Controls, Draws, PushesGraphics, PopsGraphics, Saves, Restores, Ships, Resets}
+use Rattle.pictures.specs.Objects.{Token, Name, Opens, Closes, Bound, Unknown, Object, Procedure, Plain}
+use Rattle.pictures.specs.Objects.{Saved, Operator, Kind, Effect, Computes, Controls, Draws, PushesGraphics, PopsGraphics, PopsAllGraphics, Looks, Saves, Restores, Ships, Resets, Copies, CopyOperands, Matrix, Call}
 use Rattle.pictures.specs.Dictionaries.{Entry, meaning, system}
 use Rattle.pictures.specs.Operators.{Work, taken, computed_on, controlled_on, all_old}
-use Rattle.pictures.specs.Machine.{State, Graphics, Snapshot, body_of, opened, drawn, worked, running, popped, save_of, back, returned, restored, perform, done, meant, act, step_on, step, steps, and_then, may_go_back}
+use Rattle.pictures.specs.Machine.{State, Graphics, Snapshot, body_of, opened, drawn, worked, running, popped, popped_all, save_of, back, returned, restored, chain_of, filled_from, copied, perform, done, meant, act, step_on, step, steps, and_then, may_go_back}
 use Rattle.pictures.specs.Sheets.{among}
 use Rattle.pictures.specs.Unaware.{put_names, none_among, asked_by, asked_on, unaware_step, unaware_steps}
 use Rattle.pictures.proofs.Tests.{first, second}
@@ -29,6 +29,7 @@ stays (Some t) = refl
 performs_free : (name : List ℕ) (k : Kind) (s : State) → Stays (perform true name k s) (perform false name k s)
 performs_free name Ships s = tt
 performs_free name Resets s = tt
+performs_free name (Looks v) s = tt
 performs_free name k s = stays (perform true name k s)
 
 does_free : (o : Object) (s : State) → Stays (done true o s) (done false o s)
@@ -65,7 +66,7 @@ all_steps_free (suc n) s t e =
 -- With the names, and without.
 
 abbrev pub up_shot : List Entry → Snapshot → Snapshot
-up_shot es b = record { level = b.level + 1; entries = es; made = b.made; graphics = b.graphics; stacked = b.stacked }
+up_shot es b = record { level = b.level + 1; entries = es; made = b.made; kept = b.kept; graphics = b.graphics; stacked = b.stacked }
 
 abbrev pub up_shots : List (List Entry) → List Snapshot → List Snapshot
 up_shots [] bs = []
@@ -82,6 +83,7 @@ abbrev pub up_state : List Entry → List (List Entry) → State → State
 up_state es ess s = record {
   left = s.left;
   work = up_work es s.work;
+  kept = s.kept;
   level = s.level + 1;
   graphics = s.graphics;
   stacked = s.stacked;
@@ -118,6 +120,12 @@ popped_goes n (g ∷ gs) shots s es ess a h = (es, ess, refl, a, h)
 popped_goes n [] [] s es ess a h = tt
 popped_goes n [] (b ∷ bs) s es [] a h = absurd h
 popped_goes n [] (b ∷ bs) s es (fs ∷ ess) a h = (es, fs ∷ ess, refl, a, h)
+
+popped_all_goes : (n : ℕ) (shots : List Snapshot) (s : State) (es : List Entry) (ess : List (List Entry)) → Agree n es s.work.entries → AllAgree n ess shots
+    → Goes n (popped_all shots (record s { saves = shots })) (popped_all (up_shots ess shots) (up_state es ess (record s { saves = shots })))
+popped_all_goes n [] s es ess a h = tt
+popped_all_goes n (b ∷ bs) s es [] a h = absurd h
+popped_all_goes n (b ∷ bs) s es (fs ∷ ess) a h = (es, fs ∷ ess, refl, a, h)
 
 same_next : (a b : ℕ) → (a + 1 == b + 1) ≡ (a == b)
 same_next a b = ⊎_elim
@@ -161,6 +169,18 @@ restores_goes : (n : ℕ) (os : List Object) (s : State) (es : List Entry) (ess 
 restores_goes n (Saved level ∷ os) s es ess h = back_goes n os (save_of level s.saves) (save_of (level + 1) (up_shots ess s.saves)) s es ess (finds n level s.saves ess h)
 restores_goes n os s es ess h = tt
 
+filled_goes : (n : ℕ) (x : Option (List Call)) (m : ℕ) (os : List Object) (s : State) (es : List Entry) (ess : List (List Entry)) → Agree n es s.work.entries → AllAgree n ess s.saves
+    → Goes n (filled_from x m os s) (filled_from x m (ups os) (up_state es ess s))
+filled_goes n None m os s es ess a h = tt
+filled_goes n (Some chain) m os s es ess a h = (es, ess, refl, a, h)
+
+copied_goes : (n : ℕ) (os : List Object) (s : State) (es : List Entry) (ess : List (List Entry)) → Agree n es s.work.entries → AllAgree n ess s.saves
+    → Goes n (copied os s) (copied (ups os) (up_state es ess s))
+copied_goes n (Matrix l ∷ Matrix m ∷ os) s es ess a h = filled_goes n (chain_of m s.kept) l os s es ess a h
+copied_goes n (Plain t ∷ os) s es ess a h =
+    worked_goes n (computed_on CopyOperands (Plain t ∷ os) s.work) (computed_on CopyOperands (Plain t ∷ ups os) (up_work es s.work)) s es ess (works_on n (codes "copy") CopyOperands (Plain t ∷ os) s.work es a refl) h
+copied_goes n os s es ess a h = tt
+
 performs_goes : (n : ℕ) (name : List ℕ) (k : Kind) (s : State) (es : List Entry) (ess : List (List Entry)) → Agree n es s.work.entries → AllAgree n ess s.saves
     → none_among (asked_by (Some (Operator name k)) s.work.operands) put_names ≡ true → Goes n (perform true name k s) (perform true name k (up_state es ess s))
 performs_goes n name (Computes c) s es ess a h q =
@@ -172,15 +192,19 @@ performs_goes n name (Draws wants e) s es ess a h q =
     (drawn_goes n e name (taken wants s.work.operands) s es ess a h)
 performs_goes n name PushesGraphics s es ess a h q = (es, ess, refl, a, h)
 performs_goes n name PopsGraphics s es ess a h q = popped_goes n s.stacked s.saves s es ess a h
+performs_goes n name PopsAllGraphics s es ess a h q = popped_all_goes n s.saves s es ess a h
+performs_goes n name (Looks v) s es ess a h q = tt
 performs_goes n name Saves s es ess a h q = (es, es ∷ ess, refl, a, (a, h))
 performs_goes n name Restores s es ess a h q = restores_goes n s.work.operands s es ess h
 performs_goes n name Ships s es ess a h q = tt
 performs_goes n name Resets s es ess a h q = tt
+performs_goes n name Copies s es ess a h q = copied_goes n s.work.operands s es ess a h
 
 does_goes : (n : ℕ) (o : Object) (s : State) (es : List Entry) (ess : List (List Entry)) → Agree n es s.work.entries → AllAgree n ess s.saves
     → none_among (asked_by (Some o) s.work.operands) put_names ≡ true → Goes n (done true o s) (done true (up o) (up_state es ess s))
 does_goes n (Operator name k) s es ess a h q = performs_goes n name k s es ess a h q
 does_goes n (Procedure ts) s es ess a h q = (es, ess, refl, a, h)
+does_goes n (Plain (Name name)) s es ess a h q = (es, ess, refl, a, h)
 does_goes n (Saved level) s es ess a h q = (es, ess, refl, a, h)
 does_goes n o s es ess a h q = (es, ess, refl, a, h)
 

@@ -46,6 +46,7 @@ abbrev pub started : List Token → State
 started ts = record {
   left = ts;
   work = record { operands = []; dictionaries = userdict ∷ []; entries = []; made = 0 };
+  kept = [];
   level = 0;
   graphics = record { chain = []; path = []; clip = []; settings = [] };
   stacked = [];

@@ -4,13 +4,16 @@
 -- list of its time (4.4.1). Whoever reads a list as the product of its matrices reads every mark so.
 use Rattle.std.specs.Prelude.{◌≡◌, ℕ, zero, suc, ◌+◌, List, [], ◌∷◌, ◌++◌, Bool, ◌&&◌, ◌||◌, ◌==◌, if◌then◌else◌}
 use Rattle.std.specs.Prelude.{Option}
-use Rattle.std.specs.Prelude.{Some, None, codes, bytes_eq}
+use Rattle.std.specs.Prelude.{Some, None, codes, bytes_eq, true, not}
 use Rattle.pictures.specs.Objects.{Token, Name, Opens, Closes, Bound, Unknown, Object, Plain, Procedure, Saved, Operator, Call}
+use Rattle.pictures.specs.Objects.{Dictionary, Matrix, View, TakesMatrix, SetsMatrix, DefaultMatrix, InitialMatrix}
+use Rattle.pictures.specs.Objects.{InitialClip, ClipOutline, PathElements, SetsDevice, ErasesPage}
 use Rattle.pictures.specs.Objects.{Effect, Segments, Transforms, Sets, Paints, PaintsBeside, Shows, Clips, Forgets}
 use Rattle.pictures.specs.Objects.{Kind, Computes, Controls, Draws}
-use Rattle.pictures.specs.Objects.{PushesGraphics, PopsGraphics, Saves, Restores, Ships, Resets}
+use Rattle.pictures.specs.Objects.{PushesGraphics, PopsGraphics, PopsAllGraphics, Saves, Restores, Ships, Resets, Copies, Looks, CopyOperands}
+use Rattle.pictures.specs.Chains.{is_same_chain}
 use Rattle.pictures.specs.Dictionaries.{Entry, meaning, system}
-use Rattle.pictures.specs.Operators.{Work, with_operands, taken, computed, controlled, all_old, all_are_old}
+use Rattle.pictures.specs.Operators.{Work, with_operands, taken, computed, computed_on, controlled, all_old, all_are_old}
 
 -- a segment of a path: the operator with its operands, and the transformation at the time. After `show` the current
 -- point hangs on the settings too
@@ -36,19 +39,26 @@ pub record Painting : Type 0 where
   pub call : Call
   pub graphics : Graphics
 
+-- the transformation that a matrix holds, by its number
+pub record Kept : Type 0 where
+  pub number : ℕ
+  pub chain : List Call
+
 -- what a save keeps (3.7.3)
 pub record Snapshot : Type 0 where
   pub level : ℕ
   pub entries : List Entry
   pub made : ℕ
+  pub kept : List Kept
   pub graphics : Graphics
   pub stacked : List Graphics
 
--- what is left to run; the graphics states that were pushed since the last save; the saves; what has been painted on
--- this sheet, the latest first; the sheets that were printed, the latest first
+-- what is left to run; what matrices hold, the latest first; the graphics states that were pushed since the last save; the
+-- saves; what has been painted on this sheet, the latest first; the sheets that were printed, the latest first
 pub record State : Type 0 where
   pub left : List Token
   pub work : Work
+  pub kept : List Kept
   pub level : ℕ
   pub graphics : Graphics
   pub stacked : List Graphics
@@ -121,7 +131,13 @@ popped [] s = below s.saves s
     below [] s = None
     below (shot ∷ shots) s = Some (record s { graphics = shot.graphics })
 
--- `save` of 8.2 keeps dictionaries and graphics, and begins a stack of its own
+-- `grestoreall` of 8.2: the graphics state is that of the last save, which stays, and nothing is pushed. Without a save it
+-- is the job's first one, which this machine doesn't have: there it stops
+abbrev pub popped_all : List Snapshot → State → Option State
+popped_all [] s = None
+popped_all (shot ∷ shots) s = Some (record s { graphics = shot.graphics; stacked = [] })
+
+-- `save` of 8.2 keeps dictionaries, matrices and graphics, and begins a stack of its own
 abbrev pub saved : State → State
 saved s = record s {
   work = with_operands s.work (Saved s.level ∷ s.work.operands);
@@ -131,6 +147,7 @@ saved s = record s {
     level = s.level;
     entries = s.work.entries;
     made = s.work.made;
+    kept = s.kept;
     graphics = s.graphics;
     stacked = s.stacked;
   } ∷ s.saves;
@@ -145,10 +162,11 @@ save_of level (shot ∷ shots) = if shot.level == level then Some (shot, shots) 
 abbrev pub may_go_back : Snapshot → List Object → Work → Bool
 may_go_back shot os w = all_are_old shot.made shot.level os && all_old shot.made w.dictionaries
 
--- `restore` of 8.2: dictionaries and graphics are those of the save; saves after it are void
+-- `restore` of 8.2: dictionaries, matrices and graphics are those of the save; saves after it are void
 abbrev pub returned : List Object → Snapshot → List Snapshot → State → State
 returned os shot shots s = record s {
   work = record s.work { operands = os; entries = shot.entries; made = shot.made };
+  kept = shot.kept;
   level = shot.level;
   graphics = shot.graphics;
   stacked = shot.stacked;
@@ -179,22 +197,120 @@ reset s = record s { graphics = initial s.graphics }
 abbrev pub shipped : State → State
 shipped s = record (reset s) { painted = []; sheets = s.painted ∷ s.sheets }
 
--- a machine that is held may neither print nor reset: so what it runs can't tell where it is, nor leave it
+-- what a matrix holds. One that nothing has filled holds no transformation of the machine's: there it stops
+abbrev pub chain_of : ℕ → List Kept → Option (List Call)
+chain_of number [] = None
+chain_of number (k ∷ ks) = if k.number == number then Some k.chain else chain_of number ks
+
+abbrev pub filled_with : ℕ → List Call → State → State
+filled_with number chain s = record s { kept = record { number = number; chain = chain } ∷ s.kept }
+
+-- `copy` of 8.2: one matrix holds then what another one does; any other operand is a count of operands to be copied
+abbrev pub filled_from : Option (List Call) → ℕ → List Object → State → Option State
+filled_from None number os s = None
+filled_from (Some chain) number os s =
+    Some (filled_with number chain (record s { work = with_operands s.work (Matrix number ∷ os) }))
+
+abbrev pub copied : List Object → State → Option State
+copied (Matrix n ∷ Matrix m ∷ os) s = filled_from (chain_of m s.kept) n os s
+copied os s = worked (computed_on CopyOperands os s.work) s
+
+abbrev pub set_to : Option (List Call) → List Object → State → Option State
+set_to None os s = None
+set_to (Some chain) os s =
+    Some (record s { work = with_operands s.work os; graphics = record s.graphics { chain = chain } })
+
+-- `clippath` of 8.2, where nothing has clipped: the outline of the device. Another clip is no path of this machine's
+abbrev pub outlined : List ℕ → List Clip → State → Option State
+outlined name [] s = Some (record s {
+  graphics = record s.graphics {
+    path = record { call = record { name = name; operands = [] }; chain = []; settings = [] } ∷ [];
+  };
+})
+outlined name (c ∷ cs) s = None
+
+-- the procedure of `pathforall` for an element, of the four that it takes
+abbrev pub procedure_for : List ℕ → (moves lines curves closes : List Token) → Option (List Token)
+procedure_for name moves lines curves closes =
+    if bytes_eq name (codes "moveto") then Some moves
+    else if bytes_eq name (codes "lineto") then Some lines
+    else if bytes_eq name (codes "curveto") then Some curves
+    else if bytes_eq name (codes "closepath") then Some closes
+    else None
+
+-- numbers in the order in which they were written, and these tokens behind them
+abbrev pub numbers_before : List Object → List Token → List Token
+numbers_before [] ts = ts
+numbers_before (Plain t ∷ os) ts = numbers_before os (t ∷ ts)
+numbers_before (o ∷ os) ts = ts
+
+-- the element stands so in the path, before the next one: a `moveto` behind a `moveto` takes its place, and what isn't
+-- moved to behind a `closepath` begins where that ended (4.4.1). There the machine stops
+abbrev pub may_precede : (name next : List ℕ) → Bool
+may_precede name next =
+    if bytes_eq name (codes "moveto") then not (bytes_eq next (codes "moveto"))
+    else if bytes_eq name (codes "closepath") then bytes_eq next (codes "moveto") || bytes_eq next []
+    else true
+
+abbrev pub element_tokens : Bool → List Object → Option (List Token) → List Token → Option (List Token)
+element_tokens true os (Some ts) later = Some (numbers_before os (ts ++ later))
+element_tokens stands os x later = None
+
+abbrev pub and_before : (List Token → Option (List Token)) → Option (List Token) → Option (List Token)
+and_before f None = None
+and_before f (Some ts) = f ts
+
+-- `pathforall` of 8.2: for each element of the path its numbers, as they are under the current transformation, and its
+-- procedure. They are the numbers that were written if the transformation is the same: else the machine stops
+abbrev pub path_tokens :
+    List Call → (moves lines curves closes : List Token) → List Segment → (next : List ℕ) → List Token
+    → Option (List Token)
+path_tokens chain moves lines curves closes [] next later = Some later
+path_tokens chain moves lines curves closes (x ∷ xs) next later =
+    and_before (λ ts. path_tokens chain moves lines curves closes xs x.call.name ts)
+    (element_tokens (is_same_chain x.chain chain && may_precede x.call.name next) x.call.operands
+    (procedure_for x.call.name moves lines curves closes) later)
+
+abbrev pub traced : Option (List Token) → List Object → State → Option State
+traced None os s = None
+traced (Some ts) os s = Some (record s { left = ts ++ s.left; work = with_operands s.work os })
+
+-- `setpagedevice` of 8.2: the sheet is empty, and `initgraphics` done. What it sets of the device isn't noted
+abbrev pub viewed : View → List ℕ → List Object → State → Option State
+viewed TakesMatrix name (Matrix n ∷ os) s = Some (filled_with n s.graphics.chain s)
+viewed SetsMatrix name (Matrix n ∷ os) s = set_to (chain_of n s.kept) os s
+viewed DefaultMatrix name (Matrix n ∷ os) s = Some (filled_with n [] s)
+viewed InitialMatrix name os s = set_to (Some []) os s
+viewed InitialClip name os s = Some (record s { graphics = record s.graphics { clip = [] } })
+viewed ClipOutline name os s = outlined name s.graphics.clip s
+viewed PathElements name (Procedure closes ∷ Procedure curves ∷ Procedure lines ∷ Procedure moves ∷ os) s =
+    traced (path_tokens s.graphics.chain moves lines curves closes s.graphics.path [] []) os s
+viewed SetsDevice name (Dictionary d ∷ os) s =
+    Some (record (reset s) { work = with_operands s.work os; painted = [] })
+viewed ErasesPage name os s = Some (record s { painted = [] })
+viewed v name os s = None
+
+-- a machine that is held may neither print nor reset, nor look at where it is: so what it runs can't tell where it is, nor
+-- leave it
 abbrev pub perform : (held : Bool) → List ℕ → Kind → State → Option State
 perform held name (Computes c) s = worked (computed c s.work) s
 perform held name (Controls c) s = running (controlled c s.work) s
 perform held name (Draws wants e) s = drawn e name (taken wants s.work.operands) s
 perform held name PushesGraphics s = Some (record s { stacked = s.graphics ∷ s.stacked })
 perform held name PopsGraphics s = popped s.stacked s
+perform held name PopsAllGraphics s = popped_all s.saves s
 perform held name Saves s = Some (saved s)
 perform held name Restores s = restored s.work.operands s
 perform held name Ships s = if held then None else Some (shipped s)
 perform held name Resets s = if held then None else Some (reset s)
+perform held name Copies s = copied s.work.operands s
+perform held name (Looks v) s = if held then None else viewed v name s.work.operands s
 
--- what a name's value does (3.5.5): a procedure is run, an operator performed, all else pushed
+-- what a name's value does (3.5.5): a procedure is run, an operator performed, an executable name looked up, all else pushed
 abbrev pub done : Bool → Object → State → Option State
 done held (Procedure ts) s = Some (record s { left = ts ++ s.left })
 done held (Operator name kind) s = perform held name kind s
+done held (Plain (Name name)) s = Some (record s { left = Name name ∷ s.left })
 done held o s = Some (push o s)
 
 abbrev pub meant : Bool → Option Object → State → Option State

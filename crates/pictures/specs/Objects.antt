@@ -1,6 +1,6 @@
 -- Tokens and objects of a small PostScript machine. What is cited is the PostScript Language Reference, third edition:
 -- 3.2 has the syntax of tokens, 3.3 the types of objects. Numbers are their texts, and so is a number that was calculated
--- (Calculations). An array is its elements, which are tokens: it holds numbers, literal names and strings, and no array.
+-- (Calculations). An array is its elements, which are tokens: it holds numbers, names and strings, and no array.
 -- Arrays, procedures and strings are values here (3.3.1 has them shared), since no operator of this machine changes one in
 -- place.
 use Rattle.std.specs.Prelude.{ℕ, List, Bool}
@@ -65,6 +65,10 @@ pub data Computation : Type 0 where
   CloseDictionary : Computation
   CopyOperands : Computation
   Roll : Computation
+  Count : Computation
+  MakeExecutable : Computation
+  IsWritable : Computation
+  MakeMatrix : Computation
 
 pub data Control : Type 0 where
   Execute : Control
@@ -97,20 +101,39 @@ pub data Effect : Type 0 where
   Clips : Effect
   Forgets : Effect
 
--- operators by what they do: the graphics stack (4.2), saves (3.7.3), printing a sheet, `initgraphics`
+-- operators that look at where the machine is, or put it back to where it began: transformations that are kept in a
+-- matrix and set again (4.3.2), the clip's outline and the path's elements (4.4), the initial matrix and clip (4.2), the
+-- page device (6.1.1), the page as it is so far
+pub data View : Type 0 where
+  TakesMatrix : View
+  SetsMatrix : View
+  DefaultMatrix : View
+  InitialMatrix : View
+  InitialClip : View
+  ClipOutline : View
+  PathElements : View
+  SetsDevice : View
+  ErasesPage : View
+  CopiesPage : View
+
+-- operators by what they do: the graphics stack (4.2), saves (3.7.3), printing a sheet, `initgraphics`, `copy`
 pub data Kind : Type 0 where
   Computes : Computation → Kind
   Controls : Control → Kind
   Draws : List Want → Effect → Kind
   PushesGraphics : Kind
   PopsGraphics : Kind
+  PopsAllGraphics : Kind
   Saves : Kind
   Restores : Kind
   Ships : Kind
   Resets : Kind
+  Copies : Kind
+  Looks : View → Kind
 
--- a token that stands for itself, a boolean, a mark, an array, a procedure, a dictionary by its number, a save by its
--- level, a font by what it was made of, an operator (3.3)
+-- a token that stands for itself, a boolean, a mark, an array, a procedure, a dictionary by its number, systemdict, a save
+-- by its level, a font by what it was made of, an operator (3.3). A matrix that `matrix` made is known by its number, as a
+-- dictionary is, since operators fill it in place
 pub data Object : Type 0 where
   Plain : Token → Object
   Truth : Bool → Object
@@ -118,6 +141,8 @@ pub data Object : Type 0 where
   Array : List Token → Object
   Procedure : List Token → Object
   Dictionary : (number : ℕ) → Object
+  SystemDictionary : Object
+  Matrix : (number : ℕ) → Object
   Saved : (level : ℕ) → Object
   Font : List Token → Object
   Operator : (name : List ℕ) → Kind → Object

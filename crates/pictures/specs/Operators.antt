@@ -6,21 +6,22 @@ use Rattle.std.specs.Char.{is_ascii_digit}
 use Rattle.rules.specs.Numbers.{number_of}
 use Rattle.std.specs.Prelude.{ℕ, zero, suc, ◌+◌, List, [], ◌∷◌, ◌++◌, map, flat_map, length, Bool, true, false, not}
 use Rattle.std.specs.Prelude.{◌&&◌, ◌||◌, ◌==◌, nat_lt, if◌then◌else◌, Option, Some, None, ℤ, pos, ◌+ℤ◌, ◌*ℤ◌, decimal}
-use Rattle.std.specs.Prelude.{◌-◌, ◌%◌, negsuc, nat_le, take, drop}
+use Rattle.std.specs.Prelude.{◌-◌, ◌%◌, negsuc, nat_le, take, drop, codes, bytes_eq}
 use Rattle.pictures.specs.Objects.{Token, Number, Name, Literal, Text, Hexadecimal, Bound, Object, Plain, Truth, Mark, Array}
-use Rattle.pictures.specs.Objects.{Procedure, Dictionary, Saved}
+use Rattle.pictures.specs.Objects.{Procedure, Dictionary, SystemDictionary, Matrix, Saved}
 use Rattle.pictures.specs.Objects.{Font, Operator, Computation, Pop, Duplicate, Exchange, OpenArray, CloseArray, Put}
 use Rattle.pictures.specs.Objects.{Define, Begin, End}
 use Rattle.pictures.specs.Objects.{MakeDictionary, Load, Bind, Known, Index, ClearToMark, FindFont, ScaleFont, Control}
 use Rattle.pictures.specs.Objects.{Calculate, Negate, Compare, And, Or, Not, Where, Get, Length, LoadArray}
-use Rattle.pictures.specs.Objects.{CloseDictionary, CopyOperands, Roll}
+use Rattle.pictures.specs.Objects.{CloseDictionary, CopyOperands, Roll, Count, MakeExecutable, IsWritable, MakeMatrix}
+use Rattle.pictures.specs.Objects.{Comparison, Equal, NotEqual}
 use Rattle.pictures.specs.Objects.{Execute, If, IfElse, Repeat, For, ForAll, Want, ANumber, AText, AnArray}
 use Rattle.pictures.specs.Objects.{AMatrix, AFont, AName, ATruth}
 use Rattle.pictures.specs.Calculations.{whole_of, whole_text, calculated, negated, compared, names_compared, turns}
-use Rattle.pictures.specs.Dictionaries.{Entry, meaning, entry_of, has, is_of_the_system}
+use Rattle.pictures.specs.Dictionaries.{Entry, meaning, system, entry_of, has, is_lacked}
 
--- the operands and the dictionaries on their stacks, the topmost first (3.4); all entries; how many dictionaries have been
--- made
+-- the operands and the dictionaries on their stacks, the topmost first (3.4); all entries; how many dictionaries and
+-- matrices have been made
 pub record Work : Type 0 where
   pub operands : List Object
   pub dictionaries : List ℕ
@@ -122,11 +123,50 @@ abbrev pub holder : List ℕ → List Entry → List ℕ → Option ℕ
 holder [] es key = None
 holder (d ∷ ds) es key = if has (entry_of d key es) then Some d else holder ds es key
 
--- `where`: that dictionary and true, or false. systemdict is no value of this machine: there it stops
-abbrev pub located : Option ℕ → (in_system : Bool) → Work → Option Work
-located (Some d) in_system w = Some (with_operands w (Truth true ∷ Dictionary d ∷ w.operands))
-located None true w = None
-located None false w = Some (with_operands w (Truth false ∷ w.operands))
+-- `where`: that dictionary and true, or systemdict and true, or false; at a name that this machine lacks it stops
+abbrev pub located : Option ℕ → (in_system lacks : Bool) → Work → Option Work
+located (Some d) in_system lacks w = Some (with_operands w (Truth true ∷ Dictionary d ∷ w.operands))
+located None true lacks w = Some (with_operands w (Truth true ∷ SystemDictionary ∷ w.operands))
+located None false true w = None
+located None false false w = Some (with_operands w (Truth false ∷ w.operands))
+
+-- `known` of systemdict: at a name that this machine lacks it stops
+abbrev pub known_there : (in_system lacks : Bool) → Option Bool
+known_there true lacks = Some true
+known_there false true = None
+known_there false false = Some false
+
+-- what `eq` tells apart whatever the value: a string is equal to the name with its characters, and here a procedure and a
+-- matrix are arrays, and a font is a dictionary
+abbrev pub sort_of : Object → List ℕ
+sort_of (Plain (Number text)) = codes "number"
+sort_of (Plain t) = codes "name or string"
+sort_of (Truth test) = codes "boolean"
+sort_of Mark = codes "mark"
+sort_of (Array ts) = codes "array"
+sort_of (Procedure ts) = codes "array"
+sort_of (Matrix n) = codes "array"
+sort_of (Dictionary d) = codes "dictionary"
+sort_of SystemDictionary = codes "dictionary"
+sort_of (Font ts) = codes "dictionary"
+sort_of (Saved level) = codes "save"
+sort_of (Operator name kind) = codes "operator"
+
+abbrev pub sameness : Comparison → Option Bool → Option Bool
+sameness Equal (Some same) = Some same
+sameness NotEqual (Some same) = Some (not same)
+sameness c x = None
+
+-- `eq` and the like, of whole numbers, names and dictionaries; objects of two sorts differ, and others of one sort stop
+-- the machine
+abbrev pub objects_compared : Comparison → (a b : Object) → Option Bool
+objects_compared c (Plain (Number a)) (Plain (Number b)) = compared c a b
+objects_compared c (Plain (Literal a)) (Plain (Literal b)) = names_compared c a b
+objects_compared c (Dictionary d) (Dictionary e) = sameness c (Some (d == e))
+objects_compared c (Dictionary d) SystemDictionary = sameness c (Some false)
+objects_compared c SystemDictionary (Dictionary d) = sameness c (Some false)
+objects_compared c SystemDictionary SystemDictionary = sameness c (Some true)
+objects_compared c a b = sameness c (if bytes_eq (sort_of a) (sort_of b) then None else Some false)
 
 -- an element of an array, counted from 0
 abbrev pub element : ℕ → List Token → Work → Option Work
@@ -187,6 +227,8 @@ computed_on Load (Plain (Literal name) ∷ os) w = loaded (meaning w.dictionarie
 computed_on Bind (Procedure ts ∷ os) w = Some (with_operands w (Procedure (map (bound w) ts) ∷ os))
 computed_on Known (Plain (Literal name) ∷ Dictionary d ∷ os) w =
     Some (with_operands w (Truth (has (entry_of d name w.entries)) ∷ os))
+computed_on Known (Plain (Literal name) ∷ SystemDictionary ∷ os) w =
+    judged (known_there (has (system name)) (is_lacked name)) (with_operands w os)
 computed_on Index (Plain (Number text) ∷ os) w =
     if list_all is_ascii_digit text then loaded (nth (number_of text) os) (with_operands w os) else None
 computed_on ClearToMark os w = cleared (below_mark os) w
@@ -195,16 +237,15 @@ computed_on ScaleFont (Plain (Number text) ∷ Font ts ∷ os) w = Some (with_op
 computed_on (Calculate c) (Plain (Number b) ∷ Plain (Number a) ∷ os) w =
     Some (with_operands w (Plain (Number (calculated c a b)) ∷ os))
 computed_on Negate (Plain (Number a) ∷ os) w = Some (with_operands w (Plain (Number (negated a)) ∷ os))
-computed_on (Compare c) (Plain (Number b) ∷ Plain (Number a) ∷ os) w = judged (compared c a b) (with_operands w os)
-computed_on (Compare c) (Plain (Literal b) ∷ Plain (Literal a) ∷ os) w =
-    judged (names_compared c a b) (with_operands w os)
+computed_on (Compare c) (b ∷ a ∷ os) w = judged (objects_compared c a b) (with_operands w os)
 computed_on And (Truth b ∷ Truth a ∷ os) w = Some (with_operands w (Truth (a && b) ∷ os))
 computed_on Or (Truth b ∷ Truth a ∷ os) w = Some (with_operands w (Truth (a || b) ∷ os))
 computed_on Not (Truth a ∷ os) w = Some (with_operands w (Truth (not a) ∷ os))
 computed_on Where (Plain (Literal name) ∷ os) w =
-    located (holder w.dictionaries w.entries name) (is_of_the_system name) (with_operands w os)
+    located (holder w.dictionaries w.entries name) (has (system name)) (is_lacked name) (with_operands w os)
 computed_on Get (Plain (Literal name) ∷ Dictionary d ∷ os) w =
     loaded (entry_of d name w.entries) (with_operands w os)
+computed_on Get (Plain (Literal name) ∷ SystemDictionary ∷ os) w = loaded (system name) (with_operands w os)
 computed_on Get (Plain (Number text) ∷ Array ts ∷ os) w =
     if list_all is_ascii_digit text then element (number_of text) ts (with_operands w os) else None
 computed_on Length (Array ts ∷ os) w = Some (with_operands w (Plain (Number (decimal (length ts))) ∷ os))
@@ -214,6 +255,13 @@ computed_on CopyOperands (Plain (Number text) ∷ os) w =
     if are_there text os then Some (with_operands w (take (number_of text) os ++ os)) else None
 computed_on Roll (Plain (Number j) ∷ Plain (Number text) ∷ os) w =
     rolling (whole_of j) (number_of text) (are_there text os) os w
+computed_on Count os w = Some (with_operands w (Plain (Number (decimal (length os))) ∷ os))
+computed_on MakeExecutable (Plain (Literal name) ∷ os) w = Some (with_operands w (Plain (Name name) ∷ os))
+computed_on MakeExecutable (Array ts ∷ os) w = Some (with_operands w (Procedure ts ∷ os))
+computed_on MakeExecutable (Procedure ts ∷ os) w = Some (with_operands w (Procedure ts ∷ os))
+computed_on IsWritable (Dictionary d ∷ os) w = Some (with_operands w (Truth true ∷ os))
+computed_on IsWritable (SystemDictionary ∷ os) w = Some (with_operands w (Truth false ∷ os))
+computed_on MakeMatrix os w = Some (record w { operands = Matrix (w.made + 1) ∷ os; made = w.made + 1 })
 computed_on c os w = None
 
 abbrev pub computed : Computation → Work → Option Work
@@ -229,9 +277,17 @@ abbrev pub counting : (first step limit : Option ℤ) → List Token → Work �
 counting (Some first) (Some step) (Some limit) ts w = turned (turns first step limit) first step ts w
 counting first step limit ts w = None
 
+-- no element is an executable name, which `forall` pushes and a procedure runs
+abbrev pub are_literal : List Token → Bool
+are_literal [] = true
+are_literal (Name name ∷ ts) = false
+are_literal (t ∷ ts) = are_literal ts
+
 -- what is run next
 abbrev pub controlled_on : Control → List Object → Work → Option (List Token × Work)
 controlled_on Execute (Procedure ts ∷ os) w = Some (ts, with_operands w os)
+controlled_on Execute (Operator name kind ∷ os) w = Some (Bound name ∷ [], with_operands w os)
+controlled_on Execute (Plain t ∷ os) w = Some (t ∷ [], with_operands w os)
 controlled_on If (Procedure ts ∷ Truth test ∷ os) w = Some (if test then ts else [], with_operands w os)
 controlled_on IfElse (Procedure us ∷ Procedure ts ∷ Truth test ∷ os) w =
     Some (if test then ts else us, with_operands w os)
@@ -239,7 +295,8 @@ controlled_on Repeat (Procedure ts ∷ Plain (Number text) ∷ os) w =
     if list_all is_ascii_digit text then Some (times (number_of text) ts, with_operands w os) else None
 controlled_on For (Procedure ts ∷ Plain (Number limit) ∷ Plain (Number step) ∷ Plain (Number first) ∷ os) w =
     counting (whole_of first) (whole_of step) (whole_of limit) ts (with_operands w os)
-controlled_on ForAll (Procedure ts ∷ Array es ∷ os) w = Some (flat_map (λ e. e ∷ ts) es, with_operands w os)
+controlled_on ForAll (Procedure ts ∷ Array es ∷ os) w =
+    if are_literal es then Some (flat_map (λ e. e ∷ ts) es, with_operands w os) else None
 controlled_on c os w = None
 
 abbrev pub controlled : Control → Work → Option (List Token × Work)
@@ -254,6 +311,7 @@ all_old n (d ∷ ds) = nat_lt d (n + 1) && all_old n ds
 -- procedure, a string or a font that isn't known, and it is taken for newer
 abbrev pub is_old : (made level : ℕ) → Object → Bool
 is_old made level (Dictionary d) = nat_lt d (made + 1)
+is_old made level (Matrix n) = nat_lt n (made + 1)
 is_old made level (Saved l) = nat_lt l level
 is_old made level (Plain (Text bytes)) = false
 is_old made level (Plain (Hexadecimal digits)) = false

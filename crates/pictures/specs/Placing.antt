@@ -51,6 +51,7 @@ abbrev pub state_at : Around → State → State
 state_at a s = record {
   left = s.left ++ a.left;
   work = s.work;
+  kept = s.kept;
   level = s.level;
   graphics = graphics_at a.place s.graphics;
   stacked = map (graphics_at a.place) s.stacked;

@@ -124,6 +124,7 @@ abbrev pub alone : State → List Token → State
 alone s body = record {
   left = body;
   work = record s.work { entries = entries_before s };
+  kept = s.kept;
   level = s.level + 1;
   graphics = record { chain = []; path = []; clip = []; settings = s.graphics.settings };
   stacked = [];

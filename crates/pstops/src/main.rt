@@ -18,7 +18,7 @@ fn main(rt: HostRuntime) -> ExitCode {
             let ended = pstops(&rt, alloc, words.as_slice(), world);
             (ended.status, ended.line)
         }
-        Err(fault) => line_of(alloc, fault),
+        Err(fault) => ending_of(alloc, fault),
     };
     // If standard error takes no line there is nobody to tell.
     let _ = rt.stderr().write_all(line.as_slice());
@@ -34,9 +34,9 @@ fn words(rt: &(impl Env + AllocGlobal)) -> Result<Vec<String>, CommandFault> {
     }
 }
 
-fn line_of(alloc: Global, fault: CommandFault) -> (u8, Vec<u8>) {
+fn ending_of(alloc: Global, fault: CommandFault) -> (u8, Vec<u8>) {
     match fault_line(alloc, &Fault::Command(fault)) {
-        Ok(told) => told,
+        Ok(ending) => ending,
         // Not even the line found memory.
         Err(_) => (3, Vec::new(alloc)),
     }

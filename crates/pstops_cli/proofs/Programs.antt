@@ -9,12 +9,13 @@ use Rattle.imposer.specs.declared.outcome.Report.{Report}
 use Rattle.imposer.specs.declared.outcome.RunError.{RunError}
 use Rattle.imposer.specs.declared.outcome.RunError.TheVariants as run
 use Rattle.world.specs.Outputs.{IsFrontOf, told_if}
-use Rattle.pstops_cli.specs.Lines.{fault_status}
-use Rattle.pstops_cli.specs.Requests.{Ends, IsTold, asked_by, outcome_status}
+use Rattle.pstops_cli.specs.Messages.{fault_status}
+use Rattle.sheet_writer.specs.Sinks.{SinkView}
+use Rattle.pstops_cli.specs.RequestRuns.{Ends, IsSaidOf, asked_by, outcome_status}
 use Rattle.pstops_cli.specs.Programs.{CreatesAndRuns, IsCreating, IsSaid, Ran, RunsInto}
 use Rattle.pstops_cli.specs.declared.command.Request.{Request}
-use Rattle.pstops_cli.specs.declared.lines.Fault.{Fault}
-use Rattle.pstops_cli.specs.declared.lines.Fault.TheVariants as fault
+use Rattle.pstops_cli.specs.declared.messages.Fault.{Fault}
+use Rattle.pstops_cli.specs.declared.messages.Fault.TheVariants as fault
 use Rattle.command_words.proofs.RunStatuses.{run_status-above}
 use Rattle.pstops_cli.proofs.Statuses.{finished_at_zero}
 
@@ -23,7 +24,7 @@ not_zero n three zero = omega (arith, three, zero)
 
 -- a fault of three is said with three
 three_is_said : (f : Fault) (status : ℕ) (line : List ℕ) → fault_status f ≡ 3 → IsSaid f status line → status ≡ 3
-three_is_said f status line three (inl told) = told.0 ∙ three
+three_is_said f status line three (inl of_run) = of_run.0 ∙ three
 three_is_said f status line three (inr none) = none.0
 
 creating_is_three : (f : Fault) → IsCreating f → fault_status f ≡ 3
@@ -31,48 +32,46 @@ creating_is_three f (inl e) = ap fault_status e
 creating_is_three f (inr e) = ap fault_status e
 
 -- at status 0 the outcome's own status is 0
-told_zero : (quiet : Bool) (ended : Result Report RunError) (status : ℕ) (line : List ℕ) → status ≡ 0
-    → IsTold quiet ended status line → outcome_status ended ≡ 0
-told_zero quiet ended status line zero (inl told) = sym told.0 ∙ zero
-told_zero quiet ended status line zero (inr none) = absurd (not_zero status none.1 zero)
+said_zero : (quiet : Bool) (ended : Result Report RunError) (status : ℕ) (line : List ℕ) → status ≡ 0
+    → IsSaidOf quiet ended status line → outcome_status ended ≡ 0
+said_zero quiet ended status line zero (inl of_run) = sym of_run.0 ∙ zero
+said_zero quiet ended status line zero (inr none) = absurd (not_zero status none.1 zero)
 
 ok_at_zero : (ended : Result Report RunError) → outcome_status ended ≡ 0 → IsOk ended
 ok_at_zero (Ok report) zero = refl
 ok_at_zero (Err e) zero = let above = run_status-above e in absurd (omega (arith, above, zero))
 
 -- the run finished, and the output's last bytes couldn't be written
-pub cut : (r : Request) (input : List ℕ) (tells : Bool) (start handed written : Option (List ℕ)) (before after : ℕ)
+pub cut : (r : Request) (input : List ℕ) (tells : Bool) (start sink : SinkView) (written : Option (List ℕ))
     (ended : Result Report RunError) (answered status : ℕ) (line line' : List ℕ)
-    → start ≡ told_if tells (option_map string_bytes r.outfile) [] → before ≡ 0
-    → Ends (asked_by r input) start handed before after ended → IsTold r.quiet ended answered line → answered ≡ 0
-    → IsFrontOf written handed → IsSaid (fault.Run (run.Write 0)) status line'
+    → start.bytes ≡ told_if tells (option_map string_bytes r.outfile) [] → start.failures ≡ 0
+    → Ends (asked_by r input) start sink ended → IsSaidOf r.quiet ended answered line → answered ≡ 0
+    → IsFrontOf written sink.bytes → IsSaid (fault.Run (run.Write 0)) status line'
     → Ran r input tells written status line'
-cut r input tells start handed written before after ended answered status line line' began fresh ends told zero part said = record {
+cut r input tells start sink written ended answered status line line' began fresh ends of_run zero part said = record {
   ended = ended;
-  handed = handed;
-  failures = after;
-  ends = subst (λ b. Ends (asked_by r input) (told_if tells (option_map string_bytes r.outfile) []) handed b after ended) fresh
-      (subst (λ s. Ends (asked_by r input) s handed before after ended) began ends);
+  sink = sink;
+  ends = subst (λ (s : SinkView). Ends (asked_by r input) s sink ended) (λ i. record { bytes = began i; failures = fresh i }) ends;
   part = part;
   whole = λ none. absurd (not_zero status (three_is_said (fault.Run (run.Write 0)) status line' refl said) none);
-  told = inr (ok_at_zero ended (told_zero r.quiet ended answered line zero told), said);
+  said = inr (ok_at_zero ended (said_zero r.quiet ended answered line zero of_run), said);
 }
 
 carried : (r : Request) (input : List ℕ) (tells : Bool) (written : Option (List ℕ)) (status : ℕ) (line : List ℕ)
     → status ≡ 0 → (h : Ran r input tells written status line)
-    → IsTold r.quiet h.ended status line
+    → IsSaidOf r.quiet h.ended status line
     → Accepted (asked_by r input) (λ spec us. Appends (told_if tells (option_map string_bytes r.outfile) []) written
     (output (frame_of r.options) r.options.sides spec us))
-carried r input tells written status line zero h told =
-    let at = finished_at_zero (asked_by r input) _ h.handed h.ended (told_zero r.quiet h.ended status line zero told) h.ends.finished in
-    (at.0, at.1, at.2, Appends-kept _ h.handed written _ at.3 (h.whole zero))
+carried r input tells written status line zero h of_run =
+    let at = finished_at_zero (asked_by r input) _ h.sink.bytes h.ended (said_zero r.quiet h.ended status line zero of_run) h.ends.finished in
+    (at.0, at.1, at.2, Appends-kept _ h.sink.bytes written _ at.3 (h.whole zero))
 
 ran_carried : (r : Request) (input : List ℕ) (tells : Bool) (written : Option (List ℕ)) (status : ℕ) (line : List ℕ)
     → status ≡ 0 → (h : Ran r input tells written status line)
-    → IsTold r.quiet h.ended status line ⊎ (IsOk h.ended × IsSaid (fault.Run (run.Write 0)) status line)
+    → IsSaidOf r.quiet h.ended status line ⊎ (IsOk h.ended × IsSaid (fault.Run (run.Write 0)) status line)
     → Accepted (asked_by r input) (λ spec us. Appends (told_if tells (option_map string_bytes r.outfile) []) written
     (output (frame_of r.options) r.options.sides spec us))
-ran_carried r input tells written status line zero h (inl told) = carried r input tells written status line zero h told
+ran_carried r input tells written status line zero h (inl of_run) = carried r input tells written status line zero h of_run
 ran_carried r input tells written status line zero h (inr cut_off) =
     absurd (not_zero status (three_is_said (fault.Run (run.Write 0)) status line refl cut_off.1) zero)
 
@@ -82,7 +81,7 @@ runs_into : (r : Request) (input : List ℕ) (tells : Bool) (written : Option (L
     (output (frame_of r.options) r.options.sides spec us))
 runs_into r input tells written status line zero (inl none) =
     absurd (not_zero status (three_is_said (fault.Run (run.NoMemory 0)) status line refl none.1) zero)
-runs_into r input tells written status line zero (inr ran) = ran_carried r input tells written status line zero ran ran.told
+runs_into r input tells written status line zero (inr ran) = ran_carried r input tells written status line zero ran ran.said
 
 -- at status 0 the request was carried out
 pub carries_out : (r : Request) (input : List ℕ) (tells has_world has_output : Bool) (written : Option (List ℕ))

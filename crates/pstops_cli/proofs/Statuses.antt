@@ -6,7 +6,7 @@ use Rattle.imposer.specs.Runs.{Accepted, Reports, Request, frame_of}
 use Rattle.imposer.specs.declared.outcome.Report.{Report}
 use Rattle.imposer.specs.declared.outcome.RunError.{RunError}
 use Rattle.command_words.proofs.RunStatuses.{run_status-above}
-use Rattle.pstops_cli.specs.Requests.{outcome_status}
+use Rattle.pstops_cli.specs.RequestRuns.{outcome_status}
 
 -- so at status 0 the output was appended
 pub finished_at_zero : (a : Request) (told told' : Option (List ℕ)) (ended : Result Report RunError) → outcome_status ended ≡ 0

@@ -27,8 +27,8 @@ unfolding options_named
 of_value p w h d signature workers f =
     step (paper_or_a4 p) UnknownPaper f _ tt (λ named.
     step (with_width named w) (BadLength letter_w) f _ tt (λ wide.
-    step (with_height wide h) (BadLength letter_h) f _ tt (λ sides.
-    step (border_named sides d) (BadLength letter_d) f _ tt (λ border e. cc))))
+    step (with_height wide h) (BadLength letter_h) f _ tt (λ paper.
+    step (border_named paper d) (BadLength letter_d) f _ tt (λ border e. cc))))
 
 refused_as : (found : List Row) (f : CommandFault) → IsOfValue f → options_found found ≡ Err f → RefusesFound found f
 refused_as found BadWords is e = is
@@ -64,8 +64,8 @@ unfolding options_named
 named_workers p w h d signature workers named =
     last_step (paper_or_a4 p) UnknownPaper _ named _ (λ paper.
     last_step (with_width paper w) (BadLength letter_w) _ named _ (λ wide.
-    last_step (with_height wide h) (BadLength letter_h) _ named _ (λ sides.
-    last_step (border_named sides d) (BadLength letter_d) _ named _ (λ border e.
+    last_step (with_height wide h) (BadLength letter_h) _ named _ (λ paper.
+    last_step (border_named paper d) (BadLength letter_d) _ named _ (λ border e.
     ap (λ r. workers_of r workers) (sym e)))))
   where
     workers_of : Result Options CommandFault → Workers → Workers
@@ -82,8 +82,8 @@ unfolding options_named
 named_sides p w h d signature workers named =
     last_step (paper_or_a4 p) UnknownPaper _ named _ (λ paper.
     last_step (with_width paper w) (BadLength letter_w) _ named _ (λ wide.
-    last_step (with_height wide h) (BadLength letter_h) _ named _ (λ sides.
-    last_step (border_named sides d) (BadLength letter_d) _ named _ (λ border e.
+    last_step (with_height wide h) (BadLength letter_h) _ named _ (λ paper.
+    last_step (border_named paper d) (BadLength letter_d) _ named _ (λ border e.
     ap (λ r. sides_of r signature) (sym e)))))
   where
     sides_of : Result Options CommandFault → Option ℕ → Option ℕ

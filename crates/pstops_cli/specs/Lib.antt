@@ -2,6 +2,6 @@
 -- statuses; what a run of a request leaves and says; the whole program.
 pub mod Values
 pub mod Command
-pub mod Lines
-pub mod Requests
+pub mod Messages
+pub mod RequestRuns
 pub mod Programs

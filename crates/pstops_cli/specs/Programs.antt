@@ -8,14 +8,15 @@ use Rattle.imposer.specs.Runs.{Accepted, frame_of}
 use Rattle.imposer.specs.declared.outcome.Report.{Report}
 use Rattle.imposer.specs.declared.outcome.RunError.{RunError}
 use Rattle.imposer.specs.declared.outcome.RunError.TheVariants as run
+use Rattle.sheet_writer.specs.Sinks.{SinkView, fresh_sink}
 use Rattle.world.specs.Outputs.{IsFrontOf, told_if}
 use Rattle.input.specs.Input.{IsFirst, most_bytes}
 use Rattle.pstops_cli.specs.Command.{Reads, Refuses, Takes, pstops}
-use Rattle.pstops_cli.specs.Lines.{fault_status, fault_text, said}
-use Rattle.pstops_cli.specs.Requests.{Ends, IsTold, asked_by}
+use Rattle.pstops_cli.specs.Messages.{fault_status, fault_text, said}
+use Rattle.pstops_cli.specs.RequestRuns.{Ends, IsSaidOf, asked_by}
 use Rattle.pstops_cli.specs.declared.command.Request.{Request}
-use Rattle.pstops_cli.specs.declared.lines.Fault.{Fault}
-use Rattle.pstops_cli.specs.declared.lines.Fault.TheVariants as fault
+use Rattle.pstops_cli.specs.declared.messages.Fault.{Fault}
+use Rattle.pstops_cli.specs.declared.messages.Fault.TheVariants as fault
 
 -- what files and standard input give, by the file's name
 abbrev pub Gives : Type 0
@@ -56,16 +57,16 @@ IsCreating f = (f ≡ fault.Create) ⊎ (f ≡ fault.Run (run.NoMemory 0))
 pub record Ran (r : Request) (input : List ℕ) (tells : Bool) (written : Option (List ℕ)) (status : ℕ)
     (line : List ℕ) : Type 0 where
   pub ended : Result Report RunError
-  pub handed : Option (List ℕ)
-  pub failures : ℕ
-  pub ends : Ends (asked_by r input) (told_if tells (option_map string_bytes r.outfile) []) handed 0 failures ended
-  pub part : IsFrontOf written handed
-  pub whole : status ≡ 0 → Keeps handed written
-  pub told : IsTold r.quiet ended status line
+  pub sink : SinkView
+  pub ends : Ends (asked_by r input) (fresh_sink (told_if tells (option_map string_bytes r.outfile) [])) sink ended
+  pub part : IsFrontOf written sink.bytes
+  pub whole : status ≡ 0 → Keeps sink.bytes written
+  pub said : IsSaidOf r.quiet ended status line
       ⊎ (IsOk ended × IsSaid (fault.Run (run.Write 0)) status line)
 
 -- there was no memory for the output's buffer: the output is empty
-abbrev pub FindsNoBuffer : Request → (tells : Bool) → (written : Option (List ℕ)) → (status : ℕ) → (line : List ℕ) → Type 0
+abbrev pub FindsNoBuffer : Request → (tells : Bool) → (written : Option (List ℕ)) → (status : ℕ) → (line : List ℕ)
+    → Type 0
 FindsNoBuffer r tells written status line =
     (written ≡ told_if tells (option_map string_bytes r.outfile) []) × IsSaid (fault.Run (run.NoMemory 0)) status line
 

@@ -80,6 +80,6 @@ unfoldable pub options_named : (paper width height border : Option (List ℕ)) �
 options_named paper width height border signature workers =
     and_then (ok_or (paper_or_a4 paper) UnknownPaper) (λ named.
     and_then (ok_or (with_width named width) (BadLength letter_w)) (λ wide.
-    and_then (ok_or (with_height wide height) (BadLength letter_h)) (λ sides.
-    and_then (ok_or (border_named sides border) (BadLength letter_d)) (λ around.
-    Ok (record { paper = sides; border = around; sides = signature; workers = workers })))))
+    and_then (ok_or (with_height wide height) (BadLength letter_h)) (λ paper.
+    and_then (ok_or (border_named paper border) (BadLength letter_d)) (λ around.
+    Ok (record { paper = paper; border = around; sides = signature; workers = workers })))))

@@ -3,13 +3,13 @@
 
 mod command;
 pub mod laws;
-mod lines;
+mod messages;
 mod program;
-mod requests;
+mod request_runs;
 mod values;
 
 pub use command::{CommandFault, Request, read_command};
 pub use input::{MOST_BYTES, ReadFault, ReadSource, Source, SourceFault, read_input};
-pub use lines::{Fault, fault_line};
+pub use messages::{Fault, fault_line};
 pub use program::{Ended, pstops};
-pub use requests::run_request;
+pub use request_runs::run_request;

@@ -1,13 +1,14 @@
 //! The whole program, over the files and standard streams around it.
-ghost use Rattle.std.specs.Prelude.{◌≡◌, [], Bool, false, is_some, map, option_and_then, option_map, string_bytes, IfOk, IfErr};
+ghost use Rattle.std.specs.Prelude.{◌≡◌, [], Bool, false, is_some, map, option_and_then, option_map, string_bytes};
+ghost use Rattle.std.specs.Prelude.{IfOk, IfErr};
 ghost use Rattle.world.specs.Outputs.{told_if};
-ghost use Rattle.pstops_cli.specs.Programs.{CarriesOut, CreatesAndRuns, EndsProgram, HasRead, IsCreating, IsSaid, RunsInto};
-ghost use Rattle.pstops_cli.specs.Programs.{StopsBefore};
+ghost use Rattle.pstops_cli.specs.Programs.{CarriesOut, CreatesAndRuns, EndsProgram, HasRead, IsCreating, IsSaid};
+ghost use Rattle.pstops_cli.specs.Programs.{RunsInto, StopsBefore};
 ghost use Rattle.input.specs.Input.{IsFirst, most_bytes};
 
 use crate::command::{Request, read_command};
-use crate::lines::{Fault, fault_line};
-use crate::requests::run_request;
+use crate::messages::{Fault, fault_line};
+use crate::request_runs::run_request;
 use command_words::name_of;
 use imposer::RunError;
 use input::{ReadFault, ReadSource, read_input};
@@ -16,7 +17,7 @@ use std::io;
 use std::io::ErrorKind;
 use std::sync::Wait;
 use std::thread::Threads;
-use world::{World, buffered, finish};
+use world::{World, buffered, write_out};
 
 /// How the program ended.
 #[derive(Drop)]
@@ -33,7 +34,8 @@ pub struct Ended<W: World> {
 
 /// The program: it reads the words after its name, then its input whole, creates its output, runs, and flushes.
 ///
-/// The input is closed before the output is created, so both may be one file. A file that can't be opened can't be read.
+/// The input is closed before the output is created, so both may be one file. A file that can't be opened can't be
+/// read.
 pub fn pstops<R: Threads + Wait + Sync, W: World>(
     rt: &R,
     alloc: Global,
@@ -70,7 +72,8 @@ fn read<W: World>(alloc: Global, words: &[String], world: &W) -> Result<(Request
 
 /// All that the file of this name, or standard input, gives.
 fn input_of<W: World>(alloc: Global, name: Option<&str>, world: &W) -> Result<Vec<u8>, ReadFault>
-    ensures { IfOk result (λ input. IsFirst most_bytes (W.gives world.now (option_map (λ n. n.now) name.entry)) input.items) }
+    ensures { IfOk result (λ input.
+        IsFirst most_bytes (W.gives world.now (option_map (λ n. n.now) name.entry)) input.items) }
 {
     match world.open(name) {
         Ok(input) => {
@@ -94,7 +97,7 @@ fn stop<W: World>(
     ensures output { result.output ≡ output }
 {
     let (status, line) = match fault_line(alloc, fault) {
-        Ok(told) => told,
+        Ok(ending) => ending,
         // Not even the line found memory.
         Err(_) => (3, Vec::new(alloc)),
     };
@@ -155,7 +158,8 @@ fn run_into<R: Threads + Wait + Sync, W: World>(
     ensures created { is_some result.world ≡ false }
     ensures ran { (tells : Bool)
         → W.Output.contents output ≡ told_if tells (option_map string_bytes request.now.outfile) []
-        → RunsInto request.now input.now tells (option_and_then W.Output.contents result.output) result.status result.line.items }
+        → RunsInto request.now input.now tells (option_and_then W.Output.contents result.output) result.status
+        result.line.items }
 {
     // Without it the run is only slower.
     drop(Vec::<u8>::with_capacity(alloc, KEPT_BLOCK));
@@ -167,7 +171,7 @@ fn run_into<R: Threads + Wait + Sync, W: World>(
         }
     };
     let (status, line) = run_request(rt, alloc, request, input, &mut sink);
-    let (is_whole, opened) = finish(sink);
+    let (is_whole, opened) = write_out(sink);
     if status == 0 && !is_whole {
         // A failed flush is a failed write, whose line doesn't say how much was written.
         let fault = Fault::Run(RunError::Write { written: 0 });

@@ -22,10 +22,10 @@ pub(crate) fn options_named(
 {
     let named = paper_or_a4(paper).ok_or(CommandFault::UnknownPaper)?;
     let wide = with_width(named, width).ok_or(CommandFault::BadLength('w'))?;
-    let sides = with_height(wide, height).ok_or(CommandFault::BadLength('h'))?;
-    let border = border_named(&sides, border).ok_or(CommandFault::BadLength('d'))?;
+    let paper = with_height(wide, height).ok_or(CommandFault::BadLength('h'))?;
+    let border = border_named(&paper, border).ok_or(CommandFault::BadLength('d'))?;
     Ok(Options {
-        paper: sides,
+        paper,
         border,
         sides: signature,
         workers,

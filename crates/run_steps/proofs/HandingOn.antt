@@ -8,8 +8,10 @@ use Rattle.handover.specs.declared.ready.Full.{Full}
 use Rattle.handover.specs.Queue.{Put, content}
 use Rattle.gather_table.specs.declared.answers.Reply.{Reply}
 use Rattle.gather_table.specs.declared.answers.Closing.{Closing}
-use Rattle.handover.specs.Passes.{QueueView, PassView, Made}
+use Rattle.handover.specs.Passes.{QueueView, PassView, Made, puts_in, room_after}
+use Rattle.handover.proofs.Rooms.{one_less}
 use Rattle.run_steps.specs.Delivery.{is_filling, place_calls, answer_list, completes_sheet, completed, HandedOn}
+use Rattle.run_steps.specs.Delivery.{WasRefused, NoneHandedBack}
 use Rattle.run_steps.proofs.Marks.{on_calls, completed-append, completed_place}
 
 -- sheets after sheets
@@ -41,9 +43,20 @@ handed_on queue xs i d rs rs' r cs cs' c b back more all old mid new lt len clos
 
 -- a sheet was put, or the queue was full
 pub put_or_full : (queue : QueueView) (s : ℕ) (old new : PassView) (answer : Result (Unit {0}) Full) → OnOk answer (Made old (Put s) new)
-    → IfErr answer (λ full. (full.0 ≡ s) × (new ≡ old)) → OnErr answer (old.share ≡ whole_share → length (content old.front) ≡ queue.capacity) → (back : List ℕ) × HandedOn queue (s ∷ []) back old new
-put_or_full queue s old new (Ok x) made full when = ([], inl (new, made, (refl, refl)))
-put_or_full queue s old new (Err x) made full when = (s ∷ [], inr ([], refl, when, (refl, full.1)))
+    → IfErr answer (λ full. (full.0 ≡ s) × (new ≡ old)) → OnErr answer (old.share ≡ whole_share → length (content old.front) ≡ queue.capacity)
+    → OnErr answer (puts_in old.room ≡ 0) → (back : List ℕ) × HandedOn queue (s ∷ []) back old new
+put_or_full queue s old new (Ok x) made full when none = ([], inl (new, made, (refl, refl)))
+put_or_full queue s old new (Err x) made full when none = (s ∷ [], inr ([], refl, (none, when), (refl, full.1)))
+
+-- none is handed back of those for which there is room
+pub none_handed_back : NoneHandedBack
+none_handed_back queue [] back old new h le = (h.0, (let same = ap (λ (z : PassView). puts_in z.room) h.1 in omega (arith, same)))
+none_handed_back queue (s ∷ sheets) back old new (inl h) le =
+    let made : puts_in h.0.room ≡ puts_in (room_after (Put s) old.room) = ap puts_in h.1.1 in
+    let less = one_less s old.room (omega (arith, le)) in
+    let rest = none_handed_back queue sheets back h.0 new h.2 (omega (arith, le, made, less)) in
+    (rest.0, (let left = rest.1 in omega (arith, left, made, less)))
+none_handed_back queue (s ∷ sheets) back old new (inr h) le = absurd (let none = h.2.0 in omega (arith, none, le))
 
 -- one sheet more of those that are put whatever happens
 pub one_more : (queue : QueueView) (sheets : List ℕ) (k d : ℕ) (old mid new : PassView) → k < length sheets

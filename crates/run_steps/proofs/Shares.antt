@@ -12,7 +12,7 @@ use Rattle.gather_table.specs.declared.answers.Closing.{Closing}
 use Rattle.gather_table.specs.History.{Entry, Publish, Mark, Look, PageAt, CloseGroup, LookGroup}
 use Rattle.gather_table.specs.Laws.{is_completing, closes_last, completes, fillings, closings}
 use Rattle.run_steps.specs.Delivery.{is_filling, closing_after, left_after, place_calls, completed_by, completed}
-use Rattle.run_steps.specs.Delivery.{DeliveriesClose, CompletedAreCounted}
+use Rattle.run_steps.specs.Delivery.{DeliveriesClose, CompletedAreCounted, CompletedAreFew}
 use Rattle.run_steps.specs.Duty.{Duty, worth, of_place, duties, shares, DeliveriesWeigh, SharesAreAll}
 
 -- what the first k preparers owe for page p alone
@@ -97,3 +97,21 @@ completed_counted s (e ∷ es) =
     total-append _ (completed_by e) (completed es) in
     let one = one_completed s e in
     omega arith
+
+-- each place completes one sheet at most
+pub places_complete : (xs : List (ℕ × ℕ)) (rs : List Reply) (cs : List Closing) → length (completed (place_calls xs rs cs)) ≤ length xs
+places_complete [] rs cs = omega arith
+places_complete (x ∷ xs) [] cs = omega arith
+places_complete (x ∷ xs) (Fresh ∷ rs) cs = let i = places_complete xs rs cs in omega arith
+places_complete (x ∷ xs) (Repeated ∷ rs) cs = let i = places_complete xs rs cs in omega arith
+places_complete (x ∷ xs) (Completing ∷ rs) cs = let i = places_complete xs rs cs in omega arith
+places_complete (x ∷ xs) (Fills g ∷ rs) [] = let i = places_complete xs rs [] in omega arith
+places_complete (x ∷ xs) (Fills g ∷ rs) (c ∷ cs) = by_closing (closes_last c) (places_complete xs rs cs)
+  where
+    by_closing : (b : Bool) → length (completed (place_calls xs rs cs)) ≤ length xs
+        → length ((if b then x.0 ∷ [] else []) ++ completed (place_calls xs rs cs)) ≤ suc (length xs)
+    by_closing true i = omega arith
+    by_closing false i = omega arith
+
+pub completed_few : CompletedAreFew
+completed_few layout p i was rs cs = places_complete (places_of layout p) rs cs

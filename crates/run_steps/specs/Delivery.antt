@@ -1,5 +1,5 @@
 -- What the delivery of a page calls, and what it hands on.
-use Rattle.std.specs.Prelude.{◌≡◌, ◌⊎◌, ℕ, ◌<◌, Bool, true, false, List, [], ◌∷◌, ◌++◌, length, filter}
+use Rattle.std.specs.Prelude.{◌≡◌, ◌⊎◌, ℕ, ◌+◌, ◌<◌, ◌≤◌, Bool, true, false, List, [], ◌∷◌, ◌++◌, length, filter}
 use Rattle.std.specs.Prelude.{Option, Some, None, if◌then◌else◌}
 use Rattle.rules.specs.Sheets.{Layout}
 use Rattle.histories.specs.Seats.{whole_share, times}
@@ -12,7 +12,7 @@ use Rattle.gather_table.specs.Table.{IsMarkable}
 use Rattle.gather_table.specs.History.{Entry, Publish, Mark, Look, PageAt, CloseGroup, LookGroup, after_history}
 use Rattle.gather_table.specs.Laws.{is_completing, closes_last, completings, fillings, closings}
 use Rattle.handover.specs.Queue.{Put, content}
-use Rattle.handover.specs.Passes.{QueueView, PassView, Made}
+use Rattle.handover.specs.Passes.{QueueView, PassView, Made, puts_in}
 use Rattle.run_steps.specs.declared.delivery.Delivered.{Delivered}
 
 -- a mark that was answered that it fills a group
@@ -103,11 +103,28 @@ abbrev pub DeliveriesClose : Type 0
 DeliveriesClose = (layout : Layout) (p i : ℕ) (was : Published) (rs : List Reply) (cs : List Closing)
     → AreAnswered layout p rs cs → CloseWhatTheyFill (delivery_calls layout p i was rs cs)
 
+-- the calls of a delivery complete no more sheets than the page has places: a law
+abbrev pub CompletedAreFew : Type 0
+CompletedAreFew = (layout : Layout) (p i : ℕ) (was : Published) (rs : List Reply) (cs : List Closing)
+    → length (completed (delivery_calls layout p i was rs cs)) ≤ length (places_of layout p)
+
+-- the queue answered Full to this pass, whose put wasn't by right: one that has all shares had seen as many sheets in the
+-- queue as it has room for
+abbrev pub WasRefused : QueueView → PassView → Type 0
+WasRefused queue pass =
+    (puts_in pass.room ≡ 0) × (pass.share ≡ whole_share → length (content pass.front) ≡ queue.capacity)
+
 -- these sheets were put on the queue, in order, but for those handed back, for each of which the queue answered Full in
--- its turn: a pass that has all shares had then seen as many sheets in the queue as it has room for
+-- its turn
 abbrev pub HandedOn : QueueView → (sheets back : List ℕ) → PassView → PassView → Type 0
 HandedOn queue [] back old new = (back ≡ []) × (new ≡ old)
 HandedOn queue (s ∷ sheets) back old new =
     ((mid : PassView) × Made old (Put s) mid × HandedOn queue sheets back mid new)
-    ⊎ ((others : List ℕ) × (back ≡ s ∷ others) × (old.share ≡ whole_share → length (content old.front) ≡ queue.capacity)
-    × HandedOn queue sheets others old new)
+    ⊎ ((others : List ℕ) × (back ≡ s ∷ others) × WasRefused queue old × HandedOn queue sheets others old new)
+
+-- of sheets for which the pass has room none is handed back: the puts are made by right, and lower the room by as many. A
+-- law
+abbrev pub NoneHandedBack : Type 0
+NoneHandedBack =
+    (queue : QueueView) (sheets back : List ℕ) (old new : PassView) → HandedOn queue sheets back old new
+    → length sheets ≤ puts_in old.room → (back ≡ []) × (puts_in new.room + length sheets ≡ puts_in old.room)

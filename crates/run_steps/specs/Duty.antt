@@ -1,8 +1,8 @@
 -- What preparers owe, weighed: each page is published once, and each place of it is marked once.
-use Rattle.std.specs.Prelude.{◌≡◌, ℕ, zero, suc, ◌+◌, ◌<◌, ◌%◌, ◌==◌, if◌then◌else◌, List, ◌∷◌, length, map}
+use Rattle.std.specs.Prelude.{◌≡◌, ℕ, zero, suc, ◌+◌, ◌<◌, ◌%◌, ◌==◌, if◌then◌else◌, List, ◌∷◌, length, map, min}
 use Rattle.rules.specs.Sheets.{Layout}
 use Rattle.histories.specs.Seats.{total}
-use Rattle.sheet_plan.specs.Places.{places_of}
+use Rattle.sheet_plan.specs.Places.{places_of, born_complete}
 use Rattle.gather_table.specs.declared.answers.Published.{Published}
 use Rattle.gather_table.specs.declared.answers.Reply.{Reply}
 use Rattle.gather_table.specs.History.{Entry, Publish, Mark, Look, PageAt, CloseGroup, LookGroup}
@@ -45,6 +45,26 @@ owed h layout (suc p) = owed h layout p + total h (duties layout p)
 abbrev pub shares : (Duty → ℕ) → Layout → (count n k : ℕ) → ℕ
 shares h layout count n zero = 0
 shares h layout count n (suc k) = shares h layout count n k + share_below h layout count k n
+
+-- a mark of a place, whichever it is
+abbrev pub is_place : Duty → ℕ
+is_place (OfPage p) = 0
+is_place (OfSlot s k) = 1
+
+-- how many puts preparer `number` of `count` makes at most: it completes no more sheets than its pages have places, and no
+-- more than there are
+abbrev pub most_puts : Layout → (count number : ℕ) → ℕ
+most_puts layout count number =
+    min (share_below is_place layout count number layout.pages) (length layout.sheets)
+
+-- how many puts the first k preparers of `count` make at most
+abbrev pub most_puts_of : Layout → (count k : ℕ) → ℕ
+most_puts_of layout count zero = 0
+most_puts_of layout count (suc k) = most_puts_of layout count k + most_puts layout count k
+
+-- how many puts a gathering by so many preparers makes at most: those of the preparers, and the sheets without pages
+abbrev pub most_puts_in_all : Layout → (count : ℕ) → ℕ
+most_puts_in_all layout count = most_puts_of layout count count + length (born_complete layout)
 
 -- a delivery does what its page wants done
 abbrev pub DeliveriesWeigh : Type 0

@@ -64,6 +64,11 @@ pub record IsHandedOn (log : List Move) : Type 0 where
   pub once : (s : ℕ) → times s (sheets_put log) ≤ 1
   pub balanced : sheets_taken log ++ content log ≡ sheets_put log
 
+-- each complete sheet was put exactly once
+abbrev pub AreAllPut : Layout → List Entry → List Move → Type 0
+AreAllPut layout log moves =
+    (s : ℕ) → s < length layout.sheets → IsComplete layout log s → times s (sheets_put moves) ≡ 1
+
 -- behind a gathering each page of a sheet is found, at one index for good
 abbrev pub GatheredAreFound : Type 0
 GatheredAreFound = (seat : SeatView) (s k p : ℕ) → IsSeat seat → IsGathered seat.key seat.front

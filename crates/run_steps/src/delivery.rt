@@ -3,7 +3,8 @@ ghost use Rattle.std.specs.Prelude.{◌≡◌, ℕ, ◌<◌, ◌≤◌, ◌+◌,
 ghost use Rattle.std.specs.Prelude.{IfOk, IfErr, MatchResult, vec_capacity, if◌then◌else◌};
 ghost use Rattle.rules.specs.Sheets.{layout};
 ghost use Rattle.gather_table.specs.Shared.{IsSeatOf, Makes};
-ghost use Rattle.handover.specs.Passes.{IsPassOf};
+ghost use Rattle.sheet_plan.specs.Places.{places_of};
+ghost use Rattle.handover.specs.Passes.{IsPassOf, puts_in};
 ghost use Rattle.handover.specs.Shelves.{IsOn};
 ghost use Rattle.run_steps.specs.Delivery.{IsReady, is_filling, place_calls, answer_list, completes_sheet};
 ghost use Rattle.run_steps.specs.Delivery.{calls_of, AreAnswered, completed, HandedOn};
@@ -74,31 +75,136 @@ pub fn deliver<'d, R: Wait>(
         (λ d. HandedOn ready.now (completed (calls_of table.now.layout prepared.entry.page d)) d.handed_back.items
         pass.old pass.new)
         (λ e. pass.new ≡ pass.old) }
+
+    // If the pass has room for its page's places, every sheet that the page completed was put.
+    ensures by_right { IfOk result (λ d. length (places_of table.now.layout prepared.entry.page) ≤ puts_in pass.old.room
+        → d.handed_back.items ≡ []) }
     ensures pass { IsPassOf ready.now pass.new }
     ensures receipt { IfOk result (λ d. IsOn shelf.now d.receipt × (d.receipt.value ≡ prepared.entry)) }
     ensures refused { IfErr result (HandsBack shelf.now prepared.entry) }
 {
-    let page = prepared.page();
-    let places = plan.slots_of_page(page);
-    let Ok(room) = Marked::with_room(alloc, places.len()) else {
-        return Err(DeliverError::NoMemory(prepared));
+    let delivery = Delivery {
+        plan: &*plan,
+        table: &*table,
+        shelf,
+        ready: &*ready,
     };
-    let receipt = match shelf.put(rt, prepared) {
-        Ok(receipt) => receipt,
-        Err(error) => match error {
-            PutError::NoMemory(prepared) => return Err(DeliverError::NoMemory(prepared)),
-            PutError::ShelfFull(overflow) => return Err(DeliverError::ShelfFull(overflow)),
-        },
-    };
-    let published = table.publish(seat, page, receipt.index());
-    let marked = mark_places(rt, table, seat, ready, pass, places, room);
-    Ok(Delivered {
-        receipt,
-        published,
-        replies: marked.replies,
-        closings: marked.closings,
-        handed_back: marked.handed_back,
-    })
+    delivery.deliver(rt, seat, pass, prepared, Answers::new(alloc))
+}
+
+/// Where pages are delivered: the table of a plan, the shelf, and the queue of the sheets that are complete.
+#[derive(Drop)]
+pub struct Delivery<'f, 'p, 't, 'd> {
+    pub plan: &'f Plan<'p>,
+    pub table: &'f GatherTable<'t>,
+    pub shelf: &'f Shelf<'d>,
+    pub ready: &'f Ready,
+    ghost same_plan: { table.now.layout ≡ layout plan.now },
+}
+
+impl<'f, 'p, 't, 'd> Delivery<'f, 'p, 't, 'd> {
+    /// Does what `deliver` does, with memory for its answers that an earlier delivery leaves.
+    pub fn deliver<R: Wait>(
+        &self,
+        rt: &R,
+        seat: &mut Seat,
+        pass: &mut Pass,
+        prepared: Prepared<'d>,
+        answers: Answers,
+    ) -> Result<Delivered<'d>, DeliverError<'d>>
+        requires seat { IsSeatOf self.now.table.now seat.old }
+        requires pass { IsPassOf self.now.ready.now pass.old }
+        requires page { prepared.page < self.now.plan.now.pages }
+
+        // At Ok the seat published the page at the receipt's index and marked its places, each once and in order, with
+        // the closing of each group directly after the mark that filled it, and called nothing else.
+        ensures called { MatchResult result
+            (λ d. Makes seat.old (calls_of self.now.table.now.layout prepared.entry.page d) seat.new)
+            (λ e. seat.new ≡ seat.old) }
+        ensures answered { IfOk result (λ d.
+            AreAnswered self.now.table.now.layout prepared.entry.page d.replies.items d.closings.items) }
+        ensures seat { IsSeatOf self.now.table.now seat.new }
+
+        // At Ok each sheet that the page completed was put on the queue, in order, but for those handed back.
+        ensures handed_on { MatchResult result
+            (λ d. HandedOn self.now.ready.now (completed (calls_of self.now.table.now.layout prepared.entry.page d))
+            d.handed_back.items pass.old pass.new)
+            (λ e. pass.new ≡ pass.old) }
+
+        // If the pass has room for its page's places, every sheet that the page completed was put.
+        ensures by_right { IfOk result (λ d.
+            length (places_of self.now.table.now.layout prepared.entry.page) ≤ puts_in pass.old.room
+            → d.handed_back.items ≡ []) }
+        ensures pass { IsPassOf self.now.ready.now pass.new }
+        ensures receipt { IfOk result (λ d. IsOn self.now.shelf.now d.receipt × (d.receipt.value ≡ prepared.entry)) }
+        ensures refused { IfErr result (HandsBack self.now.shelf.now prepared.entry) }
+    {
+        let page = prepared.page();
+        let places = self.plan.slots_of_page(page);
+        let Ok(answers) = answers.reserve(places.len()) else {
+            return Err(DeliverError::NoMemory(prepared));
+        };
+        let receipt = match self.shelf.put(rt, prepared) {
+            Ok(receipt) => receipt,
+            Err(error) => match error {
+                PutError::NoMemory(prepared) => return Err(DeliverError::NoMemory(prepared)),
+                PutError::ShelfFull(overflow) => return Err(DeliverError::ShelfFull(overflow)),
+            },
+        };
+        let published = self.table.publish(seat, page, receipt.index());
+        let marked = self.mark_places(rt, seat, pass, places, answers);
+        Ok(Delivered {
+            receipt,
+            published,
+            replies: marked.replies,
+            closings: marked.closings,
+            handed_back: marked.handed_back,
+        })
+    }
+
+    /// Marks the places in order, each with the closing and the put that follow from its mark. There is room for all
+    /// that is answered.
+    fn mark_places<R: Wait>(
+        &self,
+        rt: &R,
+        seat: &mut Seat,
+        pass: &mut Pass,
+        places: &[(u32, u16)],
+        answers: Marked,
+    ) -> Marked
+        requires seat { IsSeatOf self.now.table.now seat.old }
+        requires pass { IsPassOf self.now.ready.now pass.old }
+        requires places { All (IsReady self.now.table.now.layout seat.old.front) places.now }
+        requires replies { (answers.replies.items ≡ []) × (length places.now ≤ vec_capacity answers.replies) }
+        requires closings { (answers.closings.items ≡ []) × (length places.now ≤ vec_capacity answers.closings) }
+        requires handed_back { (answers.handed_back.items ≡ [])
+            × (length places.now ≤ vec_capacity answers.handed_back) }
+        ensures called { Makes seat.old (place_calls places.now result.replies.items result.closings.items) seat.new }
+        ensures replies { length result.replies.items ≡ length places.now }
+        ensures closings { length result.closings.items ≡ length (filter is_filling result.replies.items) }
+        ensures pass { IsPassOf self.now.ready.now pass.new }
+        ensures handed_on { HandedOn self.now.ready.now
+            (completed (place_calls places.now result.replies.items result.closings.items)) result.handed_back.items
+            pass.old pass.new }
+    {
+        let Marked {
+            mut replies,
+            mut closings,
+            mut handed_back,
+        } = answers;
+        for place in places {
+            let (reply, closing) = mark_and_close(self.table, seat, *place);
+            replies.push_reserved(reply);
+            push_closing(&mut closings, closing);
+            let completed = completes_sheet(reply, closing);
+            hand_on_completed(rt, self.ready, pass, place.0, completed, &mut handed_back);
+        }
+        Marked {
+            replies,
+            closings,
+            handed_back,
+        }
+    }
 }
 
 /// What was answered at the places of a page, and the sheets that were handed back.
@@ -109,62 +215,62 @@ struct Marked {
     handed_back: Vec<u32>,
 }
 
-impl Marked {
-    /// None yet, with room for those of this many places.
-    fn with_room(alloc: Global, places: usize) -> Result<Self, AllocError>
+/// Memory for what a delivery is answered.
+#[derive(Drop)]
+pub struct Answers {
+    replies: Vec<Reply>,
+    closings: Vec<Closing>,
+    handed_back: Vec<u32>,
+}
+
+impl Answers {
+    /// None yet.
+    pub fn new(alloc: Global) -> Self {
+        Answers {
+            replies: Vec::new(alloc),
+            closings: Vec::new(alloc),
+            handed_back: Vec::new(alloc),
+        }
+    }
+
+    /// The memory of the answers of an earlier delivery, which are let go.
+    pub fn of(delivered: Delivered<'_>) -> Self {
+        let Delivered {
+            receipt: _,
+            published: _,
+            replies,
+            closings,
+            handed_back,
+        } = delivered;
+        Answers {
+            replies,
+            closings,
+            handed_back,
+        }
+    }
+
+    /// No answers yet, with room for those of this many places.
+    fn reserve(self, places: usize) -> Result<Marked, AllocError>
         ensures replies { IfOk result (λ a. (a.replies.items ≡ []) × (places ≤ vec_capacity a.replies)) }
         ensures closings { IfOk result (λ a. (a.closings.items ≡ []) × (places ≤ vec_capacity a.closings)) }
         ensures handed_back { IfOk result (λ a. (a.handed_back.items ≡ []) × (places ≤ vec_capacity a.handed_back)) }
     {
+        let Answers {
+            mut replies,
+            mut closings,
+            mut handed_back,
+        } = self;
+        replies.clear();
+        replies.reserve(places)?;
+        closings.clear();
+        closings.reserve(places)?;
+        handed_back.clear();
+        handed_back.reserve(places)?;
         Ok(Marked {
-            replies: Vec::with_capacity(alloc, places)?,
-            closings: Vec::with_capacity(alloc, places)?,
-            handed_back: Vec::with_capacity(alloc, places)?,
+            replies,
+            closings,
+            handed_back,
         })
-    }
-}
-
-/// Marks the places in order, each with the closing and the put that follow from its mark. There is room for all that
-/// is answered.
-fn mark_places<R: Wait>(
-    rt: &R,
-    table: &GatherTable<'_>,
-    seat: &mut Seat,
-    ready: &Ready,
-    pass: &mut Pass,
-    places: &[(u32, u16)],
-    room: Marked,
-) -> Marked
-    requires seat { IsSeatOf table.now seat.old }
-    requires pass { IsPassOf ready.now pass.old }
-    requires places { All (IsReady table.now.layout seat.old.front) places.now }
-    requires replies { (room.replies.items ≡ []) × (length places.now ≤ vec_capacity room.replies) }
-    requires closings { (room.closings.items ≡ []) × (length places.now ≤ vec_capacity room.closings) }
-    requires handed_back { (room.handed_back.items ≡ []) × (length places.now ≤ vec_capacity room.handed_back) }
-    ensures called { Makes seat.old (place_calls places.now result.replies.items result.closings.items) seat.new }
-    ensures replies { length result.replies.items ≡ length places.now }
-    ensures closings { length result.closings.items ≡ length (filter is_filling result.replies.items) }
-    ensures pass { IsPassOf ready.now pass.new }
-    ensures handed_on { HandedOn ready.now
-        (completed (place_calls places.now result.replies.items result.closings.items)) result.handed_back.items
-        pass.old pass.new }
-{
-    let Marked {
-        mut replies,
-        mut closings,
-        mut handed_back,
-    } = room;
-    for place in places {
-        let (reply, closing) = mark_and_close(table, seat, *place);
-        replies.push_reserved(reply);
-        push_closing(&mut closings, closing);
-        let completed = completes_sheet(reply, closing);
-        hand_on_completed(rt, ready, pass, place.0, completed, &mut handed_back);
-    }
-    Marked {
-        replies,
-        closings,
-        handed_back,
     }
 }
 

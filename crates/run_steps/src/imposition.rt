@@ -2,8 +2,9 @@
 ghost use Rattle.std.specs.Prelude.{◌≡◌, ℕ, ◌+◌, ◌-◌, ◌<◌, ◌≤◌, ◌++◌, ◌∷◌, [], IfOk, OnOk, OnErr, MatchResult, length};
 ghost use Rattle.std.specs.Prelude.{Some, slice_get, slice_index_or, true};
 ghost use Rattle.rules.specs.Parts.{pages};
-ghost use Rattle.rules.specs.Sheets.{Slot, layout};
-ghost use Rattle.rules.specs.Output.{slot_text};
+ghost use Rattle.rules.specs.Sheets.{layout};
+ghost use Rattle.made_sheets.specs.Made.{MadeSlot};
+ghost use Rattle.made_sheets.specs.MadeOutput.{made_slot_text};
 ghost use Rattle.sheet_plan.specs.Plans.{pages_on};
 ghost use Rattle.gather_table.specs.History.{PageAt, IsComplete};
 ghost use Rattle.gather_table.specs.Shared.{IsSeatOf, Made};
@@ -114,7 +115,7 @@ impl<'s, 'r, 'j, 't, 'd> Imposition<'s, 'r, 'j, 't, 'd> {
             Ok(()) => {}
             Err(error) => return Err(error),
         }
-        let Ok(()) = end_sheet(&mut text) else {
+        let Ok(()) = end_sheet(&mut text, job, sheet) else {
             return Err(ImposeError::NoMemory);
         };
         Ok(FinishedSheet { sheet, text })
@@ -162,9 +163,8 @@ impl<'s, 'r, 'j, 't, 'd> Imposition<'s, 'r, 'j, 't, 'd> {
         requires sheet { sheet < length self.now.job.now.plan.sheets }
         requires slot { slot < length (pages_on self.now.job.now.plan sheet) }
         requires complete { IsComplete self.now.table.now.layout seat.old.front sheet }
-        ensures text { OnOk result ((it : Slot) → slice_get (slots_of self.now.job.now sheet) slot ≡ Some it →
-            text.new ≡ text.old
-            ++ slot_text self.now.job.now.frame (pages self.now.job.now.units) it.page it.item) }
+        ensures text { OnOk result ((it : MadeSlot) → slice_get (slots_of self.now.job.now sheet) slot ≡ Some it →
+            text.new ≡ text.old ++ made_slot_text self.now.job.now.border (pages self.now.job.now.units) it) }
         ensures looked_up { LooksAt (slice_get (pages_on self.now.job.now.plan sheet) slot) seat.old seat.new }
         ensures has_page { OnErr result ((page : ℕ)
             × (slice_get (pages_on self.now.job.now.plan sheet) slot ≡ Some (Some page))) }

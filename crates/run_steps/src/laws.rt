@@ -1,5 +1,5 @@
 //! What holds of the calls of a run, by the definitions alone. The functions do nothing: each one's contract is a law.
-ghost use Rattle.run_steps.specs.Delivery.{DeliveriesClose, CompletedAreCounted};
+ghost use Rattle.run_steps.specs.Delivery.{DeliveriesClose, CompletedAreCounted, CompletedAreFew, NoneHandedBack};
 ghost use Rattle.run_steps.specs.Duty.{DeliveriesWeigh, SharesAreAll};
 ghost use Rattle.run_steps.specs.Gathered.{GathersAll, GatheredAreFound, TakenAtMostOnce};
 
@@ -38,4 +38,14 @@ pub fn deliveries_close()
 /// A sheet stands as often among those that calls completed as there are calls that completed it.
 pub fn completed_are_counted()
     ensures { CompletedAreCounted }
+{}
+
+/// A delivery completes no more sheets than its page has places.
+pub fn completed_are_few()
+    ensures { CompletedAreFew }
+{}
+
+/// Of sheets for which the pass has room none is handed back: each put is by right, and lowers the room by one.
+pub fn none_handed_back()
+    ensures { NoneHandedBack }
 {}

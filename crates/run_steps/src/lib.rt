@@ -6,5 +6,5 @@ mod delivery;
 mod imposition;
 pub mod laws;
 
-pub use delivery::{DeliverError, Delivered, deliver};
+pub use delivery::{Answers, DeliverError, Delivered, Delivery, deliver};
 pub use imposition::{ImposeError, Imposed, Imposition, impose, is_complete};

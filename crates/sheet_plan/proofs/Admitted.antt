@@ -37,7 +37,7 @@ at_most a b e = grind (arith, nat_tests)
 below : (a b : ℕ) → nat_le a b ≡ false → b < a
 below a b e = grind (arith, nat_tests)
 
-none_passes : {X : Type 0} (p : X → Bool) (xs : List X) → position p xs ≡ None → All (λ x. p x ≡ false) xs
+pub none_passes : {X : Type 0} (p : X → Bool) (xs : List X) → position p xs ≡ None → All (λ x. p x ≡ false) xs
 none_passes p xs e k d lt = fails_before_first p xs k d (past (position_or_len p xs) (length xs) k e lt)
   where
     past : (n m k : ℕ) → (if nat_lt n m then Some n else None) ≡ None → k < m → k < n

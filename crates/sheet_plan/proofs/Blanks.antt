@@ -104,7 +104,7 @@ pub unmarked : (xs : List (Option ℕ)) (first k word : ℕ) (o : Option ℕ) �
 unmarked xs first k word None m e b = marked_blank xs first k word m e
 unmarked xs first k word (Some p) m e b = cc
 
--- ---- the sheets born complete
+-- ---- the blank sheets
 more : (p : ℕ → Bool) (n : ℕ) → filter p (range_with_len 0 (n + 1)) ≡ filter p (range_with_len 0 n) ++ cond (p n) (n ∷ []) []
 more p n =
     ap (filter p) (sym (map-id (range_with_len 0 (n + 1)))) ∙ filter_of_map_range_with_len_more p (λ k. k) 0 n n (omega arith)

@@ -9,4 +9,8 @@ pub mod Filling
 pub mod Listing
 pub mod Blanks
 pub mod Exact
+pub mod Stored
+pub mod Placings
+pub mod Accepted
 pub mod Examples
+pub mod MadeExamples

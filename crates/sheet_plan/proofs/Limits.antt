@@ -18,18 +18,18 @@ use Rattle.sheet_plan.proofs.Admitted.{bounded}
 use Rattle.sheet_plan.proofs.Bounds.{blocks_ceil, blocks_le}
 use Rattle.sheet_plan.proofs.Access.{spec_of, few_in_block}
 
-refused : {A E : Type 0} (b : Bool) (fault : E) (next : Result A E) → b ≡ true → refuse_if b fault next ≡ Err fault
+pub refused : {A E : Type 0} (b : Bool) (fault : E) (next : Result A E) → b ≡ true → refuse_if b fault next ≡ Err fault
 refused true fault next e = refl
 refused false fault next e = cc
 
-passed : {A E : Type 0} (b : Bool) (fault : E) (next : Result A E) → b ≡ false → refuse_if b fault next ≡ next
+pub passed : {A E : Type 0} (b : Bool) (fault : E) (next : Result A E) → b ≡ false → refuse_if b fault next ≡ next
 passed true fault next e = cc
 passed false fault next e = refl
 
-above : (limit n : ℕ) → limit < n → nat_lt limit n ≡ true
+pub above : (limit n : ℕ) → limit < n → nat_lt limit n ≡ true
 above limit n lt = grind (arith, nat_tests)
 
-within : (limit n : ℕ) → n ≤ limit → nat_lt limit n ≡ false
+pub within : (limit n : ℕ) → n ≤ limit → nat_lt limit n ≡ false
 within limit n le = grind (arith, nat_tests)
 
 abbrev places_tested : (sides : Option ℕ) → Spec → ℕ → Result (List (List Slot)) PlanFault

@@ -6,3 +6,8 @@ pub mod Places
 pub mod Placed
 pub mod Laws
 pub mod Index
+pub mod Nothing
+pub mod OfSheets
+pub mod Store
+pub mod MadeRefusals
+pub mod Sources

@@ -18,3 +18,27 @@ pub enum PlanError {
     #[error("out of memory")]
     NoMemory,
 }
+
+/// Why sheets that were made can't be planned on a number of pages. The faults are looked for in this order, before any
+/// memory is asked for; a sheet is counted from 0.
+#[derive(Clone, Copy, Debug, PartialEq, Eq, Error)]
+pub enum MadeError {
+    /// There are over 1,000,000 pages.
+    #[error("sheets: too many pages")]
+    TooManyPages,
+    /// There are over 1,000,000 sheets.
+    #[error("sheets: too many sheets")]
+    TooManySheets,
+    /// This sheet has no slot, or over 4,096.
+    #[error("sheets: no places or too many on sheet {0}")]
+    SlotsOutOfRange(u32),
+    /// The sheets have over 4,000,000 slots in all, blank ones counted.
+    #[error("sheets: too many places")]
+    TooManyPlaces,
+    /// On this sheet a page stands that the document doesn't have.
+    #[error("sheets: no such page on sheet {0}")]
+    NoSuchPage(u32),
+    /// No memory was left.
+    #[error("out of memory")]
+    NoMemory,
+}

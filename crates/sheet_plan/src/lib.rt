@@ -1,15 +1,20 @@
 //! Plans: which pages stand on which sheets, and where on them, for a page specification and a number of pages.
 #![tactic(auto)]
 
-mod born;
+mod blank_sheets;
 mod error;
 mod expansion;
 mod index;
 pub mod laws;
+mod made;
+mod made_expansion;
 mod placed;
 mod plan;
 mod row;
+mod source;
+mod spec_expansion;
 
-pub use error::PlanError;
+pub use error::{MadeError, PlanError};
+pub use made::{MadeSheets, MadeSlot, PlacedSlot};
 pub use plan::Plan;
 pub use row::are_sides;

@@ -1,5 +1,5 @@
 //! The plan of a specification on a number of pages.
-ghost use Rattle.std.specs.Prelude.{◌≡◌, ℕ, ◌+◌, ◌*◌, ◌<◌, ◌≤◌, if◌then◌else◌, length, map, Ok, OnOk, IfOk, IfErr};
+ghost use Rattle.std.specs.Prelude.{◌≡◌, ℕ, ◌+◌, ◌*◌, ◌<◌, ◌≤◌, ◌⊎◌, if◌then◌else◌, length, map, Ok, OnOk, IfOk, IfErr};
 ghost use Rattle.std.specs.Prelude.{Some, slice_get};
 ghost use Rattle.std.specs.Int.{bit_at};
 ghost use Rattle.std.specs.List.{range_with_len};
@@ -9,15 +9,19 @@ ghost use Rattle.rules.specs.Sheets.{layout, sheets};
 ghost use Rattle.rules.specs.Signatures.{AreSides, AreSidesIfGiven, sheets_in};
 ghost use Rattle.pagespec.specs.Items.{item_of};
 ghost use Rattle.sheet_plan.specs.Plans.{planned, planned_in, pages_on, items_on, slot_groups, needs_page, IsSound};
+ghost use Rattle.made_sheets.specs.MadePlans.{made_plan_of, made_layout};
 ghost use Rattle.sheet_plan.specs.Plans.{IsOfSpec};
+ghost use Rattle.sheet_plan.specs.OfSheets.{made_plan, IsOfSheets};
+ghost use Rattle.sheet_plan.specs.MadeRefusals.{RefusesMade};
 ghost use Rattle.sheet_plan.specs.Places.{places_of, born_complete};
 ghost use Rattle.sheet_plan.specs.Laws.{ArePlaces, AreWithoutPages};
 ghost use Rattle.sheet_plan.specs.Refusals.{Refuses, RefusesIn};
 
-use crate::born::born_complete;
-use crate::error::PlanError;
+use crate::blank_sheets::blank_sheets_in;
+use crate::error::{MadeError, PlanError};
 use crate::expansion::Expansion;
 use crate::index::PageIndex;
+use crate::made::MadeSheets;
 use crate::placed::placed_pages;
 use crate::row::Row;
 use pagespec::{Item, Spec};
@@ -36,7 +40,7 @@ use std::marker::Model;
 pub struct Plan<'s> {
     expansion: Expansion<'s>,
     index: PageIndex,
-    born: Vec<u32>,
+    blank_sheets: Vec<u32>,
 }
 
 impl<'s> Model for Plan<'s> {
@@ -52,7 +56,7 @@ impl<'s> Model for Plan<'s> {
     ghost view = { λ p. p.expansion };
 
     ghost invariant = { λ p. (p.index ≡ map (places_of (layout p.expansion)) (range_with_len 0 p.expansion.pages))
-        × (p.born.items ≡ born_complete (layout p.expansion)) };
+        × (p.blank_sheets.items ≡ born_complete (layout p.expansion)) };
 }
 
 impl<'s> Plan<'s> {
@@ -90,6 +94,27 @@ impl<'s> Plan<'s> {
         )
     }
 
+    /// Plans sheets that were made, on so many pages. The faults are looked for in the order of `MadeError`, before any
+    /// memory is asked for.
+    pub fn of_sheets(
+        alloc: Global,
+        pages: u32,
+        sheets: &'s MadeSheets,
+    ) -> Result<Plan<'s>, MadeError>
+        ensures planned { IfOk result (λ plan. plan ≡ made_plan pages sheets.now) }
+        ensures layout { IfOk result (λ plan. layout plan ≡ made_layout pages sheets.now) }
+        ensures accepted { OnOk result (made_plan_of pages sheets.now ≡ Ok sheets.now) }
+        ensures refused { IfErr result (RefusesMade pages sheets.now) }
+    {
+        let expansion = Expansion::of_sheets(pages, sheets)?;
+        let (index, blank_sheets) = listed(alloc, &expansion).map_err(|_| MadeError::NoMemory)?;
+        Ok(Plan {
+            expansion,
+            index,
+            blank_sheets,
+        })
+    }
+
     /// Plans the sheets on a row of pages.
     fn over(alloc: Global, spec: &'s Spec, row: Row) -> Result<Plan<'s>, PlanError>
         requires { AreSidesIfGiven row.sides }
@@ -98,12 +123,12 @@ impl<'s> Plan<'s> {
             ≡ Ok (sheets_in row.sides spec.now row.pages)) }
         ensures refused { IfErr result (RefusesIn row.sides spec.now row.pages) }
     {
-        let expansion = Expansion::new(spec, row)?;
-        let (index, born) = listed(alloc, &expansion).map_err(|_| PlanError::NoMemory)?;
+        let expansion = Expansion::of_spec(spec, row)?;
+        let (index, blank_sheets) = listed(alloc, &expansion).map_err(|_| PlanError::NoMemory)?;
         Ok(Plan {
             expansion,
             index,
-            born,
+            blank_sheets,
         })
     }
 
@@ -111,7 +136,7 @@ impl<'s> Plan<'s> {
     pub fn pages(&self) -> u32
         ensures value { result ≡ self.now.pages }
         ensures sound { IsSound self.now }
-        ensures of_spec { IsOfSpec self.now }
+        ensures origin { IsOfSpec self.now ⊎ IsOfSheets self.now }
     {
         self.expansion.pages()
     }
@@ -185,7 +210,7 @@ impl<'s> Plan<'s> {
         ensures value { result.now ≡ born_complete (layout self.now) }
         ensures exact { AreWithoutPages (layout self.now) result.now }
     {
-        self.born.as_slice()
+        self.blank_sheets.as_slice()
     }
 }
 
@@ -193,10 +218,10 @@ impl<'s> Plan<'s> {
 fn listed(alloc: Global, expansion: &Expansion) -> Result<(PageIndex, Vec<u32>), AllocError>
     ensures index { IfOk result (λ x.
         x.0 ≡ map (places_of (layout expansion.now)) (range_with_len 0 expansion.now.pages)) }
-    ensures born { IfOk result (λ x. x.1.items ≡ born_complete (layout expansion.now)) }
+    ensures blank_sheets { IfOk result (λ x. x.1.items ≡ born_complete (layout expansion.now)) }
 {
     let placed = placed_pages(alloc, expansion)?;
     let index = PageIndex::new(alloc, expansion.pages(), &placed)?;
-    let born = born_complete(alloc, expansion)?;
-    Ok((index, born))
+    let blank_sheets = blank_sheets_in(alloc, expansion)?;
+    Ok((index, blank_sheets))
 }

@@ -1,56 +1,59 @@
 -- The slots of a sheet and their texts.
-use Rattle.std.proofs.Common.{ℕ, zero, suc, List, [], ◌∷◌, Option, Some, ◌+◌, ◌<◌, ◌++◌, ◌≡◌, ap, sym, subst, refl, ◌∙◌, length, take, arith, append_assoc}
-use Rattle.std.specs.Prelude.{slice_get, slice_index_or, map, flat_map, option_map, Ok}
-use Rattle.std.proofs.Math.ListN.{get_or, get_or-map}
+use Rattle.std.proofs.Common.{ℕ, zero, suc, List, [], ◌∷◌, Option, Some, None, ◌+◌, ◌<◌, ◌++◌, ◌≡◌, ap, sym, refl, ◌∙◌, length, take, arith, append_assoc}
+use Rattle.std.specs.Prelude.{slice_get, slice_index_or, map, flat_map, option_map, Ok, ℤ, IfSome}
+use Rattle.pagespec.specs.Items.{item_of}
+use Rattle.sheet_plan.specs.OfSheets.{placed_of}
+use Rattle.sheet_plan.specs.declared.made.PlacedSlot.{PlacedSlot}
+use Rattle.std.proofs.Math.ListN.{get_or}
 use Rattle.std.proofs.Math.Seq.{take-suc}
-use Rattle.std.proofs.lemmas.Option.{slice_get-map, get_or_from_slice_get, slice_get_within}
+use Rattle.std.proofs.lemmas.Option.{slice_get-map, get_or_from_slice_get, slice_get_within, same_Some, none-some}
 use Rattle.std.proofs.lemmas.List.{flat_map_more, length-map}
+use Rattle.rules.specs.Papers.{Paper}
 use Rattle.rules.specs.Specification.{Item}
-use Rattle.rules.specs.Sheets.{Slot, Plan}
+use Rattle.rules.specs.Sheets.{Plan}
 use Rattle.rules.specs.Parts.{pages}
 use Rattle.rules.specs.Filters.{prepared}
-use Rattle.rules.specs.Output.{Frame, opening_text, body_text, closing_text, slot_text}
-use Rattle.sheet_plan.specs.Plans.{pages_on, items_on}
-use Rattle.sheet_text.specs.Jobs.{JobView, slots_of, slots_text}
+use Rattle.rules.specs.Output.{opening_text, body_text, closing_text}
+use Rattle.made_sheets.specs.Made.{MadeSlot, Blank, Placed}
+use Rattle.made_sheets.specs.Dressed.{DressedSheet}
+use Rattle.made_sheets.specs.MadeOutput.{made_slot_text}
+use Rattle.made_sheets.specs.MadePlans.{page_of}
+use Rattle.sheet_plan.specs.Plans.{pages_on, IsSound}
+use Rattle.sheet_text.specs.Jobs.{JobView, AreOfPlan, no_sheet, slots_of, slots_text}
 
-pages_are : (plan : Plan) (s : ℕ) → pages_on plan s ≡ map (λ slot. slot.page) (slice_index_or plan.sheets s [])
-pages_are plan s = get_or-map (λ slots. map (λ slot. slot.page) slots) plan.sheets s []
+row_at : (sheets : List DressedSheet) (s : ℕ) → slice_index_or (map (λ (sheet : DressedSheet). map page_of sheet.slots) sheets) s [] ≡ map page_of (slice_index_or sheets s no_sheet).slots
+row_at [] s = refl
+row_at (x ∷ xs) zero = refl
+row_at (x ∷ xs) (suc s) = row_at xs s
 
-same : {X : Type 0} (a b : X) (o p : Option X) → o ≡ Some a → o ≡ p → p ≡ Some b → b ≡ a
-same a b o p is between other = cc
+-- the pages of a sheet's slots are those of the plan
+pub pages_are : (plan : Plan) (sheets : List DressedSheet) (s : ℕ) → AreOfPlan plan sheets → pages_on plan s ≡ map page_of (slice_index_or sheets s no_sheet).slots
+pages_are plan sheets s of = ap (λ rows. slice_index_or rows s []) (sym of) ∙ row_at sheets s
 
--- what is read of a slot is its own
-pub slot_page : (plan : Plan) (s k : ℕ) (it : Slot) (o : Option ℕ) → slice_get (slice_index_or plan.sheets s []) k ≡ Some it → slice_get (pages_on plan s) k ≡ Some o → it.page ≡ o
-slot_page plan s k it o at read =
-    same o it.page (slice_get (pages_on plan s) k) (option_map (λ slot. slot.page) (slice_get (slice_index_or plan.sheets s []) k)) read
-    (ap (λ xs. slice_get xs k) (pages_are plan s) ∙ slice_get-map (λ slot. slot.page) (slice_index_or plan.sheets s []) k)
-    (ap (λ x. option_map (λ slot. slot.page) x) at)
+pub slot_count : (plan : Plan) (sheets : List DressedSheet) (s : ℕ) → AreOfPlan plan sheets → length (pages_on plan s) ≡ length (slice_index_or sheets s no_sheet).slots
+slot_count plan sheets s of = ap length (pages_are plan sheets s of) ∙ length-map (slice_index_or sheets s no_sheet).slots page_of
 
-pub slot_item : (plan : Plan) (s k : ℕ) (it : Slot) (i : Item) → slice_get (slice_index_or plan.sheets s []) k ≡ Some it → slice_get (items_on plan s) k ≡ Some i → it.item ≡ i
-slot_item plan s k it i at read =
-    same i it.item (slice_get (items_on plan s) k) (option_map (λ slot. slot.item) (slice_get (slice_index_or plan.sheets s []) k)) read
-    (slice_get-map (λ slot. slot.item) (slice_index_or plan.sheets s []) k)
-    (ap (λ x. option_map (λ slot. slot.item) x) at)
+-- the page of a slot is one of the plan's
+pub page_there : (plan : Plan) (sheets : List DressedSheet) (s k p : ℕ) (item : Item) (paper : Paper) → IsSound plan → AreOfPlan plan sheets → s < length plan.sheets
+    → slice_get (slice_index_or sheets s no_sheet).slots k ≡ Some (Placed p item paper) → p < plan.pages
+page_there plan sheets s k p item paper sound of lt at =
+    sound.paged s k p lt
+    (ap (λ xs. slice_get xs k) (pages_are plan sheets s of) ∙ slice_get-map page_of (slice_index_or sheets s no_sheet).slots k ∙ ap (option_map page_of) at)
 
-there : (xs : List Slot) (k : ℕ) → k < length xs → (it : Slot) × (slice_get xs k ≡ Some it)
+-- what was found of a slot has a page of the plan, if it has one
+pub page_within : (plan : Plan) (sheets : List DressedSheet) (s k n : ℕ) (found : Option PlacedSlot) → IsSound plan → AreOfPlan plan sheets → s < length plan.sheets → plan.pages ≡ n
+    → slice_get (slice_index_or sheets s no_sheet).slots k ≡ Some (placed_of found) → IfSome found (λ placed. placed.page < n)
+page_within plan sheets s k n None sound of lt pages at = tt
+page_within plan sheets s k n (Some placed) sound of lt pages at =
+    let below = page_there plan sheets s k placed.page (item_of placed.item.now) placed.paper.now sound of lt at in omega (arith, below, pages)
+
+there : (xs : List MadeSlot) (k : ℕ) → k < length xs → (it : MadeSlot) × (slice_get xs k ≡ Some it)
 there [] k h = absurd (omega arith)
 there (x ∷ xs) zero h = (x, refl)
 there (x ∷ xs) (suc k) h = there xs k (omega arith)
 
-slot_count : (plan : Plan) (s : ℕ) → length (pages_on plan s) ≡ length (slice_index_or plan.sheets s [])
-slot_count plan s = ap (λ xs. length xs) (pages_are plan s) ∙ length-map _ _
-
-pub slot_there : (job : JobView) (s k : ℕ) → k < length (pages_on job.plan s) → (it : Slot) × (slice_get (slots_of job s) k ≡ Some it)
-slot_there job s k h = there (slots_of job s) k (omega (arith, slot_count job.plan s))
-
--- the text of a slot that has a page
-pub slot_is : (frame : Frame) (pages : List (List ℕ)) (item : Item) (page : Option ℕ) (p : ℕ) (raw body : List ℕ) → page ≡ Some p → raw ≡ slice_index_or pages p [] → prepared raw ≡ Ok body
-    → opening_text frame item ++ body ++ closing_text ≡ slot_text frame pages page item
-slot_is frame pages item page p raw body is raw_is made =
-    ap (λ b. opening_text frame item ++ body_text b ++ closing_text) (sym made ∙ ap (λ r. prepared r) raw_is) ∙ ap (λ o. slot_text frame pages o item) (sym is)
-
 -- one slot more
-pub slot_more : (slots : List Slot) (it : Slot) (text : Slot → List ℕ) (front : List ℕ) (k : ℕ) → slice_get slots k ≡ Some it
+slot_more : (slots : List MadeSlot) (it : MadeSlot) (text : MadeSlot → List ℕ) (front : List ℕ) (k : ℕ) → slice_get slots k ≡ Some it
     → (front ++ flat_map text (take k slots)) ++ text it ≡ front ++ flat_map text (take (k + 1) slots)
 slot_more slots it text front k at =
     let within : k < length slots = slice_get_within slots k it at in
@@ -59,34 +62,63 @@ slot_more slots it text front k at =
     ∙ ap (λ xs. front ++ flat_map text xs)
     (ap (λ x. take k slots ++ x ∷ []) (sym (get_or_from_slice_get slots k it it at)) ∙ sym (take-suc slots k it within) ∙ ap (λ n. take n slots) next)
 
--- a body that was read and prepared for the page of a slot is the slot's text, opened and closed
-pub slot_placed : (inside job : JobView) (s k p : ℕ) (o : Option ℕ) (it : Slot) (raw body : List ℕ) → inside ≡ job → slice_get (pages_on inside.plan s) k ≡ Some o → o ≡ Some p
-    → raw ≡ slice_index_or (pages inside.units) p [] → prepared raw ≡ Ok body → slice_get (slots_of job s) k ≡ Some it
-    → opening_text job.frame it.item ++ body ++ closing_text ≡ slot_text job.frame (pages job.units) it.page it.item
-slot_placed inside job s k p o it raw body view read is raw_is made at =
-    let of_job : slice_get (pages_on job.plan s) k ≡ Some o = subst (λ j. slice_get (pages_on j.plan s) k ≡ Some o) view read in
-    let page_is : it.page ≡ Some p = slot_page job.plan s k it o at of_job ∙ is in
-    let raw_of_job : raw ≡ slice_index_or (pages job.units) p [] = subst (λ j. raw ≡ slice_index_or (pages j.units) p []) view raw_is in
-    slot_is job.frame (pages job.units) it.item it.page p raw body page_is raw_of_job made
+-- what was found of a slot is the slot
+pub same_slot : (slots : List MadeSlot) (k : ℕ) (found it : MadeSlot) → slice_get slots k ≡ Some found → slice_get slots k ≡ Some it → found ≡ it
+same_slot slots k found it read at = same_Some found it (sym read ∙ at)
+
+joined : (old opened body closed : List ℕ) → ((old ++ opened) ++ body) ++ closed ≡ old ++ (opened ++ body ++ closed)
+joined old opened body closed = ap (λ x. x ++ closed) (append_assoc old opened body) ∙ append_assoc old (opened ++ body) closed
+
+-- the text of a slot that has a page
+pub slot_is : (border : Option ℤ) (texts : List (List ℕ)) (p : ℕ) (item : Item) (paper : Paper) (it : MadeSlot) (old one two three body : List ℕ) → Placed p item paper ≡ it
+    → one ≡ old ++ opening_text (record { paper = paper; border = border }) item → two ≡ one ++ body → three ≡ two ++ closing_text → prepared (slice_index_or texts p []) ≡ Ok body
+    → three ≡ old ++ made_slot_text border texts it
+slot_is border texts p item paper it old one two three body is first second third made =
+    let opened : List ℕ = opening_text (record { paper = paper; border = border }) item in
+    third
+    ∙ ap (λ x. x ++ closing_text) (second ∙ ap (λ x. x ++ body) first)
+    ∙ joined old opened body closing_text
+    ∙ ap (λ b. old ++ (opened ++ b ++ closing_text)) (ap body_text (sym made))
+    ∙ ap (λ slot. old ++ made_slot_text border texts slot) is
 
 -- a body with the texts that open and close it
-pub placed_is : (inside job : JobView) (s k : ℕ) (i : Item) (it : Slot) (old one two three body : List ℕ) → inside ≡ job → slice_get (items_on inside.plan s) k ≡ Some i
-    → one ≡ old ++ opening_text job.frame i → two ≡ one ++ body → three ≡ two ++ closing_text → slice_get (slots_of job s) k ≡ Some it
-    → three ≡ old ++ (opening_text job.frame it.item ++ body ++ closing_text)
-placed_is inside job s k i it old one two three body view read first second third at =
-    let of_job : slice_get (items_on job.plan s) k ≡ Some i = subst (λ j. slice_get (items_on j.plan s) k ≡ Some i) view read in
-    let item_is : i ≡ it.item = sym (slot_item job.plan s k it i at of_job) in
-    let opened : one ≡ old ++ opening_text job.frame it.item = first ∙ ap (λ x. old ++ opening_text job.frame x) item_is in
-    third ∙ ap (λ x. x ++ closing_text) (second ∙ ap (λ x. x ++ body) opened) ∙ simp append_assoc
+pub placed_is : (border : Option ℤ) (p q : ℕ) (item other : Item) (paper sheet : Paper) (old one two three body : List ℕ) → Placed p item paper ≡ Placed q other sheet
+    → one ≡ old ++ opening_text (record { paper = paper; border = border }) item → two ≡ one ++ body → three ≡ two ++ closing_text
+    → three ≡ old ++ (opening_text (record { paper = sheet; border = border }) other ++ body ++ closing_text)
+placed_is border p q item other paper sheet old one two three body is first second third =
+    third
+    ∙ ap (λ x. x ++ closing_text) (second ∙ ap (λ x. x ++ body) first)
+    ∙ joined old (opening_text (record { paper = paper; border = border }) item) body closing_text
+    ∙ ap (λ slot. old ++ (opened slot ++ body ++ closing_text)) is
+  where
+    opened : MadeSlot → List ℕ
+    opened Blank = []
+    opened (Placed k i r) = opening_text (record { paper = r; border = border }) i
+
+-- a body that was prepared for the page of a slot is the slot's text, opened and closed
+pub slot_shelved : (border : Option ℤ) (texts : List (List ℕ)) (plan : Plan) (sheets : List DressedSheet) (s k p : ℕ) (it : MadeSlot) (old new raw body : List ℕ) → AreOfPlan plan sheets
+    → slice_get (pages_on plan s) k ≡ Some (Some p) → slice_get (slice_index_or sheets s no_sheet).slots k ≡ Some it
+    → ((q : ℕ) (item : Item) (paper : Paper) → slice_get (slice_index_or sheets s no_sheet).slots k ≡ Some (Placed q item paper) → new ≡ old ++ (opening_text (record { paper = paper; border = border }) item ++ body ++ closing_text))
+    → raw ≡ slice_index_or texts p [] → prepared raw ≡ Ok body → new ≡ old ++ made_slot_text border texts it
+slot_shelved border texts plan sheets s k p it old new raw body of read at put raw_is made =
+    by_slot it at
+    (same_Some (page_of it) (Some p)
+    (sym (ap (option_map page_of) at) ∙ sym (slice_get-map page_of (slice_index_or sheets s no_sheet).slots k) ∙ ap (λ xs. slice_get xs k) (sym (pages_are plan sheets s of)) ∙ read))
+  where
+    by_slot : (slot : MadeSlot) → slice_get (slice_index_or sheets s no_sheet).slots k ≡ Some slot → page_of slot ≡ Some p → new ≡ old ++ made_slot_text border texts slot
+    by_slot Blank there e = absurd (none-some p e)
+    by_slot (Placed q item paper) there e =
+        put q item paper there
+        ∙ ap (λ b. old ++ (opening_text (record { paper = paper; border = border }) item ++ b ++ closing_text))
+        (ap body_text (sym made) ∙ ap (λ r. body_text (prepared r)) raw_is ∙ ap (λ n. body_text (prepared (slice_index_or texts n []))) (sym (same_Some q p e)))
 
 -- a turn of the loop over the slots
-pub slots_turn : (inside job : JobView) (s k end : ℕ) (old before after : List ℕ) → inside ≡ job → end ≡ length (pages_on inside.plan s) → k < end
+pub slots_turn : (job : JobView) (s k end : ℕ) (old before after : List ℕ) → AreOfPlan job.plan job.sheets → end ≡ length (pages_on job.plan s) → k < end
     → before ≡ old ++ slots_text job (take k (slots_of job s))
-    → ((it : Slot) → slice_get (slots_of job s) k ≡ Some it → after ≡ before ++ slot_text job.frame (pages job.units) it.page it.item)
+    → ((it : MadeSlot) → slice_get (slots_of job s) k ≡ Some it → after ≡ before ++ made_slot_text job.border (pages job.units) it)
     → after ≡ old ++ slots_text job (take (k + 1) (slots_of job s))
-slots_turn inside job s k end old before after view end_is below so_far next =
-    let within : k < length (pages_on job.plan s) = omega (arith, end_is, ap (λ j. length (pages_on j.plan s)) view) in
-    let found = slot_there job s k within in
+slots_turn job s k end old before after of end_is below so_far next =
+    let found = there (slots_of job s) k (let l = slot_count job.plan job.sheets s of in omega arith) in
     next found.0 found.1
-    ∙ ap (λ t. t ++ slot_text job.frame (pages job.units) found.0.page found.0.item) so_far
-    ∙ slot_more (slots_of job s) found.0 (λ slot. slot_text job.frame (pages job.units) slot.page slot.item) old k found.1
+    ∙ ap (λ t. t ++ made_slot_text job.border (pages job.units) found.0) so_far
+    ∙ slot_more (slots_of job s) found.0 (made_slot_text job.border (pages job.units)) old k found.1

@@ -1,3 +1,7 @@
--- Jobs says what is to be imposed, and the texts that come of it; Ropes which bytes a text in pieces has.
+-- Dressings says what lines of a dress are; Jobs what is to be imposed, and the texts that come of it; Ropes which bytes
+-- a text in pieces has.
+pub mod Dressings
+pub mod Hems
 pub mod Jobs
+pub mod PapersOf
 pub mod Ropes

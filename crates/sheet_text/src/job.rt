@@ -1,40 +1,55 @@
 //! What is to be imposed.
-ghost use Rattle.std.specs.Prelude.{◌≡◌, length, IsTrue};
+ghost use Rattle.std.specs.Prelude.{◌≡◌, ◌<◌, length, IsTrue, IfSome, Some, slice_get};
 ghost use Rattle.rules.specs.Parts.{pages};
-ghost use Rattle.sheet_plan.specs.Plans.{IsSound};
-ghost use Rattle.sheet_text.specs.Jobs.{JobView, is_border};
+ghost use Rattle.made_sheets.specs.Dress.{lines_text};
+ghost use Rattle.made_sheets.specs.Dressed.{dressed_output};
+ghost use Rattle.sheet_plan.specs.OfSheets.{made_plan, placed_of};
+ghost use Rattle.sheet_plan.specs.Plans.{pages_on, IsSound};
+ghost use Rattle.sheet_text.specs.Dressings.{dressed_by};
+ghost use Rattle.sheet_text.specs.Jobs.{JobView, AreOfPlan, of_frame, is_border, output_of, sheet_of, slots_of};
 
+use crate::dress::Dress;
+use crate::papers::Papers;
 use dsc::Document;
 use lengths::{Grains, Paper};
-use sheet_plan::Plan;
+use sheet_plan::{MadeSheets, PlacedSlot, Plan};
 use std::marker::Model;
 
-/// A plan of the pages of a document, the paper that they are made for, and a border round each placed page, if one
-/// is asked for.
+/// A plan of the pages of a document, the papers that they are made for, a border round each placed page, if one is
+/// asked for, and the lines that the output gets besides.
 #[derive(Drop)]
 pub struct Job<'j, 'd> {
-    pub(crate) plan: &'j Plan<'j>,
-    pub(crate) document: &'j Document<'d>,
-    pub(crate) paper: Paper,
+    plan: &'j Plan<'j>,
+    document: &'j Document<'d>,
     pub(crate) border: Option<Grains>,
-    pub(crate) sheets: u32,
+    papers: Papers<'j>,
+    sheets: u32,
 }
 
 impl<'j, 'd> Model for Job<'j, 'd> {
+    ghost use Rattle.std.specs.Prelude.{◌≡◌, length};
+    ghost use Rattle.rules.specs.Parts.{pages};
+    ghost use Rattle.sheet_plan.specs.Plans.{IsSound};
+    ghost use Rattle.sheet_text.specs.Jobs.{JobView, AreOfPlan};
+    ghost use Rattle.sheet_text.specs.PapersOf.{sheets_on, header_on};
+
     ghost Value = { JobView };
 
     ghost view = { λ j. record {
       plan = j.plan.now;
       units = j.document.now;
-      frame = record { paper = j.paper; border = j.border };
+      border = j.border;
+      header = header_on j.papers;
+      sheets = sheets_on j.papers j.plan.now;
     } };
 
     ghost invariant = { λ j. (j.plan.now.pages ≡ length (pages j.document.now))
-        × (j.sheets ≡ length j.plan.now.sheets) × IsSound j.plan.now };
+        × (j.sheets ≡ length j.plan.now.sheets) × IsSound j.plan.now
+        × AreOfPlan j.plan.now (sheets_on j.papers j.plan.now) };
 }
 
 impl<'j, 'd> Job<'j, 'd> {
-    /// The plan is one of the document's pages.
+    /// The plan is one of the document's pages, which have one paper.
     pub fn new(
         plan: &'j Plan<'j>,
         document: &'j Document<'d>,
@@ -43,17 +58,44 @@ impl<'j, 'd> Job<'j, 'd> {
     ) -> Self
         requires same_pages { plan.now.pages ≡ length (pages document.now) }
         requires border { IsTrue (is_border border) }
-        ensures { result ≡ record {
-          plan = plan.now;
-          units = document.now;
-          frame = record { paper = paper; border = border };
-        } }
+        ensures { result ≡ of_frame plan.now document.now (record { paper = paper; border = border }) }
     {
         Job {
             plan,
             document,
-            paper,
             border,
+            papers: Papers::One(paper),
+            sheets: plan.sheets(),
+        }
+    }
+
+    /// The plan is that of these sheets, on the document's pages, and each sheet has its lines.
+    pub fn made(
+        plan: &'j Plan<'j>,
+        document: &'j Document<'d>,
+        sheets: &'j MadeSheets,
+        border: Option<Grains>,
+        dress: &'j Dress,
+    ) -> Self
+        requires same_pages { plan.now.pages ≡ length (pages document.now) }
+        requires same_sheets { plan.now ≡ made_plan plan.now.pages sheets.now }
+        requires dressed { length dress.now.hems ≡ length sheets.now }
+        requires border { IsTrue (is_border border) }
+        ensures value { result ≡ record {
+          plan = plan.now;
+          units = document.now;
+          border = border;
+          header = dress.now.header;
+          sheets = dressed_by dress.now.hems sheets.now;
+        } }
+        ensures output { output_of result
+            ≡ dressed_output border dress.now.header (dressed_by dress.now.hems sheets.now) document.now }
+    {
+        Job {
+            plan,
+            document,
+            border,
+            papers: Papers::Made(sheets, dress),
             sheets: plan.sheets(),
         }
     }
@@ -63,6 +105,7 @@ impl<'j, 'd> Job<'j, 'd> {
         ensures value { result.now ≡ self.now.plan }
         ensures same_pages { self.now.plan.pages ≡ length (pages self.now.units) }
         ensures sound { IsSound self.now.plan }
+        ensures sheets { AreOfPlan self.now.plan self.now.sheets }
     {
         self.plan
     }
@@ -79,5 +122,57 @@ impl<'j, 'd> Job<'j, 'd> {
         ensures { result ≡ length self.now.plan.sheets }
     {
         self.sheets
+    }
+
+    /// The text of the header's lines.
+    pub fn header(&self) -> &'j [u8]
+        ensures { result.now ≡ lines_text self.now.header }
+    {
+        match &self.papers {
+            Papers::One(_) => &[],
+            Papers::Made(_, dress) => dress.header().text(),
+        }
+    }
+
+    /// The text of the lines at the start of a sheet.
+    pub(crate) fn start(&self, sheet: u32) -> &'j [u8]
+        requires { sheet < length self.now.plan.sheets }
+        ensures { result.now ≡ lines_text (sheet_of self.now sheet).start }
+    {
+        match &self.papers {
+            Papers::One(_) => &[],
+            Papers::Made(_, dress) => dress.of_sheet(sheet).start.text(),
+        }
+    }
+
+    /// The text of the lines at its end.
+    pub(crate) fn finish(&self, sheet: u32) -> &'j [u8]
+        requires { sheet < length self.now.plan.sheets }
+        ensures { result.now ≡ lines_text (sheet_of self.now sheet).finish }
+    {
+        match &self.papers {
+            Papers::One(_) => &[],
+            Papers::Made(_, dress) => dress.of_sheet(sheet).finish.text(),
+        }
+    }
+
+    /// What stands in a slot; None is a blank.
+    pub(crate) fn placed(&self, sheet: u32, slot: u16) -> Option<PlacedSlot<'_>>
+        requires sheet { sheet < length self.now.plan.sheets }
+        requires slot { slot < length (pages_on self.now.plan sheet) }
+        ensures value { slice_get (slots_of self.now sheet) slot ≡ Some (placed_of result) }
+        ensures page { IfSome result (λ placed. placed.page < length (pages self.now.units)) }
+    {
+        match &self.papers {
+            Papers::One(paper) => match self.plan.page_of(sheet, slot) {
+                Some(page) => Some(PlacedSlot {
+                    page,
+                    item: self.plan.item_of(sheet, slot),
+                    paper,
+                }),
+                None => None,
+            },
+            Papers::Made(sheets, _) => sheets.placed(sheet, u32::from(slot)),
+        }
     }
 }

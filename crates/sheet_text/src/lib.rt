@@ -1,11 +1,14 @@
 //! The text of a sheet: its page line, each page placed in its slot, and one `showpage`. It knows no threads.
 #![tactic(auto)]
 
+mod dress;
 mod job;
 mod openings;
+mod papers;
 mod rope;
 mod sheet;
 
+pub use dress::{Dress, Lines, SheetLines};
 pub use job::Job;
 pub use openings::Openings;
 pub use rope::{Pieces, Rope};

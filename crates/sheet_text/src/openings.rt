@@ -13,8 +13,7 @@ use std::alloc::{AllocError, Global};
 /// How many texts are kept at most.
 const MOST_KEPT: usize = 64;
 
-/// The texts before placed pages, each printed once and kept. A specification has few items, and its sheets repeat
-/// them.
+/// The texts before placed pages, each printed once and kept. Sheets have few items, and repeat them.
 #[derive(Drop)]
 pub struct Openings {
     alloc: Global,
@@ -41,22 +40,23 @@ impl Openings {
         }
     }
 
-    /// Appends what stands before a page that this item places.
+    /// Appends what stands before a page that this item places, which is made for this paper.
     pub(crate) fn append(
         &mut self,
         job: &Job<'_, '_>,
         item: &Item,
+        paper: &Paper,
         out: &mut Rope<'_>,
     ) -> Result<(), AllocError>
-        ensures { OnOk result (out.new ≡ out.old ++ opening job.now.frame (item_of item.now)) }
+        ensures { OnOk result (out.new ≡ out.old ++ opening (record { paper = paper.now; border = job.now.border }) (item_of item.now)) }
     {
-        if self.append_kept(job, item, out)? {
+        if self.append_kept(job, item, paper, out)? {
             return Ok(());
         }
         let mut text = Vec::new(self.alloc);
-        opening_text(item, &job.paper, job.border, &mut text)?;
+        opening_text(item, paper, job.border, &mut text)?;
         out.append(text.as_slice())?;
-        self.keep(job, item, text)?;
+        self.keep(job, item, paper, text)?;
         Ok(())
     }
 
@@ -65,14 +65,15 @@ impl Openings {
         &self,
         job: &Job<'_, '_>,
         item: &Item,
+        paper: &Paper,
         out: &mut Rope<'_>,
     ) -> Result<bool, AllocError>
         ensures kept { IfOk result (λ is_kept. is_kept ≡ true →
-            out.new ≡ out.old ++ opening job.now.frame (item_of item.now)) }
+            out.new ≡ out.old ++ opening (record { paper = paper.now; border = job.now.border }) (item_of item.now)) }
         ensures missing { IfOk result (λ is_kept. is_kept ≡ false → out.new ≡ out.old) }
     {
         for opening in self.kept.as_slice() {
-            if let Some(text) = opening.text_for(job, item) {
+            if let Some(text) = opening.text_for(job, item, paper) {
                 out.append(text)?;
                 return Ok(true);
             }
@@ -81,15 +82,21 @@ impl Openings {
     }
 
     /// Keeps a text, if few are kept.
-    fn keep(&mut self, job: &Job<'_, '_>, item: &Item, text: Vec<u8>) -> Result<(), AllocError>
-        requires { text.items ≡ opening job.now.frame (item_of item.now) }
+    fn keep(
+        &mut self,
+        job: &Job<'_, '_>,
+        item: &Item,
+        paper: &Paper,
+        text: Vec<u8>,
+    ) -> Result<(), AllocError>
+        requires { text.items ≡ opening (record { paper = paper.now; border = job.now.border }) (item_of item.now) }
     {
         if self.kept.len() >= MOST_KEPT {
             return Ok(());
         }
         let opening = Opening {
             item: *item,
-            paper: job.paper,
+            paper: *paper,
             border: job.border,
             text,
         };
@@ -100,14 +107,14 @@ impl Openings {
 
 impl Opening {
     /// The text, if it is the one for a page that this item places.
-    fn text_for(&self, job: &Job<'_, '_>, item: &Item) -> Option<&[u8]>
-        ensures { IfSome result (λ text. text.now ≡ opening job.now.frame (item_of item.now)) }
+    fn text_for(&self, job: &Job<'_, '_>, item: &Item, paper: &Paper) -> Option<&[u8]>
+        ensures { IfSome result (λ text. text.now ≡ opening (record { paper = paper.now; border = job.now.border }) (item_of item.now)) }
     {
         if self.item.turn == item.turn
             && self.item.scale == item.scale
             && is_same(self.item.offset.0, item.offset.0)
             && is_same(self.item.offset.1, item.offset.1)
-            && self.paper == job.paper
+            && self.paper == *paper
             && self.border == job.border
         {
             Some(self.text.as_slice())

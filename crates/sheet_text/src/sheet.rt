@@ -2,11 +2,15 @@
 ghost use Rattle.std.specs.Prelude.{◌≡◌, ℕ, ◌+◌, ◌<◌, ◌++◌, List, IfOk, OnOk, codes, decimal, length, Some, slice_get};
 ghost use Rattle.rules.specs.Bytes.{line};
 ghost use Rattle.rules.specs.Parts.{pages};
-ghost use Rattle.rules.specs.Sheets.{Slot};
+ghost use Rattle.made_sheets.specs.Made.{MadeSlot, Placed};
+ghost use Rattle.made_sheets.specs.Dress.{lines_text};
+ghost use Rattle.made_sheets.specs.MadeOutput.{made_slot_text};
+ghost use Rattle.rules.specs.Papers.{Paper};
+ghost use Rattle.rules.specs.Specification.{Item};
 ghost use Rattle.rules.specs.Filters.{prepared};
-ghost use Rattle.rules.specs.Output.{slot_text, opening_text as opening, closing_text as closing};
+ghost use Rattle.rules.specs.Output.{opening_text as opening, closing_text as closing};
 ghost use Rattle.sheet_plan.specs.Plans.{pages_on};
-ghost use Rattle.sheet_text.specs.Jobs.{page_line, slots_of, slots_text, text_of};
+ghost use Rattle.sheet_text.specs.Jobs.{page_line, sheet_of, slots_of, slots_text, text_of};
 
 use crate::job::Job;
 use crate::openings::Openings;
@@ -31,32 +35,37 @@ pub fn sheet_rope<'r>(alloc: Global, job: &Job<'_, '_>, sheet: u32) -> Result<Ro
 {
     let mut text = begin_sheet(Rope::new(alloc), job, sheet)?;
     append_slots(alloc, &mut text, job, sheet)?;
-    end_sheet(&mut text)?;
+    end_sheet(&mut text, job, sheet)?;
     Ok(text)
 }
 
-/// The page line of a sheet, with room for about all that is copied into the text of the sheet. The memory of `spent`,
-/// a text that nobody needs any more or an empty one, is used again.
+/// The page line of a sheet and the lines at its start, with room for about all that is copied into the text of the
+/// sheet. The memory of `spent`, a text that nobody needs any more or an empty one, is used again.
 pub fn begin_sheet<'r>(
     spent: Rope<'r>,
     job: &Job<'_, '_>,
     sheet: u32,
 ) -> Result<Rope<'r>, AllocError>
     requires { sheet < length job.now.plan.sheets }
-    ensures { IfOk result (λ text. text ≡ page_line sheet) }
+    ensures { IfOk result (λ text. text ≡ page_line sheet ++ lines_text (sheet_of job.now sheet).start) }
 {
     let mut text = spent;
     text.clear();
     text.reserve(likely_len(job, sheet))?;
     append_page_line(&mut text, sheet)?;
+    text.append(job.start(sheet))?;
     Ok(text)
 }
 
-/// Appends the line that ends a sheet and prints it.
-pub fn end_sheet(text: &mut Rope<'_>) -> Result<(), AllocError>
-    ensures { OnOk result (text.new ≡ text.old ++ line (codes "showpage")) }
+/// Appends the lines at the end of a sheet, and the line that ends it and prints it.
+pub fn end_sheet(text: &mut Rope<'_>, job: &Job<'_, '_>, sheet: u32) -> Result<(), AllocError>
+    requires { sheet < length job.now.plan.sheets }
+    ensures { OnOk result (text.new ≡
+        text.old ++ (lines_text (sheet_of job.now sheet).finish ++ line (codes "showpage"))) }
 {
-    text.append(b"showpage\n")
+    text.append(job.finish(sheet))?;
+    text.append(b"showpage\n")?;
+    Ok(())
 }
 
 /// About how many bytes are copied into the text of a sheet, and seldom fewer than that, so that they aren't moved while
@@ -64,10 +73,14 @@ pub fn end_sheet(text: &mut Rope<'_>) -> Result<(), AllocError>
 fn likely_len(job: &Job<'_, '_>, sheet: u32) -> usize
     requires { sheet < length job.now.plan.sheets }
 {
-    let mut len = 64usize;
-    for slot in 0..job.plan.slots(sheet) {
-        if let Some(page) = job.plan.page_of(sheet, slot) {
-            let body = job.document.page(page).len();
+    let lines = job
+        .start(sheet)
+        .len()
+        .saturating_add(job.finish(sheet).len());
+    let mut len = lines.saturating_add(64);
+    for slot in 0..job.plan().slots(sheet) {
+        if let Some(placed) = job.placed(sheet, slot) {
+            let body = job.document().page(placed.page).len();
             let copied = if body < LEAST_BORROWED { body } else { 0 };
             // The texts round a placed page have a few hundred bytes.
             len = len.saturating_add(copied).saturating_add(512);
@@ -101,7 +114,7 @@ fn append_slots(
     ensures { OnOk result (text.new ≡ text.old ++ slots_text job.now (slots_of job.now sheet)) }
 {
     let mut openings = Openings::new(alloc);
-    for slot in 0..job.plan.slots(sheet) {
+    for slot in 0..job.plan().slots(sheet) {
         append_slot(alloc, text, &mut openings, job, sheet, slot)?;
     }
     Ok(())
@@ -118,21 +131,21 @@ fn append_slot(
 ) -> Result<(), AllocError>
     requires sheet { sheet < length job.now.plan.sheets }
     requires slot { slot < length (pages_on job.now.plan sheet) }
-    ensures { OnOk result ((it : Slot) → slice_get (slots_of job.now sheet) slot ≡ Some it →
-        text.new ≡ text.old ++ slot_text job.now.frame (pages job.now.units) it.page it.item) }
+    ensures { OnOk result ((it : MadeSlot) → slice_get (slots_of job.now sheet) slot ≡ Some it →
+        text.new ≡ text.old ++ made_slot_text job.now.border (pages job.now.units) it) }
 {
-    let Some(page) = job.plan.page_of(sheet, slot) else {
+    let Some(placed) = job.placed(sheet, slot) else {
         return Ok(());
     };
-    let body = job.document.body(alloc, page)?;
-    openings.append(job, job.plan.item_of(sheet, slot), text)?;
+    let body = job.document().body(alloc, placed.page)?;
+    openings.append(job, placed.item, placed.paper, text)?;
     text.append(body.as_slice())?;
     text.append_closing()?;
     Ok(())
 }
 
-/// Appends a prepared body as it is placed in a slot: the texts that open and close it round it. The body itself isn't
-/// copied if it has 4,096 bytes or more.
+/// Appends a prepared body as it is placed in a slot that isn't blank: the texts that open and close it round it. The
+/// body itself isn't copied if it has 4,096 bytes or more.
 pub fn append_placed<'r>(
     text: &mut Rope<'r>,
     openings: &mut Openings,
@@ -143,10 +156,15 @@ pub fn append_placed<'r>(
 ) -> Result<(), AllocError>
     requires sheet { sheet < length job.now.plan.sheets }
     requires slot { slot < length (pages_on job.now.plan sheet) }
-    ensures { OnOk result ((it : Slot) → slice_get (slots_of job.now sheet) slot ≡ Some it →
-        text.new ≡ text.old ++ (opening job.now.frame it.item ++ body.now ++ closing)) }
+    ensures { OnOk result ((p : ℕ) (item : Item) (paper : Paper) →
+        slice_get (slots_of job.now sheet) slot ≡ Some (Placed p item paper) →
+        text.new ≡ text.old ++
+        (opening (record { paper = paper; border = job.now.border }) item ++ body.now ++ closing)) }
 {
-    openings.append(job, job.plan.item_of(sheet, slot), text)?;
+    let Some(placed) = job.placed(sheet, slot) else {
+        return Ok(());
+    };
+    openings.append(job, placed.item, placed.paper, text)?;
     text.append_borrowed(body)?;
     text.append_closing()?;
     Ok(())

@@ -1,29 +1,29 @@
 -- How the steps of writing make the output.
 use Rattle.std.proofs.Common.{ℕ, zero, suc, ◌+◌, ◌≤◌, ◌<◌, ◌≡◌, ◌∙◌, refl, ap, sym, subst, List, [], ◌∷◌, ◌++◌, length, take, drop, Option, Some, None, slice_get, true, true≢false, ◌⊎◌, inl, inr, ⊎_elim, slice_set, arith, append_assoc, append-nil}
 use Rattle.std.specs.Prelude.{flat_map, is_some}
-use Rattle.std.specs.List.{enumerate_from}
+use Rattle.std.specs.List.{range_with_len}
 use Rattle.std.specs.Io.KnownBytes.{Appends, Keeps}
 use Rattle.std.proofs.KnownBytes.{Appends-trans, Appends-kept, Keeps-refl}
 use Rattle.std.proofs.Math.Seq.{take-append-add, take-append_seam}
 use Rattle.std.proofs.lemmas.List.{take-append-drop, length-append, take-append-le}
 use Rattle.std.proofs.lemmas.Grind.{flat_map-append}
-use Rattle.rules.specs.Sheets.{Slot}
-use Rattle.rules.specs.Parts.{pages}
-use Rattle.rules.specs.Filters.{preamble_text, trailer_text}
-use Rattle.rules.specs.Output.{sheet_text}
+use Rattle.rules.specs.Filters.{trailer_text}
+use Rattle.made_sheets.specs.MadeOutput.{dressed_preamble}
 use Rattle.sheet_text.specs.Jobs.{JobView, text_of, output_of}
-use Rattle.sheet_writer.specs.Writing.{front_text, WroteFirst, StandsAt, EndsAt, HandedAt, AreEarly}
+use Rattle.sheet_writer.specs.Sinks.{SinkView, Took, FailedBehind, IsUntouched}
+use Rattle.sheet_writer.specs.Writing.{front_text, WroteFirst, AfterHalt, Halts, Handed, HasFront, HasAll, Stands, Ends, AreEarly}
 use Rattle.sheet_writer.specs.declared.early.FinishedSheet.{FinishedSheet}
 use Rattle.sheet_writer.specs.declared.writing.Halt.{Halt}
 use Rattle.sheet_writer.specs.declared.writing.Halt.TheVariants.{Failed, NoMemory}
+use Rattle.sheet_writer.specs.declared.writing.Progress.{Progress}
 use Rattle.sheet_writer.proofs.Sheets.{job_sheet_more, output_is}
 
 -- the header and the first sheets begin the output
 front_begins : (job : JobView) (n : ℕ) → (rest : List ℕ) × (front_text job n ++ rest ≡ output_of job)
 front_begins job n =
-    let row = enumerate_from 0 job.plan.sheets in
-    let text : ℕ × List Slot → List ℕ = λ (s, slots). sheet_text job.frame (pages job.units) s slots in
-    let header = preamble_text (length job.plan.sheets) job.units in
+    let row = range_with_len 0 (length job.plan.sheets) in
+    let text : ℕ → List ℕ = text_of job in
+    let header = dressed_preamble (length job.plan.sheets) job.header job.units in
     let whole : flat_map text (take n row) ++ flat_map text (drop n row) ≡ flat_map text row = sym (flat_map-append text (take n row) (drop n row)) ∙ ap (λ xs. flat_map text xs) (take-append-drop n row) in (
       flat_map text (drop n row) ++ trailer_text job.units,
       sym (append_assoc (header ++ flat_map text (take n row)) (flat_map text (drop n row)) (trailer_text job.units))
@@ -38,66 +38,104 @@ part_behind front text rest whole k is within =
     (omega (arith, sizes), ap (λ t. take (length front + k) t) (sym seam) ∙ take-append-add front (text ++ rest) k ∙ ap (λ t. front ++ t) (take-append-le k text rest within))
 
 -- so far the front was written, and some bytes behind it: these are the first bytes of the whole
-wrote_behind : (job : JobView) (start old new : Option (List ℕ)) (front text rest : List ℕ) (k : ℕ) → (front ++ text) ++ rest ≡ output_of job → k ≤ length text
-    → Appends start old front → Appends old new (take k text) → WroteFirst job start new (length front + k)
+wrote_behind : (job : JobView) (start old new : SinkView) (front text rest : List ℕ) (k : ℕ) → (front ++ text) ++ rest ≡ output_of job → k ≤ length text
+    → Appends start.bytes old.bytes front → Appends old.bytes new.bytes (take k text) → WroteFirst job start new (length front + k)
 wrote_behind job start old new front text rest k is within so_far next =
     let part = part_behind front text rest (output_of job) k is within in
-    (part.0, subst (Appends start new) (sym part.1) (Appends-trans start old new front (take k text) so_far next))
+    (part.0, subst (Appends start.bytes new.bytes) (sym part.1) (Appends-trans start.bytes old.bytes new.bytes front (take k text) so_far next))
 
-wrote_front : (job : JobView) (start old new : Option (List ℕ)) (n : ℕ) → Appends start old (front_text job n) → Keeps old new → WroteFirst job start new (length (front_text job n))
+wrote_front : (job : JobView) (start old new : SinkView) (n : ℕ) → Appends start.bytes old.bytes (front_text job n) → Keeps old.bytes new.bytes → WroteFirst job start new (length (front_text job n))
 wrote_front job start old new n so_far same =
     let begins = front_begins job n in
     let front = front_text job n in
     let sizes : length front + length begins.0 ≡ length (output_of job) = sym (length-append front begins.0) ∙ ap (λ t. length t) begins.1 in
     let first : take (length front) (output_of job) ≡ front = ap (λ t. take (length front) t) (sym begins.1) ∙ take-append_seam front begins.0 in
-    (omega (arith, sizes), subst (Appends start new) (sym first) (Appends-kept start old new front so_far same))
+    (omega (arith, sizes), subst (Appends start.bytes new.bytes) (sym first) (Appends-kept start.bytes old.bytes new.bytes front so_far same))
+
+-- each of the three by its own step
+by_halt : (h : Option Halt) (Goes Fails Starves Goes' Fails' Starves' : Type 0) → (Goes → Goes') → (Fails → Fails') → (Starves → Starves')
+    → AfterHalt h Goes Fails Starves → AfterHalt h Goes' Fails' Starves'
+by_halt None Goes Fails Starves Goes' Fails' Starves' goes fails starves is = goes is
+by_halt (Some Failed) Goes Fails Starves Goes' Fails' Starves' goes fails starves is = fails is
+by_halt (Some NoMemory) Goes Fails Starves Goes' Fails' Starves' goes fails starves is = starves is
+
+-- what follows of a text that was handed to the sink
+after_handed : (job : JobView) (start old new : SinkView) (p q : Progress) (text : List ℕ) (Goes : Type 0)
+    → ((q.written ≡ p.written + length text) × Took old new text → Goes)
+    → ((k : ℕ) × (k ≤ length text) × (q.written ≡ p.written + k) × FailedBehind old new (take k text) → WroteFirst job start new q.written × (new.failures ≡ start.failures + 1))
+    → ((q.written ≡ p.written) × IsUntouched old new → WroteFirst job start new q.written × (new.failures ≡ start.failures))
+    → Handed text old new p q → Halts job start new q Goes
+after_handed job start old new p q text Goes goes fails starves handed = by_halt q.halted _ _ _ _ _ _ goes fails starves handed
+
+-- nothing halted
+pub while_going : (job : JobView) (old new : SinkView) (p : Progress) (Goes : Type 0) → p.halted ≡ None → Halts job old new p Goes → Goes
+while_going job old new p Goes going is =
+    subst (λ h. AfterHalt h Goes (WroteFirst job old new p.written × (new.failures ≡ old.failures + 1)) (WroteFirst job old new p.written × (new.failures ≡ old.failures))) going is
+
+-- the sink failed
+pub if_failed : (job : JobView) (old new : SinkView) (p : Progress) (Goes : Type 0) → p.halted ≡ Some Failed → Halts job old new p Goes
+    → WroteFirst job old new p.written × (new.failures ≡ old.failures + 1)
+if_failed job old new p Goes failed is =
+    subst (λ h. AfterHalt h Goes (WroteFirst job old new p.written × (new.failures ≡ old.failures + 1)) (WroteFirst job old new p.written × (new.failures ≡ old.failures))) failed is
+
+-- memory was refused
+pub if_starved : (job : JobView) (old new : SinkView) (p : Progress) (Goes : Type 0) → p.halted ≡ Some NoMemory → Halts job old new p Goes
+    → WroteFirst job old new p.written × (new.failures ≡ old.failures)
+if_starved job old new p Goes starved is =
+    subst (λ h. AfterHalt h Goes (WroteFirst job old new p.written × (new.failures ≡ old.failures + 1)) (WroteFirst job old new p.written × (new.failures ≡ old.failures))) starved is
 
 -- a text that makes the front of n sheets that of m
-handed_behind : (job : JobView) (start old new : Option (List ℕ)) (first before after : ℕ) (n m written written' : ℕ) (text : List ℕ) (h : Option Halt)
-    → front_text job n ++ text ≡ front_text job m → m ≤ length job.plan.sheets
-    → HandedAt text old new before after written written' h → StandsAt job start old first before n written None → StandsAt job start new first after m written' h
-handed_behind job start old new first before after n m written written' text None grown within (more, appended, steady) (small, count, so_far, kept) = (
-  within,
-  more ∙ ap (λ k. k + length text) count ∙ sym (length-append (front_text job n) text) ∙ ap (λ t. length t) grown,
-  subst (Appends start new) grown (Appends-trans start old new (front_text job n) text so_far appended),
-  steady ∙ kept,
-)
-handed_behind job start old new first before after n m written written' text (Some Failed) grown within (k, few, more, appended, raised) (small, count, so_far, kept) =
-    let begins = front_begins job m in
-    let whole : (front_text job n ++ text) ++ begins.0 ≡ output_of job = ap (λ t. t ++ begins.0) grown ∙ begins.1 in (
-      subst (WroteFirst job start new) (sym (more ∙ ap (λ x. x + k) count)) (wrote_behind job start old new (front_text job n) text begins.0 k whole few so_far appended),
-      raised ∙ ap (λ x. x + 1) kept,
-    )
-handed_behind job start old new first before after n m written written' text (Some NoMemory) grown within (more, same, steady) (small, count, so_far, kept) =
-    (subst (WroteFirst job start new) (sym (more ∙ count)) (wrote_front job start old new n so_far same), steady ∙ kept)
+handed_behind : (job : JobView) (start old new : SinkView) (p q : Progress) (text : List ℕ)
+    → front_text job p.next ++ text ≡ front_text job q.next → q.next ≤ length job.plan.sheets → p.halted ≡ None
+    → Handed text old new p q → Stands job start old p → Stands job start new q
+handed_behind job start old new p q text grown within none handed stands =
+    let front = front_text job p.next in
+    let was = while_going job start old p (HasFront job start old p) none stands in
+    after_handed job start old new p q text (HasFront job start new q)
+    (λ (more, took). (
+      within,
+      more ∙ ap (λ k. k + length text) was.1 ∙ sym (length-append front text) ∙ ap (λ t. length t) grown,
+      (subst (Appends start.bytes new.bytes) grown (Appends-trans start.bytes old.bytes new.bytes front text was.2.0 took.0), took.1 ∙ was.2.1),
+    ))
+    (λ (k, few, more, failed).
+    let begins = front_begins job q.next in
+    let whole : (front ++ text) ++ begins.0 ≡ output_of job = ap (λ t. t ++ begins.0) grown ∙ begins.1 in (
+      subst (WroteFirst job start new) (sym (more ∙ ap (λ x. x + k) was.1)) (wrote_behind job start old new front text begins.0 k whole few was.2.0 failed.0),
+      failed.1 ∙ ap (λ x. x + 1) was.2.1,
+    ))
+    (λ (more, same). (subst (WroteFirst job start new) (sym (more ∙ was.1)) (wrote_front job start old new p.next was.2.0 same.0), same.1 ∙ was.2.1))
+    handed
 
 -- the next sheet was handed to the sink
-pub sheet_handed : (job : JobView) (start old new : Option (List ℕ)) (first before after : ℕ) (n written written' : ℕ) (text : List ℕ) (h : Option Halt)
-    → n < length job.plan.sheets → text ≡ text_of job n
-    → HandedAt text old new before after written written' h → StandsAt job start old first before n written None → StandsAt job start new first after (n + 1) written' h
-sheet_handed job start old new first before after n written written' text h within is =
-    handed_behind job start old new first before after n (n + 1) written written' text h
-    (ap (λ t. front_text job n ++ t) is ∙ job_sheet_more job (preamble_text (length job.plan.sheets) job.units) n within) (omega arith)
+pub sheet_handed : (job : JobView) (start old new : SinkView) (p q : Progress) (text : List ℕ)
+    → q.next ≡ p.next + 1 → p.next < length job.plan.sheets → text ≡ text_of job p.next → p.halted ≡ None
+    → Handed text old new p q → Stands job start old p → Stands job start new q
+sheet_handed job start old new p q text next within is =
+    handed_behind job start old new p q text
+    (ap (λ t. front_text job p.next ++ t) is ∙ job_sheet_more job (dressed_preamble (length job.plan.sheets) job.header job.units) p.next within ∙ ap (front_text job) (sym next))
+    (omega (arith, next))
 
 -- the header was handed to it, before anything else
-pub header_handed : (job : JobView) (old new : Option (List ℕ)) (before after written : ℕ) (text : List ℕ) (h : Option Halt)
-    → text ≡ preamble_text (length job.plan.sheets) job.units
-    → HandedAt text old new before after 0 written h → StandsAt job old new before after 0 written h
-header_handed job old new before after written text None is (more, appended, steady) =
-    let whole : text ≡ front_text job 0 = is ∙ sym (append-nil _) in
-    (omega arith, omega (arith, more, ap (λ t. length t) whole), subst (Appends old new) whole appended, steady)
-header_handed job old new before after written text (Some Failed) is (k, few, more, appended, raised) =
-    let begins = front_begins job 0 in
-    let whole : text ++ begins.0 ≡ output_of job = ap (λ t. t ++ begins.0) (is ∙ sym (append-nil _)) ∙ begins.1 in
-    let part = part_behind [] text begins.0 (output_of job) k whole few in
-    (subst (WroteFirst job old new) (sym more) (part.0, subst (Appends old new) (sym part.1) appended), raised)
-header_handed job old new before after written text (Some NoMemory) is (more, same, steady) =
-    (subst (WroteFirst job old new) (sym more) (omega arith, none old new same), steady)
+pub header_handed : (job : JobView) (old new : SinkView) (p q : Progress) (text : List ℕ)
+    → p.written ≡ 0 → q.next ≡ 0 → text ≡ dressed_preamble (length job.plan.sheets) job.header job.units
+    → Handed text old new p q → Stands job old new q
+header_handed job old new p q text fresh first is handed =
+    let whole : text ≡ front_text job q.next = is ∙ sym (append-nil _) ∙ ap (front_text job) (sym first) in
+    after_handed job old old new p q text (HasFront job old new q)
+    (λ (more, took). (omega (arith, first), omega (arith, more, fresh, ap (λ t. length t) whole), (subst (Appends old.bytes new.bytes) whole took.0, took.1)))
+    (λ (k, few, more, failed).
+    let begins = front_begins job q.next in
+    let all : text ++ begins.0 ≡ output_of job = ap (λ t. t ++ begins.0) whole ∙ begins.1 in
+    let part = part_behind [] text begins.0 (output_of job) k all few in
+    (subst (WroteFirst job old new) (sym (more ∙ ap (λ x. x + k) fresh)) (part.0, subst (Appends old.bytes new.bytes) (sym part.1) failed.0), failed.1))
+    (λ (more, same).
+    (subst (WroteFirst job old new) (sym (more ∙ fresh)) (omega arith, nothing old.bytes new.bytes same.0), same.1))
+    handed
   where
-    none : (a b : Option (List ℕ)) → Keeps a b → Appends a b []
-    none None b keeps = tt
-    none (Some xs) None keeps = keeps
-    none (Some xs) (Some ys) keeps = keeps ∙ sym (append-nil xs)
+    nothing : (a b : Option (List ℕ)) → Keeps a b → Appends a b []
+    nothing None b keeps = tt
+    nothing (Some xs) None keeps = keeps
+    nothing (Some xs) (Some ys) keeps = keeps ∙ sym (append-nil xs)
 
 -- what is found after a store was stored, or was there
 found_after : {A : Type 0} (xs : List A) (j i : ℕ) (y z : A) → slice_get (slice_set xs j y) i ≡ Some z → ((i ≡ j) × (Some y ≡ Some z)) ⊎ (slice_get xs i ≡ Some z)
@@ -127,37 +165,45 @@ early_filled job places j new is early k m at = ⊎_elim
     (found_after places j k (Some new) (Some m) at)
 
 -- nothing more is written for want of memory
-pub stopped : (job : JobView) (start now : Option (List ℕ)) (first after n written : ℕ) → StandsAt job start now first after n written None → EndsAt job start now first after written (Some NoMemory)
-stopped job start now first after n written (within, count, so_far, steady) =
-    (subst (WroteFirst job start now) (sym count) (wrote_front job start now now n so_far (Keeps-refl now)), steady)
+pub starved : (job : JobView) (start now : SinkView) (p : Progress) (n : ℕ) → p.halted ≡ None → Stands job start now p
+    → Ends job start now (record { next = n; written = p.written; halted = Some NoMemory })
+starved job start now p n none stands =
+    let was = while_going job start now p (HasFront job start now p) none stands in
+    (subst (WroteFirst job start now) (sym was.1) (wrote_front job start now now p.next was.2.0 (Keeps-refl now.bytes)), was.2.1)
 
 -- what was halted has ended
-pub halted_ends : (job : JobView) (start now : Option (List ℕ)) (first after n written : ℕ) (h : Option Halt) → is_some h ≡ true → StandsAt job start now first after n written h → EndsAt job start now first after written h
-halted_ends job start now first after n written None some stands = absurd (true≢false (sym some))
-halted_ends job start now first after n written (Some Failed) some stands = stands
-halted_ends job start now first after n written (Some NoMemory) some stands = stands
+pub halted_ends : (job : JobView) (start now : SinkView) (p : Progress) → is_some p.halted ≡ true → Stands job start now p → Ends job start now p
+halted_ends job start now p some stands = halts p.halted _ _ _ _ some stands
+  where
+    halts : (h : Option Halt) (Goes Goes' Fails Starves : Type 0) → is_some h ≡ true → AfterHalt h Goes Fails Starves → AfterHalt h Goes' Fails Starves
+    halts None Goes Goes' Fails Starves some is = absurd (true≢false (sym some))
+    halts (Some Failed) Goes Goes' Fails Starves some is = is
+    halts (Some NoMemory) Goes Goes' Fails Starves some is = is
 
 -- the trailer behind all sheets makes the output
 whole_output : (job : JobView) (n : ℕ) (text : List ℕ) → n ≡ length job.plan.sheets → text ≡ trailer_text job.units → front_text job n ++ text ≡ output_of job
 whole_output job n text all is = output_is job (length job.plan.sheets) n _ _ _ refl all refl is refl
 
 -- the trailer was handed to the sink, behind all sheets
-pub trailer_handed : (job : JobView) (start old new : Option (List ℕ)) (first before after : ℕ) (n written written' : ℕ) (text : List ℕ) (h : Option Halt)
-    → n ≡ length job.plan.sheets → text ≡ trailer_text job.units
-    → HandedAt text old new before after written written' h → StandsAt job start old first before n written None → EndsAt job start new first after written' h
-trailer_handed job start old new first before after n written written' text None all is (more, appended, steady) (small, count, so_far, kept) =
-    let whole : front_text job n ++ text ≡ output_of job = whole_output job n text all is in (
-      more ∙ ap (λ k. k + length text) count ∙ sym (length-append (front_text job n) text) ∙ ap (λ t. length t) whole,
-      subst (Appends start new) whole (Appends-trans start old new (front_text job n) text so_far appended),
-      steady ∙ kept,
-    )
-trailer_handed job start old new first before after n written written' text (Some Failed) all is (k, few, more, appended, raised) (small, count, so_far, kept) =
-    let whole : (front_text job n ++ text) ++ [] ≡ output_of job = append-nil _ ∙ whole_output job n text all is in (
-      subst (WroteFirst job start new) (sym (more ∙ ap (λ x. x + k) count)) (wrote_behind job start old new (front_text job n) text [] k whole few so_far appended),
-      raised ∙ ap (λ x. x + 1) kept,
-    )
-trailer_handed job start old new first before after n written written' text (Some NoMemory) all is (more, same, steady) (small, count, so_far, kept) =
-    (subst (WroteFirst job start new) (sym (more ∙ count)) (wrote_front job start old new n so_far same), steady ∙ kept)
+pub trailer_handed : (job : JobView) (start old new : SinkView) (p q : Progress) (text : List ℕ)
+    → p.next ≡ length job.plan.sheets → text ≡ trailer_text job.units → p.halted ≡ None
+    → Handed text old new p q → Stands job start old p → Ends job start new q
+trailer_handed job start old new p q text all is none handed stands =
+    let front = front_text job p.next in
+    let whole : front ++ text ≡ output_of job = whole_output job p.next text all is in
+    let was = while_going job start old p (HasFront job start old p) none stands in
+    after_handed job start old new p q text (HasAll job start new q)
+    (λ (more, took). (
+      more ∙ ap (λ k. k + length text) was.1 ∙ sym (length-append front text) ∙ ap (λ t. length t) whole,
+      (subst (Appends start.bytes new.bytes) whole (Appends-trans start.bytes old.bytes new.bytes front text was.2.0 took.0), took.1 ∙ was.2.1),
+    ))
+    (λ (k, few, more, failed).
+    let all' : (front ++ text) ++ [] ≡ output_of job = append-nil _ ∙ whole in (
+      subst (WroteFirst job start new) (sym (more ∙ ap (λ x. x + k) was.1)) (wrote_behind job start old new front text [] k all' few was.2.0 failed.0),
+      failed.1 ∙ ap (λ x. x + 1) was.2.1,
+    ))
+    (λ (more, same). (subst (WroteFirst job start new) (sym (more ∙ was.1)) (wrote_front job start old new p.next was.2.0 same.0), same.1 ∙ was.2.1))
+    handed
 
 -- no sheet came yet
 abbrev pub AreNone : List (Option FinishedSheet) → Type 0

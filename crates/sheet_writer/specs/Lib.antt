@@ -1,5 +1,6 @@
--- Read in this order: how far a run's output is written, which says all that `imposer` rests on; and the sink that
--- keeps its bytes in memory, which tests use.
+-- Read in this order: what is seen of a sink; how far a run's output is written, which says all that `imposer` rests on;
+-- and the sink that keeps its bytes in memory, which tests use.
+pub mod Sinks
 pub mod Writing
 pub mod Memory
 pub mod Places

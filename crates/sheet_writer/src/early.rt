@@ -1,9 +1,10 @@
 //! The sheets that came before their turn.
-ghost use Rattle.std.specs.Prelude.{◌≡◌, ◌≢◌, ℕ, Option, Some, None, length, slice_get, IfOk, IfSome};
+ghost use Rattle.std.specs.Prelude.{◌≡◌, ◌≢◌, ℕ, Option, Some, None, length, slice_get, true, false, IfOk, IfSome};
+ghost use Rattle.std.specs.Prelude.{MatchOption};
 ghost use Rattle.sheet_text.specs.Jobs.{JobView, text_of};
 ghost use Rattle.sheet_writer.specs.Writing.{AreEarly};
 ghost use Rattle.sheet_writer.specs.declared.early.FinishedSheet.{FinishedSheet};
-ghost use Rattle.sheet_writer.specs.Places.{place_of, in_place};
+ghost use Rattle.sheet_writer.specs.Places.{place_of, in_place, has_come};
 
 use sheet_text::Rope;
 use std::alloc::{AllocError, Global};
@@ -18,7 +19,7 @@ pub struct FinishedSheet<'r> {
 /// Takes the texts that were written, whose memory may be used again.
 pub trait Spent<'r> {
     /// Takes a text that nobody needs any more.
-    fn give_back(&self, text: Rope<'r>);
+    fn give_back(&mut self, text: Rope<'r>);
 }
 
 /// Places for sheets that wait for their turn. A sheet has the place that its number leaves when it is divided by
@@ -69,6 +70,9 @@ impl<'r> Early<'r> {
             → imposed.sheet ≡ sheet → result ≡ Some imposed.text }
         ensures other { (imposed : FinishedSheet) → in_place self.old.places.items sheet ≡ Some (Some imposed)
             → imposed.sheet ≢ sheet → self.new.places.items ≡ self.old.places.items }
+        ensures came { MatchOption result (has_come self.old.places.items sheet ≡ false) (λ text.
+            has_come self.old.places.items sheet ≡ true) }
+        ensures others { (t : ℕ) → t ≢ sheet → has_come self.new.places.items t ≡ has_come self.old.places.items t }
     {
         let place = sheet as usize % self.places.len().max(1);
         if place >= self.places.len() {

@@ -2,6 +2,7 @@
 ghost use Rattle.std.specs.Prelude.{◌≡◌, ℕ, ◌+◌, ◌-◌, ◌^◌, ◌<◌, ◌≤◌, List, Option, Some, None, length, take, IfOk};
 ghost use Rattle.std.specs.Prelude.{IfErr, OnOk, OnErr, [], vec_len, vec_capacity};
 ghost use Rattle.std.specs.Io.KnownBytes.{Appends, Keeps};
+ghost use Rattle.sheet_writer.specs.Sinks.{SinkView, IsCountable};
 ghost use Rattle.sheet_writer.specs.Memory.{MemoryState, acceptable, IsSpent, after_taking};
 
 use sheet_text::Rope;
@@ -15,21 +16,18 @@ pub struct SinkFault {}
 
 /// Takes bytes in order, as many of a call's as it likes.
 pub trait Sink {
-    // The bytes that it has taken, if it tells them.
-    ghost told: { Self → Option (List ℕ) };
-
-    // How many calls it has refused.
-    ghost failures: { Self → ℕ };
+    // Which bytes it has taken, if it tells them, and how many calls it has refused.
+    ghost seen: { Self → SinkView };
 
     /// Takes the first of the bytes, at least one, and answers how many.
     fn accept(&mut self, bytes: &[u8]) -> Result<usize, SinkFault>
         requires some { 0 < length bytes.now }
-        requires countable { failures self.old < u64.MAX }
+        requires countable { IsCountable (seen self.old) }
         ensures within { IfOk result (λ k. (0 < k) × (k ≤ length bytes.now)) }
-        ensures taken { IfOk result (λ k. Appends (told self.old) (told self.new) (take k bytes.now)) }
-        ensures steady { OnOk result (failures self.new ≡ failures self.old) }
-        ensures kept { OnErr result (Keeps (told self.old) (told self.new)) }
-        ensures raised { OnErr result (failures self.new ≡ failures self.old + 1) };
+        ensures taken { IfOk result (λ k. Appends (seen self.old).bytes (seen self.new).bytes (take k bytes.now)) }
+        ensures steady { OnOk result ((seen self.new).failures ≡ (seen self.old).failures) }
+        ensures kept { OnErr result (Keeps (seen self.old).bytes (seen self.new).bytes) }
+        ensures raised { OnErr result ((seen self.new).failures ≡ (seen self.old).failures + 1) };
 }
 
 /// A sink failed after it had taken this many bytes.
@@ -40,12 +38,12 @@ pub(crate) struct Stopped {
 
 /// Hands the sink all the bytes, in as many calls as it takes.
 pub(crate) fn write_all<S: Sink>(sink: &mut S, bytes: &[u8]) -> Result<(), Stopped>
-    requires countable { S.failures sink.old < u64.MAX }
-    ensures whole { OnOk result (Appends (S.told sink.old) (S.told sink.new) bytes.now) }
-    ensures steady { OnOk result (S.failures sink.new ≡ S.failures sink.old) }
+    requires countable { IsCountable (S.seen sink.old) }
+    ensures whole { OnOk result (Appends (S.seen sink.old).bytes (S.seen sink.new).bytes bytes.now) }
+    ensures steady { OnOk result ((S.seen sink.new).failures ≡ (S.seen sink.old).failures) }
     ensures within { IfErr result (λ e. e.written < length bytes.now) }
-    ensures part { IfErr result (λ e. Appends (S.told sink.old) (S.told sink.new) (take e.written bytes.now)) }
-    ensures raised { OnErr result (S.failures sink.new ≡ S.failures sink.old + 1) }
+    ensures part { IfErr result (λ e. Appends (S.seen sink.old).bytes (S.seen sink.new).bytes (take e.written bytes.now)) }
+    ensures raised { OnErr result ((S.seen sink.new).failures ≡ (S.seen sink.old).failures + 1) }
 {
     let mut written = 0;
     while written < bytes.len() {
@@ -59,13 +57,13 @@ pub(crate) fn write_all<S: Sink>(sink: &mut S, bytes: &[u8]) -> Result<(), Stopp
 
 /// Hands the sink all pieces of a text, in order.
 pub(crate) fn write_pieces<S: Sink>(sink: &mut S, text: &Rope<'_>) -> Result<(), Stopped>
-    requires countable { S.failures sink.old < u64.MAX }
+    requires countable { IsCountable (S.seen sink.old) }
     requires counted { length text.now ≤ u64.MAX }
-    ensures whole { OnOk result (Appends (S.told sink.old) (S.told sink.new) text.now) }
-    ensures steady { OnOk result (S.failures sink.new ≡ S.failures sink.old) }
+    ensures whole { OnOk result (Appends (S.seen sink.old).bytes (S.seen sink.new).bytes text.now) }
+    ensures steady { OnOk result ((S.seen sink.new).failures ≡ (S.seen sink.old).failures) }
     ensures within { IfErr result (λ e. e.written < length text.now) }
-    ensures part { IfErr result (λ e. Appends (S.told sink.old) (S.told sink.new) (take e.written text.now)) }
-    ensures raised { OnErr result (S.failures sink.new ≡ S.failures sink.old + 1) }
+    ensures part { IfErr result (λ e. Appends (S.seen sink.old).bytes (S.seen sink.new).bytes (take e.written text.now)) }
+    ensures raised { OnErr result ((S.seen sink.new).failures ≡ (S.seen sink.old).failures + 1) }
 {
     let mut written = 0;
     let mut pieces = text.pieces();
@@ -91,8 +89,8 @@ pub struct WriteSink<T: io::Write> {
 
 impl<T: io::Write> WriteSink<T> {
     pub fn new(writer: T) -> Self
-        ensures told { ⟦<WriteSink<T> as Sink>⟧.told result ≡ T.contents writer }
-        ensures fresh { ⟦<WriteSink<T> as Sink>⟧.failures result ≡ 0 }
+        ensures told { (⟦<WriteSink<T> as Sink>⟧.seen result).bytes ≡ T.contents writer }
+        ensures fresh { (⟦<WriteSink<T> as Sink>⟧.seen result).failures ≡ 0 }
     {
         WriteSink {
             writer,
@@ -102,16 +100,14 @@ impl<T: io::Write> WriteSink<T> {
 
     /// The writer.
     pub fn into_inner(self) -> T
-        ensures { T.contents result ≡ ⟦<WriteSink<T> as Sink>⟧.told self }
+        ensures { T.contents result ≡ (⟦<WriteSink<T> as Sink>⟧.seen self).bytes }
     {
         self.writer
     }
 }
 
 impl<T: io::Write> Sink for WriteSink<T> {
-    ghost told = { λ s. T.contents s.writer };
-
-    ghost failures = { λ s. s.failures };
+    ghost seen = { λ s. record { bytes = T.contents s.writer; failures = s.failures } };
 
     fn accept(&mut self, bytes: &[u8]) -> Result<usize, SinkFault> {
         match self.writer.write(bytes) {
@@ -179,9 +175,7 @@ impl MemorySink {
 }
 
 impl Sink for MemorySink {
-    ghost told = { λ s. Some s.bytes };
-
-    ghost failures = { λ s. s.failures };
+    ghost seen = { λ s. record { bytes = Some s.bytes; failures = s.failures } };
 
     fn accept(&mut self, bytes: &[u8]) -> Result<usize, SinkFault>
         requires some { 0 < length bytes.now }

@@ -1,9 +1,12 @@
 //! Writes the output of a job: each sheet when its turn has come, and at the end what is left.
-ghost use Rattle.std.specs.Prelude.{◌≡◌, ℕ, ◌+◌, ◌<◌, ◌≤◌, None, Some, IfOk, IfErr, OnOk, length};
+ghost use Rattle.std.specs.Prelude.{◌≡◌, ◌≢◌, ℕ, ◌+◌, ◌-◌, ◌<◌, ◌≤◌, None, Some, IfOk, IfErr, OnOk, length};
+ghost use Rattle.std.specs.Prelude.{if◌then◌else◌};
 ghost use Rattle.sheet_text.specs.Jobs.{text_of};
 ghost use Rattle.rules.specs.Filters.{trailer_text};
 ghost use Rattle.sheet_writer.specs.declared.writing.Halt.TheVariants.{Failed};
+ghost use Rattle.sheet_writer.specs.Sinks.{IsCountable};
 ghost use Rattle.sheet_writer.specs.Writing.{Handed, GoesOn, AreEarly, EndsAfter};
+ghost use Rattle.sheet_writer.specs.Places.{has_come, not_come};
 
 use crate::early::{Early, Spent};
 use crate::sink::{Sink, Stopped, write_all, write_pieces};
@@ -29,8 +32,8 @@ pub struct Progress {
 
 /// Hands the sink a text, and counts its bytes.
 pub fn write_text<S: Sink>(sink: &mut S, progress: Progress, text: &[u8]) -> Progress
-    requires countable { S.failures sink.old < u64.MAX }
-    ensures handed { Handed S.told S.failures text.now sink.old sink.new progress.written result.written result.halted }
+    requires countable { IsCountable (S.seen sink.old) }
+    ensures handed { Handed text.now (S.seen sink.old) (S.seen sink.new) progress result }
     ensures next { result.next ≡ progress.next }
 {
     let Some(total) = progress.written.checked_add(text.len() as u64) else {
@@ -41,8 +44,8 @@ pub fn write_text<S: Sink>(sink: &mut S, progress: Progress, text: &[u8]) -> Pro
 
 /// Hands the sink a text in pieces, and counts its bytes.
 pub fn write_rope<S: Sink>(sink: &mut S, progress: Progress, text: &Rope<'_>) -> Progress
-    requires countable { S.failures sink.old < u64.MAX }
-    ensures handed { Handed S.told S.failures text.now sink.old sink.new progress.written result.written result.halted }
+    requires countable { IsCountable (S.seen sink.old) }
+    ensures handed { Handed text.now (S.seen sink.old) (S.seen sink.new) progress result }
     ensures next { result.next ≡ progress.next }
 {
     let total = text
@@ -95,13 +98,13 @@ fn write_sheet<S: Sink>(
     progress: Progress,
     text: &Rope<'_>,
 ) -> Progress
-    requires countable { S.failures sink.old < u64.MAX }
+    requires countable { IsCountable (S.seen sink.old) }
     requires going { (progress.halted ≡ None) × (progress.next < length job.now.plan.sheets)
         × (progress.next < u32.MAX) }
     requires text { text.now ≡ text_of job.now progress.next }
-    ensures goes_on { GoesOn S.told S.failures job.now sink.old sink.new progress result }
+    ensures goes_on { GoesOn job.now (S.seen sink.old) (S.seen sink.new) progress result }
     ensures next { result.next ≡ progress.next + 1 }
-    ensures steady { result.halted ≡ None → S.failures sink.new ≡ S.failures sink.old }
+    ensures steady { result.halted ≡ None → (S.seen sink.new).failures ≡ (S.seen sink.old).failures }
 {
     let progress = write_rope(sink, progress, text);
     Progress {
@@ -116,14 +119,14 @@ pub fn write_early<'r, S: Sink, B: Spent<'r>>(
     sink: &mut S,
     progress: Progress,
     early: &mut Early<'r>,
-    spent: &B,
+    spent: &mut B,
 ) -> Progress
-    requires countable { S.failures sink.old < u64.MAX }
+    requires countable { IsCountable (S.seen sink.old) }
     requires going { progress.halted ≡ None }
     requires early { AreEarly job.now early.old.places.items }
-    ensures goes_on { GoesOn S.told S.failures job.now sink.old sink.new progress result }
+    ensures goes_on { GoesOn job.now (S.seen sink.old) (S.seen sink.new) progress result }
     ensures early { AreEarly job.now early.new.places.items }
-    ensures steady { result.halted ≡ None → S.failures sink.new ≡ S.failures sink.old }
+    ensures steady { result.halted ≡ None → (S.seen sink.new).failures ≡ (S.seen sink.old).failures }
 {
     let mut progress = progress;
     for sheet in progress.next..job.sheets() {
@@ -156,12 +159,16 @@ pub fn write_rest<S: Sink>(
     early: &mut Early<'_>,
     trailer: &[u8],
 ) -> Rest
-    requires countable { progress.halted ≡ None → S.failures sink.old < u64.MAX }
+    requires countable { progress.halted ≡ None → IsCountable (S.seen sink.old) }
     requires next { progress.halted ≡ None → progress.next ≤ length job.now.plan.sheets }
     requires early { AreEarly job.now early.old.places.items }
     requires trailer { trailer.now ≡ trailer_text job.now.units }
-    ensures ended { EndsAfter S.told S.failures job.now sink.old sink.new progress result.progress }
+    ensures ended { EndsAfter job.now (S.seen sink.old) (S.seen sink.new) progress result.progress }
     ensures swept { result.swept ≤ length job.now.plan.sheets }
+
+    // At the end those are counted that hadn't come, and no others.
+    ensures counted { result.progress.halted ≡ None → result.swept
+        ≡ not_come early.old.places.items progress.next (length job.now.plan.sheets - progress.next) }
 {
     let mut progress = progress;
     let mut swept = 0;
@@ -199,7 +206,9 @@ fn next_text<'r>(
     requires few { swept.old < u32.MAX }
     ensures text { IfOk result (λ text. text ≡ text_of job.now sheet) }
     ensures early { AreEarly job.now early.new.places.items }
-    ensures swept { swept.new ≤ swept.old + 1 }
+    ensures swept { swept.new ≡ swept.old + (if has_come early.old.places.items sheet then 0 else 1) }
+    ensures others { (t : ℕ) → t ≢ sheet
+        → has_come early.new.places.items t ≡ has_come early.old.places.items t }
 {
     if let Some(text) = early.take(sheet) {
         return Ok(text);

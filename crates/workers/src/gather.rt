@@ -10,6 +10,22 @@ use std::sync::Wait;
 use std::thread;
 use std::thread::{Scope, Threads};
 
+/// How many threads of each kind a run has, and the allocator of the list of them.
+#[derive(Clone, Copy)]
+pub struct Crew {
+    pub alloc: Global,
+    pub preparers: u32,
+    pub imposers: u32,
+}
+
+/// What is given out to a run's threads: shares of what is held, and tickets for sending.
+#[derive(Drop)]
+pub struct Supplies<H, T> {
+    pub crew: Crew,
+    pub held: H,
+    pub ticket: T,
+}
+
 /// Starts all threads of a run, collects on the caller's thread while they work, and joins what they hold. Nothing was
 /// collected if a thread was refused; `ended` is None then, and if a worker ran out of memory.
 ///
@@ -23,48 +39,37 @@ pub fn gather_by<
     S: Drop,
     W: Imposing<H, T> + Sync,
     K: Collector<S>,
->(
-    rt: &R,
-    alloc: Global,
-    shared: &W,
-    collector: &K,
-    state: S,
-    held: H,
-    ticket: T,
-    preparers: u32,
-    imposers: u32,
-    ended: &mut Option<H>,
-) -> S
-    requires held { W.is_held shared.now held }
-    requires share { (0 < preparers) × (preparers + imposers < W.share shared.now held) }
-    requires ticket { W.sends shared.now ticket }
+>(rt: &R, shared: &W, collector: &K, supplies: Supplies<H, T>, state: S, ended: &mut Option<H>) -> S
+    requires held { W.is_held shared.now supplies.held }
+    requires share { (0 < supplies.crew.preparers) × (supplies.crew.preparers + supplies.crew.imposers < W.share shared.now supplies.held) }
+    requires enough { W.is_enough shared.now supplies.crew.preparers 0 supplies.held }
+    requires ticket { W.sends shared.now supplies.ticket }
     requires state { K.is_ready_to_collect collector.now state }
     ensures same_reference { K.reference collector.now result ≡ K.reference collector.now state }
     ensures state { (result ≡ state) ⊎ K.collected collector.now state result }
     ensures collected { IfSome ended.new (λ h. K.collected collector.now state result) }
     ensures held { IfSome ended.new (W.is_held shared.now) }
-    ensures share { IfSome ended.new (λ h. W.share shared.now h ≡ W.share shared.now held) }
-    ensures gathered { GathersAll (W.has_gathered shared.now) preparers held ended.new }
+    ensures share { IfSome ended.new (λ h. W.share shared.now h ≡ W.share shared.now supplies.held) }
+    ensures gathered { GathersAll (W.has_gathered shared.now) supplies.crew.preparers supplies.held ended.new }
 {
     let (state, all) = thread::scope(
         thread::scope_env(),
         rt,
         move |scope| -> (S, Option<H>)
-            requires held { W.is_held shared.now held }
-            requires share { (0 < preparers) × (preparers + imposers < W.share shared.now held) }
-            requires ticket { W.sends shared.now ticket }
+            requires held { W.is_held shared.now supplies.held }
+            requires share { (0 < supplies.crew.preparers) × (supplies.crew.preparers + supplies.crew.imposers < W.share shared.now supplies.held) }
+            requires enough { W.is_enough shared.now supplies.crew.preparers 0 supplies.held }
+            requires ticket { W.sends shared.now supplies.ticket }
             requires state { K.is_ready_to_collect collector.now state }
             ensures same_reference { K.reference collector.entry.now result.0 ≡ K.reference collector.entry.now state }
             ensures state { (result.0 ≡ state) ⊎ K.collected collector.entry.now state result.0 }
             ensures collected { IfSome result.1 (λ h. K.collected collector.entry.now state result.0) }
             ensures held { IfSome result.1 (W.is_held shared.entry.now) }
-            ensures share { IfSome result.1 (λ h. W.share shared.entry.now h ≡ W.share shared.entry.now held) }
-            ensures gathered { GathersAll (W.has_gathered shared.entry.now) preparers held result.1 }
+            ensures share { IfSome result.1 (λ h. W.share shared.entry.now h ≡ W.share shared.entry.now supplies.held) }
+            ensures gathered { GathersAll (W.has_gathered shared.entry.now) supplies.crew.preparers supplies.held result.1 }
         {
             let mut state = state;
-            let all = run_workers(
-                rt, scope, alloc, shared, collector, &mut state, held, ticket, preparers, imposers,
-            );
+            let all = run_workers(rt, scope, shared, collector, supplies, &mut state);
             (state, all)
         },
     );
@@ -85,35 +90,34 @@ fn run_workers<
 >(
     rt: &'s R,
     scope: &'s Scope<'s, E>,
-    alloc: Global,
     shared: &'s W,
     collector: &K,
+    supplies: Supplies<H, T>,
     state: &mut S,
-    held: H,
-    ticket: T,
-    preparers: u32,
-    imposers: u32,
 ) -> Option<H>
-    requires held { W.is_held shared.now held }
-    requires share { (0 < preparers) × (preparers + imposers < W.share shared.now held) }
-    requires ticket { W.sends shared.now ticket }
+    requires held { W.is_held shared.now supplies.held }
+    requires share { (0 < supplies.crew.preparers) × (supplies.crew.preparers + supplies.crew.imposers < W.share shared.now supplies.held) }
+    requires enough { W.is_enough shared.now supplies.crew.preparers 0 supplies.held }
+    requires ticket { W.sends shared.now supplies.ticket }
     requires state { K.is_ready_to_collect collector.now state.old }
     ensures same_reference { K.reference collector.now state.new ≡ K.reference collector.now state.old }
     ensures state { (state.new ≡ state.old) ⊎ K.collected collector.now state.old state.new }
     ensures collected { IfSome result (λ h. K.collected collector.now state.old state.new) }
     ensures held { IfSome result (W.is_held shared.now) }
-    ensures share { IfSome result (λ h. W.share shared.now h ≡ W.share shared.now held) }
-    ensures gathered { GathersAll (W.has_gathered shared.now) preparers held result }
+    ensures share { IfSome result (λ h. W.share shared.now h ≡ W.share shared.now supplies.held) }
+    ensures gathered { GathersAll (W.has_gathered shared.now) supplies.crew.preparers supplies.held result }
 {
-    let mut held = held;
-    let Some((prepare, impose)) = start(
-        rt, scope, alloc, shared, &mut held, ticket, preparers, imposers,
-    ) else {
+    let Supplies {
+        crew,
+        mut held,
+        ticket,
+    } = supplies;
+    let Some((prepare, impose)) = start(rt, scope, shared, crew, &mut held, ticket) else {
         shared.stop();
         return None;
     };
     collector.collect(rt, state);
     shared.stop();
-    let prepared = join_preparers(rt, shared, held, preparers, prepare);
-    join_imposers(rt, shared, prepared, imposers, impose)
+    let prepared = join_preparers(rt, shared, held, crew.preparers, prepare);
+    join_imposers(rt, shared, prepared, crew.imposers, impose)
 }

@@ -7,5 +7,5 @@ mod join;
 mod start;
 mod work;
 
-pub use gather::gather_by;
+pub use gather::{Crew, Supplies, gather_by};
 pub use work::{Collector, Imposing, Work};

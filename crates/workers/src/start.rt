@@ -3,6 +3,7 @@ ghost use Rattle.std.specs.Prelude.{◌≡◌, ℕ, ◌+◌, ◌-◌, ◌<◌, �
 ghost use Rattle.workers.specs.Growth.{StaysGathered};
 ghost use Rattle.workers.specs.Promises.{IsPreparer};
 
+use crate::gather::Crew;
 use crate::work::{Imposes, Imposing, Prepares, Work};
 use std::alloc::{AllocError, Global};
 use std::sync::Wait;
@@ -26,33 +27,32 @@ pub(crate) fn start<
 >(
     rt: &'s R,
     scope: &'s Scope<'s, E>,
-    alloc: Global,
     shared: &'s W,
+    crew: Crew,
     held: &mut H,
     ticket: T,
-    preparers: u32,
-    imposers: u32,
 ) -> Option<(Vec<Preparer<'s, H, W>>, Vec<Imposer<'s, H, W>>)>
     requires held { W.is_held shared.now held.old }
-    requires share { (0 < preparers) × (preparers + imposers < W.share shared.now held.old) }
+    requires share { (0 < crew.preparers) × (crew.preparers + crew.imposers < W.share shared.now held.old) }
+    requires enough { W.is_enough shared.now crew.preparers 0 held.old }
     requires ticket { W.sends shared.now ticket }
     ensures held { W.is_held shared.now held.new }
     ensures share { IfSome result (λ t.
-        W.share shared.now held.new ≡ W.share shared.now held.old - preparers - imposers) }
+        W.share shared.now held.new ≡ W.share shared.now held.old - crew.preparers - crew.imposers) }
     ensures gathered { StaysGathered (W.has_gathered shared.now) held.old held.new }
-    ensures preparers { IfSome result (λ t. vec_len t.0 ≡ preparers) }
-    ensures imposers { IfSome result (λ t. vec_len t.1 ≡ imposers) }
+    ensures preparers { IfSome result (λ t. vec_len t.0 ≡ crew.preparers) }
+    ensures imposers { IfSome result (λ t. vec_len t.1 ≡ crew.imposers) }
     ensures numbered { IfSome result (λ t. (k : ℕ) (d : _) → k < vec_len t.0
-        → IsPreparer shared.now preparers k (slice_index_or t.0.items k d).promise) }
+        → IsPreparer shared.now crew.preparers k (slice_index_or t.0.items k d).promise) }
     ensures shared { IfSome result (λ t. (k : ℕ) (d : _) → k < vec_len t.1
         → (slice_index_or t.1.items k d).promise.shared.now ≡ shared.now) }
 {
-    let prepare = start_preparers(rt, scope, alloc, shared, held, preparers).ok()?;
-    if prepare.len() != preparers as usize {
+    let prepare = start_preparers(rt, scope, shared, crew, held).ok()?;
+    if prepare.len() != crew.preparers as usize {
         return None;
     }
-    let impose = start_imposers(rt, scope, alloc, shared, held, ticket, imposers).ok()?;
-    if impose.len() != imposers as usize {
+    let impose = start_imposers(rt, scope, shared, crew, held, ticket).ok()?;
+    if impose.len() != crew.imposers as usize {
         return None;
     }
     Some((prepare, impose))
@@ -62,25 +62,25 @@ pub(crate) fn start<
 fn start_preparers<'s, E, R: Wait + Sync, H: Send + Drop + 's, W: Work<H> + Sync>(
     rt: &'s R,
     scope: &'s Scope<'s, E>,
-    alloc: Global,
     shared: &'s W,
+    crew: Crew,
     held: &mut H,
-    count: u32,
 ) -> Result<Vec<Preparer<'s, H, W>>, AllocError>
     requires held { W.is_held shared.now held.old }
-    requires count { (0 < count) × (count < W.share shared.now held.old) }
+    requires count { (0 < crew.preparers) × (crew.preparers < W.share shared.now held.old) }
+    requires enough { W.is_enough shared.now crew.preparers 0 held.old }
     ensures held { W.is_held shared.now held.new }
-    ensures share { IfOk result (λ v. vec_len v ≡ count
-        → W.share shared.now held.new ≡ W.share shared.now held.old - count) }
+    ensures share { IfOk result (λ v. vec_len v ≡ crew.preparers
+        → W.share shared.now held.new ≡ W.share shared.now held.old - crew.preparers) }
     ensures gathered { StaysGathered (W.has_gathered shared.now) held.old held.new }
-    ensures few { IfOk result (λ v. vec_len v ≤ count) }
+    ensures few { IfOk result (λ v. vec_len v ≤ crew.preparers) }
     ensures each { IfOk result (λ v. (k : ℕ) (d : _) → k < vec_len v
-        → IsPreparer shared.now count k (slice_index_or v.items k d).promise) }
+        → IsPreparer shared.now crew.preparers k (slice_index_or v.items k d).promise) }
 {
-    let mut handles = Vec::with_capacity(alloc, count as usize)?;
-    for number in 0..count {
-        let theirs = shared.split(held);
-        match start_preparer(rt, scope, shared, theirs, number, count) {
+    let mut handles = Vec::with_capacity(crew.alloc, crew.preparers as usize)?;
+    for number in 0..crew.preparers {
+        let theirs = shared.split_preparer(held, number, crew.preparers);
+        match start_preparer(rt, scope, shared, theirs, number, crew.preparers) {
             Ok(handle) => handles.push_reserved(handle),
             Err(_) => break,
         }
@@ -97,7 +97,7 @@ fn start_preparer<'s, E, R: Wait + Sync, H: Send + Drop + 's, W: Work<H> + Sync>
     count: u32,
 ) -> Result<Preparer<'s, H, W>, AllocError>
     requires count { 0 < count }
-    requires held { W.is_new shared.now held }
+    requires held { W.is_new_preparer shared.now count number held }
     ensures { IfOk result (λ h. IsPreparer shared.now count number h.promise) }
 {
     let promise = Prepares {
@@ -107,7 +107,7 @@ fn start_preparer<'s, E, R: Wait + Sync, H: Send + Drop + 's, W: Work<H> + Sync>
     };
     let work = move || -> Result<H, AllocError>
         requires count { 0 < count }
-        requires held { W.is_new shared.now held }
+        requires held { W.is_new_preparer shared.now count number held }
         ensures back { IfOk result (W.is_back shared.entry.now) }
         ensures prepared { IfOk result (W.has_prepared shared.entry.now count number) }
     { shared.prepare(rt, held, number, count) };
@@ -128,26 +128,25 @@ fn start_imposers<
 >(
     rt: &'s R,
     scope: &'s Scope<'s, E>,
-    alloc: Global,
     shared: &'s W,
+    crew: Crew,
     held: &mut H,
     ticket: T,
-    count: u32,
 ) -> Result<Vec<Imposer<'s, H, W>>, AllocError>
     requires held { W.is_held shared.now held.old }
-    requires count { count < W.share shared.now held.old }
+    requires count { crew.imposers < W.share shared.now held.old }
     requires ticket { W.sends shared.now ticket }
     ensures held { W.is_held shared.now held.new }
-    ensures share { IfOk result (λ v. vec_len v ≡ count
-        → W.share shared.now held.new ≡ W.share shared.now held.old - count) }
+    ensures share { IfOk result (λ v. vec_len v ≡ crew.imposers
+        → W.share shared.now held.new ≡ W.share shared.now held.old - crew.imposers) }
     ensures gathered { StaysGathered (W.has_gathered shared.now) held.old held.new }
-    ensures few { IfOk result (λ v. vec_len v ≤ count) }
+    ensures few { IfOk result (λ v. vec_len v ≤ crew.imposers) }
     ensures each { IfOk result (λ v. (k : ℕ) (d : _) → k < vec_len v
         → (slice_index_or v.items k d).promise.shared.now ≡ shared.now) }
 {
     let mut ticket = ticket;
-    let mut handles = Vec::with_capacity(alloc, count as usize)?;
-    for _ in 0..count {
+    let mut handles = Vec::with_capacity(crew.alloc, crew.imposers as usize)?;
+    for _ in 0..crew.imposers {
         let theirs = shared.split(held);
         let sending = shared.another(&mut ticket);
         match start_imposer(rt, scope, shared, theirs, sending) {

@@ -22,6 +22,12 @@ pub trait Work<H> {
     // It has one share, and nothing was done with it yet.
     ghost is_new: { Self → H → Type 0 };
 
+    // The same of the preparer of this number, one of `count`: it has what that one needs.
+    ghost is_new_preparer: { Self → (count number : ℕ) → H → Type 0 };
+
+    // It has what the preparers need, one of `count` each, from this number on.
+    ghost is_enough: { Self → (count number : ℕ) → H → Type 0 };
+
     // It has one share, and comes from a worker that has ended.
     ghost is_back: { Self → H → Type 0 };
 
@@ -38,9 +44,21 @@ pub trait Work<H> {
     /// The work of the preparer with this number, one of `count`.
     fn prepare<R: Wait>(&self, rt: &R, held: H, number: u32, count: u32) -> Result<H, AllocError>
         requires count { 0 < count }
-        requires held { is_new self.now held }
+        requires held { is_new_preparer self.now count number held }
         ensures back { IfOk result (is_back self.now) }
         ensures prepared { IfOk result (has_prepared self.now count number) };
+
+    /// What the preparer with this number holds, one of `count`: a share, of the caller's, and what it needs.
+    fn split_preparer(&self, held: &mut H, number: u32, count: u32) -> H
+        requires held { is_held self.now held.old }
+        requires share { 1 < share self.now held.old }
+        requires number { number < count }
+        requires enough { is_enough self.now count number held.old }
+        ensures held { is_held self.now held.new }
+        ensures share { share self.now held.new ≡ share self.now held.old - 1 }
+        ensures gathered { StaysGathered (has_gathered self.now) held.old held.new }
+        ensures enough { is_enough self.now count (number + 1) held.new }
+        ensures given { is_new_preparer self.now count number result };
 
     /// What one more worker holds: a share, of the caller's.
     fn split(&self, held: &mut H) -> H

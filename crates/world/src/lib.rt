@@ -10,5 +10,5 @@ mod world;
 pub use host::{Host, HostInput, HostOutput};
 pub use late::Late;
 pub use opened::Opened;
-pub use sink::{Buffered, abandon, buffered, created_late, finish};
+pub use sink::{Buffered, abandon, buffered, created_late, write_out};
 pub use world::{Refused, World};

@@ -21,9 +21,9 @@ pub fn created_late<'n, W: World>(
     name: Option<&'n str>,
     world: W,
 ) -> Result<Buffered<Late<'n, W>>, W>
-    ensures told { IfOk result (λ sink. ⟦<WriteSink<BufWriter<Late<'n, W>>> as Sink>⟧.told sink
+    ensures told { IfOk result (λ sink. (⟦<WriteSink<BufWriter<Late<'n, W>>> as Sink>⟧.seen sink).bytes
         ≡ told_if (W.tells world) (option_map (λ n. n.now) name.entry) []) }
-    ensures fresh { IfOk result (λ sink. ⟦<WriteSink<BufWriter<Late<'n, W>>> as Sink>⟧.failures sink ≡ 0) }
+    ensures fresh { IfOk result (λ sink. (⟦<WriteSink<BufWriter<Late<'n, W>>> as Sink>⟧.seen sink).failures ≡ 0) }
     ensures kept { IfErr result (λ back. back ≡ world) }
 {
     match BufWriter::with_capacity(alloc, capacity, Late::new(name)) {
@@ -41,8 +41,8 @@ pub fn buffered<O: Write + Drop>(
     capacity: usize,
     output: O,
 ) -> Result<Buffered<Opened<O>>, O>
-    ensures told { IfOk result (λ sink. ⟦<WriteSink<BufWriter<Opened<O>>> as Sink>⟧.told sink ≡ O.contents output) }
-    ensures fresh { IfOk result (λ sink. ⟦<WriteSink<BufWriter<Opened<O>>> as Sink>⟧.failures sink ≡ 0) }
+    ensures told { IfOk result (λ sink. (⟦<WriteSink<BufWriter<Opened<O>>> as Sink>⟧.seen sink).bytes ≡ O.contents output) }
+    ensures fresh { IfOk result (λ sink. (⟦<WriteSink<BufWriter<Opened<O>>> as Sink>⟧.seen sink).failures ≡ 0) }
     ensures kept { IfErr result (λ back. back ≡ output) }
 {
     match BufWriter::with_capacity(alloc, capacity, Opened { output: None }) {
@@ -55,9 +55,9 @@ pub fn buffered<O: Write + Drop>(
 }
 
 /// Writes out what the buffer holds, and gives the writer back: whether all was written.
-pub fn finish<T: Write + Drop>(sink: Buffered<T>) -> (bool, T)
-    ensures whole { result.0 ≡ true → Keeps (⟦<WriteSink<BufWriter<T>> as Sink>⟧.told sink) (T.contents result.1) }
-    ensures part { IsFrontOf (T.contents result.1) (⟦<WriteSink<BufWriter<T>> as Sink>⟧.told sink) }
+pub fn write_out<T: Write + Drop>(sink: Buffered<T>) -> (bool, T)
+    ensures whole { result.0 ≡ true → Keeps (⟦<WriteSink<BufWriter<T>> as Sink>⟧.seen sink).bytes (T.contents result.1) }
+    ensures part { IsFrontOf (T.contents result.1) (⟦<WriteSink<BufWriter<T>> as Sink>⟧.seen sink).bytes }
 {
     let mut writer = sink.into_inner();
     let is_whole = writer.flush().is_ok();
@@ -67,7 +67,7 @@ pub fn finish<T: Write + Drop>(sink: Buffered<T>) -> (bool, T)
 
 /// Gives the writer back, without what the buffer still holds.
 pub fn abandon<T: Write + Drop>(sink: Buffered<T>) -> T
-    ensures { IsFrontOf (T.contents result) (⟦<WriteSink<BufWriter<T>> as Sink>⟧.told sink) }
+    ensures { IsFrontOf (T.contents result) (⟦<WriteSink<BufWriter<T>> as Sink>⟧.seen sink).bytes }
 {
     let (inner, _) = sink.into_inner().into_parts();
     inner

@@ -2,7 +2,7 @@
 use Rattle.std.proofs.Common.{◌≡◌, ℕ, List, [], ◌∷◌, refl, Some, None, true, false, map, reverse}
 use Rattle.std.specs.Prelude.{codes, Ok, Option, option_map}
 use Rattle.std.specs.Fmt.{digits}
-use Rattle.pictures.specs.Objects.{Number, Text, Hexadecimal, Plain, Truth, Object, Array, Call}
+use Rattle.pictures.specs.Objects.{Number, Text, Hexadecimal, Plain, Truth, SystemDictionary, Object, Array, Call}
 use Rattle.pictures.specs.Machine.{Painting}
 use Rattle.pictures.specs.Scanner.{tokens}
 use Rattle.pictures.specs.Documents.{started}
@@ -149,12 +149,12 @@ found = refl
 not_found : left_by (codes "/y where {pop} if") ≡ Some []
 not_found = refl
 
--- `where` finds an operator in systemdict, which this machine doesn't hand out
-of_the_system : left_by (codes "/moveto where") ≡ None
+-- `where` finds an operator in systemdict
+of_the_system : left_by (codes "/moveto where") ≡ Some (Truth true ∷ SystemDictionary ∷ [])
 of_the_system = refl
 
--- nor does it say that there is none, if an interpreter has one
-of_another_system : left_by (codes "/setpagedevice where {pop} if") ≡ None
+-- it doesn't say that there is none, if an interpreter has one
+of_another_system : left_by (codes "/languagelevel where {pop} if") ≡ None
 of_another_system = refl
 
 -- a page by itself may not ask for showpage so: the sheet's text has put it in userdict

@@ -63,10 +63,10 @@ imposed = document_of document >>= λ us. Ok (output frame None two_up us)
 abbrev pub call : List ℕ → List Object → Call
 call name operands = record { name = name; operands = operands }
 
-abbrev number : List ℕ → Object
+abbrev pub number : List ℕ → Object
 number text = Plain (Number text)
 
-abbrev segment : List Call → List ℕ → List Object → Segment
+abbrev pub segment : List Call → List ℕ → List Object → Segment
 segment chain name operands = record { call = call name operands; chain = chain; settings = [] }
 
 abbrev half_at : List ℕ → Call

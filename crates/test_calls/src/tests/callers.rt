@@ -9,7 +9,9 @@ use dsc::Document;
 use gather_table::{GatherTable, Seat};
 use handover::{Pass, Prepared, Ready, Shelf};
 use pagespec::read_spec;
-use run_steps::{DeliverError, Delivered, ImposeError, Imposed, deliver, impose, is_complete};
+use run_steps::{
+    Answers, DeliverError, Delivered, Delivery, ImposeError, Imposed, deliver, impose, is_complete,
+};
 use sheet_plan::Plan;
 use sheet_text::{Job, sheet_text};
 use std::alloc::{AllocError, Global};
@@ -121,6 +123,38 @@ impl<'s, 'j, 't, 'd> Caller<'s, 'j, 't, 'd> {
         ))
     }
 
+    /// The same with memory for its answers that an earlier delivery leaves.
+    pub(super) fn deliver_again<R: Wait>(
+        &mut self,
+        rt: &R,
+        prepared: Prepared<'d>,
+        answers: Answers,
+    ) -> Option<Result<Delivered<'d>, DeliverError<'d>>> {
+        let plan = self.job.plan();
+        if prepared.page() >= plan.pages() {
+            return None;
+        }
+        let delivery = Delivery {
+            plan,
+            table: self.table,
+            shelf: self.shelf,
+            ready: self.ready,
+        };
+        Some(delivery.deliver(rt, &mut self.seat, &mut self.pass, prepared, answers))
+    }
+
+    /// Prepares a page of the document. Refused also for a page that isn't there.
+    pub(super) fn prepare(&self, alloc: Global, page: u32) -> Result<Prepared<'d>, AllocError> {
+        let document = self.job.document();
+        if page >= document.pages() {
+            return Err(AllocError);
+        }
+        match Prepared::new(alloc, page, document.page(page)) {
+            Ok(prepared) => Ok(prepared),
+            Err(_) => Err(AllocError),
+        }
+    }
+
     /// Prepares a page of the document and delivers it. Refused also for a page that isn't there.
     pub(super) fn deliver_page<R: Wait>(
         &mut self,
@@ -128,13 +162,7 @@ impl<'s, 'j, 't, 'd> Caller<'s, 'j, 't, 'd> {
         alloc: Global,
         page: u32,
     ) -> Result<Delivered<'d>, AllocError> {
-        let document = self.job.document();
-        if page >= document.pages() {
-            return Err(AllocError);
-        }
-        let Ok(prepared) = Prepared::new(alloc, page, document.page(page)) else {
-            return Err(AllocError);
-        };
+        let prepared = self.prepare(alloc, page)?;
         match self.deliver(rt, alloc, prepared) {
             Some(Ok(delivered)) => Ok(delivered),
             _ => Err(AllocError),

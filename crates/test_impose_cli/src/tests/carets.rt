@@ -9,7 +9,7 @@ use std::test::Fail;
 const LONG: &str =
     "0,1,2,3,4,5,6,7,8,9,0,1,2,3,4,5,6,7,8,9,0,1,2,3,4,5,6,7,8,9,0,1,2,3,4,5,6,7,8,9,0,1,2,3,4,5,6,7,8,9";
 
-/// What is shown of a specification below the message that it is told with.
+/// What is shown of a specification below the message that it is said with.
 fn shown(rt: &(impl Abort + AllocGlobal), spec: &str, error: SpecError) -> Result<String, Fail> {
     let layout = Layout::Spec(String::from_str(rt.alloc(), spec)?);
     let request = Request {

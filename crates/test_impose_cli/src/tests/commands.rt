@@ -24,8 +24,8 @@ fn several_pages_on_a_sheet(rt: HostRuntime) -> Result<(), Fail> {
         "nup 4 -p a5 --sheet a3 --border 1pt in.ps out.ps",
     )?;
     assert!(rt; matches!(request.layout, Layout::NUp(4)));
-    assert_eq!(rt; request.page, Some(paper(&rt, "a5")));
-    assert_eq!(rt; request.sheet, Some(paper(&rt, "a3")));
+    assert_eq!(rt; request.page_paper, Some(paper(&rt, "a5")));
+    assert_eq!(rt; request.sheet_paper, Some(paper(&rt, "a3")));
     assert_eq!(rt; request.border, Grains::new(127_000_000_000));
     assert_eq!(rt; file(&request.infile), Some("in.ps"));
     assert_eq!(rt; file(&request.outfile), Some("out.ps"));
@@ -37,8 +37,8 @@ fn several_pages_on_a_sheet(rt: HostRuntime) -> Result<(), Fail> {
 fn nothing_more_than_a_command(rt: HostRuntime) -> Result<(), Fail> {
     let request = read(rt.alloc(), "nup 1024")?;
     assert!(rt; matches!(request.layout, Layout::NUp(1_024)));
-    assert_eq!(rt; request.page, None);
-    assert_eq!(rt; request.sheet, None);
+    assert_eq!(rt; request.page_paper, None);
+    assert_eq!(rt; request.sheet_paper, None);
     assert_eq!(rt; request.border, None);
     assert_eq!(rt; file(&request.infile), None);
     assert_eq!(rt; file(&request.outfile), None);

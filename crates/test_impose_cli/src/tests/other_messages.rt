@@ -138,7 +138,7 @@ fn standard_input_and_output(rt: HostRuntime) -> Result<(), Fail> {
 
 #[test]
 fn reports(rt: HostRuntime) -> Result<(), Fail> {
-    let page = paper_by_name("a4").expect(&rt, "a4 is a paper");
+    let page_paper = paper_by_name("a4").expect(&rt, "a4 is a paper");
     let rows = [
         (PaperOrigin::Named, "as named"),
         (
@@ -154,7 +154,7 @@ fn reports(rt: HostRuntime) -> Result<(), Fail> {
             "which is a4 as the document names none",
         ),
     ];
-    for (origin, told) in rows {
+    for (origin, said) in rows {
         let report = Report {
             pages: 5,
             sheets: 3,
@@ -164,12 +164,12 @@ fn reports(rt: HostRuntime) -> Result<(), Fail> {
         };
         let done = Finished {
             report,
-            page,
+            page_paper,
             origin,
         };
         let text = report_text(rt.alloc(), &done)?;
         let wanted = format!(in rt.alloc();
-            "pages 5, sheets 3, bytes 270; pages of 595 x 842 pt, {told}"
+            "pages 5, sheets 3, bytes 270; pages of 595 x 842 pt, {said}"
         )?;
         assert_eq!(rt; text, wanted);
     }

@@ -161,7 +161,7 @@ fn nothing_is_created_before_a_fault(rt: HostRuntime) -> Result<(), Fail> {
     assert!(rt; matches!(&end.outcome, Err(Fault::NoSuchPage { place: 0, pages: 1 })));
     let end = refused(&rt, alloc, "nup 1 other.ps out.ps", ONE_PAGE, 3)?;
     assert!(rt; matches!(&end.outcome, Err(Fault::Read(Some(_)))));
-    // A mistake in the layout is told before the file is opened, which can't be.
+    // A mistake in the layout is found before the file is opened, which can't be.
     let end = refused(&rt, alloc, "spec 0Q other.ps out.ps", ONE_PAGE, 1)?;
     assert!(rt;
         matches!(

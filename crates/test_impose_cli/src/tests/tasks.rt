@@ -2,7 +2,7 @@
 use super::read;
 use document_paper::Comment;
 use dsc::DscError;
-use impose_cli::{Fault, PaperOrigin, check_layout, prepare, printed_task, run_request};
+use impose_cli::{Fault, PaperOrigin, check_layout, printed_task, run_request, task_for};
 use imposer::{MemorySink, RunError};
 use layouts::LayoutError;
 use pagespec::SpecError;
@@ -25,7 +25,7 @@ fn owned(alloc: Global, text: &str) -> Result<Vec<u8>, Fault> {
 fn fault_of(alloc: Global, line: &str, document: &str) -> Result<(), Fault> {
     let request = read(alloc, line).map_err(Fault::Command)?;
     check_layout(alloc, &request)?;
-    let _ = prepare(alloc, &request, owned(alloc, document)?)?;
+    let _ = task_for(alloc, &request, owned(alloc, document)?)?;
     Ok(())
 }
 
@@ -43,7 +43,7 @@ fn the_paper_is_named_or_the_documents_own(rt: HostRuntime) -> Result<(), Fail> 
     ];
     for (line, document, origin, spec) in rows {
         let request = read(rt.alloc(), line)?;
-        let task = prepare(rt.alloc(), &request, owned(rt.alloc(), document)?)?;
+        let task = task_for(rt.alloc(), &request, owned(rt.alloc(), document)?)?;
         assert_eq!(rt; task.origin, origin);
         assert_eq!(rt; task.spec.as_str(), spec);
     }
@@ -53,14 +53,14 @@ fn the_paper_is_named_or_the_documents_own(rt: HostRuntime) -> Result<(), Fail> 
 #[test]
 fn a_booklet_of_one_signature(rt: HostRuntime) -> Result<(), Fail> {
     let request = read(rt.alloc(), "booklet")?;
-    let task = prepare(rt.alloc(), &request, owned(rt.alloc(), WITH_MEDIA)?)?;
+    let task = task_for(rt.alloc(), &request, owned(rt.alloc(), WITH_MEDIA)?)?;
     assert_eq!(rt; task.options.sides, Some(4));
     Ok(())
 }
 
 fn assert_printed(rt: &(impl Abort + AllocGlobal), line: &str, lines: &str) -> Result<(), Fail> {
     let request = read(rt.alloc(), line)?;
-    let task = prepare(rt.alloc(), &request, owned(rt.alloc(), ONE_PAGE)?)?;
+    let task = task_for(rt.alloc(), &request, owned(rt.alloc(), ONE_PAGE)?)?;
     let printed = printed_task(rt.alloc(), &request, &task)?;
     assert_eq!(rt; str::from_utf8(printed.as_slice()), Ok(lines));
     Ok(())

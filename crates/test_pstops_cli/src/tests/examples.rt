@@ -395,12 +395,12 @@ fn no_preparer_is_a_bad_option(rt: HostRuntime) -> Result<(), Fail> {
     let mut request = read(rt.alloc(), "-q 0")?;
     request.options.workers.preparers = 0;
     let mut sink = MemorySink::new(rt.alloc(), 1000, 1000, 1000)?;
-    let told = run_request(&rt, rt.alloc(), &request, ONE_PAGE.as_bytes(), &mut sink);
+    let (status, line) = run_request(&rt, rt.alloc(), &request, ONE_PAGE.as_bytes(), &mut sink);
     assert_eq!(rt;
-        str::from_utf8(told.1.as_slice()),
+        str::from_utf8(line.as_slice()),
         Ok("pstops: bad options\n")
     );
-    assert_eq!(rt; told.0, 2);
+    assert_eq!(rt; status, 2);
     assert_eq!(rt; sink.bytes().len(), 0);
     Ok(())
 }
@@ -409,12 +409,12 @@ fn no_preparer_is_a_bad_option(rt: HostRuntime) -> Result<(), Fail> {
 fn a_sink_that_fails_after_a_hundred_bytes(rt: HostRuntime) -> Result<(), Fail> {
     let request = read(rt.alloc(), "0")?;
     let mut sink = MemorySink::new(rt.alloc(), 100, 1000, 1000)?;
-    let told = run_request(&rt, rt.alloc(), &request, ONE_PAGE.as_bytes(), &mut sink);
+    let (status, line) = run_request(&rt, rt.alloc(), &request, ONE_PAGE.as_bytes(), &mut sink);
     assert_eq!(rt;
-        str::from_utf8(told.1.as_slice()),
+        str::from_utf8(line.as_slice()),
         Ok("pstops: cannot write output\n")
     );
-    assert_eq!(rt; told.0, 3);
+    assert_eq!(rt; status, 3);
     assert_eq!(rt; ONE_SHEET.len(), 273);
     assert_eq!(rt; sink.bytes(), &ONE_SHEET.as_bytes()[..100]);
     Ok(())
@@ -425,12 +425,18 @@ fn two_pages_on_a_sheet_into_a_sink_that_fails(rt: HostRuntime) -> Result<(), Fa
     for words in [TWO_UP, TWO_UP_BY_MANY_WORKERS] {
         let request = read(rt.alloc(), words)?;
         let mut sink = MemorySink::new(rt.alloc(), 100, 1000, 1000)?;
-        let told = run_request(&rt, rt.alloc(), &request, TWO_PAGES.as_bytes(), &mut sink);
+        let (status, line) = run_request(
+            &rt,
+            rt.alloc(),
+            &request,
+            TWO_PAGES.as_bytes(),
+            &mut sink,
+        );
         assert_eq!(rt;
-            str::from_utf8(told.1.as_slice()),
+            str::from_utf8(line.as_slice()),
             Ok("pstops: cannot write output\n")
         );
-        assert_eq!(rt; told.0, 3, "at {words}");
+        assert_eq!(rt; status, 3, "at {words}");
         assert_eq!(rt; TWO_PAGES_ON_A_SHEET.len(), 503);
         assert_eq!(rt; sink.bytes(), &TWO_PAGES_ON_A_SHEET.as_bytes()[..100]);
     }

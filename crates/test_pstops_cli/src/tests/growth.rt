@@ -164,9 +164,9 @@ fn run_refused<R: Threads + Wait + Abort + Sync>(
     let (status, line) = run_request(rt, alloc, request, ONE_PAGE.as_bytes(), &mut sink);
     let is_refused = has_refused(alloc);
     if is_refused {
-        let told = line.as_slice();
+        let said = line.as_slice();
         assert_eq!(rt; status, 3);
-        assert!(rt; told.is_empty() || told == b"pstops: out of memory\n".as_slice());
+        assert!(rt; said.is_empty() || said == b"pstops: out of memory\n".as_slice());
         assert!(rt; output.starts_with(sink.bytes()));
     } else {
         assert_eq!(rt; status, 0);

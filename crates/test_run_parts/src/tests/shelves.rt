@@ -117,6 +117,26 @@ fn shares_come_back(rt: HostRuntime) -> Result<(), Fail> {
     Ok(())
 }
 
+#[test]
+fn puts_by_right_are_not_refused(rt: HostRuntime) -> Result<(), Fail> {
+    let (ready, mut pass) = Ready::by_right(rt.alloc(), 2)?;
+    let mut other = ready.split_with_room(&mut pass, 1, 1);
+    assert_eq!(rt; (pass.room(), other.room()), (1, 1));
+    assert_eq!(rt; ready.put(&rt, &mut pass, 7), Ok(()));
+    // What room there is belongs to the other one, and a take gives none back.
+    assert_eq!(rt; ready.put(&rt, &mut pass, 8), Err(Full(8)));
+    assert_eq!(rt; ready.take(&rt, &mut pass), Some(7));
+    assert_eq!(rt; ready.put(&rt, &mut pass, 8), Err(Full(8)));
+    assert_eq!(rt; ready.put(&rt, &mut other, 9), Ok(()));
+    let mut whole = ready.join(pass, other);
+    assert_eq!(rt; whole.room(), 0);
+    // A pass with all shares knows that nobody else has room.
+    assert_eq!(rt; ready.put(&rt, &mut whole, 8), Ok(()));
+    assert_eq!(rt; ready.put(&rt, &mut whole, 7), Err(Full(7)));
+    assert_eq!(rt; ready.take(&rt, &mut whole), Some(9));
+    Ok(())
+}
+
 // A thread's pass of the queue.
 #[derive(Drop)]
 struct Worker<'q> {

@@ -14,8 +14,6 @@ use sheet_writer::{
 use std::alloc::{AllocError, Global};
 use std::io::{self, ErrorKind, Write};
 use std::process::Abort;
-use std::sync::atomic::AtomicUsize;
-use std::sync::atomic::Ordering::SeqCst;
 use std::test::Fail;
 
 /// Four pages.
@@ -184,12 +182,12 @@ fn a_sheet_waits_in_its_place(rt: HostRuntime) -> Result<(), Fail> {
 /// Counts the bytes of the texts that are given back.
 #[derive(Drop)]
 struct Counter {
-    bytes: AtomicUsize,
+    bytes: usize,
 }
 
 impl<'r> Spent<'r> for Counter {
-    fn give_back(&self, text: Rope<'r>) {
-        self.bytes.fetch_add(text.len().unwrap_or(0), SeqCst);
+    fn give_back(&mut self, text: Rope<'r>) {
+        self.bytes = self.bytes.saturating_add(text.len().unwrap_or(0));
     }
 }
 
@@ -217,11 +215,9 @@ fn write_pair(alloc: Global, job: &Job<'_, '_>, sink: &mut MemorySink) -> Result
     let mut early = Early::new(alloc, 2)?;
     put_sheet(alloc, job, &mut early, 0)?;
     put_sheet(alloc, job, &mut early, 1)?;
-    let counter = Counter {
-        bytes: AtomicUsize::new(0),
-    };
-    write_early(job, sink, START, &mut early, &counter);
-    Ok(counter.bytes.load(SeqCst))
+    let mut counter = Counter { bytes: 0 };
+    write_early(job, sink, START, &mut early, &mut counter);
+    Ok(counter.bytes)
 }
 
 /// All bytes that were written are given back.

@@ -1,5 +1,6 @@
 //! Worked examples of runs: small documents, many pages, wide sheets, signatures, refusals, sinks, and threads that
 //! meet.
+mod made_sheets;
 mod many_pages;
 mod refusals;
 mod signatures;

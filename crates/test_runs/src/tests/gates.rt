@@ -83,9 +83,7 @@ impl Gate for Barrier {
 struct Everything {}
 
 impl Sink for Everything {
-    ghost told = { λ _. None };
-
-    ghost failures = { λ _. 0 };
+    ghost seen = { λ _. record { bytes = None; failures = 0 } };
 
     fn accept(&mut self, bytes: &[u8]) -> Result<usize, SinkFault> {
         Ok(bytes.len())
@@ -294,9 +292,7 @@ struct OneSheet<'w> {
 }
 
 impl<'w> Sink for OneSheet<'w> {
-    ghost told = { λ _. None };
-
-    ghost failures = { λ _. 0 };
+    ghost seen = { λ _. record { bytes = None; failures = 0 } };
 
     fn accept(&mut self, bytes: &[u8]) -> Result<usize, SinkFault> {
         self.calls = self.calls.saturating_add(1);

@@ -1,5 +1,6 @@
 //! Sinks and writers that fail at each call in turn.
-ghost use Rattle.std.specs.Prelude.{None, ◌<◌};
+ghost use Rattle.std.specs.Prelude.{None};
+ghost use Rattle.sheet_writer.specs.Sinks.{IsCountable};
 
 use super::{TWO_UP, document_of, workers};
 use imposer::{MemorySink, Open, Report, RunError, Sink, SinkFault, WriteSink, run};
@@ -27,7 +28,7 @@ fn impose_pair<R: Threads + Wait + Abort + Sync, S: Sink>(
     counts: (u32, u32),
     sink: &mut S,
 ) -> Result<Report, RunError>
-    requires countable { S.failures sink.old < u64.MAX }
+    requires countable { IsCountable (S.seen sink.old) }
 {
     let options = workers(rt, counts.0, counts.1);
     let text = document_of(alloc, 2)?;
@@ -87,9 +88,7 @@ struct Failing {
 }
 
 impl Sink for Failing {
-    ghost told = { λ _. None };
-
-    ghost failures = { λ s. s.failures };
+    ghost seen = { λ s. record { bytes = None; failures = s.failures } };
 
     fn accept(&mut self, bytes: &[u8]) -> Result<usize, SinkFault> {
         self.calls = self.calls.saturating_add(1);

@@ -94,9 +94,7 @@ struct LimitedSink<'w> {
 }
 
 impl<'w> Sink for LimitedSink<'w> {
-    ghost told = { λ _. None };
-
-    ghost failures = { λ s. s.failures };
+    ghost seen = { λ s. record { bytes = None; failures = s.failures } };
 
     fn accept(&mut self, bytes: &[u8]) -> Result<usize, SinkFault> {
         let taken = bytes.len().min(self.room);

@@ -15,7 +15,7 @@ returns-clause-put_in c =
     let drains = done.3 in
     let put : xs ≡ c.append_guard.new.out.items =
     sym (map-id xs) ∙ items_from_drains xs (drains.1.0, drains.1.1, λ _. (drains.0, drains.1.2)) (YieldsList-from_vec c.append_guard.new.out.items gives.0 (omega (arith, gives.1, c.append_guard.new.out.ok.0))) in
-    put_between (guard_lines (option_map (λ p. p.now) c.args.sheet)) c.args.text.now.items c.header_len-end.result c.saturating_sub-start.result
+    put_between (guard_lines (option_map (λ p. p.now) c.args.sheet_paper)) c.args.text.now.items c.header_len-end.result c.saturating_sub-start.result
     c.in_ok-lines.lines.items c.extend_from_slice.new.self.items c.end_line.new.kept.items c.append_guard.new.out.items xs c.splice.new.self.items
     (c.header_len-end.ensures.value ∙ ap header_len c.as_slice.ensures.value) (search rules) c.saturating_sub-start.ensures
     c.in_ok-lines.ensures.items

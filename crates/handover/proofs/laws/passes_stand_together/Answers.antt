@@ -1,7 +1,13 @@
 use Rattle.histories.proofs.Together.{seats_stand_together}
 use Rattle.handover.specs.Queue.{IsQueueHistory}
+use Rattle.handover.specs.Rule.{seats_of}
 use Rattle.handover.proofs.laws.passes_stand_together.Goals as goal
 
 pub returns : goal.returns
-returns c items views kept =
-    (kept.0, kept.1, kept.2.holds, seats_stand_together IsQueueHistory kept.0 kept.1 views kept.2.legal kept.2.seats)
+returns c items views kept = (
+  kept.0,
+  kept.1,
+  kept.2.holds,
+  seats_stand_together IsQueueHistory kept.0 kept.1 (seats_of views) kept.2.legal kept.2.seats,
+  kept.2.rooms.enough,
+)

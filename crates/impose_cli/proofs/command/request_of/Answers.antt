@@ -8,4 +8,4 @@ returns-in-Err-clause-refused c = refuses_sizes c.args.name.now (rows_of (found_
 
 pub returns-in-Err-layout_of-clause-refused : goal.returns-in-Err-layout_of-clause-refused
 returns-in-Err-layout_of-clause-refused c =
-    refuses_arguments c.args.name.now (rows_of (found_of c.args.found.now)) c.in-Ok.sizes.page c.in-Ok.sizes.sheet c.in-Ok.sizes.border c.in-Err-layout_of.fault c.in-Ok.ensures.read c.in-Err-layout_of.ensures.refused
+    refuses_arguments c.args.name.now (rows_of (found_of c.args.found.now)) c.in-Ok.sizes.page_paper c.in-Ok.sizes.sheet_paper c.in-Ok.sizes.border c.in-Err-layout_of.fault c.in-Ok.ensures.read c.in-Err-layout_of.ensures.refused

@@ -12,4 +12,4 @@ returns-in-Ok-write_all g c =
     (subst (λ o. Prints c.args.request.now c.args.input.items tells (Ok done.Printed) (is_some o)
     (option_and_then g.W.Output.Write.contents o)) (sym c.wrote.ensures.output)
     (printed c.args.request.now c.args.input.items tells c.in-Ok.task c.as_slice.result.now _ _ true
-    c.in-Ok.ensures.prepared c.in-Ok-create.ensures.created c.in-Ok-write_all.ensures.bytes))
+    c.in-Ok.ensures.is_task c.in-Ok-create.ensures.created c.in-Ok-write_all.ensures.bytes))

@@ -7,5 +7,5 @@ use Rattle.impose_cli.proofs.task.nup_placing.Goals as goal
 
 pub returns-in-Err-clause-refused : goal.returns-in-Err-clause-refused
 returns-in-Err-clause-refused c =
-    subst (RefusesLayout (layout.NUp c.args.count) c.args.page.now c.args.sheet.now 0) (sym c.from.ensures)
-    (refuses_layout (why_not c.args.page.now c.args.sheet.now c.args.count) (layout.NUp c.args.count) c.args.page.now c.args.sheet.now (λ e is. is) c.in-Err.error c.in-Err.ensures.refused)
+    subst (RefusesLayout (layout.NUp c.args.count) c.args.page_paper.now c.args.sheet_paper.now 0) (sym c.from.ensures)
+    (refuses_layout (why_not c.args.page_paper.now c.args.sheet_paper.now c.args.count) (layout.NUp c.args.count) c.args.page_paper.now c.args.sheet_paper.now (λ e is. is) c.in-Err.error c.in-Err.ensures.refused)

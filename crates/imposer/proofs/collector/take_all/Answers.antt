@@ -10,7 +10,7 @@ loop-preserved g c = record {
   ticket = c.take_turn.ensures.ticket;
   going = c.take_turn.ensures.going (search rules);
   same = c.take_turn.ensures.same ∙ c.loop.invariant.same;
-  goes_on = λ start first stands. c.take_turn.ensures.goes_on start first (c.loop.invariant.goes_on start first stands);
+  goes_on = λ start stands. c.take_turn.ensures.goes_on start (c.loop.invariant.goes_on start stands);
   steady = c.take_turn.ensures.steady (search rules) ∙ c.loop.invariant.steady;
   early = c.take_turn.ensures.early;
 }
@@ -18,9 +18,9 @@ loop-preserved g c = record {
 pub returns-clause-goes_on : goal.returns-clause-goes_on
 returns-clause-goes_on g c = elim c.match-next.branch [
   | in-None w ↦
-      subst (λ d. GoesOn g.S.Sink.told g.S.Sink.failures c.args.input.now.job.now c.args.state.now.sink.now d.sink.now c.args.state.now.progress d.progress)
+      subst (λ d. GoesOn c.args.input.now.job.now (g.S.Sink.seen c.args.state.now.sink.now) (g.S.Sink.seen d.sink.now) c.args.state.now.progress d.progress)
       (sym w.state-is) c.loop.invariant.goes_on
   | in-Some+then-not-take_turn w ↦
-      subst (λ d. GoesOn g.S.Sink.told g.S.Sink.failures c.args.input.now.job.now c.args.state.now.sink.now d.sink.now c.args.state.now.progress d.progress)
-      (sym w.state-is) (λ start first stands. w.take_turn.ensures.goes_on start first (c.loop.invariant.goes_on start first stands))
+      subst (λ d. GoesOn c.args.input.now.job.now (g.S.Sink.seen c.args.state.now.sink.now) (g.S.Sink.seen d.sink.now) c.args.state.now.progress d.progress)
+      (sym w.state-is) (λ start stands. w.take_turn.ensures.goes_on start (c.loop.invariant.goes_on start stands))
 ]

@@ -11,7 +11,7 @@ invariant-loop g l = record {
   ticket : IsSeatAt (receives_on l.input.receiver.now) l.state.ticket.now;
   going : l.state.progress.halted ≡ None;
   same : l.state.sink.ghost_name ≡ l.initial.state.sink.ghost_name;
-  goes_on : GoesOn g.S.Sink.told g.S.Sink.failures l.input.job.now l.initial.state.sink.now l.state.sink.now l.initial.state.progress l.state.progress;
-  steady : g.S.Sink.failures l.state.sink.now ≡ g.S.Sink.failures l.initial.state.sink.now;
+  goes_on : GoesOn l.input.job.now (g.S.Sink.seen l.initial.state.sink.now) (g.S.Sink.seen l.state.sink.now) l.initial.state.progress l.state.progress;
+  steady : (g.S.Sink.seen l.state.sink.now).failures ≡ (g.S.Sink.seen l.initial.state.sink.now).failures;
   early : AreEarly l.input.job.now l.state.early.now.places.items;
 }

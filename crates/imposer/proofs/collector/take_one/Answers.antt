@@ -1,5 +1,13 @@
-use Rattle.std.proofs.Common.{arith, suc}
+use Rattle.std.proofs.Common.{arith, refl, suc}
+use Rattle.imposer.proofs.Texts.{have_of_job}
 use Rattle.imposer.proofs.collector.take_one.Goals as goal
 
 pub try_recv_as-received-requires-clause-rule : goal.try_recv_as-received-requires-clause-rule
 try_recv_as-received-requires-clause-rule g c = ((λ x items views h at. (tt, (λ k d below. h (suc k) d (omega arith)), h 0 x (omega arith))), λ items views h at. tt)
+
+pub write_early-state-requires : goal.write_early-state-requires
+write_early-state-requires g c κs =
+    let job = c.args.input.now.job.now in
+    let ruled = c.args.input.now.ruled.now in
+    let early = c.put_all.ensures.early job (have_of_job g.T.Texts.text job ruled.job.now c.in-Ok.batch.sheets.items c.args.input.now.same_job ruled.texts c.in-Ok.ensures.rule) c.requires.early in
+    ((refl, tt), (c.requires.countable, (c.requires.going, early)))

@@ -10,5 +10,5 @@ returns-then-not-is_whole-clause-ran g c tells fresh =
     subst (λ o. RunsInto c.args.request.now c.args.input.now tells (option_and_then g.W.Output.Write.contents o)
     c.stop-then-not-is_whole.result.status c.stop-then-not-is_whole.result.line.items)
     (sym c.stop-then-not-is_whole.ensures.output)
-    (inr (cut c.args.request.now c.args.input.now tells _ _ _ _ _ h.0 _ _ _ _ (c.in-Ok.ensures.told ∙ fresh) c.in-Ok.ensures.fresh
-    h.1 h.2 c.if-status-eq0.true c.finish-is_whole.ensures.part c.stop-then-not-is_whole.ensures.said))
+    (inr (cut c.args.request.now c.args.input.now tells _ _ _ h.0 _ _ _ _ (c.in-Ok.ensures.told ∙ fresh) c.in-Ok.ensures.fresh
+    h.1 h.2 c.if-status-eq0.true c.write_out-is_whole.ensures.part c.stop-then-not-is_whole.ensures.said))

@@ -24,20 +24,20 @@ module _ (p w h d : Option (List ℕ)) (signature : Option ℕ) (workers : Worke
   unfolding options_named
   no_height f named wide ep ew eh = rw (sym ep, sym ew, sym eh) refl
 
-  no_border : (f : CommandFault) (named wide sides : Paper) → Ok named ≡ ok_or (paper_or_a4 p) UnknownPaper
+  no_border : (f : CommandFault) (named wide paper : Paper) → Ok named ≡ ok_or (paper_or_a4 p) UnknownPaper
       → Ok wide ≡ ok_or (with_width named w) (BadLength letter_w)
-      → Ok sides ≡ ok_or (with_height wide h) (BadLength letter_h)
-      → Err f ≡ ok_or (border_named sides d) (BadLength letter_d) → Err f ≡ options_named p w h d signature workers
+      → Ok paper ≡ ok_or (with_height wide h) (BadLength letter_h)
+      → Err f ≡ ok_or (border_named paper d) (BadLength letter_d) → Err f ≡ options_named p w h d signature workers
   unfolding options_named
-  no_border f named wide sides ep ew eh ed = rw (sym ep, sym ew, sym eh, sym ed) refl
+  no_border f named wide paper ep ew eh ed = rw (sym ep, sym ew, sym eh, sym ed) refl
 
-  all_named : (named wide sides : Paper) (border : Option ℤ) → Ok named ≡ ok_or (paper_or_a4 p) UnknownPaper
+  all_named : (named wide paper : Paper) (border : Option ℤ) → Ok named ≡ ok_or (paper_or_a4 p) UnknownPaper
       → Ok wide ≡ ok_or (with_width named w) (BadLength letter_w)
-      → Ok sides ≡ ok_or (with_height wide h) (BadLength letter_h)
-      → Ok border ≡ ok_or (border_named sides d) (BadLength letter_d)
-      → Ok (record { paper = sides; border = border; sides = signature; workers = workers }) ≡ options_named p w h d signature workers
+      → Ok paper ≡ ok_or (with_height wide h) (BadLength letter_h)
+      → Ok border ≡ ok_or (border_named paper d) (BadLength letter_d)
+      → Ok (record { paper = paper; border = border; sides = signature; workers = workers }) ≡ options_named p w h d signature workers
   unfolding options_named
-  all_named named wide sides border ep ew eh ed = rw (sym ep, sym ew, sym eh, sym ed) refl
+  all_named named wide paper border ep ew eh ed = rw (sym ep, sym ew, sym eh, sym ed) refl
 
 pub returns-in_err-named : goal.returns-in_err-named
 returns-in_err-named c =
@@ -50,25 +50,25 @@ returns-in_err-wide c =
     let stops = c.in_err-wide.ensures.value ∙ ap (λ o. ok_or o (BadLength letter_w)) c.with_width.ensures in
     handed_on _ _ c.from_residual-in_err-wide.ensures.1 ∙ no_width _ _ _ _ _ _ _ _ named stops
 
-pub returns-in_err-sides : goal.returns-in_err-sides
-returns-in_err-sides c =
+pub returns-in_err-paper : goal.returns-in_err-paper
+returns-in_err-paper c =
     let named = c.in_ok-named.ensures.value ∙ ap (λ o. ok_or o UnknownPaper) c.paper_or_a4.ensures in
     let wide = c.in_ok-wide.ensures.value ∙ ap (λ o. ok_or o (BadLength letter_w)) c.with_width.ensures in
-    let stops = c.in_err-sides.ensures.value ∙ ap (λ o. ok_or o (BadLength letter_h)) c.with_height.ensures in
-    handed_on _ _ c.from_residual-in_err-sides.ensures.1 ∙ no_height _ _ _ _ _ _ _ _ _ named wide stops
+    let stops = c.in_err-paper.ensures.value ∙ ap (λ o. ok_or o (BadLength letter_h)) c.with_height.ensures in
+    handed_on _ _ c.from_residual-in_err-paper.ensures.1 ∙ no_height _ _ _ _ _ _ _ _ _ named wide stops
 
 pub returns-in_err-border : goal.returns-in_err-border
 returns-in_err-border c =
     let named = c.in_ok-named.ensures.value ∙ ap (λ o. ok_or o UnknownPaper) c.paper_or_a4.ensures in
     let wide = c.in_ok-wide.ensures.value ∙ ap (λ o. ok_or o (BadLength letter_w)) c.with_width.ensures in
-    let sides = c.in_ok-sides.ensures.value ∙ ap (λ o. ok_or o (BadLength letter_h)) c.with_height.ensures in
+    let paper = c.in_ok-paper.ensures.value ∙ ap (λ o. ok_or o (BadLength letter_h)) c.with_height.ensures in
     let stops = c.in_err-border.ensures.value ∙ ap (λ o. ok_or o (BadLength letter_d)) c.border_named.ensures in
-    handed_on _ _ c.from_residual-in_err-border.ensures.1 ∙ no_border _ _ _ _ _ _ _ _ _ _ named wide sides stops
+    handed_on _ _ c.from_residual-in_err-border.ensures.1 ∙ no_border _ _ _ _ _ _ _ _ _ _ named wide paper stops
 
 pub returns : goal.returns
 returns c =
     let named = c.in_ok-named.ensures.value ∙ ap (λ o. ok_or o UnknownPaper) c.paper_or_a4.ensures in
     let wide = c.in_ok-wide.ensures.value ∙ ap (λ o. ok_or o (BadLength letter_w)) c.with_width.ensures in
-    let sides = c.in_ok-sides.ensures.value ∙ ap (λ o. ok_or o (BadLength letter_h)) c.with_height.ensures in
+    let paper = c.in_ok-paper.ensures.value ∙ ap (λ o. ok_or o (BadLength letter_h)) c.with_height.ensures in
     let border = c.in_ok-border.ensures.value ∙ ap (λ o. ok_or o (BadLength letter_d)) c.border_named.ensures in
-    all_named _ _ _ _ _ _ _ _ _ _ named wide sides border
+    all_named _ _ _ _ _ _ _ _ _ _ named wide paper border

@@ -7,8 +7,8 @@ invariant-loop-piece g l = record {
   gone : List ℕ;
   all : gone ++ l.pieces ≡ l.text;
   count : length gone ≡ l.written;
-  taken : Appends (g.S.Sink.told l.initial.sink) (g.S.Sink.told l.sink) gone;
-  steady : g.S.Sink.failures l.sink ≡ g.S.Sink.failures l.initial.sink;
+  taken : Appends (g.S.Sink.seen l.initial.sink).bytes (g.S.Sink.seen l.sink).bytes gone;
+  steady : (g.S.Sink.seen l.sink).failures ≡ (g.S.Sink.seen l.initial.sink).failures;
 }
 
 abbrev pub decreases-loop-piece : goal.decreases-loop-piece

@@ -7,6 +7,6 @@ invariant-loop-sheet g l = record {
   going : l.progress.halted ≡ None;
   next : l.progress.next ≡ l.sheet;
   early : AreEarly l.job l.early.places.items;
-  goes_on : GoesOn g.S.Sink.told g.S.Sink.failures l.job l.initial.sink l.sink l.initial.progress l.progress;
-  steady : g.S.Sink.failures l.sink ≡ g.S.Sink.failures l.initial.sink;
+  goes_on : GoesOn l.job (g.S.Sink.seen l.initial.sink) (g.S.Sink.seen l.sink) l.initial.progress l.progress;
+  steady : (g.S.Sink.seen l.sink).failures ≡ (g.S.Sink.seen l.initial.sink).failures;
 }

@@ -2,8 +2,8 @@
 use super::ONE_PAGE;
 use crate::tests::callers::{Caller, Task, assert_imposed, with_caller};
 use gather_table::{Published, Reply};
-use run_steps::Delivered;
-use std::alloc::Global;
+use run_steps::{Answers, Delivered};
+use std::alloc::{AllocError, Global};
 use std::process::Abort;
 use std::sync::Wait;
 use std::test::Fail;
@@ -41,6 +41,26 @@ impl<R: Wait + Abort> Task<R, ()> for CompleteOnce {
     }
 }
 
+/// A page that stands twice on one sheet, delivered, and delivered again with the memory of the first answers.
+#[derive(Drop)]
+struct DeliverAgain {}
+
+impl<R: Wait + Abort> Task<R, ()> for DeliverAgain {
+    fn go(&self, rt: &R, alloc: Global, caller: Caller<'_, '_, '_, '_>) -> Result<(), Fail> {
+        let mut caller = caller;
+        let first = caller.deliver_page(rt, alloc, 0)?;
+        let replies = [Reply::Fresh, Reply::Completing];
+        assert_answers(rt, &first, Published::Stored, replies, &[]);
+        let held = Published::Held(first.receipt.index());
+        let prepared = caller.prepare(alloc, 0)?;
+        let Some(Ok(second)) = caller.deliver_again(rt, prepared, Answers::of(first)) else {
+            return Err(AllocError)?;
+        };
+        assert_answers(rt, &second, held, [Reply::Repeated, Reply::Repeated], &[]);
+        Ok(())
+    }
+}
+
 /// A page that completes two sheets, with room for one in the queue.
 #[derive(Drop)]
 struct CompleteTwo {}
@@ -60,6 +80,11 @@ impl<R: Wait + Abort> Task<R, ()> for CompleteTwo {
 #[test]
 fn a_page_completes_its_sheet_once(rt: HostRuntime) -> Result<(), Fail> {
     with_caller(&rt, rt.alloc(), ONE_PAGE, "0+0", 1, &CompleteOnce {})
+}
+
+#[test]
+fn a_page_is_delivered_with_the_memory_of_another_delivery(rt: HostRuntime) -> Result<(), Fail> {
+    with_caller(&rt, rt.alloc(), ONE_PAGE, "0+0", 1, &DeliverAgain {})
 }
 
 #[test]

@@ -113,9 +113,7 @@ struct CountingSink<'w> {
 }
 
 impl<'w> Sink for CountingSink<'w> {
-    ghost told = { λ _. None };
-
-    ghost failures = { λ _. 0 };
+    ghost seen = { λ _. record { bytes = None; failures = 0 } };
 
     fn accept(&mut self, bytes: &[u8]) -> Result<usize, SinkFault> {
         self.accepted.fetch_add(bytes.len(), SeqCst);

@@ -163,6 +163,15 @@ fn runs_whose_first_sheet_comes_last(rt: HostRuntime) -> Result<(), Fail> {
     Ok(())
 }
 
+// Seventeen sheets of 24 lie in the window, and an imposer sends two of them together. The first one is completed last.
+#[test]
+fn runs_whose_sheets_go_together(rt: HostRuntime) -> Result<(), Fail> {
+    let large = large_pages(rt.alloc(), 24, 3_333)?;
+    refuse_each(&rt, rt.alloc(), &large, "-0", (1, 1), &Open {}, true)?;
+    refuse_each(&rt, rt.alloc(), &large, "0", (2, 1), &Late {}, true)?;
+    Ok(())
+}
+
 /// Gathers a job: how many bytes the gathering says that it wrote, None if all went well; whether the tokens came back;
 /// and whether a growth was refused.
 fn gather_refused<R: Threads + Wait + Abort + Sync>(

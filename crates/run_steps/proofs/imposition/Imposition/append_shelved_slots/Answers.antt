@@ -1,4 +1,6 @@
-use Rattle.std.proofs.Common.{arith, ◌+◌, ◌≡◌, length, take, sym, append-nil}
+use Rattle.std.proofs.Common.{arith, ap, ◌+◌, ◌≡◌, ◌∙◌, length, take, sym, append-nil}
+use Rattle.rules.specs.Sheets.{Plan}
+use Rattle.sheet_plan.specs.Plans.{pages_on}
 use Rattle.gather_table.specs.Table.{slots}
 use Rattle.run_steps.specs.LookUps.{needed}
 use Rattle.run_steps.proofs.imposition.Imposition.append_shelved_slots.Goals as goal
@@ -16,7 +18,7 @@ loop-slot-init c = record { text = sym (append-nil _); looked_up = looks_none _ 
 
 pub loop-slot-preserved : goal.loop-slot-preserved
 loop-slot-preserved c = record {
-  text = slots_turn _ _ c.args.sheet c.loop-slot.slot _ _ _ _ (same_job c.args.self.now.job.now c.plan-plan.result.now c.plan-plan.ensures.value) c.slots-slot-end.ensures.value c.loop-slot-test.true c.loop-slot.invariant.text c.in-Ok.ensures.text;
+  text = slots_turn c.args.self.now.job.now c.args.sheet c.loop-slot.slot _ _ _ _ c.plan-plan.ensures.sheets (c.slots-slot-end.ensures.value ∙ ap (λ (plan : Plan). length (pages_on plan c.args.sheet)) c.plan-plan.ensures.value) c.loop-slot-test.true c.loop-slot.invariant.text c.in-Ok.ensures.text;
   looked_up = looks_on c.args.self.now.job.now c.args.self.now.table.now.layout _ _ _ c.args.sheet c.loop-slot.slot c.args.self.now.same_plan c.loop-slot.invariant.looked_up c.append_shelved.ensures.looked_up;
 }
 

@@ -3,6 +3,7 @@ use denote.Enum.Bare.{same_true}
 use Rattle.rules.specs.Output.{opening_text}
 use Rattle.pagespec.specs.Items.{item_of, measure_of, turn_of}
 use Rattle.pagespec.specs.contracts.item.Turn.{the_type}
+use Rattle.sheet_text.specs.Jobs.{JobView}
 use Rattle.sheet_text.proofs.Opened.{alike, int_same, option_same, paper_same}
 use Rattle.sheet_text.proofs.openings.Opening.text_for.Goals as goal
 
@@ -15,4 +16,4 @@ returns-then-eq-4 c =
     (ap (λ m. measure_of m) (c.is_same-then-is_same.ensures c.if-is_same-2.true))
     (paper_same _ _ _ c.eq-then-is_same-2.ensures c.if-eq-3.true)
     (option_same _ _ _ c.eq-then-eq-3.ensures c.if-eq-4.true)
-    ∙ ap (λ j. opening_text j.frame (item_of c.args.item.now)) c.job.view_is
+    ∙ ap (λ (j : JobView). opening_text (record { paper = c.args.paper.now; border = j.border }) (item_of c.args.item.now)) c.job.view_is

@@ -1,0 +1,359 @@
+-- What the sheet's text and the guard do where a page begins.
+use Rattle.std.specs.Prelude.{Option, Some, None, codes, bytes_eq, decimal}
+use Rattle.std.proofs.lemmas.Slice.Eq.{bytes_eq-Decides}
+use Rattle.std.proofs.Common.{◌≡◌, ℕ, ◌+◌, refl, ap, ◌∙◌, sym, subst, Bool, true, false, not, true≢false, ◌&&◌, List, [], ◌∷◌, ◌++◌, length, arith}
+use Rattle.pictures.specs.Objects.{Token, Number, Name, Literal, Bound, Opens, Closes, Object, Plain, Truth, Procedure, Mark, Dictionary, SystemDictionary, Matrix, Saved, Call}
+use Rattle.pictures.specs.Dictionaries.{Entry, meaning, system, or}
+use Rattle.pictures.specs.Operators.{Work, with_operands, judged, located, ended, holder}
+use Rattle.pictures.specs.Chains.{is_same_chain, are_same_operands}
+use Rattle.pictures.specs.Machine.{State, Graphics, Segment, Runs, push, worked, traced, may_precede, procedure_for, numbers_before}
+use Rattle.pictures.specs.Sheets.{run_of, among, Numbers, zero_text, edge, point, edge_tokens, border_tokens, saving_tokens, placing_tokens, place_in, border_in, in_userdict}
+use Rattle.pictures.specs.Sheets.{matrix_of}
+use Rattle.pictures.proofs.Runs.{runs_one, runs_none, runs_join}
+use Rattle.pictures.proofs.Straight.{Known, straight, straight_runs}
+use Rattle.pictures.proofs.Opening.{snapshot_of, apart, is_apart}
+use Rattle.pictures.proofs.Tests.{first, second}
+use Rattle.pictures.proofs.Placed.{both_true}
+use Rattle.guarded_pictures.specs.Behind.{save_tokens, clip_tokens}
+use Rattle.guarded_pictures.specs.Behind.{path_tokens as tracing_tokens}
+use Rattle.guarded_pictures.specs.Shelter.{outline_tokens, page_entries, page_matrix}
+use Rattle.guarded_pictures.specs.Pages.{IsGuarded, looked_up, looked_up_first, PageBegins}
+use Rattle.guarded_pictures.proofs.Absent.{known, known_below, keys_differ, through}
+use Rattle.guarded_pictures.proofs.Counting.{counted}
+use Rattle.guarded_pictures.proofs.Steps.{some, by_name}
+use Rattle.guarded_pictures.proofs.Redrawn.{traced_one, element, traces}
+use Rattle.guarded_pictures.proofs.Lines.{really, really_saves, asked_name}
+
+-- within the sheet's save
+abbrev within : State → List Object → List ℕ → List Entry → Graphics → State
+within s os ds es g = record s {
+  work = record { operands = os; dictionaries = ds; entries = es; made = s.work.made };
+  level = s.level + 1;
+  graphics = g;
+  stacked = [];
+  saves = snapshot_of s ∷ s.saves;
+}
+
+-- and the page's transformation is noted
+abbrev noted_within : State → List Object → List ℕ → List Entry → Graphics → List Call → State
+noted_within s os ds es g chain = record (within s os ds es g) {
+  work = record { operands = os; dictionaries = ds; entries = es; made = s.work.made + 1 };
+  kept = record { number = s.work.made + 1; chain = chain } ∷ s.kept;
+}
+
+-- the operands of the sheet's save, and the state at it
+abbrev for_save : State → List Object
+for_save s = Plain (Literal (codes "ImposeSave")) ∷ Dictionary 0 ∷ s.work.operands
+
+abbrev before : State → List Object → State
+before s os = record s { work = with_operands s.work os }
+
+-- behind the test for a dictionary's own showpage
+abbrev begins_page : List Token → List Token
+begins_page l =
+    Closes ∷ Bound (codes "if") ∷ Closes ∷ Bound (codes "if") ∷ Name (codes "systemdict") ∷ really l
+
+-- the sheet's save puts the dictionary that marks a page on the stack, and saves
+page_saves : (s : State) (l : List Token) (h : IsGuarded s)
+    → Runs false (run_of (save_tokens ++ l) (before s (for_save s)))
+    (run_of l (within s (Saved s.level ∷ for_save s) (h.number ∷ s.work.dictionaries) s.work.entries s.graphics))
+page_saves s l h =
+    let ds : List ℕ = s.work.dictionaries in
+    let es : List Entry = s.work.entries in
+    let names = known_below looked_up 0 ds es h.names in
+    let first_names = known looked_up_first (h.number ∷ ds) es h.clip_alone in
+    let os : List Object = for_save s in
+    let end : State = run_of l (within s (Saved s.level ∷ os) (h.number ∷ ds) es s.graphics) in
+    let count : Object = Plain (Number (decimal (length os))) in
+    let later : List Token = Closes ∷ Bound (codes "if") ∷ Name (codes "systemdict") ∷ really l in
+    let l1 : List Token = Bound (codes "ne") ∷ asked_name l in
+    let finding : List Token = Name (codes "ImposeGuard") ∷ Bound (codes "begin") ∷ Name (codes "systemdict") ∷ really l in
+    let deciding : List Token =
+    Opens ∷ Bound (codes "dup") ∷ Name (codes "userdict") ∷ Bound (codes "ne") ∷ Number (codes "1")
+    ∷ Bound (codes "index") ∷ Bound (codes "wcheck") ∷ Bound (codes "and")
+    ∷ Opens ∷ Literal (codes "showpage")
+    ∷ Opens ∷ Name (codes "userdict") ∷ Literal (codes "showpage") ∷ Bound (codes "get") ∷ Bound (codes "exec") ∷ Closes
+    ∷ Bound (codes "put") ∷ Closes ∷ Opens ∷ Bound (codes "pop") ∷ Closes ∷ Bound (codes "ifelse") ∷ Closes ∷ Bound (codes "if") ∷ finding in
+    let found : List Token = Bound (codes "where") ∷ deciding in
+    let asking : List Token =
+    Bound (codes "ne") ∷ Number (codes "1") ∷ Bound (codes "index") ∷ Bound (codes "wcheck") ∷ Bound (codes "and")
+    ∷ Opens ∷ Literal (codes "showpage")
+    ∷ Opens ∷ Name (codes "userdict") ∷ Literal (codes "showpage") ∷ Bound (codes "get") ∷ Bound (codes "exec") ∷ Closes
+    ∷ Bound (codes "put") ∷ Closes ∷ Opens ∷ Bound (codes "pop") ∷ Closes ∷ Bound (codes "ifelse") ∷ finding in
+    let s1 : State = before s (Plain (Number (codes "0")) ∷ count ∷ os) in
+    let s2 : State = before s (Plain (Literal (codes "showpage")) ∷ os) in
+    let s3 : State = before s (Truth true ∷ Dictionary 0 ∷ os) in
+    let s4 : State = before s (Dictionary 0 ∷ Dictionary 0 ∷ os) in
+    let s5 : State = before s os in
+    let marked : State = record s5 { work = record s5.work { dictionaries = h.number ∷ ds } } in
+    some 2 (run_of (save_tokens ++ l) (before s os)) (run_of l1 s1) end refl
+    (runs_one false (run_of l1 s1) (run_of (asked_name l) (before s (Truth true ∷ os))) end (ap (λ x. worked (judged x (with_operands s.work os)) (run_of (asked_name l) s1)) (counted (length os) (omega arith) (omega (arith, h.few_operands))))
+    (some 8 (run_of (asked_name l) (before s (Truth true ∷ os))) (run_of found s2) end refl
+    (runs_one false (run_of found s2) (run_of deciding s3) end (ap (λ x. worked (located x true false (with_operands s.work os)) (run_of deciding s2)) h.userdict_first)
+    (some 3 (run_of deciding s3) (run_of (Name (codes "userdict") ∷ asking) s4) end refl
+    (by_name (codes "userdict") asking s4 (run_of asking (push (Dictionary 0) s4)) end (system (codes "userdict")) (names (codes "userdict") refl) refl
+    (some 9 (run_of asking (push (Dictionary 0) s4)) (run_of finding s5) end refl
+    (by_name (codes "ImposeGuard") (Bound (codes "begin") ∷ Name (codes "systemdict") ∷ really l) s5 (run_of (Bound (codes "begin") ∷ Name (codes "systemdict") ∷ really l) (push (Dictionary h.number) s5)) end (Some (Dictionary h.number)) h.guard_is refl
+    (some 1 (run_of (Bound (codes "begin") ∷ Name (codes "systemdict") ∷ really l) (push (Dictionary h.number) s5)) (run_of (Name (codes "systemdict") ∷ really l) marked) end refl
+    (really_saves marked l (first_names (codes "systemdict") refl))))))))))
+
+-- The outline.
+
+same_text : (a : List ℕ) → bytes_eq a a ≡ true
+same_text a = (bytes_eq-Decides a a).1 refl
+
+same_numbers : (n : Numbers) → are_same_operands (matrix_of n).operands (matrix_of n).operands ≡ true
+same_numbers n =
+    both_true _ true
+    (both_true (bytes_eq n.a n.a) _ (same_text n.a) (both_true (bytes_eq n.b n.b) _ (same_text n.b) (both_true (bytes_eq n.c n.c) _ (same_text n.c)
+    (both_true (bytes_eq n.d n.d) _ (same_text n.d) (both_true (bytes_eq n.x n.x) _ (same_text n.x) (both_true (bytes_eq n.y n.y) true (same_text n.y) refl))))))
+    refl
+
+pub same_place : (n : Numbers) (cs : List Call) → cs ≡ [] → is_same_chain (matrix_of n ∷ cs) (matrix_of n ∷ cs) ≡ true
+same_place n cs e =
+    subst (λ l. is_same_chain (matrix_of n ∷ l) (matrix_of n ∷ l) ≡ true) (sym e)
+    (both_true (are_same_operands (matrix_of n).operands (matrix_of n).operands) true (same_numbers n) refl)
+
+-- the elements of the paper's edge, each with its procedure
+abbrev edge_elements : Numbers → List Token
+edge_elements n =
+    Number zero_text ∷ Number zero_text ∷ Literal (codes "moveto") ∷ Bound (codes "cvx")
+    ∷ Number n.width ∷ Number zero_text ∷ Literal (codes "lineto") ∷ Bound (codes "cvx")
+    ∷ Number n.width ∷ Number n.height ∷ Literal (codes "lineto") ∷ Bound (codes "cvx")
+    ∷ Number zero_text ∷ Number n.height ∷ Literal (codes "lineto") ∷ Bound (codes "cvx")
+    ∷ Literal (codes "closepath") ∷ Bound (codes "cvx") ∷ []
+
+edge_traced : (n : Numbers) (chain : List Call) → is_same_chain chain chain ≡ true → traces chain (edge n chain) [] [] ≡ Some (edge_elements n)
+edge_traced n chain e =
+    let one : (x : Segment) (xs : List Segment) (next : List ℕ) (ts later : List Token) → is_same_chain x.chain chain ≡ true → may_precede x.call.name next ≡ true
+    → procedure_for x.call.name (element (codes "moveto")) (element (codes "lineto")) (element (codes "curveto")) (element (codes "closepath")) ≡ Some ts
+    → traces chain (x ∷ xs) next later ≡ traces chain xs x.call.name (numbers_before x.call.operands (ts ++ later)) =
+    traced_one chain (element (codes "moveto")) (element (codes "lineto")) (element (codes "curveto")) (element (codes "closepath")) in
+    let line : List Token = element (codes "lineto") in
+    let l1 : List Token = element (codes "closepath") in
+    let l2 : List Token = Number zero_text ∷ Number n.height ∷ (line ++ l1) in
+    let l3 : List Token = Number n.width ∷ Number n.height ∷ (line ++ l2) in
+    let l4 : List Token = Number n.width ∷ Number zero_text ∷ (line ++ l3) in
+    one (point_closing chain) (point (codes "lineto") zero_text n.height chain ∷ point (codes "lineto") n.width n.height chain ∷ point (codes "lineto") n.width zero_text chain ∷ point (codes "moveto") zero_text zero_text chain ∷ []) [] l1 [] e refl refl
+    ∙ one (point (codes "lineto") zero_text n.height chain) (point (codes "lineto") n.width n.height chain ∷ point (codes "lineto") n.width zero_text chain ∷ point (codes "moveto") zero_text zero_text chain ∷ []) (codes "closepath") line l1 e refl refl
+    ∙ one (point (codes "lineto") n.width n.height chain) (point (codes "lineto") n.width zero_text chain ∷ point (codes "moveto") zero_text zero_text chain ∷ []) (codes "lineto") line l2 e refl refl
+    ∙ one (point (codes "lineto") n.width zero_text chain) (point (codes "moveto") zero_text zero_text chain ∷ []) (codes "lineto") line l3 e refl refl
+    ∙ one (point (codes "moveto") zero_text zero_text chain) [] (codes "lineto") (element (codes "moveto")) l4 e refl refl
+  where
+    point_closing : List Call → Segment
+    point_closing chain = record { call = record { name = codes "closepath"; operands = [] }; chain = chain; settings = [] }
+
+-- The dictionary that marks a page is taken off the stack.
+
+ended_at : (d : ℕ) (ds : List ℕ) (es : List Entry) (key : List ℕ) (found : ℕ) (w : Work) → holder ds es key ≡ Some found
+    → ended (d ∷ ds) w ≡ Some (record w { dictionaries = ds })
+ended_at d [] es key found w e = absurd (nothing_found (holder [] es key) found refl e)
+  where
+    is_some : Option ℕ → Bool
+    is_some None = false
+    is_some (Some n) = true
+
+    nothing_found : (x : Option ℕ) (n : ℕ) → x ≡ None → x ≡ Some n → ⊥
+    nothing_found x n e f = true≢false (ap is_some (sym f ∙ e))
+ended_at d (c ∷ ds) es key found w e = refl
+
+-- The guard's clip.
+
+abbrev entry : List ℕ → Object → Entry
+entry = in_userdict
+
+-- what is put before the clip
+abbrev puts : State → List Entry
+puts s = entry (codes "showpage") (Procedure []) ∷ entry (codes "ImposeSave") (Saved s.level) ∷ []
+
+abbrev put_entries : State → List Entry
+put_entries s = puts s ++ s.work.entries
+
+-- and by it
+abbrev matrix_put : State → List Entry
+matrix_put s = entry (codes "PStoPSmatrix") (Matrix (page_matrix s)) ∷ puts s
+
+abbrev with_matrix : State → List Entry
+with_matrix s = matrix_put s ++ s.work.entries
+
+abbrev outline_put : State → Numbers → List Entry
+outline_put s n = entry (codes "PStoPSclip") (Procedure (outline_tokens n)) ∷ matrix_put s
+
+abbrev with_outline : State → Numbers → List Entry
+with_outline s n = outline_put s n ++ s.work.entries
+
+abbrev all_put : State → Numbers → List Entry
+all_put s n = entry (codes "PStoPSenablepage") (Truth false) ∷ outline_put s n
+
+-- a name that means the operator still does
+still : (ds : List ℕ) (more es : List Entry) (name : List ℕ) → keys_differ more name ≡ true → meaning ds es name ≡ system name → meaning ds (more ++ es) name ≡ system name
+still ds more es name h e = through ds more es name h ∙ e
+
+-- the graphics state with the page's place
+abbrev on_paper : State → Numbers → List Segment → Graphics
+on_paper s n path = record { chain = (place_in s.graphics n).chain; path = path; clip = (place_in s.graphics n).clip; settings = s.graphics.settings }
+
+-- where the page begins, but for its border
+abbrev begun : State → Numbers → State
+begun s n = record s {
+  work = record s.work { entries = page_entries s (outline_tokens n); made = page_matrix s };
+  kept = record { number = page_matrix s; chain = (place_in s.graphics n).chain } ∷ s.kept;
+  level = s.level + 1 + 1;
+  graphics = on_paper s n [];
+  stacked = [];
+  saves = record {
+    level = s.level + 1;
+    entries = page_entries s (outline_tokens n);
+    made = page_matrix s;
+    kept = record { number = page_matrix s; chain = (place_in s.graphics n).chain } ∷ s.kept;
+    graphics = on_paper s n [];
+    stacked = [];
+  } ∷ snapshot_of s ∷ s.saves;
+}
+
+page_clips : (s : State) (n : Numbers) (l : List Token) (h : IsGuarded s)
+    → Runs false (run_of (clip_tokens ++ l) (within s s.work.operands (h.number ∷ s.work.dictionaries) (put_entries s) (record { chain = (place_in s.graphics n).chain; path = edge n (place_in s.graphics n).chain; clip = s.graphics.clip; settings = s.graphics.settings })))
+    (run_of l (begun s n))
+page_clips s n l h =
+    let ds : List ℕ = s.work.dictionaries in
+    let os : List Object = s.work.operands in
+    let chain : List Call = (place_in s.graphics n).chain in
+    let path : List Segment = edge n chain in
+    let end : State = run_of l (begun s n) in
+    let bare : Graphics = record { chain = chain; path = path; clip = s.graphics.clip; settings = s.graphics.settings } in
+    let g : Graphics = on_paper s n path in
+    let below = known_below looked_up 0 ds s.work.entries h.names in
+    let here = known looked_up (0 ∷ ds) s.work.entries h.names in
+    let same : is_same_chain chain chain ≡ true = same_place n s.graphics.chain (sym (ap (λ z. z.chain) h.graphics)) in
+    let l9 : List Token = Literal (codes "save") ∷ Bound (codes "get") ∷ Bound (codes "exec") ∷ Bound (codes "pop") ∷ l in
+    let l8 : List Token = Bound (codes "newpath") ∷ Name (codes "systemdict") ∷ l9 in
+    let l7 : List Token = Bound (codes "end") ∷ l8 in
+    let l6 : List Token = Bound (codes "def") ∷ l7 in
+    let l5 : List Token = Literal (codes "PStoPSenablepage") ∷ Name (codes "false") ∷ l6 in
+    let l4 : List Token = Bound (codes "def") ∷ l5 in
+    let l3 : List Token = Literal (codes "PStoPSclip") ∷ Name (codes "ImposePath") ∷ l4 in
+    let l2 : List Token = Bound (codes "begin") ∷ Literal (codes "PStoPSmatrix") ∷ Bound (codes "matrix") ∷ Bound (codes "currentmatrix") ∷ Bound (codes "def") ∷ l3 in
+    let l1 : List Token = Bound (codes "clip") ∷ Name (codes "userdict") ∷ l2 in
+    let closing : List Token = Bound (codes "]") ∷ Bound (codes "cvx") ∷ l4 in
+    let tracing : List Token = Bound (codes "pathforall") ∷ closing in
+    let before_end : State = within s os (h.number ∷ ds) (put_entries s) bare in
+    let s1 : State = within s os ds (put_entries s) bare in
+    let s2 : State = within s os ds (put_entries s) g in
+    let s3 : State = noted_within s (Plain (Literal (codes "PStoPSclip")) ∷ os) (0 ∷ ds) (with_matrix s) g chain in
+    let four : List Object = Procedure (element (codes "closepath")) ∷ Procedure (element (codes "curveto")) ∷ Procedure (element (codes "lineto")) ∷ Procedure (element (codes "moveto")) ∷ Mark ∷ Plain (Literal (codes "PStoPSclip")) ∷ os in
+    let s4 : State = noted_within s four (0 ∷ ds) (with_matrix s) g chain in
+    let s5 : State = noted_within s (Mark ∷ Plain (Literal (codes "PStoPSclip")) ∷ os) (0 ∷ ds) (with_matrix s) g chain in
+    let s6 : State = noted_within s (Procedure (outline_tokens n) ∷ Plain (Literal (codes "PStoPSclip")) ∷ os) (0 ∷ ds) (with_matrix s) g chain in
+    let s7 : State = noted_within s (Plain (Literal (codes "PStoPSenablepage")) ∷ os) (0 ∷ ds) (with_outline s n) g chain in
+    let s8 : State = noted_within s os (0 ∷ ds) (page_entries s (outline_tokens n)) g chain in
+    let s9 : State = noted_within s os ds (page_entries s (outline_tokens n)) g chain in
+    let s10 : State = noted_within s os ds (page_entries s (outline_tokens n)) (on_paper s n []) chain in
+    runs_one false (run_of (clip_tokens ++ l) before_end) (run_of l1 s1) end (ap (λ x. worked x (run_of l1 before_end)) (ended_at h.number ds s.work.entries (codes "showpage") 0 before_end.work h.userdict_first))
+    (some 1 (run_of l1 s1) (run_of (Name (codes "userdict") ∷ l2) s2) end refl
+    (by_name (codes "userdict") l2 s2 (run_of l2 (push (Dictionary 0) s2)) end (system (codes "userdict")) (still ds (puts s) s.work.entries (codes "userdict") refl (below (codes "userdict") refl)) refl
+    (some 6 (run_of l2 (push (Dictionary 0) s2)) (run_of (Name (codes "ImposePath") ∷ l4) s3) end refl
+    (by_name (codes "ImposePath") l4 s3 (run_of (tracing_tokens ++ l4) s3) end (Some (Procedure tracing_tokens)) (ap (λ x. or x (meaning ds (with_matrix s) (codes "ImposePath"))) h.path_is) refl
+    (some 5 (run_of (tracing_tokens ++ l4) s3) (run_of tracing s4) end refl
+    (runs_one false (run_of tracing s4) (run_of (edge_elements n ++ closing) s5) end (ap (λ x. traced x s5.work.operands (run_of closing s4)) (edge_traced n chain same))
+    (some 20 (run_of (edge_elements n ++ closing) s5) (run_of l4 s6) end refl
+    (some 2 (run_of l4 s6) (run_of (Name (codes "false") ∷ l6) s7) end refl
+    (by_name (codes "false") l6 s7 (run_of l6 (push (Truth false) s7)) end (system (codes "false")) (still (0 ∷ ds) (outline_put s n) s.work.entries (codes "false") refl (here (codes "false") refl)) refl
+    (some 1 (run_of l6 (push (Truth false) s7)) (run_of l7 s8) end refl
+    (runs_one false (run_of l7 s8) (run_of l8 s9) end (ap (λ x. worked x (run_of l8 s8)) (ended_at 0 ds s.work.entries (codes "showpage") 0 s8.work h.userdict_first))
+    (some 1 (run_of l8 s9) (run_of (Name (codes "systemdict") ∷ l9) s10) end refl
+    (by_name (codes "systemdict") l9 s10 (run_of l9 (push SystemDictionary s10)) end (system (codes "systemdict")) (still ds (all_put s n) s.work.entries (codes "systemdict") refl (below (codes "systemdict") refl)) refl
+    (some 5 (run_of l9 (push SystemDictionary s10)) end end refl (runs_none false end)))))))))))))))
+
+-- From the sheet's text to the page's own tokens.
+
+-- behind the sheet's save
+abbrev saved_state : State → (number : ℕ) → State
+saved_state s number = within s (Saved s.level ∷ for_save s) (number ∷ s.work.dictionaries) s.work.entries s.graphics
+
+abbrev putting : List Token → List Token
+putting l = Name (codes "put") ∷ Name (codes "userdict") ∷ Literal (codes "showpage") ∷ Opens ∷ Closes ∷ Name (codes "put") ∷ l
+
+saving : (s : State) (l : List Token) (h : IsGuarded s)
+    → Runs false (run_of (saving_tokens ++ l) s) (run_of l (within s s.work.operands (h.number ∷ s.work.dictionaries) (put_entries s) s.graphics))
+saving s l h =
+    let ds : List ℕ = h.number ∷ s.work.dictionaries in
+    let es : List Entry = s.work.entries in
+    let os : List Object = s.work.operands in
+    let first_names = known looked_up_first ds es h.clip_alone in
+    let names = known_below looked_up 0 s.work.dictionaries es h.names in
+    let end : State = run_of l (within s os ds (put_entries s) s.graphics) in
+    let one : List Entry = entry (codes "ImposeSave") (Saved s.level) ∷ [] in
+    let l1 : List Token = Literal (codes "ImposeSave") ∷ Name (codes "save") ∷ putting l in
+    let l2 : List Token = Name (codes "userdict") ∷ Literal (codes "showpage") ∷ Opens ∷ Closes ∷ Name (codes "put") ∷ l in
+    let l3 : List Token = Literal (codes "showpage") ∷ Opens ∷ Closes ∷ Name (codes "put") ∷ l in
+    let s1 : State = before s (for_save s) in
+    let s2 : State = saved_state s h.number in
+    let s3 : State = within s os ds (one ++ es) s.graphics in
+    let s4 : State = within s (Procedure [] ∷ Plain (Literal (codes "showpage")) ∷ Dictionary 0 ∷ os) ds (one ++ es) s.graphics in
+    by_name (codes "userdict") l1 s (run_of l1 (push (Dictionary 0) s)) end (system (codes "userdict")) (names (codes "userdict") refl) refl
+    (some 1 (run_of l1 (push (Dictionary 0) s)) (run_of (Name (codes "save") ∷ putting l) s1) end refl
+    (by_name (codes "save") (putting l) s1 (run_of (save_tokens ++ putting l) s1) end (Some (Procedure save_tokens)) h.save_is refl
+    (runs_join false (run_of (save_tokens ++ putting l) s1) (run_of (putting l) s2) end (page_saves s (putting l) h)
+    (by_name (codes "put") l2 s2 (run_of l2 s3) end (system (codes "put")) (first_names (codes "put") refl) refl
+    (by_name (codes "userdict") l3 s3 (run_of l3 (push (Dictionary 0) s3)) end (system (codes "userdict")) (still ds one es (codes "userdict") refl (first_names (codes "userdict") refl)) refl
+    (some 2 (run_of l3 (push (Dictionary 0) s3)) (run_of (Name (codes "put") ∷ l) s4) end refl
+    (by_name (codes "put") l s4 end end (system (codes "put")) (still ds one es (codes "put") refl (first_names (codes "put") refl)) refl (runs_none false end))))))))
+
+-- these names are known still behind entries for others
+known_through : (names : List (List ℕ)) (ds : List ℕ) (more es : List Entry) → ((name : List ℕ) → among name names ≡ true → keys_differ more name ≡ true)
+    → ((name : List ℕ) → among name names ≡ true → meaning ds es name ≡ system name)
+    → (name : List ℕ) → among name names ≡ true → meaning ds (more ++ es) name ≡ system name
+known_through names ds more es d k name h = through ds more es name (d name h) ∙ k name h
+
+-- the entries' keys are none of these names
+abbrev all_apart : List Entry → List (List ℕ) → Bool
+all_apart [] names = true
+all_apart (e ∷ es) names = apart e.key names && all_apart es names
+
+turned : (b : Bool) → b ≡ false → not b ≡ true
+turned true e = sym e
+turned false e = refl
+
+differ : (more : List Entry) (names : List (List ℕ)) → all_apart more names ≡ true → (name : List ℕ) → among name names ≡ true → keys_differ more name ≡ true
+differ [] names a name h = refl
+differ (e ∷ more) names a name h =
+    both_true (not (bytes_eq e.key name)) (keys_differ more name)
+    (turned (bytes_eq e.key name) (is_apart e.key name names (first (apart e.key names) (all_apart more names) a) h))
+    (differ more names (second (apart e.key names) (all_apart more names) a) name h)
+
+-- the matrix and the paper's edge, up to the clip
+abbrev up_to_clip : Numbers → List Token
+up_to_clip n =
+    Name (codes "[") ∷ Number n.a ∷ Number n.b ∷ Number n.c ∷ Number n.d ∷ Number n.x ∷ Number n.y ∷ Name (codes "]")
+    ∷ Name (codes "concat") ∷ edge_tokens n
+
+abbrev behind_clip : Numbers → Option (List ℕ) → List Token
+behind_clip n border = Name (codes "newpath") ∷ border_tokens n border
+
+-- with the border painted
+abbrev bordered : State → Numbers → Option (List ℕ) → State
+bordered s n border = record (begun s n) { painted = border_in s.graphics n border ++ s.painted }
+
+border_is : (n : Numbers) (s : State) (border : Option (List ℕ)) → straight looked_up (behind_clip n border) (begun s n) ≡ Some (run_of s.left (bordered s n border))
+border_is n s None = refl
+border_is n s (Some width) = refl
+
+pub page_begins : PageBegins
+page_begins s n body l h =
+    let ds : List ℕ = s.work.dictionaries in
+    let os : List Object = s.work.operands in
+    let more : List Token = body ++ l in
+    let chain : List Call = (place_in s.graphics n).chain in
+    let end : State = run_of more (bordered s n n.border) in
+    let clip : List Token = Name (codes "clip") ∷ (behind_clip n n.border ++ more) in
+    let s1 : State = within s os (h.number ∷ ds) (put_entries s) s.graphics in
+    let s2 : State = within s os (h.number ∷ ds) (put_entries s) (record { chain = chain; path = edge n chain; clip = s.graphics.clip; settings = s.graphics.settings }) in
+    let first_known : Known looked_up_first s1.work =
+    known_through looked_up_first (h.number ∷ ds) (puts s) s.work.entries (differ (puts s) looked_up_first refl) (known looked_up_first (h.number ∷ ds) s.work.entries h.clip_alone) in
+    let names : Known looked_up (begun s n).work =
+    known_through looked_up ds (all_put s n) s.work.entries (differ (all_put s n) looked_up refl) (known_below looked_up 0 ds s.work.entries h.names) in
+    runs_join false (run_of (saving_tokens ++ (placing_tokens n ++ more)) s) (run_of (placing_tokens n ++ more) s1) end (saving s (placing_tokens n ++ more) h)
+    (runs_join false (run_of (up_to_clip n ++ clip) s1) (run_of clip s2) end (straight_runs looked_up_first (up_to_clip n) clip s1 s2 first_known refl)
+    (by_name (codes "clip") (behind_clip n n.border ++ more) s2 (run_of (clip_tokens ++ (behind_clip n n.border ++ more)) s2) end (Some (Procedure clip_tokens)) (ap (λ x. or x (meaning ds (put_entries s) (codes "clip"))) h.clip_is) refl
+    (runs_join false (run_of (clip_tokens ++ (behind_clip n n.border ++ more)) s2) (run_of (behind_clip n n.border ++ more) (begun s n)) end (page_clips s n (behind_clip n n.border ++ more) h)
+    (straight_runs looked_up (behind_clip n n.border) more (begun s n) (bordered s n n.border) names (border_is n s n.border)))))

@@ -1,0 +1,4 @@
+-- Worked examples.
+pub mod Guarded
+pub mod NotCured
+pub mod Applied

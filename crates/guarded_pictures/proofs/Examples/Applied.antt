@@ -1,0 +1,92 @@
+-- The law at a guarded document of two pages: its premises hold.
+use Rattle.std.proofs.Common.{ℕ, zero, suc, List, [], ◌∷◌, ◌++◌, refl, Some, None, arith}
+use Rattle.std.specs.Prelude.{codes, Result, Ok, Err, Option}
+use Rattle.std.specs.Fmt.{digits}
+use Rattle.rules.specs.Papers.{Paper, points}
+use Rattle.rules.specs.Parts.{NestedUnit, preamble, bytes_of}
+use Rattle.rules.specs.Run.{document_of, DocumentFault}
+use Rattle.dsc.specs.Units.{units_of}
+use Rattle.guard.specs.Guard.{guarded}
+use Rattle.pictures.specs.Objects.{Procedure, Name}
+use Rattle.pictures.specs.Machine.{State, Painting, and_then}
+use Rattle.pictures.specs.Scanner.{tokens}
+use Rattle.pictures.specs.Sheets.{in_userdict}
+use Rattle.pictures.specs.Documents.{page_of, IsPrinted}
+use Rattle.pictures.proofs.Examples.Premises.{document_with, half, frame, stroke}
+use Rattle.guarded_pictures.specs.Behind.{behind_guard}
+use Rattle.guarded_pictures.specs.Shelter.{sheltered, step_on}
+use Rattle.guarded_pictures.specs.Pages.{IsGuarded, defined, GuardedPreambleRuns, GuardedPagePaints, outline_of}
+use Rattle.guarded_pictures.proofs.Ground.{guard_is_enough, stays_guarded}
+use Rattle.guarded_pictures.proofs.Documents.{guarded_document_is_shown}
+
+abbrev paper : Option Paper
+paper = Some (points 200 300)
+
+-- the first page resets, its clip again while there is a path, and prints by a procedure that was bound; the second takes back
+-- what it didn't push
+abbrev text : List ℕ
+text = document_with (codes "/e {showpage} bind def") (codes "initgraphics 0 0 moveto 9 9 lineto initclip stroke e" ∷ (codes "grestore " ++ stroke) ∷ [])
+
+abbrev units_found : Result (List NestedUnit) DocumentFault → List NestedUnit
+units_found (Ok us) = us
+units_found (Err e) = []
+
+abbrev us : List NestedUnit
+us = units_found (document_of text)
+
+-- behind the preamble
+abbrev behind : State
+behind = defined (in_userdict (codes "e") (Procedure (Name (codes "showpage") ∷ []))) (behind_guard paper [])
+
+guarded_behind : IsGuarded behind
+guarded_behind = stays_guarded (behind_guard paper []) (in_userdict (codes "e") (Procedure (Name (codes "showpage") ∷ []))) (guard_is_enough paper []) refl
+
+preamble_runs : GuardedPreambleRuns (bytes_of (preamble (units_of (guarded paper text)))) behind
+unfolding digits
+preamble_runs = (refl, (258, refl), refl, refl, refl, guarded_behind)
+
+abbrev end_of : State → Option State → State
+end_of s None = s
+end_of s (Some t) = t
+
+abbrev at_most : ℕ → State → State
+at_most zero s = s
+at_most (suc n) s = end_of s (and_then (λ r. Some (at_most n r)) (step_on (outline_of frame) s.left s))
+
+abbrev end : ℕ → State
+end zero = at_most 12 (sheltered behind (outline_of frame) (tokens (page_of us 0)))
+end (suc p) = at_most 9 (sheltered behind (outline_of frame) (tokens (page_of us 1)))
+
+abbrev picture : ℕ → List Painting
+picture p = (end p).painted
+
+first_page : GuardedPagePaints frame us behind 0 (picture 0)
+unfolding digits
+first_page = (
+  refl,
+  refl,
+  record {
+    end = end 0;
+    run = (12, refl);
+    leaves = record { nothing_left = refl; operands = refl; dictionaries = refl; saves = refl; save_name = refl; restore_name = refl };
+    picture_is = refl;
+  },
+)
+
+second_page : GuardedPagePaints frame us behind 1 (picture 1)
+unfolding digits
+second_page = (
+  refl,
+  refl,
+  record {
+    end = end 1;
+    run = (9, refl);
+    leaves = record { nothing_left = refl; operands = refl; dictionaries = refl; saves = refl; save_name = refl; restore_name = refl };
+    picture_is = refl;
+  },
+)
+
+-- so the sheets show both pages
+shown : IsPrinted frame None half (units_of (guarded paper text)) picture behind
+unfolding digits
+shown = guarded_document_is_shown paper frame None half text us picture behind refl (omega arith) refl preamble_runs ((first_page, tt), ((second_page, tt), tt))

@@ -1,0 +1,59 @@
+-- What the guard doesn't cure, each with the wrong picture that comes of it.
+use Rattle.std.proofs.Common.{◌≡◌, [], ◌∷◌, ◌++◌, refl, Some, None}
+use Rattle.std.specs.Prelude.{codes, Ok}
+use Rattle.std.specs.Fmt.{digits}
+use Rattle.pictures.proofs.Examples.TwoUp.{lines}
+use Rattle.pictures.proofs.Examples.Premises.{document_with, stroke, placed, not_placed}
+use Rattle.guarded_pictures.proofs.Examples.Guarded.{imposed, imposed_twice, sheets_with_guard}
+
+-- the operator itself, by systemdict: a sheet more, and what is painted behind it isn't placed
+takes_the_operator : imposed (codes "/x 1 def") ((stroke ++ codes " systemdict /showpage get exec " ++ stroke) ∷ [])
+    ≡ Ok (Some ((not_placed ∷ []) ∷ (placed ∷ []) ∷ []))
+unfolding digits
+takes_the_operator = refl
+
+resets_by_the_operator : imposed (codes "/x 1 def") ((codes "systemdict /initgraphics get exec " ++ stroke) ∷ []) ≡ Ok (Some ((not_placed ∷ []) ∷ []))
+unfolding digits
+resets_by_the_operator = refl
+
+-- a page that restores a save of the prolog: the place is gone, and the name of the sheet's save with it, so the machine stops
+restores_prolog : imposed (codes "/s save def") ((codes "s restore " ++ stroke) ∷ []) ≡ Ok None
+unfolding digits
+restores_prolog = refl
+
+-- a matrix that the setup has set: it is gone behind the first sheet
+matrix_in_setup : imposed (codes "2 2 scale") (stroke ∷ stroke ∷ [])
+    ≡ Ok (Some ((placed ∷ []) ∷ ((codes "concat" ∷ codes "scale" ∷ [], codes "clip" ∷ []) ∷ []) ∷ []))
+unfolding digits
+matrix_in_setup = refl
+
+-- a matrix that was noted there, and that a page sets: the page leaves its place, within its clip
+matrix_of_setup : imposed (codes "/m matrix currentmatrix def") ((codes "m setmatrix " ++ stroke) ∷ [])
+    ≡ Ok (Some ((([], codes "clip" ∷ []) ∷ []) ∷ []))
+unfolding digits
+matrix_of_setup = refl
+
+-- showpage in the trailer: a blank sheet more
+shows_in_trailer : sheets_with_guard (document_with (codes "/x 1 def") (stroke ∷ []) ++ lines (codes "%%Trailer" ∷ codes "showpage" ∷ []))
+    ≡ Ok (Some ([] ∷ (placed ∷ []) ∷ []))
+unfolding digits
+shows_in_trailer = refl
+
+-- a showpage of the document's own that draws: its mark is drawn on the sheet, not on the page
+draws_in_showpage : imposed (codes "/old /showpage load def /showpage {0 0 moveto 9 9 lineto stroke old} def") (stroke ∷ [])
+    ≡ Ok (Some ((not_placed ∷ placed ∷ []) ∷ []))
+unfolding digits
+draws_in_showpage = refl
+
+-- a dictionary with a showpage of its own, which a page leaves on the stack: it hides the first sheet's showpage, and the
+-- first page is printed with the second
+leaves_a_dictionary : imposed (codes "/d 1 dict def d /showpage {} put") ((stroke ++ codes " d begin") ∷ stroke ∷ [])
+    ≡ Ok (Some ((placed ∷ placed ∷ []) ∷ []))
+unfolding digits
+leaves_a_dictionary = refl
+
+-- imposed twice, a page that resets: it comes back to its inner place, and within that to the outer one, but the edge of the
+-- outer paper clips it no more
+resets_within : imposed_twice (codes "initgraphics " ++ stroke) ≡ Ok (Some (((codes "concat" ∷ codes "concat" ∷ [], codes "clip" ∷ []) ∷ []) ∷ []))
+unfolding digits
+resets_within = refl

@@ -1,0 +1,15 @@
+pub mod Steps
+pub mod Absent
+pub mod Counting
+pub mod Tokens
+pub mod Running
+pub mod Redrawn
+pub mod Lines
+pub mod Asking
+pub mod Sheltering
+pub mod Begins
+pub mod Placed
+pub mod Ground
+pub mod Sheets
+pub mod Documents
+pub mod Examples

@@ -1,0 +1,220 @@
+-- Single lines of the guard, run.
+use Rattle.std.specs.Prelude.{Some, codes, if◌then◌else◌, decimal}
+use Rattle.std.specs.Fmt.{digits}
+use Rattle.std.proofs.Common.{◌≡◌, ℕ, ◌+◌, ◌<◌, ◌^◌, refl, ap, ◌∙◌, sym, subst, List, [], ◌∷◌, ◌++◌, true, false, length, arith, eq-eqb}
+use Rattle.std.proofs.lemmas.Bool.{ne_eqb}
+use Rattle.pictures.specs.Objects.{Token, Name, Literal, Bound, Opens, Closes, Object, Plain, Truth, Procedure, Matrix, SystemDictionary, Number, NotEqual}
+use Rattle.pictures.specs.Objects.{Array, Call, Mark}
+use Rattle.pictures.specs.Dictionaries.{system}
+use Rattle.pictures.specs.Machine.{State, Graphics, Runs, traced, push, shipped, saved, set_to, chain_of, filled_with, filled_from, worked, reset, fonts}
+use Rattle.pictures.specs.Operators.{bound_to, loaded, judged, gathered, onto, with_operands}
+use Rattle.pictures.specs.Sheets.{run_of, edge}
+use Rattle.pictures.specs.Calculations.{compared}
+use Rattle.pictures.proofs.Runs.{runs_one, runs_none, runs_join}
+use Rattle.pictures.proofs.Straight.{straight_runs}
+use Rattle.guarded_pictures.specs.Behind.{showpage_tokens, path_tokens, initclip_tokens, save_tokens, page_begins_tokens}
+use Rattle.guarded_pictures.specs.Shelter.{means, outline_tokens, outline_names}
+use Rattle.guarded_pictures.specs.Lines.{PageIsLeft, DeviceIsLeft, ShowpageStaysAName, LoadedShowpage, MatrixIsThePages, DefaultIsThePages, back_on_paper, ClipIsThePages, GraphicsAreThePages, IsAnother, SaveSaves}
+use Rattle.guarded_pictures.proofs.Absent.{known}
+use Rattle.guarded_pictures.proofs.Redrawn.{element, told, told_append, path_traced, tells_path, drawings, all_collected, draws_path, with}
+use Rattle.guarded_pictures.proofs.Counting.{counted}
+use Rattle.guarded_pictures.proofs.Steps.{some, by_name}
+
+pub page_is_left : PageIsLeft
+page_is_left s name rest e = by_name name rest s (run_of rest s) (run_of rest s) (Some (Procedure [])) e refl (runs_none false (run_of rest s))
+
+pub device_is_left : DeviceIsLeft
+device_is_left s o rest e =
+    by_name (codes "setpagedevice") rest (push o s) (run_of (Bound (codes "pop") ∷ rest) (push o s)) (run_of rest s) (Some (Procedure (Bound (codes "pop") ∷ []))) e refl
+    (some 1 (run_of (Bound (codes "pop") ∷ rest) (push o s)) (run_of rest s) (run_of rest s) refl (runs_none false (run_of rest s)))
+
+pub showpage_stays_a_name : ShowpageStaysAName
+showpage_stays_a_name w e = ap (λ x. bound_to x (Name (codes "showpage"))) e
+
+-- behind the flag
+abbrev asked : List Token → List Token
+asked rest = Opens ∷ Name (codes "ImposeShow") ∷ Closes ∷ Bound (codes "if") ∷ rest
+
+not_printed : (s : State) (name : List ℕ) (rest : List Token) → means s name ≡ Some (Procedure showpage_tokens)
+    → means s (codes "PStoPSenablepage") ≡ Some (Truth false) → Runs false (run_of (Name name ∷ rest) s) (run_of rest s)
+not_printed s name rest e f =
+    let t : State = run_of rest s in
+    by_name name rest s (run_of (showpage_tokens ++ rest) s) t (Some (Procedure showpage_tokens)) e refl
+    (by_name (codes "PStoPSenablepage") (asked rest) s (run_of (asked rest) (push (Truth false) s)) t (Some (Truth false)) f refl
+    (some 2 (run_of (asked rest) (push (Truth false) s)) t t refl (runs_none false t)))
+
+printed : (s : State) (name : List ℕ) (rest : List Token) → means s name ≡ Some (Procedure showpage_tokens)
+    → means s (codes "PStoPSenablepage") ≡ Some (Truth true) → means s (codes "ImposeShow") ≡ system (codes "showpage")
+    → Runs false (run_of (Name name ∷ rest) s) (shipped (run_of rest s))
+printed s name rest e f g =
+    let t : State = shipped (run_of rest s) in
+    by_name name rest s (run_of (showpage_tokens ++ rest) s) t (Some (Procedure showpage_tokens)) e refl
+    (by_name (codes "PStoPSenablepage") (asked rest) s (run_of (asked rest) (push (Truth true) s)) t (Some (Truth true)) f refl
+    (some 2 (run_of (asked rest) (push (Truth true) s)) (run_of (Name (codes "ImposeShow") ∷ rest) s) t refl
+    (by_name (codes "ImposeShow") rest s t t (system (codes "showpage")) g refl (runs_none false t))))
+
+pub loaded_showpage : LoadedShowpage
+loaded_showpage s name rest e = (λ f. not_printed s name rest e f, λ f g. printed s name rest e f g)
+
+pub matrix_is_the_pages : MatrixIsThePages
+matrix_is_the_pages s number chain rest e f =
+    let t : State = record s { left = rest; graphics = record s.graphics { chain = chain } } in
+    let l : List Token = Bound (codes "setmatrix") ∷ rest in
+    by_name (codes "PStoPSmatrix") l s (run_of l (push (Matrix number) s)) t (Some (Matrix number)) e refl
+    (runs_one false (run_of l (push (Matrix number) s)) t t (ap (λ x. set_to x s.work.operands (run_of rest (push (Matrix number) s))) f) (runs_none false t))
+
+pub default_is_the_pages : DefaultIsThePages
+default_is_the_pages s number given chain rest e f =
+    let r : State = push (Matrix given) s in
+    let t : State = filled_with given chain (run_of rest r) in
+    let l : List Token = Bound (codes "exch") ∷ Bound (codes "copy") ∷ rest in
+    let m : List Token = Bound (codes "copy") ∷ rest in
+    let q : State = push (Matrix given) (push (Matrix number) s) in
+    by_name (codes "PStoPSmatrix") l r (run_of l (push (Matrix number) r)) t (Some (Matrix number)) e refl
+    (some 1 (run_of l (push (Matrix number) r)) (run_of m q) t refl
+    (runs_one false (run_of m q) t t (ap (λ x. filled_from x given s.work.operands (run_of rest q)) f) (runs_none false t)))
+
+-- `initclip`, step by step.
+
+abbrev from_systemdict : List Token → List Token
+from_systemdict rest = Literal (codes "initclip") ∷ Bound (codes "get") ∷ Bound (codes "exec") ∷ Name (codes "PStoPSmatrix") ∷ Bound (codes "setmatrix") ∷ Bound (codes "newpath") ∷ Name (codes "PStoPSclip") ∷ Bound (codes "clip") ∷ Bound (codes "newpath") ∷ Bound (codes "setmatrix") ∷ Bound (codes "exec") ∷ rest
+
+-- with these operands, noted, and these graphics
+abbrev noted : State → List Call → List Object → Graphics → State
+noted s chain os g = record s {
+  work = record s.work { operands = os; made = s.work.made + 1 };
+  kept = record { number = s.work.made + 1; chain = chain } ∷ s.kept;
+  graphics = g;
+}
+
+passed_by : (s : State) (number : ℕ) (chain other : List Call) → number < s.work.made + 1 → chain_of number s.kept ≡ Some chain
+    → chain_of number (record { number = s.work.made + 1; chain = other } ∷ s.kept) ≡ Some chain
+passed_by s number chain other h e =
+    ap (λ b. if b then Some other else chain_of number s.kept) (ne_eqb (s.work.made + 1) number (λ k. omega (arith, h, k))) ∙ e
+
+pub clip_is_the_pages : ClipIsThePages
+clip_is_the_pages s n chain rest h anew =
+    let g : Graphics = s.graphics in
+    let names = known outline_names s.work.dictionaries s.work.entries h.names in
+    let end : State = back_on_paper s chain g.chain rest n g.chain g.path in
+    let l0 : List Token = Bound (codes "matrix") ∷ Bound (codes "currentmatrix") ∷ Name (codes "systemdict") ∷ from_systemdict rest in
+    let l1 : List Token = Name (codes "systemdict") ∷ from_systemdict rest in
+    let l2 : List Token = Name (codes "PStoPSmatrix") ∷ Bound (codes "setmatrix") ∷ Bound (codes "newpath") ∷ Name (codes "PStoPSclip") ∷ Bound (codes "clip") ∷ Bound (codes "newpath") ∷ Bound (codes "setmatrix") ∷ Bound (codes "exec") ∷ rest in
+    let l3 : List Token = Bound (codes "setmatrix") ∷ Bound (codes "newpath") ∷ Name (codes "PStoPSclip") ∷ Bound (codes "clip") ∷ Bound (codes "newpath") ∷ Bound (codes "setmatrix") ∷ Bound (codes "exec") ∷ rest in
+    let l4 : List Token = Bound (codes "newpath") ∷ Name (codes "PStoPSclip") ∷ Bound (codes "clip") ∷ Bound (codes "newpath") ∷ Bound (codes "setmatrix") ∷ Bound (codes "exec") ∷ rest in
+    let l5 : List Token = Name (codes "PStoPSclip") ∷ Bound (codes "clip") ∷ Bound (codes "newpath") ∷ Bound (codes "setmatrix") ∷ Bound (codes "exec") ∷ rest in
+    let l6 : List Token = Bound (codes "clip") ∷ Bound (codes "newpath") ∷ Bound (codes "setmatrix") ∷ Bound (codes "exec") ∷ rest in
+    let l7 : List Token = Bound (codes "setmatrix") ∷ Bound (codes "exec") ∷ rest in
+    let l8 : List Token = Bound (codes "exec") ∷ rest in
+    let os : List Object = s.work.operands in
+    let drawn : List Token = drawings g.path in
+    let kept_path : List Object = Procedure drawn ∷ os in
+    let both : List Object = Matrix (s.work.made + 1) ∷ kept_path in
+    let closing : List Token = Bound (codes "]") ∷ Bound (codes "cvx") ∷ l0 in
+    let tracing : List Token = Bound (codes "pathforall") ∷ closing in
+    let marked : List Object = Mark ∷ os in
+    let four : List Object = Procedure (element (codes "closepath")) ∷ Procedure (element (codes "curveto")) ∷ Procedure (element (codes "lineto")) ∷ Procedure (element (codes "moveto")) ∷ marked in
+    let traced_state : State = run_of (told g.path [] ++ closing) (with s marked) in
+    let s0 : State = with s (onto drawn marked) in
+    let s1 : State = noted s g.chain both g in
+    let s2 : State = noted s g.chain both (record g { clip = [] }) in
+    let s3 : State = noted s g.chain both (record { chain = chain; path = g.path; clip = []; settings = g.settings }) in
+    let s4 : State = noted s g.chain both (record { chain = chain; path = []; clip = []; settings = g.settings }) in
+    let s5 : State = noted s g.chain both (record { chain = chain; path = edge n chain; clip = []; settings = g.settings }) in
+    let s6 : State = noted s g.chain both (record { chain = chain; path = []; clip = record { name = codes "clip"; path = edge n chain } ∷ []; settings = g.settings }) in
+    let s7 : State = noted s g.chain kept_path (record { chain = g.chain; path = []; clip = record { name = codes "clip"; path = edge n chain } ∷ []; settings = g.settings }) in
+    by_name (codes "ImposePath") l0 s (run_of (path_tokens ++ l0) s) end (Some (Procedure path_tokens)) h.path_is refl
+    (some 5 (run_of (path_tokens ++ l0) s) (run_of tracing (with s four)) end refl
+    (runs_one false (run_of tracing (with s four)) traced_state end (ap (λ x. traced x marked (run_of closing (with s four))) (path_traced g.chain g.path [] [] anew))
+    (subst (λ ts. Runs false (run_of ts (with s marked)) end) (sym (told_append g.path [] closing))
+    (tells_path g.path g.chain [] anew closing marked s end
+    (runs_one false (run_of closing s0) (run_of (Bound (codes "cvx") ∷ l0) (with s (Array drawn ∷ os))) end (ap (λ x. worked (gathered x s0.work) (run_of (Bound (codes "cvx") ∷ l0) s0)) (all_collected drawn os))
+    (some 3 (run_of (Bound (codes "cvx") ∷ l0) (with s (Array drawn ∷ os))) (run_of l1 s1) end refl
+    (by_name (codes "systemdict") (from_systemdict rest) s1 (run_of (from_systemdict rest) (push SystemDictionary s1)) end (system (codes "systemdict")) (names (codes "systemdict") refl) refl
+    (some 4 (run_of (from_systemdict rest) (push SystemDictionary s1)) (run_of l2 s2) end refl
+    (by_name (codes "PStoPSmatrix") l3 s2 (run_of l3 (push (Matrix h.number) s2)) end (Some (Matrix h.number)) h.matrix_is refl
+    (runs_one false (run_of l3 (push (Matrix h.number) s2)) (run_of l4 s3) end (ap (λ x. set_to x both (run_of l4 (push (Matrix h.number) s2))) (passed_by s h.number chain g.chain h.made h.holds))
+    (some 1 (run_of l4 s3) (run_of l5 s4) end refl
+    (by_name (codes "PStoPSclip") l6 s4 (run_of (outline_tokens n ++ l6) s4) end (Some (Procedure (outline_tokens n))) h.outline_is refl
+    (runs_join false (run_of (outline_tokens n ++ l6) s4) (run_of l6 s5) end (straight_runs outline_names (outline_tokens n) l6 s4 s5 names refl)
+    (some 2 (run_of l6 s5) (run_of l7 s6) end refl
+    (runs_one false (run_of l7 s6) (run_of l8 s7) end (ap (λ b. set_to (if b then Some g.chain else chain_of (s.work.made + 1) s.kept) kept_path (run_of l8 s6)) (eq-eqb (s.work.made + 1) (s.work.made + 1) refl))
+    (some 1 (run_of l8 s7) (run_of (drawn ++ rest) (with s7 os)) end refl
+    (draws_path g.path [] (with s7 os) rest anew names)))))))))))))))))
+
+pub graphics_are_the_pages : GraphicsAreThePages
+graphics_are_the_pages s n chain rest h c =
+    let names = known outline_names s.work.dictionaries s.work.entries h.names in
+    let settings : List Call = fonts s.graphics.settings in
+    let end : State = back_on_paper (record s { graphics = record s.graphics { settings = settings } }) chain chain rest n chain [] in
+    let l0 : List Token = Literal (codes "initgraphics") ∷ Bound (codes "get") ∷ Bound (codes "exec") ∷ Name (codes "PStoPSmatrix") ∷ Bound (codes "setmatrix") ∷ Literal (codes "initclip") ∷ Bound (codes "load") ∷ Bound (codes "exec") ∷ rest in
+    let l1 : List Token = Name (codes "PStoPSmatrix") ∷ Bound (codes "setmatrix") ∷ Literal (codes "initclip") ∷ Bound (codes "load") ∷ Bound (codes "exec") ∷ rest in
+    let l2 : List Token = Bound (codes "setmatrix") ∷ Literal (codes "initclip") ∷ Bound (codes "load") ∷ Bound (codes "exec") ∷ rest in
+    let l3 : List Token = Literal (codes "initclip") ∷ Bound (codes "load") ∷ Bound (codes "exec") ∷ rest in
+    let l4 : List Token = Bound (codes "load") ∷ Bound (codes "exec") ∷ rest in
+    let l5 : List Token = Bound (codes "exec") ∷ rest in
+    let s1 : State = reset s in
+    let s2 : State = record s { graphics = record { chain = chain; path = []; clip = []; settings = settings } } in
+    let named : State = push (Plain (Literal (codes "initclip"))) s2 in
+    by_name (codes "systemdict") l0 s (run_of l0 (push SystemDictionary s)) end (system (codes "systemdict")) (names (codes "systemdict") refl) refl
+    (some 4 (run_of l0 (push SystemDictionary s)) (run_of l1 s1) end refl
+    (by_name (codes "PStoPSmatrix") l2 s1 (run_of l2 (push (Matrix h.number) s1)) end (Some (Matrix h.number)) h.matrix_is refl
+    (runs_one false (run_of l2 (push (Matrix h.number) s1)) (run_of l3 s2) end (ap (λ x. set_to x s.work.operands (run_of l3 (push (Matrix h.number) s1))) h.holds)
+    (some 1 (run_of l3 s2) (run_of l4 named) end refl
+    (runs_one false (run_of l4 named) (run_of l5 (push (Procedure initclip_tokens) s2)) end (ap (λ x. worked (loaded x s.work) (run_of l5 named)) c)
+    (some 1 (run_of l5 (push (Procedure initclip_tokens) s2)) (run_of (initclip_tokens ++ rest) s2) end refl
+    (clip_is_the_pages s2 n chain rest (record { number = h.number; made = h.made; matrix_is = h.matrix_is; holds = h.holds; outline_is = h.outline_is; path_is = h.path_is; names = h.names }) refl)))))))
+
+-- `save`, by the operands.
+
+none_counted : compared NotEqual (decimal 0) (codes "0") ≡ Some false
+unfolding digits
+none_counted = refl
+
+abbrev pub really : List Token → List Token
+really rest = Literal (codes "save") ∷ Bound (codes "get") ∷ Bound (codes "exec") ∷ rest
+
+pub really_saves : (s : State) (rest : List Token) → means s (codes "systemdict") ≡ system (codes "systemdict")
+    → Runs false (run_of (Name (codes "systemdict") ∷ really rest) s) (saved (run_of rest s))
+really_saves s rest e =
+    by_name (codes "systemdict") (really rest) s (run_of (really rest) (push SystemDictionary s)) (saved (run_of rest s)) (system (codes "systemdict")) e refl
+    (some 4 (run_of (really rest) (push SystemDictionary s)) (saved (run_of rest s)) (saved (run_of rest s)) refl (runs_none false (saved (run_of rest s))))
+
+-- behind the count of operands
+abbrev pub asked_name : List Token → List Token
+asked_name rest =
+    Opens ∷ Bound (codes "dup") ∷ Literal (codes "ImposeSave") ∷ Bound (codes "eq")
+    ∷ Opens ∷ (page_begins_tokens ++ (Closes ∷ Bound (codes "if") ∷ Closes ∷ Bound (codes "if") ∷ Name (codes "systemdict") ∷ really rest))
+
+save_on : (os : List Object) (s : State) (rest : List Token) → means s (codes "systemdict") ≡ system (codes "systemdict") → IsAnother os
+    → length os < 10 ^ 64 → Runs false (run_of (save_tokens ++ rest) (with s os)) (saved (run_of rest (with s os)))
+save_on [] s rest e another few =
+    let end : State = saved (run_of rest (with s [])) in
+    let l1 : List Token = Bound (codes "ne") ∷ asked_name rest in
+    let l2 : List Token = Name (codes "systemdict") ∷ really rest in
+    let s1 : State = with s (Plain (Number (codes "0")) ∷ Plain (Number (decimal 0)) ∷ []) in
+    some 2 (run_of (save_tokens ++ rest) (with s [])) (run_of l1 s1) end refl
+    (runs_one false (run_of l1 s1) (run_of (asked_name rest) (with s (Truth false ∷ []))) end (ap (λ x. worked (judged x (with_operands s.work [])) (run_of (asked_name rest) s1)) none_counted)
+    (some 2 (run_of (asked_name rest) (with s (Truth false ∷ []))) (run_of l2 (with s [])) end refl
+    (really_saves (with s []) rest e)))
+save_on (o ∷ os) s rest e another few =
+    let all : List Object = o ∷ os in
+    let end : State = saved (run_of rest (with s all)) in
+    let count : Object = Plain (Number (decimal (length all))) in
+    let l1 : List Token = Bound (codes "ne") ∷ asked_name rest in
+    let l2 : List Token = Bound (codes "eq") ∷ Opens ∷ (page_begins_tokens ++ (Closes ∷ Bound (codes "if") ∷ Name (codes "systemdict") ∷ really rest)) in
+    let l3 : List Token = Opens ∷ (page_begins_tokens ++ (Closes ∷ Bound (codes "if") ∷ Name (codes "systemdict") ∷ really rest)) in
+    let l4 : List Token = Name (codes "systemdict") ∷ really rest in
+    let s1 : State = with s (Plain (Number (codes "0")) ∷ count ∷ all) in
+    let s2 : State = with s (Plain (Literal (codes "ImposeSave")) ∷ o ∷ all) in
+    some 2 (run_of (save_tokens ++ rest) (with s all)) (run_of l1 s1) end refl
+    (runs_one false (run_of l1 s1) (run_of (asked_name rest) (with s (Truth true ∷ all))) end (ap (λ x. worked (judged x (with_operands s.work all)) (run_of (asked_name rest) s1)) (counted (length all) (omega arith) few))
+    (some 4 (run_of (asked_name rest) (with s (Truth true ∷ all))) (run_of l2 s2) end refl
+    (runs_one false (run_of l2 s2) (run_of l3 (with s (Truth false ∷ all))) end (ap (λ x. worked (judged x (with_operands s.work all)) (run_of l3 s2)) another)
+    (some 2 (run_of l3 (with s (Truth false ∷ all))) (run_of l4 (with s all)) end refl
+    (really_saves (with s all) rest e)))))
+
+pub save_saves : SaveSaves
+save_saves s rest e f another few =
+    by_name (codes "save") rest s (run_of (save_tokens ++ rest) s) (saved (run_of rest s)) (Some (Procedure save_tokens)) e refl
+    (save_on s.work.operands s rest f another few)

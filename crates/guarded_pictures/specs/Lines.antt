@@ -1,0 +1,167 @@
+-- What single lines of the guard do, in any state in which their names mean what the guard has them mean.
+use Rattle.std.specs.Prelude.{◌≡◌, ℕ, ◌+◌, ◌^◌, ◌<◌, List, [], ◌∷◌, ◌++◌, ◌==◌, codes, true, false}
+use Rattle.std.specs.Prelude.{Option, Some, length}
+use Rattle.rules.specs.Papers.{Paper}
+use Rattle.pictures.specs.Objects.{Token, Name, Literal, Bound, Dictionary, Object, Plain, Truth, Procedure}
+use Rattle.pictures.specs.Objects.{Matrix, Call, Equal}
+use Rattle.pictures.specs.Dictionaries.{userdict, system, entry_of, has, meaning}
+use Rattle.pictures.specs.Operators.{Work, bound, holder, objects_compared}
+use Rattle.pictures.specs.Machine.{State, Segment, Runs, push, saved, shipped, chain_of, filled_with, fonts}
+use Rattle.pictures.specs.Scanner.{tokens}
+use Rattle.pictures.specs.Sheets.{run_of, Numbers, edge}
+use Rattle.guarded_pictures.specs.Behind.{guard_text, setpagedevice_tokens, showpage_tokens, path_tokens}
+use Rattle.guarded_pictures.specs.Behind.{defaultmatrix_tokens, initmatrix_tokens, initclip_tokens}
+use Rattle.guarded_pictures.specs.Behind.{initgraphics_tokens, save_tokens}
+use Rattle.guarded_pictures.specs.Shelter.{means, all_absent, outline_tokens, outline_names, is_drawn_anew}
+
+-- A guard in a document that has one does nothing: a law. Its first line asks for ImposeGuard
+abbrev pub guard_line_names : List (List ℕ)
+guard_line_names = codes "userdict" ∷ codes "known" ∷ codes "not" ∷ codes "bind" ∷ codes "if" ∷ []
+
+abbrev pub GuardedTwice : Type 0
+GuardedTwice =
+    (sheet : Option Paper) (s : State) (rest : List Token)
+    → all_absent guard_line_names s.work.dictionaries s.work.entries ≡ true
+    → has (entry_of userdict (codes "ImposeGuard") s.work.entries) ≡ true
+    → Runs false (run_of (tokens (guard_text sheet) ++ rest) s) (run_of rest s)
+
+-- `copypage` and `erasepage` leave the sheet as it is: a law
+abbrev pub PageIsLeft : Type 0
+PageIsLeft =
+    (s : State) (name : List ℕ) (rest : List Token) → means s name ≡ Some (Procedure [])
+    → Runs false (run_of (Name name ∷ rest) s) (run_of rest s)
+
+-- `setpagedevice` takes its operand, and leaves all else as it is: a law
+abbrev pub DeviceIsLeft : Type 0
+DeviceIsLeft =
+    (s : State) (o : Object) (rest : List Token)
+    → means s (codes "setpagedevice") ≡ Some (Procedure setpagedevice_tokens)
+    → Runs false (run_of (Name (codes "setpagedevice") ∷ rest) (push o s)) (run_of rest s)
+
+-- `bind` leaves the name `showpage` as it is: a law
+abbrev pub ShowpageStaysAName : Type 0
+ShowpageStaysAName =
+    (w : Work) → meaning w.dictionaries w.entries (codes "showpage") ≡ Some (Procedure showpage_tokens)
+    → bound w (Name (codes "showpage")) ≡ Name (codes "showpage")
+
+-- the guard's showpage, by its own name or by one that it was loaded into, does nothing in a placed page, where the
+-- flag is cleared; and elsewhere it prints the sheet: a law
+abbrev pub LoadedShowpage : Type 0
+LoadedShowpage =
+    (s : State) (name : List ℕ) (rest : List Token) → means s name ≡ Some (Procedure showpage_tokens)
+    → (means s (codes "PStoPSenablepage") ≡ Some (Truth false)
+    → Runs false (run_of (Name name ∷ rest) s) (run_of rest s))
+    × (means s (codes "PStoPSenablepage") ≡ Some (Truth true)
+    → means s (codes "ImposeShow") ≡ system (codes "showpage")
+    → Runs false (run_of (Name name ∷ rest) s) (shipped (run_of rest s)))
+
+-- what the guard has noted of a page: the matrix that holds its transformation, and its outline
+pub record Notes (s : State) (n : Numbers) (chain : List Call) : Type 0 where
+  pub number : ℕ
+  pub made : number < s.work.made + 1
+  pub matrix_is : means s (codes "PStoPSmatrix") ≡ Some (Matrix number)
+  pub holds : chain_of number s.kept ≡ Some chain
+  pub outline_is : means s (codes "PStoPSclip") ≡ Some (Procedure (outline_tokens n))
+  pub path_is : means s (codes "ImposePath") ≡ Some (Procedure path_tokens)
+  pub names : all_absent outline_names s.work.dictionaries s.work.entries ≡ true
+
+-- `initmatrix`, and what psutils writes in its place, `PStoPSmatrix setmatrix`, set the page's own transformation: a
+-- law
+abbrev pub MatrixIsThePages : Type 0
+MatrixIsThePages =
+    (s : State) (number : ℕ) (chain : List Call) (rest : List Token)
+    → means s (codes "PStoPSmatrix") ≡ Some (Matrix number) → chain_of number s.kept ≡ Some chain
+    → Runs false (run_of (initmatrix_tokens ++ rest) s)
+    (record s { left = rest; graphics = record s.graphics { chain = chain } })
+
+-- `defaultmatrix` fills its operand with the page's own transformation: a law
+abbrev pub DefaultIsThePages : Type 0
+DefaultIsThePages =
+    (s : State) (number given : ℕ) (chain : List Call) (rest : List Token)
+    → means s (codes "PStoPSmatrix") ≡ Some (Matrix number) → chain_of number s.kept ≡ Some chain
+    → Runs false (run_of (defaultmatrix_tokens ++ rest) (push (Matrix given) s))
+    (filled_with given chain (run_of rest (push (Matrix given) s)))
+
+-- behind it the guard has made a matrix, in which it noted the transformation, and the one clip is the page's outline
+abbrev pub back_on_paper :
+    State → (place noted : List Call) → List Token → Numbers → (now : List Call) → List Segment → State
+back_on_paper s chain noted rest n now path = record s {
+  left = rest;
+  work = record s.work { made = s.work.made + 1 };
+  kept = record { number = s.work.made + 1; chain = noted } ∷ s.kept;
+  graphics = record {
+    chain = now;
+    path = path;
+    clip = record { name = codes "clip"; path = edge n chain } ∷ [];
+    settings = s.graphics.settings;
+  };
+}
+
+-- `initclip` clips to the page's outline, and keeps the transformation and the path, if that is drawn anew by its
+-- elements: a law
+abbrev pub ClipIsThePages : Type 0
+ClipIsThePages =
+    (s : State) (n : Numbers) (chain : List Call) (rest : List Token) → Notes s n chain
+    → is_drawn_anew s.graphics.chain s.graphics.path [] ≡ true
+    → Runs false (run_of (initclip_tokens ++ rest) s)
+    (back_on_paper s chain s.graphics.chain rest n s.graphics.chain s.graphics.path)
+
+-- `initgraphics` sets the page's transformation, clips to its outline, and leaves no setting but a font: a law
+abbrev pub GraphicsAreThePages : Type 0
+GraphicsAreThePages =
+    (s : State) (n : Numbers) (chain : List Call) (rest : List Token) → Notes s n chain
+    → means s (codes "initclip") ≡ Some (Procedure initclip_tokens)
+    → Runs false (run_of (initgraphics_tokens ++ rest) s)
+    (back_on_paper (record s { graphics = record s.graphics { settings = fonts s.graphics.settings } })
+    chain chain rest n chain [])
+
+-- a document's own `save` saves, on an empty stack, and above an operand that isn't the name ImposeSave: a law
+abbrev pub IsAnother : List Object → Type 0
+IsAnother [] = Unit {0}
+IsAnother (o ∷ os) = objects_compared Equal o (Plain (Literal (codes "ImposeSave"))) ≡ Some false
+
+abbrev pub SaveSaves : Type 0
+SaveSaves =
+    (s : State) (rest : List Token) → means s (codes "save") ≡ Some (Procedure save_tokens)
+    → means s (codes "systemdict") ≡ system (codes "systemdict") → IsAnother s.work.operands
+    → length s.work.operands < 10 ^ 64 → Runs false (run_of (Name (codes "save") ∷ rest) s) (saved (run_of rest s))
+
+-- A dictionary on the stack with a showpage of its own: where a page begins, the guard puts one in its place that asks
+-- userdict, and marks the page as ever: a law
+
+-- `{userdict /showpage get exec}`
+abbrev pub asks_userdict : Object
+asks_userdict = Procedure (
+    Name (codes "userdict") ∷ Literal (codes "showpage") ∷ Bound (codes "get") ∷ Bound (codes "exec") ∷ [])
+
+-- with the operands of the sheet's save
+abbrev pub at_sheet_save : State → State
+at_sheet_save s = push (Plain (Literal (codes "ImposeSave"))) (push (Dictionary userdict) s)
+
+abbrev pub with_asking : (dictionary : ℕ) → State → State
+with_asking d s = record s {
+  work = record s.work {
+    entries = record { dictionary = d; key = codes "showpage"; value = asks_userdict } ∷ s.work.entries;
+  };
+}
+
+abbrev pub marked : (number : ℕ) → State → State
+marked number s = record s { work = record s.work { dictionaries = number ∷ s.work.dictionaries } }
+
+abbrev pub AsksUserdict : Type 0
+AsksUserdict =
+    (s : State) (number d : ℕ) (rest : List Token)
+    → holder s.work.dictionaries s.work.entries (codes "showpage") ≡ Some d → (d == userdict) ≡ false
+    → means s (codes "ImposeGuard") ≡ Some (Dictionary number)
+    → all_absent (codes "userdict" ∷ codes "systemdict" ∷ []) (number ∷ s.work.dictionaries) s.work.entries ≡ true
+    → length s.work.operands + 2 < 10 ^ 64
+    → Runs false (run_of (save_tokens ++ rest) (at_sheet_save s))
+    (saved (run_of rest (marked number (with_asking d (at_sheet_save s)))))
+
+-- and that one does what userdict's does: a law
+abbrev pub AskingShows : Type 0
+AskingShows =
+    (s : State) (ts rest : List Token) → means s (codes "showpage") ≡ Some asks_userdict
+    → means s (codes "userdict") ≡ system (codes "userdict")
+    → entry_of userdict (codes "showpage") s.work.entries ≡ Some (Procedure ts)
+    → Runs false (run_of (Name (codes "showpage") ∷ rest) s) (run_of (ts ++ rest) s)

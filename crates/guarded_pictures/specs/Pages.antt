@@ -1,0 +1,226 @@
+-- The sheets of a guarded document: each page is what it is by itself, placed.
+use Rattle.std.specs.Prelude.{◌≡◌, ℕ, ◌+◌, ◌^◌, ◌<◌, ◌≤◌, List, [], ◌∷◌, ◌++◌, map, true, false}
+use Rattle.std.specs.Prelude.{Option, Some, Ok, codes, length}
+use Rattle.rules.specs.Specification.{Spec}
+use Rattle.rules.specs.Numbers.{points_text}
+use Rattle.rules.specs.Parts.{NestedUnit, preamble, bytes_of}
+use Rattle.rules.specs.Run.{document_of, most_input_bytes}
+use Rattle.rules.specs.Papers.{Paper}
+use Rattle.dsc.specs.Units.{units_of}
+use Rattle.guard.specs.Guard.{guarded}
+use Rattle.rules.specs.Output.{Frame}
+use Rattle.pictures.specs.Objects.{Token, Truth, Procedure, Dictionary}
+use Rattle.pictures.specs.Dictionaries.{Entry, userdict, system, entry_of}
+use Rattle.pictures.specs.Chains.{is_same_chain}
+use Rattle.pictures.specs.Operators.{holder, all_old, all_are_old}
+use Rattle.pictures.specs.Machine.{State, Snapshot, Kept, Painting, initial, Runs}
+use Rattle.pictures.specs.Placing.{Place, graphics_at, picture_at}
+use Rattle.pictures.specs.Scanner.{tokens, IsComplete}
+use Rattle.pictures.specs.Sheets.{Numbers, among, Shown, run_of, saving_tokens, placing_tokens}
+use Rattle.pictures.specs.Sheets.{placed_tokens, place_in, border_in, page_picture, edge}
+use Rattle.pictures.specs.Pictures.{printed, sheets_tokens}
+use Rattle.pictures.specs.Documents.{started, page_of, OnSheets, all_sheets, IsPrinted}
+use Rattle.pictures.specs.Kept.{page_comments_apart, preamble_comments_apart}
+use Rattle.guarded_pictures.specs.Behind.{behind_guard, save_tokens, clip_tokens, path_tokens, showpage_tokens}
+use Rattle.guarded_pictures.specs.Shelter.{means, all_absent, outline_by, outline_tokens, sheltered, RunsSheltered}
+use Rattle.guarded_pictures.specs.Shelter.{PaintsSheltered}
+
+-- The state behind a guarded preamble.
+
+-- names that a sheet's text and the guard look up where a page begins
+abbrev pub looked_up : List (List ℕ)
+looked_up =
+    codes "userdict" ∷ codes "systemdict" ∷ codes "false" ∷ codes "put" ∷ codes "[" ∷ codes "]" ∷ codes "concat"
+    ∷ codes "newpath" ∷ codes "moveto" ∷ codes "lineto" ∷ codes "closepath" ∷ codes "clip" ∷ codes "gsave"
+    ∷ codes "setlinewidth" ∷ codes "stroke" ∷ codes "grestore" ∷ []
+
+-- those of them that are looked up between the sheet's save and its clip
+abbrev pub looked_up_first : List (List ℕ)
+looked_up_first =
+    codes "userdict" ∷ codes "systemdict" ∷ codes "put" ∷ codes "[" ∷ codes "]" ∷ codes "concat" ∷ codes "newpath"
+    ∷ codes "moveto" ∷ codes "lineto" ∷ codes "closepath" ∷ []
+
+-- the guard's names mean what the guard has them mean, and no dictionary on the stack has another meaning for those
+-- that a sheet's text uses; nothing on the stacks is newer than the state; and the graphics state is what
+-- `initgraphics` makes it
+pub record IsGuarded (s : State) : Type 0 where
+  -- the number of the dictionary that marks the beginning of a page
+  pub number : ℕ
+  pub save_is : means s (codes "save") ≡ Some (Procedure save_tokens)
+  pub guard_is : means s (codes "ImposeGuard") ≡ Some (Dictionary number)
+  pub clip_is : entry_of number (codes "clip") s.work.entries ≡ Some (Procedure clip_tokens)
+  pub clip_alone : all_absent looked_up_first (number ∷ s.work.dictionaries) s.work.entries ≡ true
+  pub path_is : entry_of userdict (codes "ImposePath") s.work.entries ≡ Some (Procedure path_tokens)
+  pub names : all_absent looked_up (userdict ∷ s.work.dictionaries) s.work.entries ≡ true
+  pub userdict_first : holder s.work.dictionaries s.work.entries (codes "showpage") ≡ Some userdict
+  pub showpage_is : means s (codes "showpage") ≡ Some (Procedure showpage_tokens)
+  pub flag_is : means s (codes "PStoPSenablepage") ≡ Some (Truth true)
+  pub show_is : means s (codes "ImposeShow") ≡ system (codes "showpage")
+  -- so many can be written down
+  pub few_operands : length s.work.operands + 2 < 10 ^ 64
+  pub operands : all_are_old s.work.made s.level s.work.operands ≡ true
+  pub dictionaries : all_old s.work.made s.work.dictionaries ≡ true
+  pub graphics : initial s.graphics ≡ s.graphics
+
+-- What a guarded state is come to by.
+
+-- behind the guard's text the state is guarded: a law
+abbrev pub GuardIsEnough : Type 0
+GuardIsEnough = (sheet : Option Paper) (rest : List Token) → IsGuarded (behind_guard sheet rest)
+
+-- the names that it rests on
+abbrev pub guarded_names : List (List ℕ)
+guarded_names =
+    codes "save" ∷ codes "ImposeGuard" ∷ codes "ImposePath" ∷ codes "showpage" ∷ codes "PStoPSenablepage"
+    ∷ codes "ImposeShow" ∷ looked_up
+
+abbrev pub defined : Entry → State → State
+defined e s = record s { work = record s.work { entries = e ∷ s.work.entries } }
+
+-- where any other name is defined, in any dictionary, it stays so: a law
+abbrev pub StaysGuarded : Type 0
+StaysGuarded = (s : State) (e : Entry) → IsGuarded s → among e.key guarded_names ≡ false → IsGuarded (defined e s)
+
+-- Placing.
+
+abbrev pub kept_at : Place → Kept → Kept
+kept_at p x = record x { chain = x.chain ++ p.chain }
+
+-- what is round a page that is placed: the place, what is left to run behind it, what matrices held before it, the
+-- saves before it, what was painted before it, and the sheets
+pub record Around : Type 0 where
+  pub place : Place
+  pub left : List Token
+  pub kept : List Kept
+  pub saves : List Snapshot
+  pub painted : List Painting
+  pub sheets : List (List Painting)
+
+abbrev pub snapshot_at : Around → Snapshot → Snapshot
+snapshot_at a x = record x {
+  kept = map (kept_at a.place) x.kept ++ a.kept;
+  graphics = graphics_at a.place x.graphics;
+  stacked = map (graphics_at a.place) x.stacked;
+}
+
+abbrev pub placed_at : Around → State → State
+placed_at a s = record {
+  left = s.left ++ a.left;
+  work = s.work;
+  kept = map (kept_at a.place) s.kept ++ a.kept;
+  level = s.level;
+  graphics = graphics_at a.place s.graphics;
+  stacked = map (graphics_at a.place) s.stacked;
+  saves = map (snapshot_at a) s.saves ++ a.saves;
+  painted = picture_at a.place s.painted ++ a.painted;
+  sheets = a.sheets;
+}
+
+-- the place has one clip: the paper's edge; and its transformation is made by numbers
+abbrev pub IsOnPaper : Numbers → Around → Type 0
+IsOnPaper n a =
+    (a.place.clip ≡ record { name = codes "clip"; path = edge n a.place.chain } ∷ [])
+    × (is_same_chain a.place.chain a.place.chain ≡ true)
+
+-- The laws.
+
+-- what a page does by itself, the free machine does, with the guard's procedures, in the page's place: a law
+abbrev pub ShelterCommutes : Type 0
+ShelterCommutes =
+    (n : Numbers) (a : Around) (s t : State) → IsOnPaper n a → RunsSheltered (outline_tokens n) s t
+    → Runs false (placed_at a s) (placed_at a t)
+
+-- the state at the sheet's save, and what is round a page that is placed by these numbers
+abbrev pub sheet_save : State → Snapshot
+sheet_save s = record {
+  level = s.level;
+  entries = s.work.entries;
+  made = s.work.made;
+  kept = s.kept;
+  graphics = s.graphics;
+  stacked = s.stacked;
+}
+
+abbrev pub around : List Token → Numbers → State → Around
+around left n s = record {
+  place = place_in s.graphics n;
+  left = left;
+  kept = s.kept;
+  saves = sheet_save s ∷ s.saves;
+  painted = border_in s.graphics n n.border ++ s.painted;
+  sheets = s.sheets;
+}
+
+-- where a page begins, the sheet's text and the guard have brought the machine to the page's beginning, in its place: a
+-- law
+abbrev pub PageBegins : Type 0
+PageBegins =
+    (s : State) (n : Numbers) (body rest : List Token) → IsGuarded s
+    → Runs false (run_of (saving_tokens ++ (placing_tokens n ++ (body ++ rest))) s)
+    (placed_at (around rest n s) (sheltered s (outline_tokens n) body))
+
+-- a placed page of a guarded document paints on the sheet what it paints by itself, placed, behind its border; and all
+-- else is as it was: a law
+abbrev pub GuardedPageIsPlaced : Type 0
+GuardedPageIsPlaced =
+    (s : State) (x : Shown) (rest : List Token) → IsGuarded s
+    → PaintsSheltered s (outline_tokens x.placed.numbers) x.placed.body x.picture
+    → Runs false (run_of (placed_tokens x.placed ++ rest) s)
+    (record s { left = rest; painted = page_picture s.graphics x ++ s.painted })
+
+abbrev pub AllSheltered : State → List Shown → Type 0
+AllSheltered s [] = Unit {0}
+AllSheltered s (x ∷ xs) =
+    PaintsSheltered s (outline_tokens x.placed.numbers) x.placed.body x.picture × AllSheltered s xs
+
+abbrev pub AllSheetsSheltered : State → List (List Shown) → Type 0
+AllSheetsSheltered s [] = Unit {0}
+AllSheetsSheltered s (x ∷ xs) = AllSheltered s x × AllSheetsSheltered s xs
+
+-- each sheet is printed with the pictures of its pages, placed, and the machine is where it was: a law
+abbrev pub GuardedSheetsArePrinted : Type 0
+GuardedSheetsArePrinted =
+    (s : State) (xs : List (List Shown)) (rest : List Token) → IsGuarded s → s.painted ≡ [] → AllSheetsSheltered s xs
+    → Runs false (run_of (sheets_tokens xs ++ rest) s)
+    (record s { left = rest; sheets = printed s.graphics xs s.sheets })
+
+-- Documents.
+
+-- the preamble ends between tokens, and the machine is then here, with nothing painted or printed
+abbrev pub GuardedPreambleRuns : List ℕ → State → Type 0
+GuardedPreambleRuns text s =
+    IsComplete text × Runs false (started (tokens text)) s × (s.left ≡ []) × (s.painted ≡ []) × (s.sheets ≡ [])
+    × IsGuarded s
+
+-- the outline of the paper
+abbrev pub outline_of : Frame → List Token
+outline_of frame = outline_by (points_text frame.paper.width) (points_text frame.paper.height)
+
+-- the page, as the document has it, paints this by itself; its text ends between tokens, and so does what stands before
+-- each of its lines that is dropped
+abbrev pub GuardedPagePaints : Frame → List NestedUnit → State → ℕ → List Painting → Type 0
+GuardedPagePaints frame us s p picture =
+    IsComplete (page_of us p) × (page_comments_apart (page_of us p) ≡ true)
+    × PaintsSheltered s (outline_of frame) (tokens (page_of us p)) picture
+
+-- Of an accepted document in whose preamble the guard has run: if each page paints a picture by itself, then the
+-- machine prints of the output, sheet by sheet, those pictures, placed: a law
+abbrev pub GuardedSheetsShowThePages : Type 0
+GuardedSheetsShowThePages =
+    (frame : Frame) (sides : Option ℕ) (spec : Spec) (text : List ℕ) (us : List NestedUnit)
+    (picture : ℕ → List Painting) (s : State)
+    → document_of text ≡ Ok us → preamble_comments_apart us ≡ true → GuardedPreambleRuns (bytes_of (preamble us)) s
+    → OnSheets (λ p. GuardedPagePaints frame us s p (picture p)) (all_sheets sides spec us)
+    → IsPrinted frame sides spec us picture s
+
+-- What impose makes of an accepted document, with the guard put in: its own pages are shown, if the preamble with the
+-- guard in it runs, and leaves the state guarded: a law
+abbrev pub GuardedDocumentIsShown : Type 0
+GuardedDocumentIsShown =
+    (sheet : Option Paper) (frame : Frame) (sides : Option ℕ) (spec : Spec) (text : List ℕ) (us : List NestedUnit)
+    (picture : ℕ → List Painting) (s : State)
+    → document_of text ≡ Ok us → length (guarded sheet text) ≤ most_input_bytes
+    → preamble_comments_apart (units_of (guarded sheet text)) ≡ true
+    → GuardedPreambleRuns (bytes_of (preamble (units_of (guarded sheet text)))) s
+    → OnSheets (λ p. GuardedPagePaints frame us s p (picture p)) (all_sheets sides spec us)
+    → IsPrinted frame sides spec (units_of (guarded sheet text)) picture s

@@ -1,0 +1,114 @@
+//! Laws of the guard, run by a machine. The functions do nothing.
+ghost use Rattle.guarded_pictures.specs.Behind.{GuardDefines};
+ghost use Rattle.guarded_pictures.specs.Pages.{GuardIsEnough, GuardedDocumentIsShown, GuardedPageIsPlaced};
+ghost use Rattle.guarded_pictures.specs.Pages.{GuardedSheetsArePrinted, GuardedSheetsShowThePages, PageBegins};
+ghost use Rattle.guarded_pictures.specs.Pages.{ShelterCommutes, StaysGuarded};
+ghost use Rattle.guarded_pictures.specs.Lines.{AskingShows, AsksUserdict, ClipIsThePages, DefaultIsThePages};
+ghost use Rattle.guarded_pictures.specs.Lines.{DeviceIsLeft, GraphicsAreThePages, GuardedTwice, LoadedShowpage};
+ghost use Rattle.guarded_pictures.specs.Lines.{MatrixIsThePages, PageIsLeft, SaveSaves, ShowpageStaysAName};
+
+/// Behind the guard's text each of its names means what is said of it, and all else is as it was.
+pub fn guard_defines()
+    ensures { GuardDefines }
+{}
+
+/// A guard does nothing where there is one.
+pub fn guarded_twice()
+    ensures { GuardedTwice }
+{}
+
+/// `copypage` and `erasepage` leave the sheet as it is.
+pub fn page_is_left()
+    ensures { PageIsLeft }
+{}
+
+/// `setpagedevice` takes its operand, and does nothing.
+pub fn device_is_left()
+    ensures { DeviceIsLeft }
+{}
+
+/// `bind` doesn't bind `showpage`.
+pub fn showpage_stays_a_name()
+    ensures { ShowpageStaysAName }
+{}
+
+/// A loaded `showpage` does nothing in a placed page, and prints elsewhere.
+pub fn loaded_showpage()
+    ensures { LoadedShowpage }
+{}
+
+/// `initmatrix` sets the page's own transformation.
+pub fn matrix_is_the_pages()
+    ensures { MatrixIsThePages }
+{}
+
+/// `defaultmatrix` tells the page's own transformation.
+pub fn default_is_the_pages()
+    ensures { DefaultIsThePages }
+{}
+
+/// `initclip` clips to the page's own outline.
+pub fn clip_is_the_pages()
+    ensures { ClipIsThePages }
+{}
+
+/// `initgraphics` sets the page's own transformation, and clips to its outline.
+pub fn graphics_are_the_pages()
+    ensures { GraphicsAreThePages }
+{}
+
+/// A document's own `save` saves.
+pub fn save_saves()
+    ensures { SaveSaves }
+{}
+
+/// Where a page begins, a dictionary's own `showpage` is made one that asks userdict.
+pub fn asks_userdict()
+    ensures { AsksUserdict }
+{}
+
+/// And that one does what userdict's does.
+pub fn asking_shows()
+    ensures { AskingShows }
+{}
+
+/// Where a page begins, the sheet's text and the guard have brought the machine to the page's beginning, in its place.
+pub fn page_begins()
+    ensures { PageBegins }
+{}
+
+/// What a page does by itself, the free machine does, with the guard's procedures, in the page's place.
+pub fn shelter_commutes()
+    ensures { ShelterCommutes }
+{}
+
+/// A placed page paints on the sheet what it paints by itself, placed.
+pub fn guarded_page_is_placed()
+    ensures { GuardedPageIsPlaced }
+{}
+
+/// Each sheet is printed with the pictures of its pages, placed.
+pub fn guarded_sheets_are_printed()
+    ensures { GuardedSheetsArePrinted }
+{}
+
+/// A machine prints of an output of a guarded document, sheet by sheet, what its pages paint by themselves, placed.
+pub fn guarded_sheets_show_the_pages()
+    ensures { GuardedSheetsShowThePages }
+{}
+
+/// Behind the guard's text the state is one in which pages are placed.
+pub fn guard_is_enough()
+    ensures { GuardIsEnough }
+{}
+
+/// It stays so where other names are defined.
+pub fn stays_guarded()
+    ensures { StaysGuarded }
+{}
+
+/// A machine prints of what impose makes of a document, sheet by sheet, what the document's pages paint by themselves,
+/// placed.
+pub fn guarded_document_is_shown()
+    ensures { GuardedDocumentIsShown }
+{}

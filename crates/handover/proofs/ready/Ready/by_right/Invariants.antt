@@ -1,0 +1,6 @@
+use Rattle.std.proofs.Common.{Some}
+use Rattle.crossbeam_queue.specs.Passes.{ruled_capacity}
+use Rattle.handover.proofs.ready.Ready.by_right.Given as goal
+
+abbrev pub ghosts-open : goal.ghosts-open
+ghosts-open a = record { number = ruled_capacity a.line.now; room = Some (ruled_capacity a.line.now) }

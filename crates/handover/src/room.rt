@@ -1,0 +1,62 @@
+//! The room of a pass: how many puts it may make that aren't refused. None if puts aren't made by right.
+ghost use Rattle.std.specs.Prelude.{◌≡◌, ◌≢◌, ℕ, ◌+◌, ◌≤◌, Some, IsTrue, false};
+ghost use Rattle.histories.specs.Seats.{whole_share};
+ghost use Rattle.handover.specs.Queue.{Put};
+ghost use Rattle.handover.specs.Passes.{puts_in, room_after, room_kept, room_given, both_rooms};
+
+use crate::pass::WHOLE_SHARE;
+
+/// Whether a put may be tried by a pass with this room and this share. If puts are made by right and it has no room left,
+/// all that there is may belong to others.
+pub(crate) fn may_put(room: Option<u32>, share: u64) -> bool
+    ensures may { IsTrue result → room ≡ Some 0 → share ≡ whole_share }
+    ensures none_left { result ≡ false → (room ≡ Some 0) × (share ≢ whole_share) }
+{
+    match room {
+        Some(puts) => puts > 0 || share == WHOLE_SHARE,
+        None => true,
+    }
+}
+
+/// What is left after a put.
+pub(crate) fn room_after_put(room: Option<u32>) -> Option<u32>
+    ensures { (sheet : ℕ) → result ≡ room_after (Put sheet) room }
+{
+    match room {
+        Some(puts) => Some(puts.saturating_sub(1)),
+        None => None,
+    }
+}
+
+/// What is kept if so much is given away.
+pub(crate) fn room_kept(give: u32, room: Option<u32>) -> Option<u32>
+    requires { give ≤ puts_in room }
+    ensures { result ≡ room_kept give room }
+{
+    match room {
+        Some(puts) => Some(puts - give),
+        None => None,
+    }
+}
+
+/// What is given.
+pub(crate) fn room_given(give: u32, room: Option<u32>) -> Option<u32>
+    ensures { result ≡ room_given give room }
+{
+    match room {
+        Some(_) => Some(give),
+        None => None,
+    }
+}
+
+/// The room of two passes together.
+pub(crate) fn both_rooms(one: Option<u32>, two: Option<u32>) -> Option<u32>
+    requires { puts_in one + puts_in two ≤ u32.MAX }
+    ensures { result ≡ both_rooms one two }
+{
+    match (one, two) {
+        (Some(puts), Some(more)) => Some(puts + more),
+        (Some(puts), None) => Some(puts),
+        (None, room) => room,
+    }
+}

@@ -1,0 +1,29 @@
+use Rattle.std.proofs.Common.{rules, ◌≡◌, sym, subst}
+use Rattle.std.proofs.lemmas.List.Elements.{All-nil}
+use Rattle.sheet_writer.specs.declared.early.FinishedSheet.{FinishedSheet}
+use Rattle.imposer.specs.Batches.{HaveTexts}
+use Rattle.imposer.specs.Tokens.{OnlyImposes}
+use Rattle.imposer.proofs.Held.{imposes_both}
+use Rattle.imposer.proofs.shared.WorkerInput.impose_batch.Goals as goal
+use Rattle.imposer.proofs.shared.WorkerInput.impose_batch.Goals.{else-loop-test, then-loop-test+in_ok-impose_more+then-not-branch}
+
+pub impose_into-requires-clause-texts : goal.impose_into-requires-clause-texts
+impose_into-requires-clause-texts g c =
+    subst (HaveTexts g.T.Texts.text) (sym c.new-batch.ensures) (All-nil (λ (m : FinishedSheet). m.text ≡ g.T.Texts.text m.sheet))
+
+pub loop-preserved : goal.loop-preserved
+loop-preserved g c = record {
+  tokens = c.impose_more.ensures.tokens;
+  imposes = imposes_both _ _ _ c.loop.invariant.imposes c.impose_more.ensures.imposes;
+  texts = search rules;
+}
+
+pub returns-in_err-impose_more-clause-imposes : goal.returns-in_err-impose_more-clause-imposes
+returns-in_err-impose_more-clause-imposes g c = imposes_both _ _ _ c.loop.invariant.imposes c.impose_more.ensures.imposes
+
+pub returns-clause-imposes : goal.returns-clause-imposes
+returns-clause-imposes g c = elim c.loop-test.branch [
+  | else-loop-test w ↦ subst (OnlyImposes c.args.tokens.now) (sym w.tokens-is) c.loop.invariant.imposes
+  | then-loop-test+in_ok-impose_more+then-not-branch w ↦
+      subst (OnlyImposes c.args.tokens.now) (sym w.tokens-is) (imposes_both _ _ _ c.loop.invariant.imposes w.impose_more.ensures.imposes)
+]

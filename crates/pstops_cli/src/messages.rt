@@ -1,0 +1,164 @@
+//! What is said on standard error, and with which exit status the program ends.
+ghost use Rattle.std.specs.Prelude.{◌≡◌, IfOk, string_bytes};
+ghost use Rattle.pstops_cli.specs.Messages.{command_text as text_of_command, document_text as text_of_document};
+ghost use Rattle.pstops_cli.specs.Messages.{fault_status as status_of_fault, fault_text as text_of_fault};
+ghost use Rattle.pstops_cli.specs.Messages.{plan_text as text_of_plan, read_text as text_of_read};
+ghost use Rattle.pstops_cli.specs.Messages.{report_text as text_of_report};
+ghost use Rattle.pstops_cli.specs.Messages.{run_text as text_of_run, said, spec_text as text_of_spec};
+
+use crate::command::CommandFault;
+use command_words::run_status;
+use dsc::DscError;
+use imposer::{Report, RunError};
+use input::ReadFault;
+use pagespec::SpecError;
+use sheet_plan::PlanError;
+use std::alloc::{AllocError, Global};
+
+/// Why the program ends without having written its output.
+#[derive(Debug, Drop)]
+pub enum Fault {
+    /// The command line is refused.
+    Command(CommandFault),
+    /// The input couldn't be opened or read.
+    Read(ReadFault),
+    /// The output couldn't be created.
+    Create,
+    /// The run is refused or failed.
+    Run(RunError),
+}
+
+/// The exit status of a fault and its line for standard error, which names the program and ends with a line feed.
+///
+/// The status is 1 for a refused specification, document or plan, 2 for a bad command line or bad options, and 3 if
+/// memory, reading or writing failed.
+pub fn fault_line(alloc: Global, fault: &Fault) -> Result<(u8, Vec<u8>), AllocError>
+    ensures status { IfOk result (λ answer. answer.0 ≡ status_of_fault fault.now) }
+    ensures line { IfOk result (λ answer. answer.1.items ≡ said (text_of_fault fault.now)) }
+{
+    let text = fault_text(alloc, fault)?;
+    Ok((fault_status(fault), line_of(alloc, text.as_str())?))
+}
+
+/// The line of a run that finished.
+pub(crate) fn report_line(alloc: Global, report: &Report) -> Result<Vec<u8>, AllocError>
+    ensures { IfOk result (λ line. line.items ≡ said (text_of_report report.now)) }
+{
+    let pages = report.pages;
+    let sheets = report.sheets;
+    let bytes = report.bytes;
+    let text = format!(in alloc; "pages {pages}, sheets {sheets}, bytes {bytes}")?;
+    line_of(alloc, text.as_str())
+}
+
+fn line_of(alloc: Global, text: &str) -> Result<Vec<u8>, AllocError>
+    ensures { IfOk result (λ line. line.items ≡ said text.now) }
+{
+    let line = format!(in alloc; "pstops: {text}\n")?;
+    Ok(line.into_bytes())
+}
+
+fn fault_status(fault: &Fault) -> u8
+    ensures { result ≡ status_of_fault fault.now }
+{
+    match fault {
+        Fault::Command(CommandFault::NoMemory) => 3,
+        Fault::Command(_) => 2,
+        Fault::Read(_) | Fault::Create => 3,
+        Fault::Run(error) => run_status(error),
+    }
+}
+
+fn fault_text(alloc: Global, fault: &Fault) -> Result<String, AllocError>
+    ensures { IfOk result (λ text. string_bytes text ≡ text_of_fault fault.now) }
+{
+    match fault {
+        Fault::Command(fault) => command_text(alloc, *fault),
+        Fault::Read(fault) => read_text(alloc, *fault),
+        Fault::Create => String::from_str(alloc, "cannot write output"),
+        Fault::Run(error) => run_text(alloc, error),
+    }
+}
+
+fn command_text(alloc: Global, fault: CommandFault) -> Result<String, AllocError>
+    ensures { IfOk result (λ text. string_bytes text ≡ text_of_command fault) }
+{
+    match fault {
+        CommandFault::BadWords => String::from_str(alloc, "bad command line"),
+        CommandFault::UnknownPaper => String::from_str(alloc, "unknown paper"),
+        CommandFault::BadLength(letter) => format!(in alloc; "bad length after -{letter}"),
+        CommandFault::NoMemory => String::from_str(alloc, "out of memory"),
+    }
+}
+
+fn read_text(alloc: Global, fault: ReadFault) -> Result<String, AllocError>
+    ensures { IfOk result (λ text. string_bytes text ≡ text_of_read fault) }
+{
+    match fault {
+        ReadFault::Device => String::from_str(alloc, "cannot read input"),
+        ReadFault::NoMemory => String::from_str(alloc, "out of memory"),
+    }
+}
+
+fn run_text(alloc: Global, error: &RunError) -> Result<String, AllocError>
+    ensures { IfOk result (λ text. string_bytes text ≡ text_of_run error.now) }
+{
+    match error {
+        RunError::Options => String::from_str(alloc, "bad options"),
+        RunError::Spec(error) => spec_text(alloc, error),
+        RunError::Document(error) => document_text(alloc, error),
+        RunError::Plan(error) => plan_text(alloc, error),
+        RunError::NoMemory { .. } => String::from_str(alloc, "out of memory"),
+        RunError::Write { .. } => String::from_str(alloc, "cannot write output"),
+    }
+}
+
+fn spec_text(alloc: Global, error: &SpecError) -> Result<String, AllocError>
+    ensures { IfOk result (λ text. string_bytes text ≡ text_of_spec error.now) }
+{
+    match error {
+        SpecError::TooLong => String::from_str(alloc, "specification: too long"),
+        SpecError::Syntax(at) => { format!(in alloc; "specification: syntax error at byte {at}") }
+        SpecError::TooLarge => String::from_str(alloc, "specification: number too large"),
+        SpecError::ModuloZero => String::from_str(alloc, "specification: modulo is zero"),
+        SpecError::PageOutOfBlock(item) => {
+            format!(in alloc; "specification: item {item}: page number not below modulo")
+        }
+        SpecError::ScaleZero(item) => {
+            format!(in alloc; "specification: item {item}: scale not above zero")
+        }
+        SpecError::Repeated(item) => {
+            format!(in alloc; "specification: item {item}: modifier repeated")
+        }
+        SpecError::TooManySlots(group) => {
+            format!(in alloc; "specification: group {group}: too many items")
+        }
+        SpecError::TooManyGroups => String::from_str(alloc, "specification: too many groups"),
+        SpecError::NoMemory => String::from_str(alloc, "out of memory"),
+    }
+}
+
+fn document_text(alloc: Global, error: &DscError) -> Result<String, AllocError>
+    ensures { IfOk result (λ text. string_bytes text ≡ text_of_document error.now) }
+{
+    match error {
+        DscError::TooLong => String::from_str(alloc, "input too long"),
+        DscError::NotPostScript => String::from_str(alloc, "input is not PostScript"),
+        DscError::BadCount(at) => format!(in alloc; "input: bad count at byte {at}"),
+        DscError::ShortData(at) => format!(in alloc; "input: data cut short at byte {at}"),
+        DscError::TooManyPages => String::from_str(alloc, "input: too many pages"),
+        DscError::NoPages => String::from_str(alloc, "input: no pages"),
+        DscError::NoMemory => String::from_str(alloc, "out of memory"),
+    }
+}
+
+fn plan_text(alloc: Global, error: &PlanError) -> Result<String, AllocError>
+    ensures { IfOk result (λ text. string_bytes text ≡ text_of_plan error.now) }
+{
+    match error {
+        PlanError::TooManyPages => String::from_str(alloc, "plan: too many pages"),
+        PlanError::TooManySheets => String::from_str(alloc, "plan: too many sheets"),
+        PlanError::TooManyPlaces => String::from_str(alloc, "plan: too many places"),
+        PlanError::NoMemory => String::from_str(alloc, "out of memory"),
+    }
+}

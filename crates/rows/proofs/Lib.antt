@@ -1,0 +1,2 @@
+pub mod Alternate
+pub mod Signing

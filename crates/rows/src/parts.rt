@@ -1,0 +1,48 @@
+//! All pages, and the parts of a row.
+ghost use Rattle.std.specs.Prelude.{◌≡◌, IfOk, drop};
+ghost use Rattle.made_sheets.specs.Rows.{all_pages as all, odd_part as odd, even_part as even};
+
+use crate::entries::entry_at;
+use std::alloc::{AllocError, Global};
+
+/// All pages of a document, in their order.
+pub fn all_pages(alloc: Global, pages: u32) -> Result<Vec<Option<u32>>, AllocError>
+    ensures { IfOk result (λ row. row.items ≡ all pages) }
+{
+    let mut row = Vec::with_capacity(alloc, pages as usize)?;
+    for page in 0..pages {
+        row.push(Some(page))?;
+    }
+    Ok(row)
+}
+
+/// The entries in odd places, counted from 1.
+pub fn odd_part(alloc: Global, row: &[Option<u32>]) -> Result<Vec<Option<u32>>, AllocError>
+    ensures { IfOk result (λ part. part.items ≡ odd row.now) }
+{
+    every_other(alloc, row, 0)
+}
+
+/// The entries in even places, counted from 1.
+pub fn even_part(alloc: Global, row: &[Option<u32>]) -> Result<Vec<Option<u32>>, AllocError>
+    ensures { IfOk result (λ part. part.items ≡ even row.now) }
+{
+    every_other(alloc, row, 1)
+}
+
+/// The entry in this place, counted from 0, and from there on every other.
+fn every_other(
+    alloc: Global,
+    row: &[Option<u32>],
+    first: usize,
+) -> Result<Vec<Option<u32>>, AllocError>
+    ensures { IfOk result (λ part. part.items ≡ odd (drop first row.now)) }
+{
+    let mut part = Vec::with_capacity(alloc, row.len().div_ceil(2))?;
+    let mut at = first;
+    while at < row.len() {
+        part.push(entry_at(row, at))?;
+        at += 2;
+    }
+    Ok(part)
+}

@@ -1,0 +1,60 @@
+//! A row in signatures.
+ghost use Rattle.std.specs.Prelude.{◌≡◌, ℕ, ◌+◌, ◌*◌, ◌<◌, ◌^◌, ◌++◌, IfOk, OnOk, length, map};
+ghost use Rattle.std.specs.List.{range_with_len};
+ghost use Rattle.rules.specs.Signatures.{AreSides, entry_of, page_in_signature as page_in};
+ghost use Rattle.made_sheets.specs.Rows.{in_signatures as signed};
+
+use crate::entries::entry_at;
+use std::alloc::{AllocError, Global};
+
+/// The row in signatures of so many sides, one behind the other, in the order in which they are printed on leaves that
+/// are folded once, put into one another and bound. The last one is filled up with blanks.
+pub fn in_signatures(
+    alloc: Global,
+    row: &[Option<u32>],
+    sides: u32,
+) -> Result<Vec<Option<u32>>, AllocError>
+    requires { AreSides sides }
+    ensures { IfOk result (λ printed. printed.items ≡ signed sides row.now) }
+{
+    let mut printed = Vec::new(alloc);
+    for signature in 0..row.len().div_ceil(sides as usize) {
+        append_signature(&mut printed, row, signature * sides as usize, sides)?;
+    }
+    Ok(printed)
+}
+
+/// Appends a signature, whose pages begin with this entry of the row.
+fn append_signature(
+    printed: &mut Vec<Option<u32>>,
+    row: &[Option<u32>],
+    first: usize,
+    sides: u32,
+) -> Result<(), AllocError>
+    requires sides { AreSides sides }
+    requires few { first < 2 ^ 63 }
+    ensures { OnOk result (printed.new.items ≡ printed.old.items
+        ++ map (λ i. entry_of row.now (first + page_in sides i)) (range_with_len 0 sides)) }
+{
+    for position in 0..sides {
+        let entry = first + page_in_signature(sides, position) as usize;
+        printed.push(entry_at(row, entry))?;
+    }
+    Ok(())
+}
+
+/// The page at a position of a signature, as psbook orders them.
+fn page_in_signature(sides: u32, position: u32) -> u32
+    requires sides { AreSides sides }
+    requires position { position < sides }
+    ensures value { result ≡ page_in sides position }
+    ensures within { result < sides }
+{
+    let leaf = position / 4;
+    match position % 4 {
+        0 => sides - 1 - 2 * leaf,
+        1 => 2 * leaf,
+        2 => 2 * leaf + 1,
+        _ => sides - 2 - 2 * leaf,
+    }
+}

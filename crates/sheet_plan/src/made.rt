@@ -1,0 +1,376 @@
+//! Sheets that are made, in whatever way, and how they are kept.
+ghost use Rattle.std.specs.Prelude.{◌≡◌, ◌+◌, ◌<◌, ◌≤◌, ◌++◌, ◌∷◌, [], length, map, sum_by, All, OnOk, OnErr, IfOk};
+ghost use Rattle.std.specs.Prelude.{IfSome, Some, slice_get, true};
+ghost use Rattle.made_sheets.specs.MadePlans.{slot_count};
+ghost use Rattle.pagespec.specs.Items.{item_of};
+ghost use Rattle.sheet_plan.specs.Nothing.{nothing as no_item};
+ghost use Rattle.sheet_plan.specs.OfSheets.{slot_of, slots_at, placed_of};
+ghost use Rattle.sheet_plan.specs.Store.{Begins, IsGrown, end_of, start_of, added_to, is_named};
+
+use lengths::{Number, Paper};
+use pagespec::{Item, Measure, Turn};
+use std::alloc::{AllocError, Global};
+use std::marker::Model;
+
+/// How many placings are looked at before a new one is kept.
+const FEW: u32 = 64;
+
+/// The item of a blank slot, which places nothing.
+const NOTHING: Item = Item {
+    page: 0,
+    from_end: false,
+    turn: Turn::None,
+    scale: Number::ONE,
+    offset: (Measure::ZERO, Measure::ZERO),
+};
+
+/// What stands in a place of a sheet: nothing; or a page of the document, by an item, whose own page number means
+/// nothing here, and with the paper by which the page is clipped and bordered.
+#[derive(Clone, Copy)]
+pub enum MadeSlot {
+    Blank,
+    Placed { page: u32, item: Item, paper: Paper },
+}
+
+/// A page that stands in a place of a sheet.
+#[derive(Clone, Copy)]
+pub struct PlacedSlot<'m> {
+    pub page: u32,
+    pub item: &'m Item,
+    pub paper: &'m Paper,
+}
+
+/// How a page stands on a sheet. Sheets repeat them, so each is kept once.
+#[derive(Clone, Copy)]
+pub struct Placing {
+    pub item: Item,
+    pub paper: Paper,
+}
+
+/// A slot: its page, and the number of its placing, counted from 1; 0 is a blank.
+#[derive(Clone, Copy)]
+pub struct KeptSlot {
+    pub page: u32,
+    pub placing: u32,
+}
+
+/// Where the slots of a sheet end, and the place of its paper among the placings.
+#[derive(Clone, Copy)]
+pub struct KeptSheet {
+    pub end: u32,
+    pub paper: u32,
+}
+
+/// Sheets with their slots, each sheet with a paper of its own. They take 8 bytes a slot and 8 bytes a sheet, and
+/// memory for each way in which a page stands on one.
+#[derive(Drop)]
+pub struct MadeSheets {
+    sheets: Vec<KeptSheet>,
+    slots: Vec<KeptSlot>,
+    placings: Vec<Placing>,
+    nothing: Item,
+}
+
+impl Model for MadeSheets {
+    ghost use Rattle.std.specs.Prelude.{◌≡◌, List};
+    ghost use Rattle.made_sheets.specs.Made.{MadeSheet};
+    ghost use Rattle.pagespec.specs.Items.{item_of};
+    ghost use Rattle.sheet_plan.specs.Nothing.{nothing as no_item};
+    ghost use Rattle.sheet_plan.specs.Store.{sheets_from, AreKept};
+
+    ghost Value = { List MadeSheet };
+
+    ghost view = { λ m. sheets_from m.placings.items m.slots.items 0 m.sheets.items };
+
+    ghost invariant = { λ m. AreKept m.placings.items m.slots.items m.sheets.items
+        × (item_of m.nothing ≡ no_item) };
+}
+
+impl MadeSheets {
+    /// No sheets yet. It takes no memory.
+    pub fn new(alloc: Global) -> MadeSheets
+        ensures { result ≡ [] }
+    {
+        MadeSheets {
+            sheets: Vec::new(alloc),
+            slots: Vec::new(alloc),
+            placings: Vec::new(alloc),
+            nothing: NOTHING,
+        }
+    }
+
+    /// The same, with room for so many sheets and slots.
+    pub fn with_room(alloc: Global, sheets: usize, slots: usize) -> Result<MadeSheets, AllocError>
+        ensures { IfOk result (λ made. made ≡ []) }
+    {
+        Ok(MadeSheets {
+            sheets: Vec::with_capacity(alloc, sheets)?,
+            slots: Vec::with_capacity(alloc, slots)?,
+            placings: Vec::new(alloc),
+            nothing: NOTHING,
+        })
+    }
+
+    /// Puts a sheet behind the others. Nothing is added if memory is refused, or if there would be 2^32 slots or more.
+    pub fn push(&mut self, paper: &Paper, slots: &[MadeSlot]) -> Result<(), AllocError>
+        ensures pushed { OnOk result (self.new ≡ self.old
+            ++ record { paper = paper.now; slots = map slot_of slots.now } ∷ []) }
+        ensures unchanged { OnErr result (self.new ≡ self.old) }
+    {
+        let start = last_end(self.sheets.as_slice());
+        self.slots.truncate(start as usize);
+        let nothing = self.nothing;
+        let paper = keep(&mut self.placings, 0, &nothing, paper)?;
+        keep_slots(&mut self.placings, &mut self.slots, slots)?;
+        let end = count_of(self.slots.len())?;
+        self.sheets.push(KeptSheet { end, paper })?;
+        Ok(())
+    }
+
+    /// How many sheets there are.
+    pub fn len(&self) -> usize
+        ensures { result ≡ length self.now }
+    {
+        let sheets = self.sheets.as_slice();
+        sheets.len()
+    }
+
+    /// How many slots there are in all.
+    pub fn places(&self) -> u32
+        ensures { result ≡ sum_by slot_count self.now }
+    {
+        let sheets = self.sheets.as_slice();
+        last_end(sheets)
+    }
+
+    /// How many slots a sheet has.
+    pub fn slots(&self, sheet: u32) -> u32
+        requires { sheet < length self.now }
+        ensures { result ≡ length (slots_at self.now sheet) }
+    {
+        let sheets = self.sheets.as_slice();
+        let kept = sheet_at(sheets, sheet);
+        let start = start_at(sheets, sheet);
+        kept.end - start
+    }
+
+    /// The paper of a sheet.
+    pub fn paper(&self, sheet: u32) -> &Paper
+        requires { sheet < length self.now }
+        ensures { slice_get (map (λ s. s.paper) self.now) sheet ≡ Some result.now }
+    {
+        let sheets = self.sheets.as_slice();
+        let placings = self.placings.as_slice();
+        let kept = sheet_at(sheets, sheet);
+        let placing = placing_at(placings, kept.paper);
+        &placing.paper
+    }
+
+    /// What stands in a slot; None is a blank.
+    pub fn placed(&self, sheet: u32, slot: u32) -> Option<PlacedSlot<'_>>
+        requires sheet { sheet < length self.now }
+        requires slot { slot < length (slots_at self.now sheet) }
+        ensures { slice_get (slots_at self.now sheet) slot ≡ Some (placed_of result) }
+    {
+        let sheets = self.sheets.as_slice();
+        let slots = self.slots.as_slice();
+        let placings = self.placings.as_slice();
+        let start = start_at(sheets, sheet);
+        let at = start as usize + slot as usize;
+        let kept = slot_at(slots, at);
+        if kept.placing == 0 {
+            return None;
+        }
+        let placing = placing_at(placings, kept.placing - 1);
+        Some(PlacedSlot {
+            page: kept.page,
+            item: &placing.item,
+            paper: &placing.paper,
+        })
+    }
+
+    /// The item of a blank slot.
+    pub(crate) fn nothing(&self) -> &Item
+        ensures { item_of result.now ≡ no_item }
+    {
+        &self.nothing
+    }
+}
+
+/// Where the slots of the last sheet end.
+fn last_end(sheets: &[KeptSheet]) -> u32
+    ensures { result ≡ end_of 0 sheets.now }
+{
+    match sheets.last() {
+        Some(sheet) => sheet.end,
+        None => 0,
+    }
+}
+
+/// Where the slots of a sheet begin.
+fn start_at(sheets: &[KeptSheet], sheet: u32) -> u32
+    requires { sheet < length sheets.now }
+    ensures { result ≡ start_of 0 sheets.now sheet }
+{
+    if sheet == 0 {
+        return 0;
+    }
+    let before = sheet_at(sheets, sheet - 1);
+    before.end
+}
+
+/// This sheet. A call, so that a proof has its value by name; so it is with the next two.
+fn sheet_at(sheets: &[KeptSheet], k: u32) -> KeptSheet
+    requires { k < length sheets.now }
+    ensures { slice_get sheets.now k ≡ Some result }
+{
+    sheets[k as usize]
+}
+
+fn slot_at(slots: &[KeptSlot], k: usize) -> KeptSlot
+    requires { k < length slots.now }
+    ensures { slice_get slots.now k ≡ Some result }
+{
+    slots[k]
+}
+
+fn placing_at(placings: &[Placing], k: u32) -> &Placing
+    requires { k < length placings.now }
+    ensures { slice_get placings.now k ≡ Some result.now }
+{
+    &placings[k as usize]
+}
+
+/// A count that is kept in few bytes.
+fn count_of(count: usize) -> Result<u32, AllocError>
+    ensures { IfOk result (λ n. n ≡ count) }
+{
+    match u32::try_from(count) {
+        Ok(count) => Ok(count),
+        Err(_) => Err(AllocError),
+    }
+}
+
+/// Adds slots, and their placings, if these aren't kept yet.
+fn keep_slots(
+    placings: &mut Vec<Placing>,
+    slots: &mut Vec<KeptSlot>,
+    made: &[MadeSlot],
+) -> Result<(), AllocError>
+    requires { All (is_named (length placings.old.items)) slots.old.items }
+    ensures grown { IsGrown placings.old.items placings.new.items slots.old.items slots.new.items }
+    ensures added { OnOk result (added_to placings.new.items slots.old.items slots.new.items ≡ map slot_of made.now) }
+{
+    for slot in made {
+        keep_slot(placings, slots, slot)?;
+    }
+    Ok(())
+}
+
+/// Adds a slot.
+fn keep_slot(
+    placings: &mut Vec<Placing>,
+    slots: &mut Vec<KeptSlot>,
+    made: &MadeSlot,
+) -> Result<(), AllocError>
+    requires { All (is_named (length placings.old.items)) slots.old.items }
+    ensures grown { IsGrown placings.old.items placings.new.items slots.old.items slots.new.items }
+    ensures added { OnOk result (added_to placings.new.items slots.old.items slots.new.items ≡ slot_of made.now ∷ []) }
+{
+    let kept = match made {
+        MadeSlot::Blank => KeptSlot {
+            page: 0,
+            placing: 0,
+        },
+        MadeSlot::Placed { page, item, paper } => {
+            let near = number_behind(slots.as_slice());
+            let place = keep(placings, near, item, paper)?;
+            KeptSlot {
+                page: *page,
+                placing: count_of(place as usize + 1)?,
+            }
+        }
+    };
+    slots.push(kept)?;
+    Ok(())
+}
+
+/// The place behind that of the last slot's placing: sheets that are laid out alike take one after the other.
+fn number_behind(slots: &[KeptSlot]) -> u32 {
+    match slots.last() {
+        Some(slot) => slot.placing,
+        None => 0,
+    }
+}
+
+/// The place of a placing, which is added if it isn't found soon.
+fn keep(
+    placings: &mut Vec<Placing>,
+    near: u32,
+    item: &Item,
+    paper: &Paper,
+) -> Result<u32, AllocError>
+    ensures begins { Begins placings.old.items placings.new.items }
+    ensures there { IfOk result (λ k.
+        slice_get placings.new.items k ≡ Some (record { item = item.now; paper = paper.now })) }
+{
+    if let Some(place) = find(placings.as_slice(), near, item, paper) {
+        return Ok(place);
+    }
+    let place = count_of(placings.len())?;
+    placings.push(Placing {
+        item: *item,
+        paper: *paper,
+    })?;
+    Ok(place)
+}
+
+/// The place of a placing, if it is near or among the first.
+fn find(placings: &[Placing], near: u32, item: &Item, paper: &Paper) -> Option<u32>
+    ensures { IfSome result (λ k. slice_get placings.now k ≡ Some (record { item = item.now; paper = paper.now })) }
+{
+    if let Some(place) = find_at(placings, near, item, paper) {
+        return Some(place);
+    }
+    for place in 0..FEW {
+        if let Some(place) = find_at(placings, place, item, paper) {
+            return Some(place);
+        }
+    }
+    None
+}
+
+/// This place, if the placing stands there.
+fn find_at(placings: &[Placing], place: u32, item: &Item, paper: &Paper) -> Option<u32>
+    ensures { IfSome result (λ k. slice_get placings.now k ≡ Some (record { item = item.now; paper = paper.now })) }
+{
+    if place as usize >= placings.len() {
+        return None;
+    }
+    let placing = placing_at(placings, place);
+    if is_same_page(&placing.item, item)
+        && placing.item.turn == item.turn
+        && placing.item.scale == item.scale
+        && is_same(placing.item.offset.0, item.offset.0)
+        && is_same(placing.item.offset.1, item.offset.1)
+        && placing.paper == *paper
+    {
+        Some(place)
+    } else {
+        None
+    }
+}
+
+/// Whether both items name the same page in the same way.
+fn is_same_page(one: &Item, other: &Item) -> bool
+    ensures { result ≡ true → (one.now.page ≡ other.now.page) × (one.now.from_end ≡ other.now.from_end) }
+{
+    one.page == other.page && one.from_end == other.from_end
+}
+
+/// Whether both are the same number of the same unit.
+fn is_same(one: Measure, other: Measure) -> bool
+    ensures { result ≡ true → one ≡ other }
+{
+    one == other
+}

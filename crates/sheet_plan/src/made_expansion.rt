@@ -1,0 +1,185 @@
+//! Sheets that are made, as the sheets of a plan.
+ghost use Rattle.std.specs.Prelude.{◌≡◌, ◌≢◌, ◌<◌, ◌≤◌, length, not, position, Some, Ok, Err, OnOk, IfOk, IfErr, slice_get};
+ghost use Rattle.std.specs.List.{list_any};
+ghost use Rattle.rules.specs.Admissible.{most_slots};
+ghost use Rattle.rules.specs.Run.{most_sheets};
+ghost use Rattle.pagespec.specs.Items.{item_of};
+ghost use Rattle.made_sheets.specs.Made.{MadeSlot};
+ghost use Rattle.made_sheets.specs.MadePlans.{made_plan_of, is_slot_count, slot_count, is_missing};
+ghost use Rattle.sheet_plan.specs.OfSheets.{made_plan, slots_at, IsOfSheets};
+ghost use Rattle.sheet_plan.specs.Plans.{pages_on, items_on, IsSound};
+ghost use Rattle.sheet_plan.specs.MadeRefusals.{RefusesMade};
+
+use crate::error::MadeError;
+use crate::made::MadeSheets;
+use pagespec::Item;
+use std::marker::Model;
+
+const MOST_PAGES: u32 = 1_000_000;
+
+const MOST_SHEETS: usize = 1_000_000;
+
+const MOST_SLOTS: u32 = 4_096;
+
+const MOST_PLACES: u32 = 4_000_000;
+
+/// Made sheets that keep to the limits of a plan over so many pages. A contract sees the plan that they make.
+#[derive(Drop)]
+pub struct MadeExpansion<'s> {
+    pages: u32,
+    made: &'s MadeSheets,
+}
+
+impl<'s> Model for MadeExpansion<'s> {
+    ghost use Rattle.std.specs.Prelude.{◌≡◌, Ok};
+    ghost use Rattle.rules.specs.Sheets.{Plan};
+    ghost use Rattle.made_sheets.specs.MadePlans.{made_plan_of};
+    ghost use Rattle.sheet_plan.specs.OfSheets.{made_plan};
+
+    ghost Value = { Plan };
+
+    ghost view = { λ e. made_plan e.pages e.made.now };
+
+    ghost invariant = { λ e. made_plan_of e.pages e.made.now ≡ Ok e.made.now };
+}
+
+impl<'s> MadeExpansion<'s> {
+    /// Tests the limits of a plan, and that each page is there.
+    pub fn new(pages: u32, made: &'s MadeSheets) -> Result<MadeExpansion<'s>, MadeError>
+        ensures value { IfOk result (λ e. e ≡ made_plan pages made.now) }
+        ensures accepted { OnOk result (made_plan_of pages made.now ≡ Ok made.now) }
+        ensures refused { IfErr result (RefusesMade pages made.now) }
+        ensures no_growth { result ≢ Err MadeError.NoMemory }
+    {
+        if pages > MOST_PAGES {
+            return Err(MadeError::TooManyPages);
+        }
+        if made.len() > MOST_SHEETS {
+            return Err(MadeError::TooManySheets);
+        }
+        if let Some(sheet) = first_uneven(made) {
+            return Err(MadeError::SlotsOutOfRange(sheet));
+        }
+        if made.places() > MOST_PLACES {
+            return Err(MadeError::TooManyPlaces);
+        }
+        if let Some(sheet) = first_missing(pages, made) {
+            return Err(MadeError::NoSuchPage(sheet));
+        }
+        Ok(MadeExpansion { pages, made })
+    }
+
+    pub fn pages(&self) -> u32
+        ensures value { result ≡ self.now.pages }
+        ensures sound { IsSound self.now }
+        ensures of_sheets { IsOfSheets self.now }
+    {
+        self.pages
+    }
+
+    pub fn sheets(&self) -> u32
+        ensures value { result ≡ length self.now.sheets }
+        ensures sound { IsSound self.now }
+    {
+        self.made.len() as u32
+    }
+
+    pub fn slots(&self, sheet: u32) -> u16
+        requires { sheet < length self.now.sheets }
+        ensures value { result ≡ length (pages_on self.now sheet) }
+        ensures some { 0 < result }
+        ensures few { result ≤ most_slots }
+    {
+        self.made.slots(sheet) as u16
+    }
+
+    pub fn item_of(&self, sheet: u32, slot: u16) -> &'s Item
+        requires sheet { sheet < length self.now.sheets }
+        requires slot { slot < length (pages_on self.now sheet) }
+        ensures value { slice_get (items_on self.now sheet) slot ≡ Some (item_of result.now) }
+    {
+        let made = self.made;
+        match made.placed(sheet, u32::from(slot)) {
+            Some(placed) => placed.item,
+            None => made.nothing(),
+        }
+    }
+
+    pub fn page_of(&self, sheet: u32, slot: u16) -> Option<u32>
+        requires sheet { sheet < length self.now.sheets }
+        requires slot { slot < length (pages_on self.now sheet) }
+        ensures value { slice_get (pages_on self.now sheet) slot ≡ Some result }
+    {
+        match self.made.placed(sheet, u32::from(slot)) {
+            Some(placed) => Some(placed.page),
+            None => None,
+        }
+    }
+}
+
+/// The first sheet without slots, or with too many.
+fn first_uneven(made: &MadeSheets) -> Option<u32>
+    requires { length made.now ≤ most_sheets }
+    ensures { result ≡ position (λ sheet. not (is_slot_count (slot_count sheet))) made.now }
+{
+    for sheet in 0..made.len() as u32 {
+        if is_uneven(made, sheet) {
+            return Some(sheet);
+        }
+    }
+    None
+}
+
+/// Whether a sheet has no slots, or too many.
+fn is_uneven(made: &MadeSheets, sheet: u32) -> bool
+    requires { sheet < length made.now }
+    ensures { result ≡ not (is_slot_count (length (slots_at made.now sheet))) }
+{
+    let slots = made.slots(sheet);
+    !is_slot_count(slots)
+}
+
+/// Whether a sheet may have so many slots.
+fn is_slot_count(slots: u32) -> bool
+    ensures { result ≡ is_slot_count slots }
+{
+    1 <= slots && slots <= MOST_SLOTS
+}
+
+/// The first sheet on which a page stands that isn't there.
+fn first_missing(pages: u32, made: &MadeSheets) -> Option<u32>
+    requires { length made.now ≤ most_sheets }
+    ensures { result ≡ position (λ sheet. list_any (is_missing pages) sheet.slots) made.now }
+{
+    for sheet in 0..made.len() as u32 {
+        if is_page_missing(pages, made, sheet) {
+            return Some(sheet);
+        }
+    }
+    None
+}
+
+/// Whether a page stands on this sheet that isn't there.
+fn is_page_missing(pages: u32, made: &MadeSheets, sheet: u32) -> bool
+    requires { sheet < length made.now }
+    ensures { result ≡ list_any (is_missing pages) (slots_at made.now sheet) }
+{
+    for slot in 0..made.slots(sheet) {
+        if is_missing_in(pages, made, sheet, slot) {
+            return true;
+        }
+    }
+    false
+}
+
+/// Whether a page stands in this slot that isn't there.
+fn is_missing_in(pages: u32, made: &MadeSheets, sheet: u32, slot: u32) -> bool
+    requires sheet { sheet < length made.now }
+    requires slot { slot < length (slots_at made.now sheet) }
+    ensures { (it : MadeSlot) → slice_get (slots_at made.now sheet) slot ≡ Some it → result ≡ is_missing pages it }
+{
+    match made.placed(sheet, slot) {
+        Some(placed) => pages <= placed.page,
+        None => false,
+    }
+}

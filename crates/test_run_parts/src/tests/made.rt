@@ -1,0 +1,104 @@
+//! The text of a sheet that was made: pages with papers of their own, and lines at its start and at its end.
+use dsc::Document;
+use lengths::{Number, Paper, paper_by_name};
+use pagespec::{Item, Measure, Turn};
+use sheet_plan::{MadeSheets, MadeSlot, Plan};
+use sheet_text::{Dress, Job, Lines, SheetLines, sheet_text};
+use std::alloc::Global;
+use std::process::Abort;
+use std::test::Fail;
+
+const TWO_PAGES: &str = "%!PS-Adobe-3.0\n%%Pages: 2\n%%EndComments\n\
+    %%Page: 1 1\n(0) pop\nshowpage\n%%Page: 2 2\n(1) pop\nshowpage\n%%Trailer\n%%EOF\n";
+
+/// The second page on A4, a blank, and the first page on A5.
+const MADE_SHEET: &str = "%%Page: 1 1\n\
+    %%PageMedia: x\n\
+    userdict /ImposeSave save put\n\
+    userdict /showpage {} put\n\
+    [1 0 0 1 0 0] concat\n\
+    newpath 0 0 moveto 595 0 lineto 595 842 lineto 0 842 lineto closepath clip newpath\n\
+    (1) pop\n\
+    showpage\n\
+    ImposeSave restore\n\
+    userdict /ImposeSave save put\n\
+    userdict /showpage {} put\n\
+    [1 0 0 1 0 0] concat\n\
+    newpath 0 0 moveto 420 0 lineto 420 595 lineto 0 595 lineto closepath clip newpath\n\
+    (0) pop\n\
+    showpage\n\
+    ImposeSave restore\n\
+    % end\n\
+    showpage\n";
+
+/// The item that leaves a page as it is.
+fn as_it_is() -> Item {
+    Item {
+        page: 0,
+        from_end: false,
+        turn: Turn::None,
+        scale: Number::ONE,
+        offset: (Measure::ZERO, Measure::ZERO),
+    }
+}
+
+/// One sheet of three slots.
+fn one_sheet(alloc: Global, first: Paper, last: Paper) -> Result<MadeSheets, Fail> {
+    let slots = [
+        MadeSlot::Placed {
+            page: 1,
+            item: as_it_is(),
+            paper: first,
+        },
+        MadeSlot::Blank,
+        MadeSlot::Placed {
+            page: 0,
+            item: as_it_is(),
+            paper: last,
+        },
+    ];
+    let mut sheets = MadeSheets::new(alloc);
+    sheets.push(&first, &slots)?;
+    Ok(sheets)
+}
+
+/// A line at the start of the sheet, and one at its end.
+fn two_lines(alloc: Global) -> Result<Dress, Fail> {
+    let mut start = Lines::new(alloc);
+    start.push(b"%%PageMedia: x")?;
+    let mut finish = Lines::new(alloc);
+    finish.push(b"% end")?;
+    let mut dress = Dress::new(alloc, Lines::new(alloc));
+    dress.push(SheetLines { start, finish })?;
+    Ok(dress)
+}
+
+/// The text of the sheet.
+fn text_of_sheet<R: Abort>(
+    rt: &R,
+    alloc: Global,
+    sheets: &MadeSheets,
+    dress: &Dress,
+) -> Result<Vec<u8>, Fail> {
+    let document = Document::read(alloc, TWO_PAGES.as_bytes())?;
+    let plan = Plan::of_sheets(alloc, document.pages(), sheets)?;
+    if plan.sheets() != 1 {
+        panic!(rt; "there are {} sheets", plan.sheets());
+    }
+    if dress.len() != sheets.len() {
+        panic!(rt; "{} sheets have lines", dress.len());
+    }
+    let job = Job::made(&plan, &document, sheets, None, dress);
+    Ok(sheet_text(alloc, &job, 0)?)
+}
+
+#[test]
+fn a_sheet_that_was_made(rt: HostRuntime) -> Result<(), Fail> {
+    let a4 = paper_by_name("a4").expect(&rt, "a4 is a paper");
+    let a5 = paper_by_name("a5").expect(&rt, "a5 is a paper");
+    let sheets = one_sheet(rt.alloc(), a4, a5)?;
+    let dress = two_lines(rt.alloc())?;
+    let text = text_of_sheet(&rt, rt.alloc(), &sheets, &dress)?;
+    assert_eq!(rt; text.as_slice(), MADE_SHEET.as_bytes());
+    Ok(())
+}
