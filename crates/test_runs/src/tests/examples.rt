@@ -1,6 +1,6 @@
 //! Worked examples of runs: small documents, many pages, wide sheets, signatures, refusals, sinks, and threads that
 //! meet.
-mod made_sheets;
+mod made_plans;
 mod many_pages;
 mod refusals;
 mod signatures;
