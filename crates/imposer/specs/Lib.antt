@@ -8,5 +8,6 @@ pub mod Runs
 pub mod Gathering
 pub mod Tokens
 pub mod Rooms
+pub mod Windows
 pub mod Joining
 pub mod Promises

@@ -1,7 +1,9 @@
 //! Which sheets may be imposed now.
-ghost use Rattle.std.specs.Prelude.{◌≡◌, ◌<◌, ◌↔◌, IfSome, IfNone, OnOk, OnErr, IsTrue};
+ghost use Rattle.std.specs.Prelude.{◌≡◌, ◌<◌, ◌≤◌, ◌↔◌, IfSome, IfNone, OnOk, OnErr, IsTrue, length, if◌then◌else◌};
 ghost use Rattle.std.specs.FinSet as set;
+ghost use Rattle.core.specs.Duration.{as_nanos};
 ghost use Rattle.sheet_set.specs.Numbers.{IsFirst, HasNoneBelow};
+ghost use Rattle.imposer.specs.Windows.{window_len};
 
 use crate::options::Workers;
 use crossbeam_utils::{Backoff, CachePadded};
@@ -54,9 +56,16 @@ pub(crate) struct Window {
 impl Window {
     /// A window of about half a megabyte of text, of a job whose slots have so many bytes. Two sheets at least, and one
     /// for each imposer, lie in it.
-    pub(crate) fn new(job: &Job<'_, '_>, workers: Workers, bytes: usize) -> Self {
-        let text = bytes / (job.sheets() as usize).max(1);
-        let fitting = (BYTES_AHEAD / text.saturating_add(BYTES_BESIDE)).min(MOST_SHEETS) as u32;
+    ///
+    /// A run's end rests on the step: all sheets of a window may be imposed without a word, so a step that is no longer is
+    /// reached, and then the window moves on.
+    pub(crate) fn new(job: &Job<'_, '_>, workers: Workers, bytes: usize) -> Self
+        ensures len { result.len ≡ window_len (length job.now.plan.sheets) workers.imposers bytes }
+        ensures step { (0 < result.step) × (result.step ≤ result.len) }
+        ensures batch { (0 < result.batch) × (result.batch ≤ result.len) }
+    {
+        let text = (bytes / (job.sheets() as usize).max(1)).min(BYTES_AHEAD);
+        let fitting = (BYTES_AHEAD / (text + BYTES_BESIDE)).min(MOST_SHEETS) as u32;
         let len = fitting.max(workers.imposers).max(2);
         let share = job.sheets() / workers.imposers.max(1);
         Window {
@@ -109,7 +118,7 @@ impl Window {
         self.lifted.store(true, SeqCst);
     }
 
-    /// Yields or sleeps a little. Nobody wakes who sleeps.
+    /// Yields or sleeps a little: 400 microseconds at most. Nobody wakes who sleeps.
     pub(crate) fn rest<R: Wait>(&self, rt: &R, idling: &mut Idling) {
         if self.step == 1 && !idling.backoff.is_completed() {
             idling.backoff.snooze();
@@ -123,11 +132,7 @@ impl Window {
         Idling {
             backoff: Backoff::new(),
             nap: SHORTEST_NAP,
-            longest: if self.step == 1 {
-                SHORTEST_NAP
-            } else {
-                LONGEST_NAP
-            },
+            grows: self.step > 1,
         }
     }
 }
@@ -138,9 +143,10 @@ impl Window {
 #[derive(Drop)]
 pub(crate) struct Idling {
     backoff: Backoff,
-    /// The length of the next nap and of the longest, in microseconds.
+    /// The length of the next nap, in microseconds, as far as naps may be so long.
     nap: u64,
-    longest: u64,
+    /// Whether naps grow longer.
+    grows: bool,
 }
 
 impl Idling {
@@ -150,10 +156,18 @@ impl Idling {
     }
 
     /// How long to sleep now.
-    fn next_nap(&mut self) -> Duration {
-        let nap = Duration::from_micros(self.nap);
-        self.nap = self.nap.saturating_mul(2).min(self.longest);
-        nap
+    fn next_nap(&mut self) -> Duration
+        ensures most { as_nanos result ≤ (if self.old.grows then 400_000 else 50_000) }
+        ensures grows { self.new.grows ≡ self.old.grows }
+    {
+        let longest = if self.grows {
+            LONGEST_NAP
+        } else {
+            SHORTEST_NAP
+        };
+        let nap = self.nap.min(longest);
+        self.nap = nap.saturating_mul(2);
+        Duration::from_micros(nap)
     }
 }
 

@@ -1,6 +1,6 @@
 //! Reading a whole input.
 ghost use Rattle.std.specs.Prelude.{◌≡◌, ◌+◌, ◌<◌, ◌≤◌, IfOk, IfErr, OnOk, OnErr, vec_len};
-ghost use Rattle.std.specs.Prelude.{length, take, drop};
+ghost use Rattle.std.specs.Prelude.{length, take, drop, max};
 ghost use Rattle.std.specs.Io.KnownBytes.{Consumes, IsAtEnd, Keeps};
 ghost use Rattle.input.specs.Input.{ConsumesAtMost, Counts, Fills, IsFaultOf, IsFirst, most_bytes};
 ghost use Rattle.input.specs.declared.read.ReadFault.TheVariants.{Device, NoMemory};
@@ -90,6 +90,7 @@ fn fill_more<S: Source>(
     requires most { vec_len bytes.old ≤ MOST_BYTES }
     ensures front { take filled bytes.new.items ≡ take filled bytes.old.items }
     ensures most { vec_len bytes.new ≤ MOST_BYTES }
+    ensures ahead { vec_len bytes.new ≤ max (vec_len bytes.old) (filled + (262_144 + 65_536)) }
     ensures within { IfOk result (λ k. filled + k ≤ vec_len bytes.new) }
     ensures moved { IfOk result (λ k.
         Consumes (S.remaining source.old) (S.remaining source.new) (take k (drop filled bytes.new.items))
@@ -110,6 +111,9 @@ fn make_room(bytes: &mut Vec<u8>, filled: usize) -> Result<(), AllocError>
     ensures front { take filled bytes.new.items ≡ take filled bytes.old.items }
     ensures most { vec_len bytes.new ≤ MOST_BYTES }
     ensures room { OnOk result (filled < vec_len bytes.new) }
+
+    // No more than a piece, and what is offered at least, is made ready ahead of what was read.
+    ensures ahead { vec_len bytes.new ≤ max (vec_len bytes.old) (filled + (262_144 + 65_536)) }
 {
     let len = bytes.len();
     if len - filled < least_room(len) && len < MOST_BYTES {
@@ -123,7 +127,8 @@ fn make_room(bytes: &mut Vec<u8>, filled: usize) -> Result<(), AllocError>
 
 /// How much room is wanted in a buffer of this length. The first piece is filled to its end.
 fn least_room(len: usize) -> usize
-    ensures { 0 < result }
+    ensures some { 0 < result }
+    ensures few { result ≤ 65_536 }
 {
     if len <= FIRST_PIECE { 1 } else { LEAST_ROOM }
 }
@@ -133,6 +138,7 @@ fn next_len(len: usize) -> usize
     requires { len < MOST_BYTES }
     ensures more { len < result }
     ensures most { result ≤ MOST_BYTES }
+    ensures piece { result ≤ len + 262_144 }
 {
     if len == 0 {
         FIRST_PIECE

@@ -6,3 +6,4 @@ pub mod Opened
 pub mod Ropes
 pub mod LineEnds
 pub mod HemKinds
+pub mod Rooming

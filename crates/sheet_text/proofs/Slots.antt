@@ -47,7 +47,7 @@ page_within plan sheets s k n None sound of lt pages at = tt
 page_within plan sheets s k n (Some placed) sound of lt pages at =
     let below = page_there plan sheets s k placed.page (item_of placed.item.now) placed.paper.now sound of lt at in omega (arith, below, pages)
 
-there : (xs : List MadeSlot) (k : ℕ) → k < length xs → (it : MadeSlot) × (slice_get xs k ≡ Some it)
+pub there : (xs : List MadeSlot) (k : ℕ) → k < length xs → (it : MadeSlot) × (slice_get xs k ≡ Some it)
 there [] k h = absurd (omega arith)
 there (x ∷ xs) zero h = (x, refl)
 there (x ∷ xs) (suc k) h = there xs k (omega arith)

@@ -9,15 +9,27 @@ use lengths::{Grains, Paper};
 use pagespec::{Item, Measure};
 use placement::opening_text;
 use std::alloc::{AllocError, Global};
+use std::marker::Model;
 
 /// How many texts are kept at most.
 const MOST_KEPT: usize = 64;
 
-/// The texts before placed pages, each printed once and kept. Sheets have few items, and repeat them.
+/// The texts before placed pages, each printed once and kept, 64 of them at most. Sheets have few items, and repeat them.
+/// A contract sees how many are kept.
 #[derive(Drop)]
 pub struct Openings {
     alloc: Global,
     kept: Vec<Opening>,
+}
+
+impl Model for Openings {
+    ghost use Rattle.std.specs.Prelude.{ℕ, ◌≤◌, vec_len};
+
+    ghost Value = { ℕ };
+
+    ghost view = { λ o. vec_len o.kept };
+
+    ghost invariant = { λ o. vec_len o.kept ≤ 64 };
 }
 
 /// What stands before a page that is placed by this item on this paper, with a border of this width if there is one.
@@ -33,7 +45,9 @@ struct Opening {
 
 impl Openings {
     /// No texts yet. It takes no memory.
-    pub fn new(alloc: Global) -> Openings {
+    pub fn new(alloc: Global) -> Openings
+        ensures { result ≡ 0 }
+    {
         Openings {
             alloc,
             kept: Vec::new(alloc),

@@ -1,5 +1,5 @@
 //! The text of a sheet.
-ghost use Rattle.std.specs.Prelude.{◌≡◌, ℕ, ◌+◌, ◌<◌, ◌++◌, List, IfOk, OnOk, codes, decimal, length, Some, slice_get};
+ghost use Rattle.std.specs.Prelude.{◌≡◌, ℕ, ◌+◌, ◌<◌, ◌≤◌, ◌++◌, List, IfOk, OnOk, codes, decimal, length, Some, slice_get};
 ghost use Rattle.rules.specs.Bytes.{line};
 ghost use Rattle.rules.specs.Parts.{pages};
 ghost use Rattle.made_sheets.specs.Made.{MadeSlot, Placed};
@@ -11,6 +11,7 @@ ghost use Rattle.rules.specs.Filters.{prepared};
 ghost use Rattle.rules.specs.Output.{opening_text as opening, closing_text as closing};
 ghost use Rattle.sheet_plan.specs.Plans.{pages_on};
 ghost use Rattle.sheet_text.specs.Jobs.{page_line, sheet_of, slots_of, slots_text, text_of};
+ghost use Rattle.sheet_text.specs.Rooms.{most_room, slot_room};
 
 use crate::job::Job;
 use crate::openings::Openings;
@@ -72,6 +73,7 @@ pub fn end_sheet(text: &mut Rope<'_>, job: &Job<'_, '_>, sheet: u32) -> Result<(
 /// it is made.
 fn likely_len(job: &Job<'_, '_>, sheet: u32) -> usize
     requires { sheet < length job.now.plan.sheets }
+    ensures { result ≤ most_room job.now sheet }
 {
     let lines = job
         .start(sheet)
@@ -79,14 +81,25 @@ fn likely_len(job: &Job<'_, '_>, sheet: u32) -> usize
         .saturating_add(job.finish(sheet).len());
     let mut len = lines.saturating_add(64);
     for slot in 0..job.plan().slots(sheet) {
-        if let Some(placed) = job.placed(sheet, slot) {
-            let body = job.document().page(placed.page).len();
-            let copied = if body < LEAST_BORROWED { body } else { 0 };
-            // The texts round a placed page have a few hundred bytes.
-            len = len.saturating_add(copied).saturating_add(512);
-        }
+        len = len.saturating_add(likely_slot_len(job, sheet, slot));
     }
     len
+}
+
+/// About how many bytes are copied for a slot: those of a page that isn't borrowed, and the texts round it, which have a
+/// few hundred bytes. None for a blank one.
+fn likely_slot_len(job: &Job<'_, '_>, sheet: u32, slot: u16) -> usize
+    requires sheet { sheet < length job.now.plan.sheets }
+    requires slot { slot < length (pages_on job.now.plan sheet) }
+    ensures { (it : MadeSlot) → slice_get (slots_of job.now sheet) slot ≡ Some it
+        → result ≤ slot_room (pages job.now.units) it }
+{
+    let Some(placed) = job.placed(sheet, slot) else {
+        return 0;
+    };
+    let body = job.document().page(placed.page).len();
+    let copied = if body < LEAST_BORROWED { body } else { 0 };
+    copied.saturating_add(512)
 }
 
 /// Appends the line that begins a sheet. Sheets are counted from 0, and from 1 in the text.
