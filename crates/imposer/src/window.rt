@@ -1,7 +1,7 @@
 //! Which sheets may be imposed now.
 ghost use Rattle.std.specs.Prelude.{◌≡◌, ◌<◌, ◌≤◌, ◌↔◌, IfSome, IfNone, OnOk, OnErr, IsTrue, length, if◌then◌else◌};
 ghost use Rattle.std.specs.FinSet as set;
-ghost use Rattle.core.specs.Duration.{as_nanos};
+ghost use Rattle.std.specs.Duration.{as_nanos};
 ghost use Rattle.sheet_set.specs.Numbers.{IsFirst, HasNoneBelow};
 ghost use Rattle.imposer.specs.Windows.{window_len};
 

@@ -6,6 +6,7 @@ mod examples;
 mod gates;
 mod growth;
 mod handed_back;
+mod refused_puts;
 mod sinks;
 mod windows;
 

@@ -1,5 +1,8 @@
 //! An output that is created when its first byte is to be written.
-ghost use Rattle.std.specs.Prelude.{◌≡◌, [], true, None, if◌then◌else◌, is_some, option_and_then, option_map};
+ghost use Rattle.std.specs.Prelude.{◌≡◌, ◌+◌, ◌≤◌, [], true, None, if◌then◌else◌, is_some, option_and_then, option_map};
+ghost use Rattle.std.specs.Prelude.{IfOk, OnErr};
+ghost use Rattle.std.specs.Io.{WritesAtMost};
+ghost use Rattle.std.specs.Io.KnownBytes.{WriteAppends};
 ghost use Rattle.world.specs.Outputs.{is_bare, told_if};
 
 use crate::world::World;
@@ -44,7 +47,15 @@ impl<'n, W: World> Write for Late<'n, W> {
         then (if is_bare late.written late.cause then None else option_and_then W.Output.contents late.output)
         else option_and_then (λ world. told_if (W.tells world) (option_map (λ n. n.now) late.name) []) late.world };
 
-    fn write(&mut self, bytes: &[u8]) -> io::Result<usize> {
+    fn write(&mut self, bytes: &[u8]) -> io::Result<usize>
+        ensures bound { WritesAtMost result bytes.now }
+        ensures bytes { WriteAppends (⟦<Late<'n, W> as Write>⟧.contents self.old) (⟦<Late<'n, W> as Write>⟧.contents self.new)
+            result bytes.now }
+        // It counts what was taken, and nothing else.
+        ensures counted { IfOk result (λ count. self.old.written + count ≤ u64.MAX
+            → self.new.written ≡ self.old.written + count) }
+        ensures uncounted { OnErr result (self.new.written ≡ self.old.written) }
+    {
         if bytes.is_empty() {
             return Ok(0);
         }

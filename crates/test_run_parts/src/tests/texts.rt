@@ -6,7 +6,7 @@ use dsc::Document;
 use lengths::{Grains, Paper, paper_by_name};
 use pagespec::read_spec;
 use sheet_plan::Plan;
-use sheet_text::{Job, Rope, sheet_rope};
+use sheet_text::{Job, Rope, begin_sheet, sheet_rope};
 use std::alloc::Global;
 use std::process::Abort;
 use std::test::Fail;
@@ -88,6 +88,41 @@ fn a_sheet_asks_for_little_more_room_than_its_text(rt: HostRuntime) -> Result<()
     let room = 64 + ONE_PAGE.len() + 512;
     if text.capacity() > room {
         panic!(rt; "{} bytes of room", text.capacity());
+    }
+    Ok(())
+}
+
+/// The room of a text that was given so much, and the room of the text of the one sheet that is begun in its memory.
+fn rooms_of_one<R: Abort>(
+    rt: &R,
+    alloc: Global,
+    paper: Paper,
+    before: usize,
+) -> Result<(usize, usize), Fail> {
+    let spec = read_spec(alloc, "0")?;
+    let document = Document::read(alloc, ONE_PAGE.as_bytes())?;
+    let plan = Plan::new(alloc, &spec, document.pages())?;
+    if plan.sheets() != 1 {
+        panic!(rt; "one page stands on {} sheets", plan.sheets());
+    }
+    let job = Job::new(&plan, &document, paper, None);
+    let mut spent = Rope::new(alloc);
+    spent.reserve(before)?;
+    let had = spent.capacity();
+    let text = begin_sheet(spent, &job, 0)?;
+    Ok((had, text.capacity()))
+}
+
+#[test]
+fn a_text_that_is_used_again_keeps_its_room(rt: HostRuntime) -> Result<(), Fail> {
+    let a4 = paper_by_name("a4").expect(&rt, "a4 is a paper");
+    let likely = 64 + ONE_PAGE.len() + 512;
+    for before in [0usize, 1, 100, 500, 600, 660, 700, 10_000] {
+        let (had, has) = rooms_of_one(&rt, rt.alloc(), a4, before)?;
+        // Memory that is too small may be doubled.
+        if has < had || has > had.max(2 * likely) {
+            panic!(rt; "{has} bytes of room, where {had} were");
+        }
     }
     Ok(())
 }

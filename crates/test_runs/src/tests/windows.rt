@@ -32,7 +32,7 @@ const BACKWARD: &str = "-0";
 const BLANK_LAST: &str = "7:0,1,2,3,4,5,6";
 
 /// Six pages of comments.
-fn large_pages(alloc: Global) -> Result<String, AllocError> {
+pub(super) fn large_pages(alloc: Global) -> Result<String, AllocError> {
     let mut text = String::from_str(alloc, "%!PS-Adobe-3.0\n")?;
     let lines = "% a line\n".repeat(alloc, PAGE_LEN / 9 + 1)?;
     for page in 1..=PAGES {
