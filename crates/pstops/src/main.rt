@@ -6,9 +6,9 @@ use pstops_cli::{CommandFault, Fault, fault_line, pstops};
 use std::alloc::Global;
 use std::env;
 use std::env::Env;
-use std::io::{ErrorKind, Write};
+use std::io::ErrorKind;
 use std::process::ExitCode;
-use world::Host;
+use world::{Host, tell};
 
 fn main(rt: HostRuntime) -> ExitCode {
     let alloc = rt.alloc();
@@ -20,9 +20,7 @@ fn main(rt: HostRuntime) -> ExitCode {
         }
         Err(fault) => ending_of(alloc, fault),
     };
-    // If standard error takes no line there is nobody to tell.
-    let _ = rt.stderr().write_all(line.as_slice());
-    ExitCode::from(status)
+    ExitCode::from(tell(&mut rt.stderr(), line.as_slice(), status))
 }
 
 // The words after the program's name. Words that are no UTF-8 text are a bad command line.

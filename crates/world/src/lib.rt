@@ -5,10 +5,12 @@ mod host;
 mod late;
 mod opened;
 mod sink;
+mod told;
 mod world;
 
 pub use host::{Host, HostInput, HostOutput};
 pub use late::Late;
 pub use opened::Opened;
 pub use sink::{Buffered, abandon, buffered, created_late, write_out};
+pub use told::tell;
 pub use world::{Refused, World};

@@ -5,6 +5,8 @@ ghost use Rattle.world.specs.Outputs.{told_if};
 use std::alloc::Global;
 use std::io;
 use std::io::{ErrorKind, Read, Write};
+use std::sync::atomic::AtomicU32;
+use std::sync::atomic::Ordering::SeqCst;
 use world::{Refused, World};
 
 /// What the outputs of a world take.
@@ -12,6 +14,8 @@ use world::{Refused, World};
 pub enum Takes {
     /// So many bytes; a write of more fails.
     Bytes(usize),
+    /// Every byte, but only so many in a call.
+    Pieces(usize),
     /// Each byte, but flushing fails.
     NoFlush,
     /// Nothing: no output can be created.
@@ -22,6 +26,8 @@ pub enum Takes {
 #[derive(Drop)]
 pub struct InMemory<'a> {
     pub alloc: Global,
+    /// How many inputs were to be opened.
+    pub opened: &'a AtomicU32,
     pub name: &'a str,
     pub text: &'a str,
     pub takes: Takes,
@@ -49,6 +55,7 @@ impl<'a> World for InMemory<'a> {
     ghost tells = { λ _. true };
 
     fn open(&self, name: Option<&str>) -> io::Result<Given<'a>> {
+        self.opened.fetch_add(1, SeqCst);
         match name {
             None => Ok(Given { rest: &[] }),
             Some(name) if name == self.name => Ok(Given {
@@ -93,6 +100,7 @@ impl Write for Written {
     fn write(&mut self, bytes: &[u8]) -> io::Result<usize> {
         let room = match self.takes {
             Takes::Bytes(most) => most.saturating_sub(self.bytes.len()),
+            Takes::Pieces(most) => most,
             _ => bytes.len(),
         };
         if room == 0 && !bytes.is_empty() {

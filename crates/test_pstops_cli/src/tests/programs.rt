@@ -4,11 +4,15 @@ use super::in_memory::{InMemory, Takes, Written};
 use super::{ONE_PAGE, words_of};
 use pstops_cli::{Ended, pstops};
 use std::alloc::{AllocError, Global};
+use std::io::{ErrorKind, Write};
 use std::process::Abort;
-use std::str;
 use std::sync::Wait;
+use std::sync::atomic::AtomicU32;
+use std::sync::atomic::Ordering::SeqCst;
 use std::test::Fail;
 use std::thread::Threads;
+use std::{io, str};
+use world::tell;
 
 /// Room for every output.
 const AMPLE: Takes = Takes::Bytes(100_000);
@@ -16,17 +20,19 @@ const AMPLE: Takes = Takes::Bytes(100_000);
 /// The line of each output that can't be created, written or flushed.
 const CANNOT_WRITE: &str = "pstops: cannot write output\n";
 
-/// Runs the program over a world with this document as the file `in.ps`.
+/// Runs the program over a world with this document as the file `in.ps`, and counts the inputs that it opens.
 fn ended<'a, R: Threads + Wait + Sync>(
     rt: &R,
     alloc: Global,
     words: &[&str],
     document: &'a str,
     takes: Takes,
+    opened: &'a AtomicU32,
 ) -> Result<Ended<InMemory<'a>>, AllocError> {
     let words = words_of(alloc, words)?;
     let world = InMemory {
         alloc,
+        opened,
         name: "in.ps",
         text: document,
         takes,
@@ -67,16 +73,17 @@ fn name_of(output: &Written) -> Option<&str> {
 #[test]
 fn sheets_stand_under_the_name_that_is_asked_for(rt: HostRuntime) -> Result<(), Fail> {
     let words = ["-q", "0", "in.ps", "out.ps"];
-    let end = ended(&rt, rt.alloc(), &words, ONE_PAGE, AMPLE)?;
+    let opened = AtomicU32::new(0);
+    let end = ended(&rt, rt.alloc(), &words, ONE_PAGE, AMPLE, &opened)?;
     assert_told(&rt, &end, 0, "");
     assert_created(&rt, &end, Some("out.ps"), ONE_SHEET);
     let words = [TWO_UP, "in.ps"];
-    let end = ended(&rt, rt.alloc(), &words, TWO_PAGES, AMPLE)?;
+    let end = ended(&rt, rt.alloc(), &words, TWO_PAGES, AMPLE, &opened)?;
     assert_told(&rt, &end, 0, "pstops: pages 2, sheets 1, bytes 503\n");
     assert_created(&rt, &end, None, TWO_PAGES_ON_A_SHEET);
     // Both may be one file.
     let words = ["-q", "0", "in.ps", "in.ps"];
-    let end = ended(&rt, rt.alloc(), &words, ONE_PAGE, AMPLE)?;
+    let end = ended(&rt, rt.alloc(), &words, ONE_PAGE, AMPLE, &opened)?;
     assert_told(&rt, &end, 0, "");
     assert_created(&rt, &end, Some("in.ps"), ONE_SHEET);
     Ok(())
@@ -84,40 +91,88 @@ fn sheets_stand_under_the_name_that_is_asked_for(rt: HostRuntime) -> Result<(), 
 
 #[test]
 fn nothing_is_created_before_the_input_is_read(rt: HostRuntime) -> Result<(), Fail> {
-    let rows: [(&[&str], u8, &str); 3] = [
+    let words = ["0", "other.ps", "out.ps"];
+    let opened = AtomicU32::new(0);
+    let end = ended(&rt, rt.alloc(), &words, ONE_PAGE, AMPLE, &opened)?;
+    assert_told(&rt, &end, 3, "pstops: cannot read input\n");
+    assert_none_created(&rt, &end);
+    assert_eq!(rt; opened.load(SeqCst), 1);
+    Ok(())
+}
+
+#[test]
+fn mistakes_in_the_words_are_told_before_an_input_is_opened(rt: HostRuntime) -> Result<(), Fail> {
+    let rows: [(&[&str], &str); 2] = [
         (
             &["-j", "17", "0", "in.ps", "out.ps"],
-            2,
             "pstops: bad command line\n",
         ),
         (
             &["-p", "a99", "0", "in.ps", "out.ps"],
-            2,
             "pstops: unknown paper\n",
         ),
-        (
-            &["0", "other.ps", "out.ps"],
-            3,
-            "pstops: cannot read input\n",
-        ),
     ];
-    for (words, status, line) in rows {
-        let end = ended(&rt, rt.alloc(), words, ONE_PAGE, AMPLE)?;
-        assert_told(&rt, &end, status, line);
+    for (words, line) in rows {
+        let opened = AtomicU32::new(0);
+        let end = ended(&rt, rt.alloc(), words, ONE_PAGE, AMPLE, &opened)?;
+        assert_told(&rt, &end, 2, line);
         assert_none_created(&rt, &end);
+        assert_eq!(rt; opened.load(SeqCst), 0);
     }
+    Ok(())
+}
+
+// What a call doesn't take comes again in the next one, and the report has the bytes that were taken.
+#[test]
+fn an_output_that_takes_a_few_bytes_in_a_call(rt: HostRuntime) -> Result<(), Fail> {
+    let words = ["0", "in.ps", "out.ps"];
+    let line = format!(in rt.alloc(); "pstops: pages 1, sheets 1, bytes {}\n", ONE_SHEET.len())?;
+    for most in [1usize, 2, 7, 100, 272, 273, 274] {
+        let takes = Takes::Pieces(most);
+        let opened = AtomicU32::new(0);
+        let end = ended(&rt, rt.alloc(), &words, ONE_PAGE, takes, &opened)?;
+        assert_told(&rt, &end, 0, &line);
+        assert_created(&rt, &end, Some("out.ps"), ONE_SHEET);
+    }
+    Ok(())
+}
+
+/// A writer that takes no byte.
+#[derive(Drop)]
+struct Closed {}
+
+impl Write for Closed {
+    fn write(&mut self, _bytes: &[u8]) -> io::Result<usize> {
+        Err(io::Error::from(ErrorKind::BrokenPipe))
+    }
+
+    fn flush(&mut self) -> io::Result<()> {
+        Err(io::Error::from(ErrorKind::BrokenPipe))
+    }
+}
+
+#[test]
+fn a_report_that_is_not_taken_changes_no_status(rt: HostRuntime) -> Result<(), Fail> {
+    let words = ["0", "in.ps", "out.ps"];
+    let opened = AtomicU32::new(0);
+    let end = ended(&rt, rt.alloc(), &words, ONE_PAGE, AMPLE, &opened)?;
+    assert_created(&rt, &end, Some("out.ps"), ONE_SHEET);
+    assert_eq!(rt; tell(&mut Closed {}, end.line.as_slice(), end.status), 0);
+    let end = ended(&rt, rt.alloc(), &words, ONE_PAGE, Takes::Nothing, &opened)?;
+    assert_eq!(rt; tell(&mut Closed {}, end.line.as_slice(), end.status), 3);
     Ok(())
 }
 
 #[test]
 fn a_run_that_is_refused_leaves_an_empty_output(rt: HostRuntime) -> Result<(), Fail> {
     let words = ["2:2", "in.ps", "out.ps"];
-    let end = ended(&rt, rt.alloc(), &words, ONE_PAGE, AMPLE)?;
+    let opened = AtomicU32::new(0);
+    let end = ended(&rt, rt.alloc(), &words, ONE_PAGE, AMPLE, &opened)?;
     let line = "pstops: specification: item 0: page number not below modulo\n";
     assert_told(&rt, &end, 1, line);
     assert_created(&rt, &end, Some("out.ps"), "");
     // Standard input is empty.
-    let end = ended(&rt, rt.alloc(), &["0"], ONE_PAGE, AMPLE)?;
+    let end = ended(&rt, rt.alloc(), &["0"], ONE_PAGE, AMPLE, &opened)?;
     assert_told(&rt, &end, 1, "pstops: input is not PostScript\n");
     assert_created(&rt, &end, None, "");
     Ok(())
@@ -126,10 +181,11 @@ fn a_run_that_is_refused_leaves_an_empty_output(rt: HostRuntime) -> Result<(), F
 #[test]
 fn an_output_that_cannot_be_created_or_flushed(rt: HostRuntime) -> Result<(), Fail> {
     let words = ["0", "in.ps", "out.ps"];
-    let end = ended(&rt, rt.alloc(), &words, ONE_PAGE, Takes::Nothing)?;
+    let opened = AtomicU32::new(0);
+    let end = ended(&rt, rt.alloc(), &words, ONE_PAGE, Takes::Nothing, &opened)?;
     assert_told(&rt, &end, 3, CANNOT_WRITE);
     assert_none_created(&rt, &end);
-    let end = ended(&rt, rt.alloc(), &words, ONE_PAGE, Takes::NoFlush)?;
+    let end = ended(&rt, rt.alloc(), &words, ONE_PAGE, Takes::NoFlush, &opened)?;
     assert_told(&rt, &end, 3, CANNOT_WRITE);
     assert_created(&rt, &end, Some("out.ps"), ONE_SHEET);
     Ok(())
@@ -144,7 +200,8 @@ fn assert_cut_off<R: Threads + Wait + Abort + Sync>(
     most: usize,
 ) -> Result<(), Fail> {
     let words = ["-q", "0", "in.ps", "out.ps"];
-    let end = ended(rt, alloc, &words, document, Takes::Bytes(most))?;
+    let opened = AtomicU32::new(0);
+    let end = ended(rt, alloc, &words, document, Takes::Bytes(most), &opened)?;
     if most < sheets.len() {
         assert_told(rt, &end, 3, CANNOT_WRITE);
     } else {
