@@ -46,31 +46,6 @@ impl<E: Tells> Play<(), View> for Calls<E> {
     ghost then = { calls E.entry };
 }
 
-/// Ghost parameter, chosen in the proof of each call; no code: a share to give away.
-pub trait Picks {
-    ghost use Rattle.std.specs.Prelude.{ℕ};
-
-    ghost number: { ℕ };
-}
-
-impl Picks for Brand {
-    ghost number = { 1 };
-}
-
-/// A split: the number is the share that is given.
-pub(crate) struct Cut<N: Picks> {
-    of: PhantomData<N>,
-}
-
-impl<N: Picks> Split<View> for Cut<N> {
-    ghost use Rattle.std.specs.Prelude.{[]};
-    ghost use Rattle.histories.specs.Seats.{keeps_back, given};
-
-    ghost left = { λ v. keeps_back v.own N.number v };
-
-    ghost right = { given [] N.number };
-}
-
 /// A join.
 pub(crate) struct Both;
 
@@ -92,8 +67,8 @@ impl Play<(), View> for Learns {
     ghost then = { learns };
 }
 
-/// Ghost parameter, chosen in the proof of each call; no code: the own places of two seats that meet, and the share of
-/// the second.
+/// Ghost parameter, chosen in the proof of each call; no code: the own places of the two seats that one becomes, and the
+/// share of the second.
 pub trait Parts {
     ghost use Rattle.std.specs.Prelude.{ℕ, List};
 
@@ -114,12 +89,12 @@ impl Parts for Brand {
     ghost share = { 1 };
 }
 
-/// The end of a meeting: two seats that were joined are two again, each with its own places and its share.
-pub(crate) struct Again<P: Parts> {
+/// A split: one seat becomes two, each with its own places and its share.
+pub(crate) struct Parted<P: Parts> {
     of: PhantomData<P>,
 }
 
-impl<P: Parts> Split<View> for Again<P> {
+impl<P: Parts> Split<View> for Parted<P> {
     ghost use Rattle.histories.specs.Seats.{keeps_back, given};
 
     ghost left = { keeps_back P.first P.share };

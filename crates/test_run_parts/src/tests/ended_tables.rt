@@ -1,9 +1,10 @@
 //! Tables that are taken apart, and what their words show.
-use super::tables::{bring_one, plan_of, same_items, spec_of};
+use super::tables::{bring_one, plan_of, spec_of};
 use gather_table::GatherTable;
 use sheet_plan::Plan;
 use std::alloc::{AllocError, Global};
 use std::test::Fail;
+use test_tools::same_items;
 
 // The word of a table, as it is left behind a slot of the first sheet whose page came at index 5; None if the table has
 // no such word.

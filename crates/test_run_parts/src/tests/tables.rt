@@ -1,5 +1,5 @@
 //! Worked examples, on the table for one thread and on the shared one.
-ghost use Rattle.std.specs.Prelude.{◌≡◌, ◌<◌, true};
+ghost use Rattle.std.specs.Prelude.{◌≡◌, ◌<◌, IfSome, true};
 ghost use Rattle.rules.specs.Sheets.{layout};
 ghost use Rattle.gather_table.specs.Shared.{IsSeatOf};
 ghost use Rattle.gather_table.specs.Table.{HasGroup};
@@ -7,12 +7,13 @@ ghost use Rattle.gather_table.specs.Table.{HasGroup};
 use gather_table::{Closing, GatherTable, PlainTable, Published, Reply, Seat};
 use pagespec::{Spec, read_spec};
 use sheet_plan::Plan;
-use std::alloc::{AllocError, Global};
+use std::alloc::Global;
 use std::marker::{Brand, PhantomData};
 use std::process::Abort;
 use std::test::Fail;
 use std::thread;
 use std::thread::Threads;
+use test_tools::same_items;
 
 // A look that shows all of 64 slots, or groups, as missing.
 const ALL: u64 = 18_446_744_073_709_551_615;
@@ -141,6 +142,21 @@ fn close_checked(
     Some(table.close_group(seat, sheet, group))
 }
 
+// The page of a slot, if the slot is there and isn't blank.
+fn page_in(plan: &Plan, sheet: u32, slot: u16) -> Option<u32>
+    ensures { IfSome result (λ page. page < (layout plan.now).pages) }
+{
+    if sheet >= plan.sheets() || slot >= plan.slots(sheet) {
+        return None;
+    }
+    let page = plan.page_of(sheet, slot)?;
+    if page < plan.pages() {
+        Some(page)
+    } else {
+        None
+    }
+}
+
 // Publishes the page of a slot, if it has one, and marks the slot.
 pub(super) fn bring_one(
     table: &GatherTable,
@@ -154,13 +170,7 @@ pub(super) fn bring_one(
     requires seat { IsSeatOf table.now seat.old }
     ensures { IsSeatOf table.now seat.new }
 {
-    if sheet >= plan.sheets() || slot >= plan.slots(sheet) {
-        return None;
-    }
-    let page = plan.page_of(sheet, slot)?;
-    if page >= plan.pages() {
-        return None;
-    }
+    let page = page_in(plan, sheet, slot)?;
     table.publish(seat, page, index);
     mark_checked(table, plan, seat, sheet, slot)
 }
@@ -211,21 +221,6 @@ fn bring_two<T: OfTable>(
 }
 
 // The same in two threads, each with a part of the seat. Both seats meet and are joined in the end.
-fn bring_in_two_threads<R: Threads + Sync>(
-    rt: &R,
-    table: &GatherTable,
-    plan: &Plan,
-    seat: Seat,
-    here: [(u32, u16); 2],
-    there: [(u32, u16); 2],
-) -> (u64, Answers, Answers)
-    requires plan { table.now.layout ≡ layout plan.now }
-    requires seat { IsSeatOf table.now seat }
-    requires share { 1 < seat.share }
-{
-    bring_apart::<Brand, R>(rt, table, plan, seat, here, there)
-}
-
 fn bring_apart<T: OfTable + Send, R: Threads + Sync>(
     rt: &R,
     table: &GatherTable,
@@ -320,18 +315,6 @@ pub(super) fn plan_of<'s, R: Abort>(rt: &R, alloc: Global, spec: &'s Spec, pages
         panic!(rt; "a plan is refused")
     };
     plan
-}
-
-// A group of items that are all the same.
-pub(super) fn same_items(alloc: Global, item: &str, count: u32) -> Result<String, AllocError> {
-    let mut text = String::new(alloc);
-    for at in 0..count {
-        if at > 0 {
-            text.push_str("+")?;
-        }
-        text.push_str(item)?;
-    }
-    Ok(text)
 }
 
 // One sheet with two pages: the calls of one caller, and what each answers.
@@ -485,133 +468,91 @@ fn shows_64_groups<R: Abort, C: Calls>(rt: &R, table: &mut C) {
     assert_eq!(rt; table.look_group(0, 64), None);
 }
 
-#[test]
-fn one_caller_brings_two_pages(rt: HostRuntime) -> Result<(), Fail> {
-    let spec = spec_of(&rt, rt.alloc(), "2:0+1");
-    let plan = plan_of(&rt, rt.alloc(), &spec, 2);
-    let table = PlainTable::new(rt.alloc(), &plan)?;
-    brings_two_pages(&rt, &mut OneThread { table, plan: &plan });
-    let (table, seat) = GatherTable::new(rt.alloc(), &plan)?;
-    brings_two_pages(
-        &rt,
-        &mut Caller {
-            table: &table,
-            plan: &plan,
-            seat,
-        },
-    );
-    Ok(())
+// The calls of one caller.
+#[derive(Clone, Copy)]
+enum Story {
+    TwoPages,
+    PageBesideABlank,
+    PageTo64Slots,
+    PageTo65Slots,
+    PageTo128Slots,
+    PageTo129Slots,
+    PageTo4095Slots,
+    PageBehindABlankGroup,
+    SixtyFourGroups,
 }
 
-#[test]
-fn a_blank_slot_counts_as_marked(rt: HostRuntime) -> Result<(), Fail> {
-    let spec = spec_of(&rt, rt.alloc(), "2:1+0");
-    let plan = plan_of(&rt, rt.alloc(), &spec, 1);
-    let table = PlainTable::new(rt.alloc(), &plan)?;
-    brings_a_page_beside_a_blank(&rt, &mut OneThread { table, plan: &plan });
-    let (table, seat) = GatherTable::new(rt.alloc(), &plan)?;
-    brings_a_page_beside_a_blank(
-        &rt,
-        &mut Caller {
-            table: &table,
-            plan: &plan,
-            seat,
-        },
-    );
-    Ok(())
-}
-
-// The calls of one caller on a sheet with a page in each of so many slots.
-fn brings_a_page_to<R: Abort, C: Calls>(rt: &R, table: &mut C, slots: u32) {
-    match slots {
-        64 => brings_a_page_to_64_slots(rt, table),
-        65 => brings_a_page_to_65_slots(rt, table),
-        128 => brings_a_page_to_128_slots(rt, table),
-        129 => brings_a_page_to_129_slots(rt, table),
-        4_095 => brings_a_page_to_4095_slots(rt, table),
-        _ => panic!(rt; "no calls for {slots} slots"),
+impl Story {
+    fn tell<R: Abort, C: Calls>(self, rt: &R, table: &mut C) {
+        match self {
+            Story::TwoPages => brings_two_pages(rt, table),
+            Story::PageBesideABlank => brings_a_page_beside_a_blank(rt, table),
+            Story::PageTo64Slots => brings_a_page_to_64_slots(rt, table),
+            Story::PageTo65Slots => brings_a_page_to_65_slots(rt, table),
+            Story::PageTo128Slots => brings_a_page_to_128_slots(rt, table),
+            Story::PageTo129Slots => brings_a_page_to_129_slots(rt, table),
+            Story::PageTo4095Slots => brings_a_page_to_4095_slots(rt, table),
+            Story::PageBehindABlankGroup => brings_a_page_behind_a_blank_group(rt, table),
+            Story::SixtyFourGroups => shows_64_groups(rt, table),
+        }
     }
 }
 
-// Both tables answer these calls as they should.
-fn assert_brought<R: Abort>(rt: &R, alloc: Global, slots: u32) -> Result<(), Fail> {
-    let text = same_items(alloc, "0", slots)?;
-    let spec = spec_of(rt, alloc, text.as_str());
-    let plan = plan_of(rt, alloc, &spec, 1);
+// Both tables answer these calls as they should, of a document of so many pages.
+fn in_both<R: Abort>(
+    rt: &R,
+    alloc: Global,
+    text: &str,
+    pages: u32,
+    story: Story,
+) -> Result<(), Fail> {
+    let spec = spec_of(rt, alloc, text);
+    let plan = plan_of(rt, alloc, &spec, pages);
     let table = PlainTable::new(alloc, &plan)?;
-    brings_a_page_to(rt, &mut OneThread { table, plan: &plan }, slots);
+    story.tell(rt, &mut OneThread { table, plan: &plan });
     let (table, seat) = GatherTable::new(alloc, &plan)?;
     let mut caller = Caller {
         table: &table,
         plan: &plan,
         seat,
     };
-    brings_a_page_to(rt, &mut caller, slots);
+    story.tell(rt, &mut caller);
     Ok(())
 }
 
 #[test]
-fn a_sheet_of_64_slots_is_completed_by_a_mark(rt: HostRuntime) -> Result<(), Fail> {
-    assert_brought(&rt, rt.alloc(), 64)
+fn one_caller_brings_two_pages(rt: HostRuntime) -> Result<(), Fail> {
+    in_both(&rt, rt.alloc(), "2:0+1", 2, Story::TwoPages)
 }
 
 #[test]
-fn a_wide_sheet_is_completed_by_closings(rt: HostRuntime) -> Result<(), Fail> {
-    assert_brought(&rt, rt.alloc(), 65)
+fn a_blank_slot_counts_as_marked(rt: HostRuntime) -> Result<(), Fail> {
+    in_both(&rt, rt.alloc(), "2:1+0", 1, Story::PageBesideABlank)
 }
 
+// One sheet with a page in each of so many slots. Of at most 64 the last mark completes the sheet; of more, groups of 64
+// are filled by marks and closed, and the last closing completes it.
 #[test]
-fn two_whole_groups_are_filled_and_closed(rt: HostRuntime) -> Result<(), Fail> {
-    assert_brought(&rt, rt.alloc(), 128)
-}
-
-#[test]
-fn a_third_group_has_a_slot(rt: HostRuntime) -> Result<(), Fail> {
-    assert_brought(&rt, rt.alloc(), 129)
-}
-
-#[test]
-fn a_last_group_has_63_slots(rt: HostRuntime) -> Result<(), Fail> {
-    assert_brought(&rt, rt.alloc(), 4_095)
+fn a_page_in_every_slot(rt: HostRuntime) -> Result<(), Fail> {
+    for (slots, story) in [
+        (64, Story::PageTo64Slots),
+        (65, Story::PageTo65Slots),
+        (128, Story::PageTo128Slots),
+        (129, Story::PageTo129Slots),
+        (4_095, Story::PageTo4095Slots),
+        (4_096, Story::SixtyFourGroups),
+    ] {
+        let text = same_items(rt.alloc(), "0", slots)?;
+        in_both(&rt, rt.alloc(), &text, 1, story)?;
+    }
+    Ok(())
 }
 
 #[test]
 fn a_group_of_blank_slots_is_closed_from_the_start(rt: HostRuntime) -> Result<(), Fail> {
     let blanks = same_items(rt.alloc(), "1", 64)?;
     let text = format!(in rt.alloc(); "2:{}+0", blanks.as_str())?;
-    let spec = spec_of(&rt, rt.alloc(), text.as_str());
-    let plan = plan_of(&rt, rt.alloc(), &spec, 1);
-    let table = PlainTable::new(rt.alloc(), &plan)?;
-    brings_a_page_behind_a_blank_group(&rt, &mut OneThread { table, plan: &plan });
-    let (table, seat) = GatherTable::new(rt.alloc(), &plan)?;
-    brings_a_page_behind_a_blank_group(
-        &rt,
-        &mut Caller {
-            table: &table,
-            plan: &plan,
-            seat,
-        },
-    );
-    Ok(())
-}
-
-#[test]
-fn a_sheet_of_4096_slots_has_64_groups(rt: HostRuntime) -> Result<(), Fail> {
-    let text = same_items(rt.alloc(), "0", 4_096)?;
-    let spec = spec_of(&rt, rt.alloc(), text.as_str());
-    let plan = plan_of(&rt, rt.alloc(), &spec, 1);
-    let table = PlainTable::new(rt.alloc(), &plan)?;
-    shows_64_groups(&rt, &mut OneThread { table, plan: &plan });
-    let (table, seat) = GatherTable::new(rt.alloc(), &plan)?;
-    shows_64_groups(
-        &rt,
-        &mut Caller {
-            table: &table,
-            plan: &plan,
-            seat,
-        },
-    );
-    Ok(())
+    in_both(&rt, rt.alloc(), &text, 1, Story::PageBehindABlankGroup)
 }
 
 #[test]
@@ -703,19 +644,24 @@ fn a_seat_finds_what_another_published_when_they_meet(rt: HostRuntime) -> Result
     Ok(())
 }
 
+// Two threads bring these slots of a plan.
+fn bring_by_two<R: Threads + Sync + Abort>(
+    rt: &R,
+    alloc: Global,
+    text: &str,
+    pages: u32,
+    here: [(u32, u16); 2],
+    there: [(u32, u16); 2],
+) -> Result<(u64, Answers, Answers), Fail> {
+    let spec = spec_of(rt, alloc, text);
+    let plan = plan_of(rt, alloc, &spec, pages);
+    let (table, seat) = GatherTable::new(alloc, &plan)?;
+    Ok(bring_apart::<Brand, R>(rt, &table, &plan, seat, here, there))
+}
+
 #[test]
 fn two_threads_complete_a_sheet_once(rt: HostRuntime) -> Result<(), Fail> {
-    let spec = spec_of(&rt, rt.alloc(), "2:0+1");
-    let plan = plan_of(&rt, rt.alloc(), &spec, 2);
-    let (table, seat) = GatherTable::new(rt.alloc(), &plan)?;
-    let (share, one, two) = bring_in_two_threads(
-        &rt,
-        &table,
-        &plan,
-        seat,
-        [(0, 0); 2],
-        [(0, 1); 2],
-    );
+    let (share, one, two) = bring_by_two(&rt, rt.alloc(), "2:0+1", 2, [(0, 0); 2], [(0, 1); 2])?;
     assert_eq!(rt; share, 4_294_967_296);
     let first = (Some(Reply::Fresh), Some(Reply::Repeated));
     let last = (Some(Reply::Completing), Some(Reply::Repeated));
@@ -725,17 +671,7 @@ fn two_threads_complete_a_sheet_once(rt: HostRuntime) -> Result<(), Fail> {
 
 #[test]
 fn two_threads_bring_the_same_page(rt: HostRuntime) -> Result<(), Fail> {
-    let spec = spec_of(&rt, rt.alloc(), "0");
-    let plan = plan_of(&rt, rt.alloc(), &spec, 1);
-    let (table, seat) = GatherTable::new(rt.alloc(), &plan)?;
-    let (_share, one, two) = bring_in_two_threads(
-        &rt,
-        &table,
-        &plan,
-        seat,
-        [(0, 0); 2],
-        [(0, 0); 2],
-    );
+    let (_share, one, two) = bring_by_two(&rt, rt.alloc(), "0", 1, [(0, 0); 2], [(0, 0); 2])?;
     let first = (Some(Reply::Completing), Some(Reply::Repeated));
     let last = (Some(Reply::Repeated), Some(Reply::Repeated));
     assert!(rt; (one, two) == (first, last) || (one, two) == (last, first));
@@ -744,17 +680,9 @@ fn two_threads_bring_the_same_page(rt: HostRuntime) -> Result<(), Fail> {
 
 #[test]
 fn two_threads_on_one_word_do_not_disturb_each_other(rt: HostRuntime) -> Result<(), Fail> {
-    let spec = spec_of(&rt, rt.alloc(), "2:0+1");
-    let plan = plan_of(&rt, rt.alloc(), &spec, 4);
-    let (table, seat) = GatherTable::new(rt.alloc(), &plan)?;
-    let (_share, one, two) = bring_in_two_threads(
-        &rt,
-        &table,
-        &plan,
-        seat,
-        [(0, 0), (0, 1)],
-        [(1, 0), (1, 1)],
-    );
+    let here = [(0, 0), (0, 1)];
+    let there = [(1, 0), (1, 1)];
+    let (_share, one, two) = bring_by_two(&rt, rt.alloc(), "2:0+1", 4, here, there)?;
     let completed = (Some(Reply::Fresh), Some(Reply::Completing));
     assert_eq!(rt; one, completed);
     assert_eq!(rt; two, completed);

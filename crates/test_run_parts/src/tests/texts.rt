@@ -3,40 +3,14 @@ ghost use Rattle.std.specs.Prelude.{IsTrue};
 ghost use Rattle.sheet_text.specs.Jobs.{is_border};
 
 use dsc::Document;
-use lengths::{Grains, Paper, paper_by_name};
+use lengths::{Grains, Paper, a4};
 use pagespec::read_spec;
 use sheet_plan::Plan;
 use sheet_text::{Job, Rope, begin_sheet, sheet_rope};
 use std::alloc::Global;
 use std::process::Abort;
 use std::test::Fail;
-
-/// One page.
-const ONE_PAGE: &str =
-    "%!PS-Adobe-3.0\n%%Pages: 1\n%%EndComments\n%%Page: 1 1\n(0) pop\nshowpage\n%%Trailer\n%%EOF\n";
-
-/// The page on a sheet of A4.
-const ONE_SHEET: &str = "%%Page: 1 1\n\
-    userdict /ImposeSave save put\n\
-    userdict /showpage {} put\n\
-    [1 0 0 1 0 0] concat\n\
-    newpath 0 0 moveto 595 0 lineto 595 842 lineto 0 842 lineto closepath clip newpath\n\
-    (0) pop\n\
-    showpage\n\
-    ImposeSave restore\n\
-    showpage\n";
-
-/// The same with a border of one point.
-const BORDERED_SHEET: &str = "%%Page: 1 1\n\
-    userdict /ImposeSave save put\n\
-    userdict /showpage {} put\n\
-    [1 0 0 1 0 0] concat\n\
-    newpath 0 0 moveto 595 0 lineto 595 842 lineto 0 842 lineto closepath clip newpath\n\
-    gsave 1 setlinewidth newpath 0 0 moveto 595 0 lineto 595 842 lineto 0 842 lineto closepath stroke grestore\n\
-    (0) pop\n\
-    showpage\n\
-    ImposeSave restore\n\
-    showpage\n";
+use test_tools::{A4_SIDES, ONE_PAGE, border, one_up_sheet};
 
 /// The text of the one sheet of the document.
 fn text_of_one<R: Abort>(
@@ -59,31 +33,27 @@ fn text_of_one<R: Abort>(
 
 #[test]
 fn a_sheet_of_one_page(rt: HostRuntime) -> Result<(), Fail> {
-    let a4 = paper_by_name("a4").expect(&rt, "a4 is a paper");
-    let text = text_of_one(&rt, rt.alloc(), a4, None)?;
-    assert_eq!(rt; text.to_vec(rt.alloc())?.as_slice(), ONE_SHEET.as_bytes());
+    let text = text_of_one(&rt, rt.alloc(), a4(), None)?;
+    let wanted = one_up_sheet(rt.alloc(), "")?;
+    assert_eq!(rt; text.to_vec(rt.alloc())?.as_slice(), wanted.as_bytes());
     Ok(())
 }
 
 #[test]
 fn a_sheet_with_a_border(rt: HostRuntime) -> Result<(), Fail> {
-    let a4 = paper_by_name("a4").expect(&rt, "a4 is a paper");
-    let border = Grains::new(127_000_000_000).expect(&rt, "one point");
-    if border.get() <= 0 {
+    let point = Grains::new(127_000_000_000).expect(&rt, "one point");
+    if point.get() <= 0 {
         panic!(rt; "a point is no width");
     }
-    let text = text_of_one(&rt, rt.alloc(), a4, Some(border))?;
-    assert_eq!(rt;
-        text.to_vec(rt.alloc())?.as_slice(),
-        BORDERED_SHEET.as_bytes()
-    );
+    let text = text_of_one(&rt, rt.alloc(), a4(), Some(point))?;
+    let wanted = one_up_sheet(rt.alloc(), &border(rt.alloc(), A4_SIDES, "1")?)?;
+    assert_eq!(rt; text.to_vec(rt.alloc())?.as_slice(), wanted.as_bytes());
     Ok(())
 }
 
 #[test]
 fn a_sheet_asks_for_little_more_room_than_its_text(rt: HostRuntime) -> Result<(), Fail> {
-    let a4 = paper_by_name("a4").expect(&rt, "a4 is a paper");
-    let text = text_of_one(&rt, rt.alloc(), a4, None)?;
+    let text = text_of_one(&rt, rt.alloc(), a4(), None)?;
     // 64 bytes, those of the document, of which the page is a part, and 512 round it.
     let room = 64 + ONE_PAGE.len() + 512;
     if text.capacity() > room {

@@ -3,7 +3,7 @@ ghost use Rattle.std.specs.Prelude.{◌<◌, length};
 ghost use Rattle.sheet_writer.specs.Writing.{AreEarly};
 
 use dsc::Document;
-use lengths::paper_by_name;
+use lengths::a4;
 use pagespec::read_spec;
 use sheet_plan::Plan;
 use sheet_text::{Job, Rope, sheet_rope};
@@ -15,64 +15,7 @@ use std::alloc::{AllocError, Global};
 use std::io::{self, ErrorKind, Write};
 use std::process::Abort;
 use std::test::Fail;
-
-/// Four pages.
-const FOUR_PAGES: &str = "%!PS-Adobe-3.0\n\
-    %%Pages: 4\n\
-    %%EndComments\n\
-    %%Page: 1 1\n\
-    (0) pop\n\
-    showpage\n\
-    %%Page: 2 2\n\
-    (1) pop\n\
-    showpage\n\
-    %%Page: 3 3\n\
-    (2) pop\n\
-    showpage\n\
-    %%Page: 4 4\n\
-    (3) pop\n\
-    showpage\n\
-    %%Trailer\n\
-    %%EOF\n";
-
-/// Two pages on one sheet, turned to the left.
-const TWO_UP: &str = "2:0L@.7(21cm,0)+1L@.7(21cm,14.85cm)";
-
-/// The four pages, two on each of two sheets, with the trailer behind them.
-const TURNED_PAIRS: &str = "%%Page: 1 1\n\
-    userdict /ImposeSave save put\n\
-    userdict /showpage {} put\n\
-    [0 0.7 -0.7 0 595.27559 0] concat\n\
-    newpath 0 0 moveto 595 0 lineto 595 842 lineto 0 842 lineto closepath clip newpath\n\
-    (0) pop\n\
-    showpage\n\
-    ImposeSave restore\n\
-    userdict /ImposeSave save put\n\
-    userdict /showpage {} put\n\
-    [0 0.7 -0.7 0 595.27559 420.94488] concat\n\
-    newpath 0 0 moveto 595 0 lineto 595 842 lineto 0 842 lineto closepath clip newpath\n\
-    (1) pop\n\
-    showpage\n\
-    ImposeSave restore\n\
-    showpage\n\
-    %%Page: 2 2\n\
-    userdict /ImposeSave save put\n\
-    userdict /showpage {} put\n\
-    [0 0.7 -0.7 0 595.27559 0] concat\n\
-    newpath 0 0 moveto 595 0 lineto 595 842 lineto 0 842 lineto closepath clip newpath\n\
-    (2) pop\n\
-    showpage\n\
-    ImposeSave restore\n\
-    userdict /ImposeSave save put\n\
-    userdict /showpage {} put\n\
-    [0 0.7 -0.7 0 595.27559 420.94488] concat\n\
-    newpath 0 0 moveto 595 0 lineto 595 842 lineto 0 842 lineto closepath clip newpath\n\
-    (3) pop\n\
-    showpage\n\
-    ImposeSave restore\n\
-    showpage\n\
-    %%Trailer\n\
-    %%EOF\n";
+use test_tools::{TWO_UP, document_of, two_up_sheets};
 
 #[test]
 fn a_sink_that_has_answered_its_calls_fails(rt: HostRuntime) -> Result<(), Fail> {
@@ -139,16 +82,22 @@ fn write_anew(alloc: Global, job: &Job<'_, '_>, sink: &mut MemorySink) -> Result
     Ok(rest)
 }
 
+/// Four pages, two on each of two sheets, with the trailer behind them.
+fn sheets_and_trailer(alloc: Global) -> Result<String, AllocError> {
+    let sheets = two_up_sheets(alloc, 2)?;
+    format!(in alloc; "{sheets}%%Trailer\n%%EOF\n")
+}
+
 #[test]
 fn what_never_came_is_made_and_counted(rt: HostRuntime) -> Result<(), Fail> {
     let spec = read_spec(rt.alloc(), TWO_UP)?;
-    let document = Document::read(rt.alloc(), FOUR_PAGES.as_bytes())?;
+    let text = document_of(rt.alloc(), 4)?;
+    let document = Document::read(rt.alloc(), text.as_bytes())?;
     let plan = Plan::new(rt.alloc(), &spec, document.pages())?;
-    let a4 = paper_by_name("a4").expect(&rt, "a4 is a paper");
-    let job = Job::new(&plan, &document, a4, None);
+    let job = Job::new(&plan, &document, a4(), None);
     let mut sink = MemorySink::new(rt.alloc(), 2_000, 2_000, 100)?;
     let rest = write_anew(rt.alloc(), &job, &mut sink)?;
-    assert_eq!(rt; sink.bytes(), TURNED_PAIRS.as_bytes());
+    assert_eq!(rt; sink.bytes(), sheets_and_trailer(rt.alloc())?.as_bytes());
     assert_eq!(rt; (rest.swept, rest.progress.written), (2, 910));
     Ok(())
 }
@@ -232,9 +181,9 @@ fn assert_given_back<R: Abort>(rt: &R, alloc: Global, job: &Job<'_, '_>) -> Resu
 #[test]
 fn written_texts_are_given_back(rt: HostRuntime) -> Result<(), Fail> {
     let spec = read_spec(rt.alloc(), TWO_UP)?;
-    let document = Document::read(rt.alloc(), FOUR_PAGES.as_bytes())?;
+    let text = document_of(rt.alloc(), 4)?;
+    let document = Document::read(rt.alloc(), text.as_bytes())?;
     let plan = Plan::new(rt.alloc(), &spec, document.pages())?;
-    let a4 = paper_by_name("a4").expect(&rt, "a4 is a paper");
-    let job = Job::new(&plan, &document, a4, None);
+    let job = Job::new(&plan, &document, a4(), None);
     Ok(assert_given_back(&rt, rt.alloc(), &job)?)
 }

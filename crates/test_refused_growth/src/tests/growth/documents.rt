@@ -1,10 +1,10 @@
 //! Documents, their texts, and prepared pages.
-use super::{MOST, has_refused, refuse};
 use dsc::{Document, DscError, prepare};
 use handover::Prepared;
 use std::alloc::Global;
 use std::process::Abort;
 use std::test::Fail;
+use test_tools::{MOST_GROWTHS, has_refused, refuse};
 
 /// A page with another document in it. Lines end in CR.
 const EMBEDDED: &str =
@@ -92,7 +92,7 @@ fn documents_and_bodies(rt: HostRuntime) -> Result<(), Fail> {
     let mut calls = [true; 5];
     let (_, page) = EMBEDDED.split_at(5);
     let (_, block) = DATA.split_at(12);
-    for number in 1..MOST {
+    for number in 1..MOST_GROWTHS {
         for (call, goes_on) in calls.iter_mut().enumerate() {
             if *goes_on {
                 *goes_on = match call {

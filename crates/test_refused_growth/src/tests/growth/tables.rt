@@ -1,6 +1,4 @@
 //! Tables, queues and shelves that are made, and a page that is put on a shelf.
-use super::super::BOOKLET;
-use super::{MOST, has_refused, refuse};
 use gather_table::{GatherTable, PlainTable};
 use handover::{Prepared, PutError, Ready, Shelf};
 use pagespec::read_spec;
@@ -9,6 +7,7 @@ use std::alloc::Global;
 use std::process::Abort;
 use std::sync::Wait;
 use std::test::Fail;
+use test_tools::{BOOKLET, MOST_GROWTHS, has_refused, refuse, same_items};
 
 /// Both tables of a plan; of a sheet of 65 slots too.
 fn make_tables<R: Abort>(rt: &R, alloc: Global, number: u32, items: &str) -> Result<bool, Fail> {
@@ -123,12 +122,9 @@ fn put_behind<R: Abort + Wait>(rt: &R, alloc: Global, number: u32) -> Result<boo
 
 #[test]
 fn tables_queues_and_shelves(rt: HostRuntime) -> Result<(), Fail> {
-    let mut wide = String::from_str(rt.alloc(), "0")?;
-    for _ in 1..65u32 {
-        wide.push_str("+0")?;
-    }
+    let wide = same_items(rt.alloc(), "0", 65)?;
     let mut calls = [true; 5];
-    for number in 1..MOST {
+    for number in 1..MOST_GROWTHS {
         for (call, goes_on) in calls.iter_mut().enumerate() {
             if *goes_on {
                 *goes_on = match call {

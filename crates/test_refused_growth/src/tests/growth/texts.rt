@@ -1,13 +1,12 @@
 //! Specifications, plans, and texts that are appended to a vector.
-use super::super::{BOOKLET, a4};
-use super::{MOST, has_refused, refuse};
-use lengths::{Grains, Number, Paper, print_number, print_points, print_scale};
+use lengths::{Grains, Number, Paper, a4, print_number, print_points, print_scale};
 use pagespec::{Item, SpecError, read_spec, write_spec};
 use placement::{closing_text, matrix_of, matrix_text, opening_text};
 use sheet_plan::{Plan, PlanError};
 use std::alloc::{AllocError, Global};
 use std::process::Abort;
 use std::test::Fail;
+use test_tools::{A4_SIDES, BOOKLET, MOST_GROWTHS, border, has_refused, opening, refuse};
 
 /// Reads the specification; whether a growth was refused in the call.
 fn read_booklet<R: Abort>(rt: &R, alloc: Global, number: u32) -> Result<bool, Fail> {
@@ -76,7 +75,7 @@ fn plan_signatures<R: Abort>(rt: &R, alloc: Global, number: u32) -> Result<bool,
 #[test]
 fn specifications_and_plans(rt: HostRuntime) -> Result<(), Fail> {
     let mut calls = [true; 5];
-    for number in 1..MOST {
+    for number in 1..MOST_GROWTHS {
         for (call, goes_on) in calls.iter_mut().enumerate() {
             if *goes_on {
                 *goes_on = match call {
@@ -93,6 +92,9 @@ fn specifications_and_plans(rt: HostRuntime) -> Result<(), Fail> {
     Ok(())
 }
 
+/// The matrix of a page that is moved by half its width to the right and by an inch down.
+const MOVED: &str = "1 0 0 1 297.5 -72";
+
 /// What is appended.
 #[derive(Clone, Copy, Debug)]
 enum Text {
@@ -107,19 +109,19 @@ enum Text {
 
 impl Text {
     /// What it is of half a page to the right and an inch down, on A4; of a part of seven tenths; of half a point.
-    fn wanted(self) -> &'static str {
+    fn wanted(self, alloc: Global) -> Result<String, AllocError> {
         match self {
-            Text::Points => "0.5",
-            Text::Scale => "0.7",
-            Text::Number => ".7",
-            Text::Matrix => "[1 0 0 1 297.5 -72]",
-            Text::Opening => {
-                "userdict /ImposeSave save put\nuserdict /showpage {} put\n[1 0 0 1 297.5 -72] concat\nnewpath 0 0 moveto 595 0 lineto 595 842 lineto 0 842 lineto closepath clip newpath\n"
-            }
+            Text::Points => String::from_str(alloc, "0.5"),
+            Text::Scale => String::from_str(alloc, "0.7"),
+            Text::Number => String::from_str(alloc, ".7"),
+            Text::Matrix => format!(in alloc; "[{MOVED}]"),
+            Text::Opening => opening(alloc, A4_SIDES, MOVED),
             Text::BorderedOpening => {
-                "userdict /ImposeSave save put\nuserdict /showpage {} put\n[1 0 0 1 297.5 -72] concat\nnewpath 0 0 moveto 595 0 lineto 595 842 lineto 0 842 lineto closepath clip newpath\ngsave 0.5 setlinewidth newpath 0 0 moveto 595 0 lineto 595 842 lineto 0 842 lineto closepath stroke grestore\n"
+                let mut text = opening(alloc, A4_SIDES, MOVED)?;
+                text.push_str(&border(alloc, A4_SIDES, "0.5")?)?;
+                Ok(text)
             }
-            Text::Closing => "ImposeSave restore\n",
+            Text::Closing => String::from_str(alloc, "ImposeSave restore\n"),
         }
     }
 
@@ -144,9 +146,10 @@ fn append_to_one<R: Abort>(
     alloc: Global,
     number: u32,
     text: Text,
+    wanted: &str,
     item: &Item,
 ) -> Result<bool, Fail> {
-    let paper = a4(rt);
+    let paper = a4();
     let mut out = Vec::with_capacity(alloc, 1)?;
     out.push(b'x')?;
     refuse(alloc, number);
@@ -157,7 +160,7 @@ fn append_to_one<R: Abort>(
         panic!(rt; "{text:?}: the vector is empty");
     };
     assert_eq!(rt; *first, b'x', "{text:?}");
-    let wanted = if is_refused { "" } else { text.wanted() };
+    let wanted = if is_refused { "" } else { wanted };
     assert_eq!(rt; added, wanted.as_bytes(), "{text:?}");
     Ok(is_refused)
 }
@@ -180,9 +183,10 @@ fn appended_texts(rt: HostRuntime) -> Result<(), Fail> {
         Text::BorderedOpening,
         Text::Closing,
     ] {
+        let wanted = text.wanted(rt.alloc())?;
         let mut goes_on = true;
-        for number in 1..MOST {
-            goes_on = goes_on && append_to_one(&rt, rt.alloc(), number, text, item)?;
+        for number in 1..MOST_GROWTHS {
+            goes_on = goes_on && append_to_one(&rt, rt.alloc(), number, text, &wanted, item)?;
         }
         assert!(rt; !goes_on, "{text:?}");
     }

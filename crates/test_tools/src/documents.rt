@@ -1,0 +1,57 @@
+//! Documents of pages that pop their numbers.
+use std::alloc::{AllocError, Global};
+
+/// One page: `document_of` has the same.
+pub const ONE_PAGE: &str =
+    "%!PS-Adobe-3.0\n%%Pages: 1\n%%EndComments\n%%Page: 1 1\n(0) pop\nshowpage\n%%Trailer\n%%EOF\n";
+
+/// Two pages: `document_of` has the same.
+pub const TWO_PAGES: &str = "%!PS-Adobe-3.0\n\
+    %%Pages: 2\n\
+    %%EndComments\n\
+    %%Page: 1 1\n\
+    (0) pop\n\
+    showpage\n\
+    %%Page: 2 2\n\
+    (1) pop\n\
+    showpage\n\
+    %%Trailer\n\
+    %%EOF\n";
+
+/// A document of so many pages, each of which pops its number, counted from 0.
+pub fn document_of(alloc: Global, pages: u32) -> Result<String, AllocError> {
+    let mut text = String::new(alloc);
+    for page in 0..pages {
+        let number = page.saturating_add(1);
+        let heading = format!(in alloc; "%%Page: {number} {number}\n")?;
+        text.push_str(&heading)?;
+        text.push_str(&page_body(alloc, page)?)?;
+    }
+    document_with(alloc, pages, &text)
+}
+
+/// What stands on a page behind its page line.
+pub fn page_body(alloc: Global, page: u32) -> Result<String, AllocError> {
+    format!(in alloc; "({page}) pop\nshowpage\n")
+}
+
+/// A document that tells so many pages, with this text between its preamble and its trailer: pages, or the sheets that
+/// are made of them.
+pub fn document_with(alloc: Global, pages: u32, text: &str) -> Result<String, AllocError> {
+    format!(in alloc; "%!PS-Adobe-3.0\n%%Pages: {pages}\n%%EndComments\n{text}%%Trailer\n%%EOF\n")
+}
+
+/// A document of one page, or its sheet, with so many lines in the page.
+pub fn with_lines(alloc: Global, text: &str, lines: usize) -> Result<String, AllocError> {
+    let mut long = String::new(alloc);
+    let (before, behind) = match text.split_once("(0) pop\n") {
+        Some(parts) => parts,
+        None => (text, ""),
+    };
+    long.push_str(before)?;
+    for _ in 0..lines {
+        long.push_str("(0) pop\n")?;
+    }
+    long.push_str(behind)?;
+    Ok(long)
+}

@@ -1,0 +1,18 @@
+//! What tests of several crates write: documents of small pages and their sheets, specifications, and growth of memory
+//! that is refused in turn.
+#![tactic(auto)]
+
+mod documents;
+mod growth;
+mod sheets;
+mod specifications;
+#[cfg(test)]
+mod tests;
+
+pub use documents::{ONE_PAGE, TWO_PAGES, document_of, document_with, page_body, with_lines};
+pub use growth::{MOST_GROWTHS, has_refused, refuse};
+pub use sheets::{
+    A4_SIDES, UNMOVED, border, one_up_output, one_up_sheet, opening, placed, placed_on, sheet,
+    two_up_output, two_up_sheets,
+};
+pub use specifications::{BOOKLET, TWO_UP, same_items};

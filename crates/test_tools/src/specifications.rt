@@ -1,0 +1,20 @@
+//! Specifications.
+use std::alloc::{AllocError, Global};
+
+/// Two pages side by side on A4, turned to the left.
+pub const TWO_UP: &str = "2:0L@.7(21cm,0)+1L@.7(21cm,14.85cm)";
+
+/// A booklet: from the last page and the first towards the middle.
+pub const BOOKLET: &str = "4:-3L@.7(21cm,0)+0L@.7(21cm,14.85cm),1L@.7(21cm,0)+-2L@.7(21cm,14.85cm)";
+
+/// A sheet with this item in each of so many slots.
+pub fn same_items(alloc: Global, item: &str, slots: u32) -> Result<String, AllocError> {
+    let mut text = String::new(alloc);
+    for slot in 0..slots {
+        if slot > 0 {
+            text.push_str("+")?;
+        }
+        text.push_str(item)?;
+    }
+    Ok(text)
+}

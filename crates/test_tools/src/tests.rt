@@ -1,0 +1,51 @@
+//! Each text once, written out.
+use super::*;
+use std::test::Fail;
+
+#[test]
+fn documents(rt: HostRuntime) -> Result<(), Fail> {
+    assert_eq!(rt; document_of(rt.alloc(), 1)?.as_str(), ONE_PAGE);
+    assert_eq!(rt; document_of(rt.alloc(), 2)?.as_str(), TWO_PAGES);
+    let long = with_lines(rt.alloc(), ONE_PAGE, 2)?;
+    let body = "(0) pop\n(0) pop\nshowpage\n%%Trailer\n%%EOF\n";
+    assert!(rt; long.ends_with(body));
+    assert_eq!(rt; long.len(), ONE_PAGE.len() + 8);
+    Ok(())
+}
+
+/// Two pages side by side.
+const PAIR: &str = "%%Page: 1 1\n\
+    userdict /ImposeSave save put\n\
+    userdict /showpage {} put\n\
+    [0 0.7 -0.7 0 595.27559 0] concat\n\
+    newpath 0 0 moveto 595 0 lineto 595 842 lineto 0 842 lineto closepath clip newpath\n\
+    (0) pop\n\
+    showpage\n\
+    ImposeSave restore\n\
+    userdict /ImposeSave save put\n\
+    userdict /showpage {} put\n\
+    [0 0.7 -0.7 0 595.27559 420.94488] concat\n\
+    newpath 0 0 moveto 595 0 lineto 595 842 lineto 0 842 lineto closepath clip newpath\n\
+    (1) pop\n\
+    showpage\n\
+    ImposeSave restore\n\
+    showpage\n";
+
+#[test]
+fn sheets(rt: HostRuntime) -> Result<(), Fail> {
+    let pairs = two_up_sheets(rt.alloc(), 2)?;
+    assert!(rt; pairs.starts_with(PAIR));
+    assert_eq!(rt; pairs.len(), 2 * PAIR.len());
+    assert_eq!(rt;
+        border(rt.alloc(), ("2", "3"), ".5")?.as_str(),
+        "gsave .5 setlinewidth newpath 0 0 moveto 2 0 lineto 2 3 lineto 0 3 lineto closepath stroke grestore\n"
+    );
+    Ok(())
+}
+
+#[test]
+fn items(rt: HostRuntime) -> Result<(), Fail> {
+    assert_eq!(rt; same_items(rt.alloc(), "0", 3)?.as_str(), "0+0+0");
+    assert!(rt; same_items(rt.alloc(), "0", 0)?.is_empty());
+    Ok(())
+}
