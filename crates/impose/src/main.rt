@@ -2,13 +2,13 @@
 #![tactic(auto)]
 
 use impose_cli::{
-    CommandFault, Done, Fault, Request, fault_status, fault_text, impose, report_text,
+    CommandFault, Done, Fault, Request, command_text, fault_status, fault_text, impose, note_text,
+    report_text, words_text,
 };
-use std::alloc::AllocError;
-use std::env;
 use std::env::Env;
 use std::io::{ErrorKind, Write};
 use std::process::ExitCode;
+use std::{env, io};
 use world::Host;
 
 fn main(rt: HostRuntime) -> ExitCode {
@@ -21,19 +21,28 @@ fn main(rt: HostRuntime) -> ExitCode {
         }
     };
     let world = Host::new(&rt, rt.stdin(), rt.stdout());
-    let ended = impose(&rt, rt.alloc(), words.as_slice(), world);
+    let paper_size = paper_size(&rt);
+    let paper_size = paper_size.as_str().as_bytes();
+    let ended = impose(&rt, rt.alloc(), words.as_slice(), paper_size, world);
     let status = ended.status();
-    let said = match &ended.outcome {
-        Ok(done) => say_report(&rt, done, &ended.request),
+    let printed = match &ended.outcome {
+        Ok(done) => {
+            say_report(&rt, done, &ended.request);
+            Ok(())
+        }
+        Err(Fault::Command(fault)) => say_command_fault(&rt, fault, words.as_slice()),
         Err(fault) => {
             say_fault(&rt, fault, ended.request.as_ref());
             Ok(())
         }
     };
-    match said {
+    match printed {
         Ok(()) => ExitCode::from(status),
-        Err(_) => {
-            let fault = Fault::no_memory();
+        Err(cause) => {
+            let fault = Fault::Write {
+                written: 0,
+                cause: Some(cause),
+            };
             say_fault(&rt, &fault, None);
             ExitCode::from(fault_status(&fault))
         }
@@ -49,26 +58,52 @@ fn words(rt: &(impl Env + AllocGlobal)) -> Result<Vec<String>, CommandFault> {
     }
 }
 
-/// Says what was imposed, unless the request is quiet.
-fn say_report(rt: &HostRuntime, done: &Done, request: &Option<Request>) -> Result<(), AllocError> {
-    let is_quiet = matches!(request, Some(request) if request.is_quiet);
-    match done {
-        Done::Imposed(finished) if !is_quiet => {
-            let text = report_text(rt.alloc(), finished)?;
-            say(rt, text.as_str());
+/// The value of `PAPERSIZE`; nothing if it isn't set, or no text.
+fn paper_size(rt: &(impl Env + AllocGlobal)) -> String {
+    match env::var(rt, "PAPERSIZE") {
+        Ok(value) => value,
+        Err(_) => String::new(rt.alloc()),
+    }
+}
+
+/// Says what was imposed, unless the request is quiet. It is done, so without memory for the line it isn't said.
+fn say_report(rt: &HostRuntime, done: &Done, request: &Option<Request>) {
+    match (done, request) {
+        (Done::Imposed(finished), Some(request)) if !request.is_quiet => {
+            if let Ok(text) = report_text(rt.alloc(), finished, request) {
+                say(rt, text.as_str());
+            }
+            if let Ok(Some(text)) = note_text(rt.alloc(), request) {
+                say(rt, text.as_str());
+            }
+        }
+        _ => {}
+    }
+}
+
+/// Says what is wrong with the command line, or prints the help or the version that it asks for.
+fn say_command_fault(rt: &HostRuntime, fault: &CommandFault, words: &[String]) -> io::Result<()> {
+    match fault {
+        CommandFault::Words(error) if error.use_stderr() => {
+            // If standard error takes no text there is nobody to tell.
+            if let Ok(text) = words_text(rt.alloc(), error, words) {
+                let _ = rt.stderr().write_all(text.as_str().as_bytes());
+            }
             Ok(())
         }
-        _ => Ok(()),
+        CommandFault::Words(error) => error.print(rt),
+        fault => {
+            if let Ok(text) = command_text(rt.alloc(), fault) {
+                say(rt, text.as_str());
+            }
+            Ok(())
+        }
     }
 }
 
 /// Says what the fault is.
 fn say_fault(rt: &HostRuntime, fault: &Fault, request: Option<&Request>) {
     match fault {
-        // Clap's own text goes to where it belongs; if it takes none there is nobody to tell.
-        Fault::Command(CommandFault::Words(error)) => {
-            let _ = error.print(rt);
-        }
         // Whoever read the output has enough of it.
         Fault::Write {
             cause: Some(cause),

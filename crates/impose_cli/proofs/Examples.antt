@@ -7,55 +7,28 @@ use Rattle.rules.specs.Papers.{points}
 use Rattle.guard.specs.Guard.{guarded}
 use Rattle.layouts.specs.declared.error.LayoutError.TheVariants as layout
 use Rattle.layouts.specs.declared.selections.Which.TheVariants.{All, Odd, Even}
-use Rattle.dsc.specs.declared.errors.DscError.TheVariants.{NoMemory, NoPages, NotPostScript}
+use Rattle.dsc.specs.declared.errors.DscError.TheVariants.{NoMemory, NoPages, NotPostScript, TooLong}
 use Rattle.imposer.specs.declared.outcome.RunError.TheVariants as run
 use Rattle.document_paper.specs.declared.media.Comment.TheVariants.{DocumentMedia}
-use Rattle.impose_cli.specs.declared.task.PaperOrigin.TheVariants.{ByComment, Assumed}
+use Rattle.impose_cli.specs.declared.task.PaperOrigin.TheVariants.{Named, ByComment, AtHome}
 use Rattle.impose_cli.specs.declared.fault.Fault.TheVariants as fault
 use Rattle.impose_cli.specs.declared.fault.CommandFault.TheVariants as command
+use Rattle.paper_names.specs.Names.{papers}
 use Rattle.impose_cli.specs.Sizes.{size_named}
-use Rattle.impose_cli.specs.Words.{which_of, file_asked, is_folded}
+use Rattle.impose_cli.specs.Words.{which_of, file_asked, is_folded, is_outfile}
 use Rattle.impose_cli.specs.Statuses.{words_status, command_status, layout_status, fault_status}
-use Rattle.impose_cli.specs.Tasks.{own_or_a4, sheet_paper_found, taken_text, fours}
+use Rattle.impose_cli.specs.Tasks.{own_or_home, page_paper_found, sheet_paper_found, taken_text, fours}
 use Rattle.impose_cli.specs.Faults.{of_document}
 
 -- Sizes of paper.
 
-name : size_named (codes "a5") ≡ Some (points 420 595)
-name = refl
+a_size : size_named (codes "1x1in") ≡ Some (points 72 72)
+unfolding number_at papers
+a_size = refl
 
--- a name comes first, though an x stands in it
-name_with_an_x : size_named (codes "10x14") ≡ Some (points 720 1_008)
-unfolding number_at
-name_with_an_x = refl
-
-size : size_named (codes "72x1in") ≡ Some (points 72 72)
-unfolding number_at
-size = refl
-
-no_x : size_named (codes "72") ≡ None
-no_x = refl
-
-no_width : size_named (codes "x72") ≡ None
-unfolding number_at
-no_width = refl
-
-no_height : size_named (codes "72x") ≡ None
-unfolding number_at
-no_height = refl
-
--- the first x parts the sides, and a capital one doesn't
-second_x : size_named (codes "1x2x3") ≡ None
-unfolding number_at
-second_x = refl
-
-capital_x : size_named (codes "1X2") ≡ None
-unfolding number_at
-capital_x = refl
-
-side_of_no_length : size_named (codes "0x1") ≡ None
-unfolding number_at
-side_of_no_length = refl
+no_unit : size_named (codes "72x72") ≡ None
+unfolding number_at papers
+no_unit = refl
 
 -- Files and flags.
 
@@ -84,13 +57,19 @@ folded = refl
 booklets_of_one : map fours (0 ∷ 1 ∷ 3 ∷ 4 ∷ 5 ∷ 8 ∷ []) ≡ 0 ∷ 4 ∷ 4 ∷ 4 ∷ 8 ∷ 8 ∷ []
 booklets_of_one = refl
 
+outfiles : map is_outfile (None ∷ Some (codes "out.ps") ∷ Some (codes "./-q") ∷ Some (codes "-q") ∷ Some (codes "-") ∷ []) ≡ true ∷ true ∷ true ∷ false ∷ false ∷ []
+outfiles = refl
+
 -- Papers.
 
-own : own_or_a4 (Some (points 1 2, DocumentMedia)) ≡ (points 1 2, ByComment DocumentMedia)
+named : page_paper_found (Some (points 1 2)) (points 3 4) (codes "%!\n%%DocumentMedia: a 5 6\n") ≡ (points 1 2, Named)
+named = refl
+
+own : own_or_home (points 3 4) (Some (points 1 2, DocumentMedia)) ≡ (points 1 2, ByComment DocumentMedia)
 own = refl
 
-assumed : own_or_a4 None ≡ (points 595 842, Assumed)
-assumed = refl
+at_home : own_or_home (points 612 792) None ≡ (points 612 792, AtHome)
+at_home = refl
 
 sheet_named : sheet_paper_found (Some (points 1 2)) (points 3 4) ≡ points 1 2
 sheet_named = refl
@@ -120,6 +99,20 @@ shortest_pdf = refl
 no_pdf : map (of_document NotPostScript) (codes "%PDF" ∷ codes "%pdf-1.4" ∷ codes " %PDF-1.4" ∷ codes "\n" ∷ []) ≡ fault.Run (run.Document NotPostScript) ∷ fault.Run (run.Document NotPostScript) ∷ fault.Run (run.Document NotPostScript) ∷ fault.Run (run.Document NotPostScript) ∷ []
 no_pdf = refl
 
+-- two bytes tell gzip, and neither of them alone
+compressed : of_document NotPostScript (31 ∷ 139 ∷ 8 ∷ []) ≡ fault.Compressed
+compressed = refl
+
+no_gzip : map (of_document NotPostScript) ((31 ∷ []) ∷ (139 ∷ 31 ∷ []) ∷ (31 ∷ 8 ∷ 139 ∷ []) ∷ []) ≡ fault.Run (run.Document NotPostScript) ∷ fault.Run (run.Document NotPostScript) ∷ fault.Run (run.Document NotPostScript) ∷ []
+no_gzip = refl
+
+job : of_document NotPostScript (27 ∷ codes "%-12345X@PJL\n%!PS\n") ≡ fault.JobLanguage
+job = refl
+
+-- a document that is too long by itself is told apart from one that its guard makes so
+too_long : of_document TooLong (codes "%!") ≡ fault.TooLong
+too_long = refl
+
 -- another reason is said as it is
 no_pages : of_document NoPages (codes "%!") ≡ fault.Run (run.Document NoPages)
 no_pages = refl
@@ -138,5 +131,5 @@ commands = refl
 layouts : map layout_status (layout.PagesOutOfRange ∷ layout.NoPages ∷ layout.Syntax 1 ∷ layout.NoMemory ∷ []) ≡ 1 ∷ 1 ∷ 1 ∷ 3 ∷ []
 layouts = refl
 
-faults : map fault_status (fault.NoSuchPage 1 2 ∷ fault.NoInput ∷ fault.Pdf ∷ fault.Read None ∷ fault.Write 0 None ∷ []) ≡ 1 ∷ 1 ∷ 1 ∷ 3 ∷ 3 ∷ []
+faults : map fault_status (fault.NoSuchPage 1 2 ∷ fault.NoInput ∷ fault.Pdf ∷ fault.Compressed ∷ fault.JobLanguage ∷ fault.TooLong ∷ fault.Read None ∷ fault.Write 0 None ∷ []) ≡ 1 ∷ 1 ∷ 1 ∷ 1 ∷ 1 ∷ 1 ∷ 3 ∷ 3 ∷ []
 faults = refl

@@ -1,13 +1,15 @@
 -- What was found for a subcommand, and what its refusals say of the words.
-use Rattle.std.proofs.Common.{◌≡◌, ℤ, ap, ap₂, refl, inr, List, Option, Some, None, unwrap_or, true}
+use Rattle.std.proofs.Common.{◌≡◌, ℤ, ap, ap₂, refl, inr, subst, sym, List, Option, Some, None, unwrap_or, true}
 use Rattle.std.specs.Prelude.{is_some, option_map}
 use Rattle.std.specs.Box.{box_value}
 use Rattle.clap.specs.Words.{Row, Text, found_of, rows_of, subcommand_name_of, subcommand_rows, subcommand_rows_of}
 use Rattle.clap.specs.declared.parser.matches.ArgMatches.{ArgMatches}
 use Rattle.clap.specs.declared.parser.matches.ArgMatches.TheViews.{out-ArgMatches, out-SubCommand}
 use Rattle.rules.specs.Papers.{Paper}
-use Rattle.impose_cli.specs.Words.{Enters, HasPapers, HasSizes, ParseRefuses, Refuses, RefusesFound, RefusesArguments, border_found, size_found}
-use Rattle.impose_cli.specs.Sizing.{ReadsSizes, RefusesBorder, RefusesSize, RefusesSizes}
+use Rattle.impose_cli.specs.declared.request.Request.{Request}
+use Rattle.impose_cli.specs.Words.{AsksFor, Entered, Enters, HasLayout, HasPapers, HasSizes, ParseRefuses, Reads, Refuses, RefusesFound, RefusesArguments, border_found, size_found}
+use Rattle.impose_cli.specs.Sizing.{ReadsSizes, RefusesBorder, RefusesOutfile, RefusesSize, RefusesSizes}
+use Rattle.impose_cli.specs.declared.request.Layout.{Layout}
 use Rattle.impose_cli.specs.declared.fault.PaperOption.{PaperOption}
 use Rattle.impose_cli.specs.declared.fault.PaperOption.TheVariants.{Paper as OfPages, Sheet as OfSheets}
 use Rattle.impose_cli.specs.declared.fault.CommandFault.{CommandFault}
@@ -53,6 +55,7 @@ refuses_parse words fault.OddAndEven h = absurd h
 refuses_parse words (fault.UnknownPaper option text) h = absurd h
 refuses_parse words (fault.BadBorder text) h = absurd h
 refuses_parse words (fault.BadSignature sides) h = absurd h
+refuses_parse words (fault.OptionAsOutfile text) h = absurd h
 
 pub refuses_words : (words : List Text) (name : Text) (found : List Row) (f : CommandFault) → Enters words name found → RefusesFound name found f → Refuses words f
 refuses_words words name found (fault.Words error) e h = absurd h
@@ -63,6 +66,7 @@ refuses_words words name found fault.OddAndEven e h = (name, found, e, h)
 refuses_words words name found (fault.UnknownPaper option text) e h = (name, found, e, h)
 refuses_words words name found (fault.BadBorder text) e h = (name, found, e, h)
 refuses_words words name found (fault.BadSignature sides) e h = (name, found, e, h)
+refuses_words words name found (fault.OptionAsOutfile text) e h = (name, found, e, h)
 
 -- ---- a step behind the others
 
@@ -80,6 +84,7 @@ refuses_page_paper found fault.NoMemory h = tt
 refuses_page_paper found fault.Lacking h = h
 refuses_page_paper found fault.OddAndEven h = h
 refuses_page_paper found (fault.BadSignature sides) h = h
+refuses_page_paper found (fault.OptionAsOutfile text) h = h
 refuses_page_paper found (fault.Words error) h = h
 refuses_page_paper found fault.NoText h = h
 refuses_page_paper found (fault.BadBorder text) h = absurd h
@@ -94,6 +99,7 @@ refuses_sheet_paper found page_paper fault.NoMemory p h = tt
 refuses_sheet_paper found page_paper fault.Lacking p h = h
 refuses_sheet_paper found page_paper fault.OddAndEven p h = h
 refuses_sheet_paper found page_paper (fault.BadSignature sides) p h = h
+refuses_sheet_paper found page_paper (fault.OptionAsOutfile text) p h = h
 refuses_sheet_paper found page_paper (fault.Words error) p h = h
 refuses_sheet_paper found page_paper fault.NoText p h = h
 refuses_sheet_paper found page_paper (fault.BadBorder text) p h = absurd h
@@ -105,6 +111,7 @@ refuses_border found page_paper sheet_paper fault.NoMemory p s h = tt
 refuses_border found page_paper sheet_paper fault.Lacking p s h = h
 refuses_border found page_paper sheet_paper fault.OddAndEven p s h = h
 refuses_border found page_paper sheet_paper (fault.BadSignature sides) p s h = h
+refuses_border found page_paper sheet_paper (fault.OptionAsOutfile text) p s h = h
 refuses_border found page_paper sheet_paper (fault.Words error) p s h = h
 refuses_border found page_paper sheet_paper fault.NoText p s h = h
 refuses_border found page_paper sheet_paper (fault.BadBorder text) p s h = (record { page_paper = is_there _ page_paper p; sheet_paper = is_there _ sheet_paper s }, h)
@@ -117,6 +124,7 @@ refuses_sizes name found fault.NoMemory h = tt
 refuses_sizes name found fault.Lacking h = absurd h
 refuses_sizes name found fault.OddAndEven h = absurd h
 refuses_sizes name found (fault.BadSignature sides) h = absurd h
+refuses_sizes name found (fault.OptionAsOutfile text) h = absurd h
 refuses_sizes name found (fault.Words error) h = h
 refuses_sizes name found fault.NoText h = h
 
@@ -134,3 +142,39 @@ refuses_arguments name found page_paper sheet_paper border (fault.Words error) r
 refuses_arguments name found page_paper sheet_paper border fault.NoText r h = h
 refuses_arguments name found page_paper sheet_paper border (fault.UnknownPaper option text) r h = absurd h
 refuses_arguments name found page_paper sheet_paper border (fault.BadBorder text) r h = absurd h
+refuses_arguments name found page_paper sheet_paper border (fault.OptionAsOutfile text) r h = absurd h
+
+pub refuses_outfile : (name : Text) (found : List Row) (page_paper sheet_paper : Option Paper) (border : Option ℤ) (layout : Layout) (f : CommandFault)
+    → ReadsSizes found page_paper sheet_paper border → AsksFor name found layout → RefusesOutfile found f → RefusesFound name found f
+refuses_outfile name found page_paper sheet_paper border layout (fault.OptionAsOutfile text) r a h =
+    (record { sizes = has_sizes found page_paper sheet_paper border r; layout = layout; asked = a }, h)
+refuses_outfile name found page_paper sheet_paper border layout fault.NoMemory r a h = tt
+refuses_outfile name found page_paper sheet_paper border layout (fault.UnknownPaper option text) r a h = absurd h
+refuses_outfile name found page_paper sheet_paper border layout (fault.BadBorder text) r a h = absurd h
+refuses_outfile name found page_paper sheet_paper border layout fault.Lacking r a h = absurd h
+refuses_outfile name found page_paper sheet_paper border layout fault.OddAndEven r a h = absurd h
+refuses_outfile name found page_paper sheet_paper border layout (fault.BadSignature sides) r a h = absurd h
+refuses_outfile name found page_paper sheet_paper border layout (fault.Words error) r a h = h
+refuses_outfile name found page_paper sheet_paper border layout fault.NoText r a h = h
+
+-- ---- the paper at home
+
+-- it is no matter of the words
+reads_at_home : (name : Text) (found : List Row) (r : Request) (home : Paper) → Reads name found r → Reads name found (record r { home_paper = home })
+reads_at_home name found r home h = record {
+  layout = h.layout;
+  page_paper = h.page_paper;
+  sheet_paper = h.sheet_paper;
+  border = h.border;
+  guarded = h.guarded;
+  printed = h.printed;
+  quiet = h.quiet;
+  infile = h.infile;
+  outfile = h.outfile;
+  no_option = h.no_option;
+}
+
+pub entered_at_home : (words : List Text) (r given : Request) (home : Paper) → given ≡ record r { home_paper = home } → Entered words (λ name found. Reads name found r)
+    → Entered words (λ name found. Reads name found given)
+entered_at_home words r given home e h =
+    subst (λ q. Entered words (λ name found. Reads name found q)) (sym e) (h.0, h.1, h.2, reads_at_home h.0 h.1 r home h.3)

@@ -1,12 +1,14 @@
 -- The whole program: what its words ask for, what it reads, what it creates and writes, and how it ends.
 use Rattle.std.specs.Prelude.{⊤, ◌≡◌, ◌⊎◌, ℕ, List, [], Bool, true, false, Option, Some, None, Result, Ok, Err}
-use Rattle.std.specs.Prelude.{option_map, string_bytes}
+use Rattle.std.specs.Prelude.{codes, option_map, string_bytes}
 use Rattle.std.specs.Io.KnownBytes.{Appends}
 use Rattle.clap.specs.Words.{Text}
 use Rattle.imposer.specs.declared.outcome.RunError.TheVariants as run
 use Rattle.sheet_writer.specs.Sinks.{SinkView, fresh_sink}
 use Rattle.world.specs.Outputs.{IsFrontOf, told_if}
 use Rattle.input.specs.Input.{IsFirst, most_bytes}
+use Rattle.rules.specs.Papers.{Paper}
+use Rattle.paper_names.specs.Home.{home_paper}
 use Rattle.impose_cli.specs.Endings.{Ends}
 use Rattle.impose_cli.specs.Faults.{without_memory}
 use Rattle.impose_cli.specs.Refusals.{RefusesTask}
@@ -30,6 +32,17 @@ status_of (Err f) = fault_status f
 -- what files and standard input give, by the file's name
 abbrev pub Gives : Type 0
 Gives = Option (List ℕ) → Option (List ℕ)
+
+-- ---- the paper at home
+
+-- the file that names it
+abbrev pub home_file : List ℕ
+home_file = codes "/etc/papersize"
+
+-- the paper at home, by the value of PAPERSIZE and by what that file gives; a file that can't be read counts as empty
+abbrev pub IsHome : (variable : List ℕ) → Gives → Paper → Type 0
+IsHome variable gives home =
+    (file : List ℕ) × ((file ≡ []) ⊎ IsFirst most_bytes (gives (Some home_file)) file) × (home ≡ home_paper variable file)
 
 -- ---- faults
 
@@ -118,11 +131,14 @@ CarriesOut r gives tells outcome has_output written =
     ⊎ ((input : List ℕ) × IsFirst most_bytes (gives (option_map string_bytes r.infile)) input
     × IsPossible r.layout r.page_paper r.sheet_paper × TakesInput r input tells outcome has_output written)
 
--- How the program ends: the words are refused, and nothing was created; or they make a request, and this comes of it.
-abbrev pub EndsProgram : (words : List Text) → Gives → (tells : Bool) → Option Request → Result Done Fault
-    → (has_output : Bool) → (written : Option (List ℕ)) → Type 0
-EndsProgram words gives tells None (Ok what) has_output written = ⊥
-EndsProgram words gives tells None (Err (fault.Command f)) has_output written = Refuses words f × (has_output ≡ false)
-EndsProgram words gives tells None (Err other) has_output written = ⊥
-EndsProgram words gives tells (Some r) outcome has_output written =
-    Entered words (λ name found. Reads name found r) × CarriesOut r gives tells outcome has_output written
+-- How the program ends: the words are refused, and nothing was created; or they make a request, with the paper at home,
+-- and this comes of it.
+abbrev pub EndsProgram : (words : List Text) → (variable : List ℕ) → Gives → (tells : Bool) → Option Request
+    → Result Done Fault → (has_output : Bool) → (written : Option (List ℕ)) → Type 0
+EndsProgram words variable gives tells None (Ok what) has_output written = ⊥
+EndsProgram words variable gives tells None (Err (fault.Command f)) has_output written =
+    Refuses words f × (has_output ≡ false)
+EndsProgram words variable gives tells None (Err other) has_output written = ⊥
+EndsProgram words variable gives tells (Some r) outcome has_output written =
+    Entered words (λ name found. Reads name found r) × IsHome variable gives r.home_paper
+    × CarriesOut r gives tells outcome has_output written

@@ -47,6 +47,9 @@ RefusesLayout l page_paper sheet_paper pages (fault.NoSuchPage place n) = (n ≡
 RefusesLayout l page_paper sheet_paper pages (fault.Run e) = fault.Run e ≡ without_memory
 RefusesLayout l page_paper sheet_paper pages fault.NoInput = ⊥
 RefusesLayout l page_paper sheet_paper pages fault.Pdf = ⊥
+RefusesLayout l page_paper sheet_paper pages fault.Compressed = ⊥
+RefusesLayout l page_paper sheet_paper pages fault.JobLanguage = ⊥
+RefusesLayout l page_paper sheet_paper pages fault.TooLong = ⊥
 RefusesLayout l page_paper sheet_paper pages (fault.Command f) = ⊥
 RefusesLayout l page_paper sheet_paper pages (fault.Read cause) = ⊥
 RefusesLayout l page_paper sheet_paper pages (fault.Write written cause) = ⊥
@@ -59,6 +62,9 @@ RefusesRanges ranges which pages (fault.NoSuchPage place n) = (n ≡ pages)
 RefusesRanges ranges which pages (fault.Run e) = fault.Run e ≡ without_memory
 RefusesRanges ranges which pages fault.NoInput = ⊥
 RefusesRanges ranges which pages fault.Pdf = ⊥
+RefusesRanges ranges which pages fault.Compressed = ⊥
+RefusesRanges ranges which pages fault.JobLanguage = ⊥
+RefusesRanges ranges which pages fault.TooLong = ⊥
 RefusesRanges ranges which pages (fault.Command f) = ⊥
 RefusesRanges ranges which pages (fault.Read cause) = ⊥
 RefusesRanges ranges which pages (fault.Write written cause) = ⊥
@@ -70,5 +76,5 @@ abbrev pub RefusesTask : Request → (input : List ℕ) → Fault → Type 0
 RefusesTask r input f =
     RefusesDocument input f
     ⊎ ((n : ℕ) × HasPages input n
-    × (let page_paper = (page_paper_found r.page_paper input).0 in
+    × (let page_paper = (page_paper_found r.page_paper r.home_paper input).0 in
     RefusesLayout r.layout page_paper (sheet_paper_found r.sheet_paper page_paper) n f))

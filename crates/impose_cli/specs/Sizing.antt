@@ -1,8 +1,8 @@
--- The papers and the border that the words ask for: the steps of their reading.
+-- The papers, the border and OUTFILE that the words ask for: the steps of their reading.
 use Rattle.std.specs.Prelude.{◌≡◌, ⊤, ℤ, true, is_some, List, Option, Some, None, codes, string_bytes}
 use Rattle.clap.specs.Words.{Row, first_of}
 use Rattle.rules.specs.Papers.{Paper}
-use Rattle.impose_cli.specs.Words.{HasPapers, NamesNoSize, border_found, size_found}
+use Rattle.impose_cli.specs.Words.{HasPapers, NamesNoSize, WritesToOption, border_found, size_found}
 use Rattle.impose_cli.specs.declared.fault.PaperOption.{PaperOption}
 use Rattle.impose_cli.specs.declared.fault.PaperOption.TheVariants.{Paper as OfPages, Sheet as OfSheets}
 use Rattle.impose_cli.specs.declared.fault.CommandFault.{CommandFault}
@@ -25,6 +25,7 @@ RefusesSize option found (fault.BadSignature sides) = ⊥
 RefusesSize option found (fault.Words error) = ⊥
 RefusesSize option found fault.NoText = ⊥
 RefusesSize option found (fault.BadBorder text) = ⊥
+RefusesSize option found (fault.OptionAsOutfile text) = ⊥
 
 -- a refusal of the border's
 abbrev pub RefusesBorder : (found : List Row) → CommandFault → Type 0
@@ -35,6 +36,7 @@ RefusesBorder found (fault.UnknownPaper option text) = ⊥
 RefusesBorder found fault.Lacking = ⊥
 RefusesBorder found fault.OddAndEven = ⊥
 RefusesBorder found (fault.BadSignature sides) = ⊥
+RefusesBorder found (fault.OptionAsOutfile text) = ⊥
 RefusesBorder found (fault.Words error) = ⊥
 RefusesBorder found fault.NoText = ⊥
 
@@ -48,5 +50,18 @@ RefusesSizes found fault.NoMemory = ⊤
 RefusesSizes found fault.Lacking = ⊥
 RefusesSizes found fault.OddAndEven = ⊥
 RefusesSizes found (fault.BadSignature sides) = ⊥
+RefusesSizes found (fault.OptionAsOutfile text) = ⊥
 RefusesSizes found (fault.Words error) = ⊥
 RefusesSizes found fault.NoText = ⊥
+
+-- a refusal of the file that is written
+abbrev pub RefusesOutfile : (found : List Row) → CommandFault → Type 0
+RefusesOutfile found (fault.OptionAsOutfile text) = WritesToOption found (string_bytes text)
+RefusesOutfile found fault.NoMemory = ⊤
+RefusesOutfile found (fault.UnknownPaper option text) = ⊥
+RefusesOutfile found (fault.BadBorder text) = ⊥
+RefusesOutfile found fault.Lacking = ⊥
+RefusesOutfile found fault.OddAndEven = ⊥
+RefusesOutfile found (fault.BadSignature sides) = ⊥
+RefusesOutfile found (fault.Words error) = ⊥
+RefusesOutfile found fault.NoText = ⊥

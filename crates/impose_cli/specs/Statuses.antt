@@ -34,4 +34,7 @@ fault_status (fault.Read cause) = 3
 fault_status (fault.Run e) = run_status e
 fault_status fault.NoInput = 1
 fault_status fault.Pdf = 1
+fault_status fault.Compressed = 1
+fault_status fault.JobLanguage = 1
+fault_status fault.TooLong = 1
 fault_status (fault.Write written cause) = 3

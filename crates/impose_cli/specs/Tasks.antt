@@ -16,25 +16,24 @@ use Rattle.std.specs.Io.KnownBytes.{Appends}
 use Rattle.rules.specs.Output.{Frame, output}
 use Rattle.imposer.specs.Runs.{Reports}
 use Rattle.imposer.specs.Runs as runs
-use Rattle.lengths.specs.Lengths.{a4}
 use Rattle.document_paper.specs.Media.{document_paper}
 use Rattle.document_paper.specs.declared.media.Comment.{Comment}
 use Rattle.impose_cli.specs.declared.task.PaperOrigin.{PaperOrigin}
-use Rattle.impose_cli.specs.declared.task.PaperOrigin.TheVariants.{Named, ByComment, Assumed}
+use Rattle.impose_cli.specs.declared.task.PaperOrigin.TheVariants.{Named, ByComment, AtHome}
 use Rattle.impose_cli.specs.declared.request.Layout.{Layout}
 use Rattle.impose_cli.specs.declared.request.Layout.TheVariants as layout
 use Rattle.impose_cli.specs.declared.request.Request.{Request}
 use Rattle.impose_cli.specs.declared.task.Task.{Task}
 use Rattle.impose_cli.specs.declared.task.Finished.{Finished}
 
--- the paper of the pages: the one that is named, else the document's own, else a4
-abbrev pub own_or_a4 : Option (Paper × Comment) → Paper × PaperOrigin
-own_or_a4 None = (a4, Assumed)
-own_or_a4 (Some own) = (own.0, ByComment own.1)
+-- the paper of the pages: the one that is named, else the document's own, else the one at home
+abbrev pub own_or_home : (home : Paper) → Option (Paper × Comment) → Paper × PaperOrigin
+own_or_home home None = (home, AtHome)
+own_or_home home (Some own) = (own.0, ByComment own.1)
 
-abbrev pub page_paper_found : (named : Option Paper) → (input : List ℕ) → Paper × PaperOrigin
-page_paper_found (Some page_paper) input = (page_paper, Named)
-page_paper_found None input = own_or_a4 (document_paper input)
+abbrev pub page_paper_found : (named : Option Paper) → (home : Paper) → (input : List ℕ) → Paper × PaperOrigin
+page_paper_found (Some page_paper) home input = (page_paper, Named)
+page_paper_found None home input = own_or_home home (document_paper input)
 
 -- the paper of the sheets: the one that is named, else that of the pages
 abbrev pub sheet_paper_found : (named : Option Paper) → (page_paper : Paper) → Paper
@@ -74,7 +73,7 @@ IsPlaced (layout.Spec specs) page_paper sheet_paper pages text sides = (text ≡
 pub record IsTask (request : Request) (input : List ℕ) (task : Task) : Type 0 where
   pub page_count : ℕ
   pub document : HasPages input page_count
-  pub page_paper : (task.options.paper, task.origin) ≡ page_paper_found request.page_paper input
+  pub page_paper : (task.options.paper, task.origin) ≡ page_paper_found request.page_paper request.home_paper input
   pub placed : IsPlaced request.layout task.options.paper (sheet_paper_found request.sheet_paper task.options.paper)
       page_count (string_bytes task.spec) task.options.sides
   pub text : task.text.items
@@ -109,7 +108,7 @@ frame_used r done = record { paper = done.page_paper; border = r.border }
 pub record Finishes (r : Request) (input : List ℕ) (old new : Option (List ℕ)) (done : Finished) : Type 0 where
   pub page_count : ℕ
   pub document : HasPages input page_count
-  pub page_paper : (done.page_paper, done.origin) ≡ page_paper_found r.page_paper input
+  pub page_paper : (done.page_paper, done.origin) ≡ page_paper_found r.page_paper r.home_paper input
   pub spec : Spec
   pub sides : Option ℕ
   pub layout_is : LaysOut r.layout done.page_paper (sheet_paper_found r.sheet_paper done.page_paper) page_count spec

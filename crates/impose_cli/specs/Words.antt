@@ -1,7 +1,8 @@
 -- What the words ask for, by the rows that the command finds among them.
 use Rattle.std.specs.Prelude.{◌≡◌, ◌⊎◌, ◌%◌, ◌==◌, ⊤, [], ℕ, ℤ, Bool, true, false, not, if◌then◌else◌, is_some}
-use Rattle.std.specs.Prelude.{option_map, List, Option, Some, None, codes, string_bytes}
+use Rattle.std.specs.Prelude.{option_map, List, Option, Some, None, codes, nat_eq, string_bytes}
 use Rattle.std.specs.Str.{bytes_eq}
+use Rattle.std.specs.List.{starts_with}
 use Rattle.clap.specs.Words.{IsAmong, Row, Text, fault_of, first_of, kind_of, one_of, subcommand_of}
 use Rattle.rules.specs.Papers.{Paper}
 use Rattle.lengths.specs.Lengths.{a4}
@@ -67,6 +68,15 @@ abbrev pub file_asked : Option Text → Option Text
 file_asked None = None
 file_asked (Some text) = file_of text
 
+-- a name that begins with a minus sign is most likely an option that came too late
+abbrev pub is_like_option : Text → Bool
+is_like_option text = starts_with nat_eq text (codes "-")
+
+-- the file that is written, if one is asked for, isn't named so
+abbrev pub is_outfile : Option Text → Bool
+is_outfile None = true
+is_outfile (Some name) = not (is_like_option name)
+
 -- ---- the request
 
 -- the subcommand with this name and what was found for it ask for this layout
@@ -92,6 +102,7 @@ pub record Reads (name : Text) (found : List Row) (r : Request) : Type 0 where
   pub quiet : has_flag (codes "quiet") found ≡ r.is_quiet
   pub infile : file_asked (first_of (codes "infile") found) ≡ option_map string_bytes r.infile
   pub outfile : file_asked (first_of (codes "outfile") found) ≡ option_map string_bytes r.outfile
+  pub no_option : is_outfile (option_map string_bytes r.outfile) ≡ true
 
 -- the command takes the words, and finds the subcommand with this name and these rows for it
 pub record Enters (words : List Text) (name : Text) (found : List Row) : Type 0 where
@@ -118,6 +129,17 @@ pub record HasSizes (found : List Row) : Type 0 where
   pub papers : HasPapers found
   pub border : is_some (border_found found) ≡ true
 
+-- the file that is written is named like an option
+pub record WritesToOption (found : List Row) (text : Text) : Type 0 where
+  pub given : file_asked (first_of (codes "outfile") found) ≡ Some text
+  pub like : is_like_option text ≡ true
+
+-- all that stands before it was taken
+pub record HasLayout (name : Text) (found : List Row) : Type 0 where
+  pub sizes : HasSizes found
+  pub layout : Layout
+  pub asked : AsksFor name found layout
+
 -- the arguments that the subcommand needs were found
 abbrev pub is_complete : (name : Text) → (found : List Row) → Bool
 is_complete name found =
@@ -138,8 +160,9 @@ RefusesArguments name found (fault.Words error) = ⊥
 RefusesArguments name found fault.NoText = ⊥
 RefusesArguments name found (fault.UnknownPaper option text) = ⊥
 RefusesArguments name found (fault.BadBorder text) = ⊥
+RefusesArguments name found (fault.OptionAsOutfile text) = ⊥
 
--- what a refusal says of what was found, and of what was looked at before: --paper, --sheet, --border, the layout
+-- what a refusal says of what was found, and of what was looked at before: --paper, --sheet, --border, the layout, OUTFILE
 abbrev pub RefusesFound : (name : Text) → (found : List Row) → CommandFault → Type 0
 RefusesFound name found (fault.UnknownPaper OfPages text) = NamesNoSize OfPages found (string_bytes text)
 RefusesFound name found (fault.UnknownPaper OfSheets text) = (is_some (size_found OfPages found) ≡ true)
@@ -150,6 +173,7 @@ RefusesFound name found (fault.BadSignature sides) = HasSizes found
     × RefusesArguments name found (fault.BadSignature sides)
 RefusesFound name found fault.OddAndEven = HasSizes found × RefusesArguments name found fault.OddAndEven
 RefusesFound name found fault.Lacking = HasSizes found × RefusesArguments name found fault.Lacking
+RefusesFound name found (fault.OptionAsOutfile text) = HasLayout name found × WritesToOption found (string_bytes text)
 RefusesFound name found fault.NoMemory = ⊤
 RefusesFound name found (fault.Words error) = ⊥
 RefusesFound name found fault.NoText = ⊥
@@ -165,6 +189,8 @@ Refuses words (fault.BadBorder text) = Entered words (λ name found. RefusesFoun
 Refuses words (fault.BadSignature sides) =
     Entered words (λ name found. RefusesFound name found (fault.BadSignature sides))
 Refuses words fault.OddAndEven = Entered words (λ name found. RefusesFound name found fault.OddAndEven)
+Refuses words (fault.OptionAsOutfile text) =
+    Entered words (λ name found. RefusesFound name found (fault.OptionAsOutfile text))
 Refuses words fault.Lacking = (subcommand_of impose words ≡ None)
     ⊎ Entered words (λ name found. RefusesFound name found fault.Lacking)
 

@@ -9,7 +9,12 @@ ghost use Rattle.impose_cli.specs.Command.{positional_rule, required_rule, selec
 use clap::{Arg, ArgAction, Command, value_parser};
 use std::alloc::{AllocError, Global};
 
-const EXAMPLES: &str = "Examples:
+/// What help ends in.
+const PAPERS_AND_EXAMPLES: &str = "Papers:
+  a0, a1, a2, a3, a4, a5, a6, b4, b5, b6, letter, legal, tabloid, ledger, statement, executive, folio,
+  quarto, 10x14; each with -landscape behind it lies on its side; or a size, as 210x297mm or 8.5x11in
+
+Examples:
   impose nup 2 in.ps out.ps           two pages on each sheet
   impose booklet in.ps out.ps         print on both sides, fold, staple
   impose select 9-3,12- in.ps out.ps  pages 9 down to 3, then 12 to the last
@@ -22,7 +27,7 @@ pub(crate) fn command<'a>(alloc: Global) -> Result<Command<'a>, AllocError>
     let top = Command::new(alloc, "impose")
         .version("1.0")
         .about("Puts the pages of a PostScript document on sheets of paper")
-        .after_help(EXAMPLES)
+        .after_help(PAPERS_AND_EXAMPLES)
         .subcommand_required(true)
         .arg_required_else_help(true);
     top.subcommands(subcommands(alloc)?)
@@ -109,7 +114,7 @@ fn common<'a>(alloc: Global) -> Result<Vec<Arg<'a>>, AllocError>
         positional(alloc, "infile", "INFILE").help("The document; - or nothing is standard input"),
         positional(alloc, "outfile", "OUTFILE").help("The sheets; - or nothing is standard output"),
         option(alloc, "paper", "PAPER").short('p').help(
-            "The paper of the pages, as a4 or 210mmx297mm [default: the document's]"
+            "The paper of the pages, as a4, a5-landscape or 210x297mm [default: the document's]"
         ),
         option(alloc, "sheet", "PAPER").help(
             "The paper of the sheets [default: that of the pages]"

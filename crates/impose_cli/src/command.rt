@@ -1,11 +1,11 @@
 //! What the words ask for.
 ghost use Rattle.std.specs.Prelude.{◌≡◌, [], IfOk, IfErr, Some, codes, map, option_map, string_bytes, true};
-ghost use Rattle.clap.specs.Words.{fault_of, found_of, is_simple, rows_of, subcommand_of, subcommand_rows_of};
+ghost use Rattle.clap.specs.Words.{fault_of, first_of, found_of, is_simple, rows_of, subcommand_of, subcommand_rows_of};
 ghost use Rattle.impose_cli.specs.Command.{impose};
 ghost use Rattle.impose_cli.specs.Words.{AsksFor, Entered, ParseRefuses, Reads, Refuses, RefusesFound};
-ghost use Rattle.impose_cli.specs.Words.{RefusesArguments, border_found, file_asked, paper_id};
+ghost use Rattle.impose_cli.specs.Words.{RefusesArguments, border_found, file_asked, is_outfile, paper_id};
 ghost use Rattle.impose_cli.specs.Words.{size_found, which_found, which_of as of_both};
-ghost use Rattle.impose_cli.specs.Sizing.{ReadsSizes, RefusesBorder, RefusesSize, RefusesSizes};
+ghost use Rattle.impose_cli.specs.Sizing.{ReadsSizes, RefusesBorder, RefusesOutfile, RefusesSize, RefusesSizes};
 
 use crate::arguments::command;
 use crate::fault::{CommandFault, PaperOption};
@@ -18,11 +18,13 @@ use layouts::Which;
 use lengths::{Grains, Paper, a4};
 use std::alloc::Global;
 
-/// The request that the words make, of which the first is the program's name.
+/// The request that the words make, of which the first is the program's name. The paper at home is no matter of the words:
+/// it is a4 until another one is put in.
 ///
 /// Words that the command doesn't take are `Words`, with clap's message, and so is a call for help or for the version.
 /// Among words that it takes, the first of these is the fault: a paper that there isn't, after `--paper`, then after
-/// `--sheet`; a border that is no length, or below zero; what the subcommand's own arguments can't be together.
+/// `--sheet`; a border that is no length, or below zero; what the subcommand's own arguments can't be together; an OUTFILE
+/// that begins with a minus sign.
 #[tactic(auto, using(crate::proofs::Commands::impose_is_simple))]
 pub fn read_command(alloc: Global, words: &[String]) -> Result<Request, CommandFault>
     // The command takes the words, and the request is what it finds among them.
@@ -76,10 +78,14 @@ fn request_of(alloc: Global, name: &str, found: &ArgMatches<'_>) -> Result<Reque
         Err(fault) => return Err(fault),
     };
     let infile = owned(alloc, file_named(text_of(found, "infile")))?;
-    let outfile = owned(alloc, file_named(text_of(found, "outfile")))?;
+    let outfile = match outfile_of(alloc, found) {
+        Ok(outfile) => outfile,
+        Err(fault) => return Err(fault),
+    };
     Ok(Request {
         layout,
         page_paper: sizes.page_paper,
+        home_paper: a4(),
         sheet_paper: sizes.sheet_paper,
         border: sizes.border,
         is_guarded: !is_set(found, "unguarded"),
@@ -241,6 +247,23 @@ fn spec_of(alloc: Global, found: &ArgMatches<'_>) -> Result<Layout, CommandFault
     match text_of(found, "specs") {
         Some(specs) => Ok(Layout::Spec(String::from_str(alloc, specs)?)),
         None => Err(CommandFault::Lacking),
+    }
+}
+
+/// The file that is written. A name that begins with a minus sign is most likely an option that came too late.
+fn outfile_of(alloc: Global, found: &ArgMatches<'_>) -> Result<Option<String>, CommandFault>
+    ensures asked { IfOk result (λ outfile.
+        file_asked (first_of (codes "outfile") (rows_of (found_of found.now))) ≡ option_map string_bytes outfile) }
+    ensures no_option { IfOk result (λ outfile. is_outfile (option_map string_bytes outfile) ≡ true) }
+    ensures refused { IfErr result (RefusesOutfile (rows_of (found_of found.now))) }
+{
+    match file_named(text_of(found, "outfile")) {
+        None => Ok(None),
+        Some(name) => if name.as_bytes().starts_with(b"-") {
+            Err(CommandFault::OptionAsOutfile(String::from_str(alloc, name)?))
+        } else {
+            Ok(Some(String::from_str(alloc, name)?))
+        },
     }
 }
 

@@ -29,6 +29,8 @@ pub enum CommandFault {
     BadSignature(u32),
     /// Both `--odd` and `--even` are there.
     OddAndEven,
+    /// OUTFILE, this text, begins with a minus sign, as options do.
+    OptionAsOutfile(String),
     /// There was no memory for the request.
     NoMemory,
 }
@@ -53,6 +55,12 @@ pub enum Fault {
     NoInput,
     /// The input is a PDF.
     Pdf,
+    /// The input is compressed, by gzip.
+    Compressed,
+    /// The input begins with a printer's job language.
+    JobLanguage,
+    /// The input is longer than a document may be.
+    TooLong,
     /// The output couldn't be created, or not be written behind so many bytes, and why, if the system said it.
     Write {
         written: u64,

@@ -4,16 +4,19 @@ ghost use Rattle.impose_cli.specs.Statuses.{fault_status as status_of_fault, wor
 
 use crate::caret::{caret_below, group_place, item_place, large_place};
 use crate::fault::{CommandFault, Fault, PaperOption};
+use crate::mistakes::looks_like_file;
 use crate::request::{Layout, Request};
+use crate::shown::shown_word;
 use crate::task::{Finished, PaperOrigin};
 use clap::error::ErrorKind;
 use command_words::run_status;
 use document_paper::Comment;
 use dsc::DscError;
-use imposer::RunError;
+use imposer::{Report, RunError};
 use layouts::LayoutError;
-use lengths::print_points;
+use lengths::{Paper, print_points};
 use pagespec::SpecError;
+use paper_names::{PaperError, name_list, read_paper};
 use sheet_plan::PlanError;
 use std::alloc::{AllocError, Global};
 use std::io;
@@ -29,7 +32,8 @@ pub fn fault_status(fault: &Fault) -> u8
         Fault::Command(CommandFault::Words(error)) => words_status(error.kind()),
         Fault::Command(_) => 2,
         Fault::Layout(LayoutError::NoMemory) => 3,
-        Fault::Layout(_) | Fault::NoSuchPage { .. } | Fault::NoInput | Fault::Pdf => 1,
+        Fault::Layout(_) | Fault::NoSuchPage { .. } | Fault::NoInput => 1,
+        Fault::Pdf | Fault::Compressed | Fault::JobLanguage | Fault::TooLong => 1,
         Fault::Read(_) | Fault::Write { .. } => 3,
         Fault::Run(error) => run_status(error),
     }
@@ -45,26 +49,92 @@ fn words_status(kind: ErrorKind) -> u8
 }
 
 /// What is said of a finished run.
-pub fn report_text(alloc: Global, done: &Finished) -> Result<String, AllocError> {
-    let pages = done.report.pages;
-    let sheets = done.report.sheets;
-    let bytes = done.report.bytes;
-    let mut size = Vec::new(alloc);
-    print_points(done.page_paper.width(), &mut size)?;
-    size.extend_from_slice(b" x ")?;
-    print_points(done.page_paper.height(), &mut size)?;
-    let size = text_or_empty(alloc, size);
+pub fn report_text(
+    alloc: Global,
+    done: &Finished,
+    request: &Request,
+) -> Result<String, AllocError> {
+    let counts = counts_text(alloc, &done.report, &request.layout)?;
+    let counts = counts.as_str();
+    let size = size_text(alloc, &done.page_paper)?;
     let size = size.as_str();
     let origin = origin_text(done.origin);
-    format!(in alloc; "pages {pages}, sheets {sheets}, bytes {bytes}; pages of {size} pt, {origin}")
+    format!(in alloc; "{counts}; pages of {size} pt, {origin}")
+}
+
+/// How many pages, blanks, sheets and leaves there are, and how many bytes.
+fn counts_text(alloc: Global, report: &Report, layout: &Layout) -> Result<String, AllocError> {
+    let pages = report.pages;
+    let sheets = report.sheets;
+    let bytes = report.bytes;
+    let blanks = match blanks_of(layout, report) {
+        0 => String::new(alloc),
+        blanks => format!(in alloc; ", blanks {blanks}")?,
+    };
+    let blanks = blanks.as_str();
+    let leaves = leaves_text(alloc, layout, sheets)?;
+    let leaves = leaves.as_str();
+    format!(in alloc; "pages {pages}{blanks}, sheets {sheets}{leaves}, bytes {bytes}")
+}
+
+/// How many places of the sheets have no page, where all sheets have equally many and each page has one.
+fn blanks_of(layout: &Layout, report: &Report) -> u64 {
+    let places = match layout {
+        Layout::NUp(count) => u64::from(*count),
+        Layout::Booklet { .. } => 2,
+        Layout::Selection { .. } | Layout::Spec(_) => 0,
+    };
+    places
+        .saturating_mul(u64::from(report.sheets))
+        .saturating_sub(u64::from(report.pages))
+}
+
+/// How many leaves of paper it takes, where sheets are printed on both sides.
+fn leaves_text(alloc: Global, layout: &Layout, sheets: u32) -> Result<String, AllocError> {
+    match layout {
+        Layout::Booklet { .. } => {
+            let leaves = sheets / 2;
+            let word = if leaves == 1 { "leaf" } else { "leaves" };
+            format!(in alloc; " ({leaves} {word})")
+        }
+        _ => Ok(String::new(alloc)),
+    }
+}
+
+/// Both sides of a paper, in points.
+fn size_text(alloc: Global, paper: &Paper) -> Result<String, AllocError> {
+    let mut size = Vec::new(alloc);
+    print_points(paper.width(), &mut size)?;
+    size.extend_from_slice(b" x ")?;
+    print_points(paper.height(), &mut size)?;
+    Ok(text_or_empty(alloc, size))
+}
+
+/// What else is said of a finished run, if there is something: that a file named as a PDF isn't one.
+pub fn note_text(alloc: Global, request: &Request) -> Result<Option<String>, AllocError> {
+    match &request.outfile {
+        Some(name) if is_pdf_name(name.as_str()) => {
+            let name = shown_word(alloc, name.as_str())?;
+            let name = name.as_str();
+            Ok(Some(format!(in alloc;
+                "{name} holds PostScript, not a PDF; for a PDF use: impose .. | ps2pdf -dAutoRotatePages=/None - {name}"
+            )?))
+        }
+        _ => Ok(None),
+    }
+}
+
+fn is_pdf_name(name: &str) -> bool {
+    name.ends_with(".pdf") || name.ends_with(".PDF")
 }
 
 fn origin_text(origin: PaperOrigin) -> &'static str {
     match origin {
         PaperOrigin::Named => "as named",
         PaperOrigin::ByComment(Comment::DocumentMedia) => "by its %%DocumentMedia",
+        PaperOrigin::ByComment(Comment::DocumentPaperSizes) => "by its %%DocumentPaperSizes",
         PaperOrigin::ByComment(Comment::BoundingBox) => "by its %%BoundingBox",
-        PaperOrigin::Assumed => "which is a4 as the document names none",
+        PaperOrigin::AtHome => "the usual one here, as the document names none",
     }
 }
 
@@ -91,21 +161,44 @@ pub fn fault_text(
             shown(alloc, message, ranges_of(request), *place)
         }
         Fault::Read(cause) => {
-            let name = input_name(request);
+            let name = input_name(alloc, request)?;
+            let name = name.as_str();
             with_cause(alloc, format!(in alloc; "cannot read {name}")?, cause)
         }
         Fault::Run(error) => run_text(alloc, error, request),
         Fault::NoInput => {
-            let name = input_name(request);
+            let name = input_name(alloc, request)?;
+            let name = name.as_str();
             format!(in alloc;
                 "{name} is empty; name a file with a PostScript document, or pipe one in"
             )
         }
         Fault::Pdf => {
-            let name = input_name(request);
+            let name = input_name(alloc, request)?;
+            let name = name.as_str();
             format!(in alloc;
                 "{name} is a PDF, not PostScript; use: pdftops in.pdf - | impose .. -"
             )
+        }
+        Fault::Compressed => {
+            let name = input_name(alloc, request)?;
+            let name = name.as_str();
+            format!(in alloc;
+                "{name} is compressed, not PostScript; use: zcat in.ps.gz | impose .. -"
+            )
+        }
+        Fault::JobLanguage => {
+            let name = input_name(alloc, request)?;
+            let name = name.as_str();
+            format!(in alloc;
+                "{name} begins with a printer's job language, not with %!; cut that off: \
+                sed -n '/^%!/,$p' in.ps | impose .. -"
+            )
+        }
+        Fault::TooLong => {
+            let name = input_name(alloc, request)?;
+            let name = name.as_str();
+            format!(in alloc; "{name} is longer than 1,073,741,824 bytes; split it first")
         }
         Fault::Write { written, cause } => {
             let text = written_text(alloc, *written, request)?;
@@ -114,27 +207,41 @@ pub fn fault_text(
     }
 }
 
-fn input_name(request: Option<&Request>) -> &str {
+fn input_name(alloc: Global, request: Option<&Request>) -> Result<String, AllocError> {
     match request {
         Some(
             Request {
                 infile: Some(name),
                 ..
             },
-        ) => name.as_str(),
-        _ => "standard input",
+        ) => file_name(alloc, name.as_str()),
+        _ => String::from_str(alloc, "standard input"),
     }
 }
 
-fn output_name(request: Option<&Request>) -> &str {
+/// What is written to; a specification is printed to standard output.
+fn output_name(alloc: Global, request: Option<&Request>) -> Result<String, AllocError> {
     match request {
         Some(
             Request {
                 outfile: Some(name),
+                is_printed: false,
                 ..
             },
-        ) => name.as_str(),
-        _ => "standard output",
+        ) => file_name(alloc, name.as_str()),
+        _ => String::from_str(alloc, "standard output"),
+    }
+}
+
+/// The name of a file as it is shown.
+fn file_name(alloc: Global, name: &str) -> Result<String, AllocError> {
+    if name.is_empty() {
+        String::from_str(
+            alloc,
+            "'' (a file without a name; - is standard input or output)",
+        )
+    } else {
+        shown_word(alloc, name)
     }
 }
 
@@ -144,7 +251,8 @@ fn written_text(
     written: u64,
     request: Option<&Request>,
 ) -> Result<String, AllocError> {
-    let name = output_name(request);
+    let name = output_name(alloc, request)?;
+    let name = name.as_str();
     if written == 0 {
         format!(in alloc; "cannot write {name}")
     } else {
@@ -164,26 +272,19 @@ fn with_cause(
     }
 }
 
-fn command_text(alloc: Global, fault: &CommandFault) -> Result<String, AllocError> {
+/// What is said of a command line that is refused; nothing of words that the command doesn't take, which `words_text` tells.
+pub fn command_text(alloc: Global, fault: &CommandFault) -> Result<String, AllocError> {
     match fault {
-        // Clap prints its own message.
         CommandFault::Words(_) => Ok(String::new(alloc)),
         CommandFault::NoText => String::from_str(
             alloc,
             "the command line is no UTF-8 text: rename the file",
         ),
         CommandFault::Lacking => String::from_str(alloc, "bad command line: see impose --help"),
-        CommandFault::UnknownPaper(option, text) => {
-            let option = match option {
-                PaperOption::Paper => "--paper",
-                PaperOption::Sheet => "--sheet",
-            };
-            format!(in alloc;
-                "unknown paper '{text}' after {option}: name one of a3, a4, a5, letter, legal, tabloid, \
-                statement, 10x14, or a size as 210mmx297mm"
-            )
-        }
+        CommandFault::UnknownPaper(option, text) => paper_text(alloc, *option, text.as_str()),
         CommandFault::BadBorder(text) => {
+            let text = shown_word(alloc, text.as_str())?;
+            let text = text.as_str();
             format!(in alloc;
                 "bad width '{text}' after --border: give a length as 1pt, .5mm or .02in"
             )
@@ -201,7 +302,43 @@ fn command_text(alloc: Global, fault: &CommandFault) -> Result<String, AllocErro
                 "--odd and --even leave no page together: give one of them",
             )
         }
+        CommandFault::OptionAsOutfile(text) => {
+            let text = shown_word(alloc, text.as_str())?;
+            let text = text.as_str();
+            format!(in alloc;
+                "OUTFILE '{text}' begins with a minus, as options do: options stand before --, and a file of this name \
+                is written ./{text}"
+            )
+        }
         CommandFault::NoMemory => String::from_str(alloc, "out of memory"),
+    }
+}
+
+/// What is said of a text that means no paper.
+fn paper_text(alloc: Global, option: PaperOption, text: &str) -> Result<String, AllocError> {
+    let option = match option {
+        PaperOption::Paper => "--paper",
+        PaperOption::Sheet => "--sheet",
+    };
+    let shown = shown_word(alloc, text)?;
+    let shown = shown.as_str();
+    match read_paper(text.as_bytes()) {
+        Err(PaperError::NoUnit) => format!(in alloc;
+            "size '{shown}' after {option} has no unit: write {shown}mm, {shown}in or {shown}pt"
+        ),
+        Err(PaperError::UnitOfWidthAlone) => format!(in alloc;
+            "size '{shown}' after {option} has no unit behind the height: write it as 210x297mm or 210mmx297mm"
+        ),
+        Err(PaperError::NoSuchSize) => format!(in alloc;
+            "size '{shown}' after {option}: a side is zero, negative or too long"
+        ),
+        _ => {
+            let names = name_list();
+            format!(in alloc;
+                "unknown paper '{shown}' after {option}: name one of {names}, or a size as 210x297mm; \
+                a name with -landscape behind it is the paper on its side"
+            )
+        }
     }
 }
 
@@ -229,6 +366,10 @@ fn layout_text(
     request: Option<&Request>,
 ) -> Result<String, AllocError> {
     let message = match error {
+        LayoutError::Syntax(_) if looks_like_file(ranges_of(request)) => String::from_str(
+            alloc,
+            "page ranges: they stand before the file, and 1- are all pages: impose select 1- in.ps out.ps",
+        )?,
         LayoutError::Syntax(at) => format!(in alloc;
             "page ranges: syntax error at byte {at}; write them as 7 or 3-9 or 5-, with commas \
             between them"
@@ -286,7 +427,10 @@ fn run_text(
 ) -> Result<String, AllocError> {
     match error {
         RunError::Options => String::from_str(alloc, "bad options"),
-        RunError::Document(error) => document_text(alloc, error, input_name(request)),
+        RunError::Document(error) => {
+            let name = input_name(alloc, request)?;
+            document_text(alloc, error, name.as_str())
+        }
         RunError::Plan(error) => plan_text(alloc, error),
         RunError::Spec(SpecError::NoMemory) | RunError::NoMemory { written: 0 } => {
             String::from_str(alloc, "out of memory")
@@ -314,6 +458,10 @@ fn spec_of(request: Option<&Request>) -> &str {
 
 fn spec_text(alloc: Global, error: &SpecError, spec: &str) -> Result<String, AllocError> {
     let message = match error {
+        SpecError::Syntax(_) if looks_like_file(spec) => String::from_str(
+            alloc,
+            "it stands before the file: impose spec 0,0 in.ps out.ps",
+        )?,
         SpecError::Syntax(at) if *at < spec.len() => format!(in alloc;
             "syntax error at byte {at}; what stands at the caret can't follow"
         )?,
@@ -361,24 +509,26 @@ fn spec_place(error: &SpecError, spec: &str) -> Option<usize> {
     }
 }
 
+/// What is said of a document that is refused. That it is too long the run says only of one that its guard makes so.
 fn document_text(alloc: Global, error: &DscError, name: &str) -> Result<String, AllocError> {
     match error {
         DscError::TooLong => format!(in alloc;
-            "{name} is longer than 1,073,741,824 bytes; split it first"
+            "{name} is longer than 1,073,741,824 bytes with its guard; split it first, or leave the guard out \
+            by --unguarded"
         ),
-        DscError::NotPostScript => {
-            format!(in alloc;
-                "{name} is not PostScript: it doesn't begin with %!; cut off what stands before that"
-            )
-        }
+        DscError::NotPostScript => format!(in alloc;
+            "{name} is not PostScript: it doesn't begin with %!; cut off what stands before that"
+        ),
         DscError::BadCount(at) => {
             format!(in alloc;
-                "{name}: the %%BeginData: at byte {at} has no count, or a bad one; write the document anew"
+                "{name}: the %%BeginData: or %%BeginBinary: at byte {at} has no count, or a bad one; \
+                write the document anew"
             )
         }
         DscError::ShortData(at) => {
             format!(in alloc;
-                "{name}: the data behind the %%BeginData: at byte {at} is cut short; is the document complete?"
+                "{name}: the data behind the %%BeginData: or %%BeginBinary: at byte {at} is cut short; \
+                is the document complete?"
             )
         }
         DscError::TooManyPages => format!(in alloc;

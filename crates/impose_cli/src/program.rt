@@ -2,7 +2,7 @@
 ghost use Rattle.std.specs.Prelude.{◌≡◌, false, is_some, map, option_and_then, option_map, string_bytes};
 ghost use Rattle.std.specs.Prelude.{Some, Err, IfOk, IfErr};
 ghost use Rattle.input.specs.Input.{IsFirst, most_bytes};
-ghost use Rattle.impose_cli.specs.Programs.{CarriesOut, EndsProgram, IsFailedWrite, IsReading, IsSaidAs, Prints};
+ghost use Rattle.impose_cli.specs.Programs.{CarriesOut, EndsProgram, IsFailedWrite, IsHome, IsReading, IsSaidAs, Prints};
 ghost use Rattle.impose_cli.specs.Programs.{RunsInto, status_of};
 ghost use Rattle.impose_cli.specs.declared.fault.Fault.TheVariants as faults;
 
@@ -16,6 +16,8 @@ use crate::task::{Finished, check_layout, run_request, task_for};
 use command_words::name_of;
 use imposer::RunError;
 use input::{ReadFault, ReadSource, read_input};
+use lengths::Paper;
+use paper_names::home_paper;
 use std::alloc::Global;
 use std::io;
 use std::io::{ErrorKind, Read, Write};
@@ -65,8 +67,9 @@ struct Left<W: World> {
     output: Option<W::Output>,
 }
 
-/// The program: it reads the words, of which the first is its name, and checks the layout; then it reads its input
-/// whole and closes it; then it prints the specification, or imposes.
+/// The program: it reads the words, of which the first is its name, finds the paper at home by the value of `PAPERSIZE`
+/// and by `/etc/papersize`, and checks the layout; then it reads its input whole and closes it; then it prints the
+/// specification, or imposes.
 ///
 /// The output is created when its first byte is to be written, so that a request that is refused creates none, and
 /// input and output may be one file.
@@ -74,13 +77,15 @@ pub fn impose<R: Threads + Wait + Sync, W: World>(
     rt: &R,
     alloc: Global,
     words: &[String],
+    paper_size: &[u8],
     world: W,
 ) -> Ended<W>
-    ensures ended { EndsProgram (map string_bytes words.now) (W.gives world) (W.tells world) result.request
-        result.outcome (is_some result.output) (option_and_then W.Output.contents result.output) }
+    ensures ended { EndsProgram (map string_bytes words.now) paper_size.now (W.gives world) (W.tells world)
+        result.request result.outcome (is_some result.output) (option_and_then W.Output.contents result.output) }
 {
     match read_command(alloc, words) {
-        Ok(request) => {
+        Ok(read) => {
+            let request = at_home(read, home_of(alloc, paper_size, &world));
             let left = carry_out(rt, alloc, &request, world);
             Ended {
                 request: Some(request),
@@ -95,6 +100,29 @@ pub fn impose<R: Threads + Wait + Sync, W: World>(
             world: Some(world),
             output: None,
         },
+    }
+}
+
+/// The request where this is the paper at home.
+fn at_home(request: Request, home: Paper) -> Request
+    ensures { result ≡ record request { home_paper = home } }
+{
+    Request {
+        home_paper: home,
+        ..request
+    }
+}
+
+/// The file that names the paper at home.
+const HOME_FILE: &str = "/etc/papersize";
+
+/// The paper at home, by the value of `PAPERSIZE` and by what the file gives. A file that can't be read counts as empty.
+fn home_of<W: World>(alloc: Global, paper_size: &[u8], world: &W) -> Paper
+    ensures { IsHome paper_size.now (W.gives world.now) result }
+{
+    match input_of(alloc, Some(HOME_FILE), world) {
+        Ok(file) => home_paper(paper_size, file.as_slice()),
+        Err(_) => home_paper(paper_size, b""),
     }
 }
 

@@ -27,6 +27,8 @@ pub struct Request {
     pub layout: Layout,
     /// The paper of the pages, if it is named.
     pub page_paper: Option<Paper>,
+    /// The paper of the pages if neither the words nor the document name one: the usual one where the program runs.
+    pub home_paper: Paper,
     /// The paper of the sheets, if it is named; else it is that of the pages.
     pub sheet_paper: Option<Paper>,
     /// The width of a border round each placed page, if one is asked for.

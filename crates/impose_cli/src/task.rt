@@ -26,7 +26,7 @@ use dsc::{Document, DscError};
 use guard::put_guard;
 use imposer::{Open, Options, Report, RunError, Sink, Workers, run};
 use layouts::{LayoutError, Which, booklet, nup, selection};
-use lengths::{Paper, a4};
+use lengths::Paper;
 use pagespec::{Spec, read_spec, write_spec};
 use std::alloc::{AllocError, Global};
 use std::sync::Wait;
@@ -39,8 +39,8 @@ pub enum PaperOrigin {
     Named,
     /// This comment of the document's header tells it.
     ByComment(Comment),
-    /// Nothing tells it, and so it is a4.
-    Assumed,
+    /// Nothing tells it, and so it is the paper at home.
+    AtHome,
 }
 
 /// What is imposed, and how.
@@ -150,7 +150,11 @@ pub fn task_for(alloc: Global, request: &Request, input: Vec<u8>) -> Result<Task
         Ok(pages) => pages,
         Err(fault) => return Err(fault),
     };
-    let (page_paper, origin) = paper_of_pages(request.page_paper, input.as_slice());
+    let (page_paper, origin) = paper_of_pages(
+        request.page_paper,
+        request.home_paper,
+        input.as_slice(),
+    );
     let sheet_paper = *paper_of_sheets(&request.sheet_paper, &page_paper);
     let (spec, sides) = match placing(alloc, &request.layout, &page_paper, &sheet_paper, pages) {
         Ok(placed) => placed,
@@ -189,15 +193,15 @@ fn text_to_impose(
     Ok(text)
 }
 
-/// The paper of the pages: the one that is named, else the document's own, else a4.
-fn paper_of_pages(named: Option<Paper>, input: &[u8]) -> (Paper, PaperOrigin)
-    ensures { result ≡ page_paper_found named input.now }
+/// The paper of the pages: the one that is named, else the document's own, else the one at home.
+fn paper_of_pages(named: Option<Paper>, home: Paper, input: &[u8]) -> (Paper, PaperOrigin)
+    ensures { result ≡ page_paper_found named home input.now }
 {
     match named {
         Some(page_paper) => (page_paper, PaperOrigin::Named),
         None => match document_paper(input) {
             Some((page_paper, comment)) => (page_paper, PaperOrigin::ByComment(comment)),
-            None => (a4(), PaperOrigin::Assumed),
+            None => (home, PaperOrigin::AtHome),
         },
     }
 }
@@ -224,12 +228,14 @@ fn pages_of(alloc: Global, input: &[u8]) -> Result<u32, Fault>
     }
 }
 
-/// A document's refusal. What is empty or a PDF is called so.
+/// A document's refusal. What is empty, a PDF, compressed or a job for a printer is called so; and what is too long by
+/// itself, as a guard may make it so later.
 fn of_document(error: DscError, input: &[u8]) -> Fault
     ensures { result ≡ document_fault error input.now }
 {
     match error {
         DscError::NotPostScript => not_postscript(input),
+        DscError::TooLong => Fault::TooLong,
         error => Fault::Run(RunError::from(error)),
     }
 }
@@ -241,6 +247,10 @@ fn not_postscript(input: &[u8]) -> Fault
         Fault::NoInput
     } else if input.starts_with(b"%PDF-") {
         Fault::Pdf
+    } else if input.starts_with(b"\x1f\x8b") {
+        Fault::Compressed
+    } else if input.starts_with(b"\x1b%-12345X") {
+        Fault::JobLanguage
     } else {
         Fault::Run(RunError::Document(DscError::NotPostScript))
     }

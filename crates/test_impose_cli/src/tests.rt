@@ -3,6 +3,7 @@ mod carets;
 mod commands;
 mod in_memory;
 mod messages;
+mod mistakes;
 mod other_messages;
 mod programs;
 mod tasks;

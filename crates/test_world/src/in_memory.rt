@@ -22,7 +22,7 @@ pub enum Takes {
     Nothing,
 }
 
-/// A world of one file that can be read. Standard input is empty.
+/// A world of one file that can be read, and of the one that names the paper at home. Standard input is empty.
 #[derive(Drop)]
 pub struct InMemory<'a> {
     pub alloc: Global,
@@ -30,6 +30,8 @@ pub struct InMemory<'a> {
     pub opened: &'a AtomicU32,
     pub name: &'a str,
     pub text: &'a str,
+    /// The text of `/etc/papersize`, if there is one.
+    pub home: Option<&'a str>,
     pub takes: Takes,
 }
 
@@ -61,7 +63,12 @@ impl<'a> World for InMemory<'a> {
             Some(name) if name == self.name => Ok(Given {
                 rest: self.text.as_bytes(),
             }),
-            Some(_) => Err(io::Error::from(ErrorKind::NotFound)),
+            Some(name) => match self.home {
+                Some(text) if name == "/etc/papersize" => Ok(Given {
+                    rest: text.as_bytes(),
+                }),
+                _ => Err(io::Error::from(ErrorKind::NotFound)),
+            },
         }
     }
 

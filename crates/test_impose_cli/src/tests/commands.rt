@@ -131,10 +131,17 @@ fn values_that_name_nothing(rt: HostRuntime) {
     );
     assert!(rt;
         matches!(
-            read(alloc, "select 1 --odd --even"),
+            read(alloc, "select 1 --odd --even -- in.ps -q"),
             Err(CommandFault::OddAndEven)
         )
     );
+    assert!(rt;
+        matches!(
+            read(alloc, "nup 2 -- in.ps -q"),
+            Err(CommandFault::OptionAsOutfile(_))
+        )
+    );
+    assert!(rt; read(alloc, "nup 2 -- -in.ps -").is_ok());
 }
 
 #[test]
@@ -167,9 +174,23 @@ fn words_that_are_not_taken(rt: HostRuntime) {
 fn sizes_are_named_or_measured(rt: HostRuntime) {
     assert_eq!(rt; size_named("A4"), Some(paper(&rt, "a4")));
     assert_eq!(rt; size_named("595x842"), Some(paper(&rt, "a4")));
-    assert_eq!(rt; size_named("8.5inx11in"), Some(paper(&rt, "letter")));
+    for text in ["8.5inx11in", "8.5x11in"] {
+        assert_eq!(rt; size_named(text), Some(paper(&rt, "letter")), "at {text}");
+    }
     for text in [
-        "", "x", "595", "595x", "x842", "0x842", "-1x842", "595x842x", "595X842", "b8",
+        "72x72",
+        "8.5x11",
+        "210mmx297",
+        "",
+        "x",
+        "595",
+        "595x",
+        "x842",
+        "0x842",
+        "-1x842",
+        "595x842x",
+        "595X842",
+        "b8",
     ] {
         assert_eq!(rt; size_named(text), None, "at {text}");
     }

@@ -32,8 +32,24 @@ fn command_lines(rt: HostRuntime) -> Result<(), Fail> {
         (
             CommandFault::UnknownPaper(PaperOption::Paper, text("b9")?),
             2,
-            "unknown paper 'b9' after --paper: name one of a3, a4, a5, letter, legal, tabloid, \
-            statement, 10x14, or a size as 210mmx297mm",
+            "unknown paper 'b9' after --paper: name one of a0, a1, a2, a3, a4, a5, a6, b4, b5, b6, letter, \
+            legal, tabloid, ledger, statement, executive, folio, quarto, 10x14, or a size as 210x297mm; a name with \
+            -landscape behind it is the paper on its side",
+        ),
+        (
+            CommandFault::UnknownPaper(PaperOption::Sheet, text("100x150")?),
+            2,
+            "size '100x150' after --sheet has no unit: write 100x150mm, 100x150in or 100x150pt",
+        ),
+        (
+            CommandFault::UnknownPaper(PaperOption::Paper, text("210mmx297")?),
+            2,
+            "size '210mmx297' after --paper has no unit behind the height: write it as 210x297mm or 210mmx297mm",
+        ),
+        (
+            CommandFault::UnknownPaper(PaperOption::Paper, text("0x9cm")?),
+            2,
+            "size '0x9cm' after --paper: a side is zero, negative or too long",
         ),
         (
             CommandFault::BadBorder(text("-1")?),
@@ -49,6 +65,12 @@ fn command_lines(rt: HostRuntime) -> Result<(), Fail> {
             CommandFault::OddAndEven,
             2,
             "--odd and --even leave no page together: give one of them",
+        ),
+        (
+            CommandFault::OptionAsOutfile(text("-q")?),
+            2,
+            "OUTFILE '-q' begins with a minus, as options do: options stand before --, and a file of this name is \
+            written ./-q",
         ),
         (
             CommandFault::NoText,
@@ -84,6 +106,26 @@ fn documents_and_inputs(rt: HostRuntime) -> Result<(), Fail> {
             "in.ps is a PDF, not PostScript; use: pdftops in.pdf - | impose .. -",
         ),
         (
+            Fault::Compressed,
+            1,
+            "in.ps is compressed, not PostScript; use: zcat in.ps.gz | impose .. -",
+        ),
+        (
+            Fault::JobLanguage,
+            1,
+            "in.ps begins with a printer's job language, not with %!; cut that off: sed -n '/^%!/,$p' in.ps | impose .. -",
+        ),
+        (
+            Fault::TooLong,
+            1,
+            "in.ps is longer than 1,073,741,824 bytes; split it first",
+        ),
+        (
+            Fault::Run(RunError::Document(DscError::NotPostScript)),
+            1,
+            "in.ps is not PostScript: it doesn't begin with %!; cut off what stands before that",
+        ),
+        (
             Fault::Run(RunError::Document(DscError::NoPages)),
             1,
             "in.ps has no %%Page: comments; for plain PostScript run it through ps2ps first",
@@ -91,7 +133,7 @@ fn documents_and_inputs(rt: HostRuntime) -> Result<(), Fail> {
         (
             Fault::Run(RunError::Document(DscError::ShortData(17))),
             1,
-            "in.ps: the data behind the %%BeginData: at byte 17 is cut short; is the document complete?",
+            "in.ps: the data behind the %%BeginData: or %%BeginBinary: at byte 17 is cut short; is the document complete?",
         ),
     ];
     for (fault, status, message) in rows {

@@ -2,7 +2,9 @@
 use super::read;
 use document_paper::Comment;
 use dsc::DscError;
-use impose_cli::{Fault, Finished, PaperOrigin, Request, fault_status, fault_text, report_text};
+use impose_cli::{
+    Fault, Finished, PaperOrigin, Request, fault_status, fault_text, note_text, report_text,
+};
 use imposer::{Report, RunError};
 use layouts::LayoutError;
 use lengths::paper_by_name;
@@ -54,11 +56,12 @@ fn layouts_plans_and_faulty_documents(rt: HostRuntime) -> Result<(), Fail> {
         ),
         (
             Fault::Run(RunError::Document(DscError::TooLong)),
-            "in.ps is longer than 1,073,741,824 bytes; split it first",
+            "in.ps is longer than 1,073,741,824 bytes with its guard; split it first, or leave the guard out by \
+            --unguarded",
         ),
         (
             Fault::Run(RunError::Document(DscError::BadCount(9))),
-            "in.ps: the %%BeginData: at byte 9 has no count, or a bad one; write the document anew",
+            "in.ps: the %%BeginData: or %%BeginBinary: at byte 9 has no count, or a bad one; write the document anew",
         ),
         (
             Fault::Run(RunError::Document(DscError::TooManyPages)),
@@ -138,7 +141,6 @@ fn standard_input_and_output(rt: HostRuntime) -> Result<(), Fail> {
 
 #[test]
 fn reports(rt: HostRuntime) -> Result<(), Fail> {
-    let page_paper = paper_by_name("a4").expect(&rt, "a4 is a paper");
     let rows = [
         (PaperOrigin::Named, "as named"),
         (
@@ -146,32 +148,81 @@ fn reports(rt: HostRuntime) -> Result<(), Fail> {
             "by its %%DocumentMedia",
         ),
         (
+            PaperOrigin::ByComment(Comment::DocumentPaperSizes),
+            "by its %%DocumentPaperSizes",
+        ),
+        (
             PaperOrigin::ByComment(Comment::BoundingBox),
             "by its %%BoundingBox",
         ),
         (
-            PaperOrigin::Assumed,
-            "which is a4 as the document names none",
+            PaperOrigin::AtHome,
+            "the usual one here, as the document names none",
         ),
     ];
+    let request = read(rt.alloc(), "spec 0")?;
     for (origin, said) in rows {
-        let report = Report {
-            pages: 5,
-            sheets: 3,
-            born: 1,
-            swept: 0,
-            bytes: 270,
-        };
-        let done = Finished {
-            report,
-            page_paper,
-            origin,
-        };
-        let text = report_text(rt.alloc(), &done)?;
+        let done = five_pages(&rt, 3, origin);
+        let text = report_text(rt.alloc(), &done, &request)?;
         let wanted = format!(in rt.alloc();
             "pages 5, sheets 3, bytes 270; pages of 595 x 842 pt, {said}"
         )?;
         assert_eq!(rt; text, wanted);
     }
+    Ok(())
+}
+
+/// Five pages of a4 on so many sheets.
+fn five_pages(rt: &impl Abort, sheets: u32, origin: PaperOrigin) -> Finished {
+    let report = Report {
+        pages: 5,
+        sheets,
+        born: 0,
+        swept: 0,
+        bytes: 270,
+    };
+    Finished {
+        report,
+        page_paper: paper_by_name("a4").expect(rt, "a4 is a paper"),
+        origin,
+    }
+}
+
+#[test]
+fn blanks_and_leaves_are_counted(rt: HostRuntime) -> Result<(), Fail> {
+    let rows = [
+        ("nup 2", 3, "pages 5, blanks 1, sheets 3, bytes 270;"),
+        ("nup 5", 1, "pages 5, sheets 1, bytes 270;"),
+        (
+            "booklet",
+            4,
+            "pages 5, blanks 3, sheets 4 (2 leaves), bytes 270;",
+        ),
+        (
+            "booklet --signature 8",
+            2,
+            "pages 5, sheets 2 (1 leaf), bytes 270;",
+        ),
+        ("select 1-", 5, "pages 5, sheets 5, bytes 270;"),
+    ];
+    for (line, sheets, wanted) in rows {
+        let request = read(rt.alloc(), line)?;
+        let done = five_pages(&rt, sheets, PaperOrigin::Named);
+        let text = report_text(rt.alloc(), &done, &request)?;
+        assert!(rt; text.as_str().starts_with(wanted), "at {line}: {text}");
+    }
+    Ok(())
+}
+
+#[test]
+fn a_pdf_is_not_written(rt: HostRuntime) -> Result<(), Fail> {
+    let request = read(rt.alloc(), "nup 2 in.ps out.ps")?;
+    assert_eq!(rt; note_text(rt.alloc(), &request)?, None);
+    let request = read(rt.alloc(), "nup 2 in.ps out.pdf")?;
+    let note = note_text(rt.alloc(), &request)?.unwrap_or(String::new(rt.alloc()));
+    assert_eq!(rt;
+        note.as_str(),
+        "out.pdf holds PostScript, not a PDF; for a PDF use: impose .. | ps2pdf -dAutoRotatePages=/None - out.pdf"
+    );
     Ok(())
 }

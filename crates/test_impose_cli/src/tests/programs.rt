@@ -2,9 +2,10 @@
 use super::in_memory::{InMemory, Takes};
 use super::words_of;
 use dsc::DscError;
-use impose_cli::{CommandFault, Done, Ended, Fault, impose};
+use impose_cli::{CommandFault, Done, Ended, Fault, PaperOrigin, impose};
 use imposer::RunError;
 use pagespec::SpecError;
+use paper_names::paper_by_name;
 use std::alloc::{AllocError, Global};
 use std::io::ErrorKind;
 use std::process::Abort;
@@ -48,9 +49,29 @@ fn ended<'a, R: Threads + Wait + Sync>(
         alloc,
         name: "in.ps",
         text: document,
+        home: None,
         takes,
     };
-    Ok(impose(rt, alloc, words.as_slice(), world))
+    Ok(impose(rt, alloc, words.as_slice(), b"", world))
+}
+
+/// Runs the program where this is the value of `PAPERSIZE`, and this the text of `/etc/papersize`, over one page.
+fn ended_at<'a, R: Threads + Wait + Sync>(
+    rt: &R,
+    alloc: Global,
+    line: &str,
+    variable: &[u8],
+    home: Option<&'a str>,
+) -> Result<Ended<InMemory<'a>>, AllocError> {
+    let words = words_of(alloc, line)?;
+    let world = InMemory {
+        alloc,
+        name: "in.ps",
+        text: ONE_PAGE,
+        home,
+        takes: AMPLE,
+    };
+    Ok(impose(rt, alloc, words.as_slice(), variable, world))
 }
 
 /// One output was created, under this name, and has this text.
@@ -126,6 +147,36 @@ fn a_specification_is_printed_to_standard_output(rt: HostRuntime) -> Result<(), 
     let end = ended(&rt, rt.alloc(), line, ONE_PAGE, Takes::Nothing)?;
     assert_write_failed(&rt, &end, 0, ErrorKind::PermissionDenied);
     assert_none_created(&rt, &end);
+    Ok(())
+}
+
+/// The pages are taken for pages of this paper.
+fn assert_paper(ended: &Ended<InMemory<'_>>, rt: &impl Abort, paper: &[u8], origin: PaperOrigin) {
+    match &ended.outcome {
+        Ok(Done::Imposed(finished)) => {
+            assert_eq!(rt; Some(finished.page_paper), paper_by_name(paper));
+            assert_eq!(rt; finished.origin, origin);
+        }
+        _ => panic!(rt; "not imposed"),
+    }
+}
+
+#[test]
+fn the_paper_at_home_is_taken_if_none_is_told(rt: HostRuntime) -> Result<(), Fail> {
+    let letter = Some("# letter\n");
+    let alloc = rt.alloc();
+    let line = "nup 1 in.ps out.ps";
+    let end = ended_at(&rt, alloc, line, b"", Some(" letter\na5\n"))?;
+    assert_paper(&end, &rt, b"letter", PaperOrigin::AtHome);
+    let end = ended_at(&rt, alloc, line, b"A5", Some("letter\n"))?;
+    assert_paper(&end, &rt, b"a5", PaperOrigin::AtHome);
+    let end = ended_at(&rt, alloc, line, b"none", letter)?;
+    assert_paper(&end, &rt, b"a4", PaperOrigin::AtHome);
+    let end = ended_at(&rt, alloc, line, b"", None)?;
+    assert_paper(&end, &rt, b"a4", PaperOrigin::AtHome);
+    let line = "nup 1 -p a3 in.ps out.ps";
+    let end = ended_at(&rt, alloc, line, b"a5", Some("letter\n"))?;
+    assert_paper(&end, &rt, b"a3", PaperOrigin::Named);
     Ok(())
 }
 

@@ -23,9 +23,15 @@ fn owned(alloc: Global, text: &str) -> Result<Vec<u8>, Fault> {
 }
 
 fn fault_of(alloc: Global, line: &str, document: &str) -> Result<(), Fault> {
+    fault_of_bytes(alloc, line, document.as_bytes())
+}
+
+fn fault_of_bytes(alloc: Global, line: &str, document: &[u8]) -> Result<(), Fault> {
     let request = read(alloc, line).map_err(Fault::Command)?;
     check_layout(alloc, &request)?;
-    let _ = task_for(alloc, &request, owned(alloc, document)?)?;
+    let mut input = Vec::new(alloc);
+    input.extend_from_slice(document)?;
+    let _ = task_for(alloc, &request, input)?;
     Ok(())
 }
 
@@ -39,7 +45,7 @@ fn the_paper_is_named_or_the_documents_own(rt: HostRuntime) -> Result<(), Fail> 
             PaperOrigin::ByComment(Comment::DocumentMedia),
             "0",
         ),
-        ("nup 1", ONE_PAGE, PaperOrigin::Assumed, "0"),
+        ("nup 1", ONE_PAGE, PaperOrigin::AtHome, "0"),
     ];
     for (line, document, origin, spec) in rows {
         let request = read(rt.alloc(), line)?;
@@ -98,6 +104,18 @@ fn documents_that_are_refused(rt: HostRuntime) {
     assert!(rt; matches!(fault_of(alloc, "nup 2", "%PDF-1.4\n"), Err(Fault::Pdf)));
     assert!(rt;
         matches!(
+            fault_of_bytes(alloc, "nup 2", b"\x1f\x8b\x08"),
+            Err(Fault::Compressed)
+        )
+    );
+    assert!(rt;
+        matches!(
+            fault_of(alloc, "nup 2", "\u{1b}%-12345X@PJL\n%!PS\n"),
+            Err(Fault::JobLanguage)
+        )
+    );
+    assert!(rt;
+        matches!(
             fault_of(alloc, "nup 2", "x"),
             Err(Fault::Run(RunError::Document(DscError::NotPostScript)))
         )
@@ -153,7 +171,7 @@ fn layouts_that_are_refused(rt: HostRuntime) {
             Err(Fault::Command(_))
         )
     );
-    let long = "nup 2 -p 99999inx1";
+    let long = "nup 2 -p 99999inx1pt";
     assert!(rt;
         matches!(
             fault_of(alloc, long, ""),
@@ -174,7 +192,7 @@ fn a_page_is_imposed_as_it_is(rt: HostRuntime) -> Result<(), Fail> {
         &mut sink,
     )?;
     assert_eq!(rt; done.report.sheets, 1);
-    assert_eq!(rt; done.origin, PaperOrigin::Assumed);
+    assert_eq!(rt; done.origin, PaperOrigin::AtHome);
     let sheet = "%!PS-Adobe-3.0\n%%Pages: 1\n%%EndComments\n%%Page: 1 1\n\
         userdict /ImposeSave save put\nuserdict /showpage {} put\n[1 0 0 1 0 0] concat\n\
         newpath 0 0 moveto 595 0 lineto 595 842 lineto 0 842 lineto closepath clip newpath\n\

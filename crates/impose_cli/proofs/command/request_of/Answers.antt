@@ -1,6 +1,6 @@
 use Rattle.std.proofs.Common.{◌≡◌}
 use Rattle.clap.specs.Words.{found_of, rows_of}
-use Rattle.impose_cli.proofs.Found.{refuses_arguments, refuses_sizes}
+use Rattle.impose_cli.proofs.Found.{refuses_arguments, refuses_outfile, refuses_sizes}
 use Rattle.impose_cli.proofs.command.request_of.Goals as goal
 
 pub returns-in-Err-clause-refused : goal.returns-in-Err-clause-refused
@@ -9,3 +9,7 @@ returns-in-Err-clause-refused c = refuses_sizes c.args.name.now (rows_of (found_
 pub returns-in-Err-layout_of-clause-refused : goal.returns-in-Err-layout_of-clause-refused
 returns-in-Err-layout_of-clause-refused c =
     refuses_arguments c.args.name.now (rows_of (found_of c.args.found.now)) c.in-Ok.sizes.page_paper c.in-Ok.sizes.sheet_paper c.in-Ok.sizes.border c.in-Err-layout_of.fault c.in-Ok.ensures.read c.in-Err-layout_of.ensures.refused
+
+pub returns-in-Err-outfile_of-clause-refused : goal.returns-in-Err-outfile_of-clause-refused
+returns-in-Err-outfile_of-clause-refused c =
+    refuses_outfile c.args.name.now (rows_of (found_of c.args.found.now)) c.in-Ok.sizes.page_paper c.in-Ok.sizes.sheet_paper c.in-Ok.sizes.border c.in-Ok-layout_of.layout c.in-Err-outfile_of.fault c.in-Ok.ensures.read c.in-Ok-layout_of.ensures.read c.in-Err-outfile_of.ensures.refused

@@ -1,0 +1,13 @@
+use Rattle.std.proofs.Common.{map, ap, subst, sym}
+use Rattle.std.specs.Prelude.{string_bytes}
+use Rattle.impose_cli.specs.Programs.{IsHome}
+use Rattle.impose_cli.proofs.Found.{entered_at_home}
+use Rattle.impose_cli.proofs.program.impose.Goals as goal
+
+pub returns-in-Ok : goal.returns-in-Ok
+returns-in-Ok g c = record {
+  ended =
+      (entered_at_home (map string_bytes c.args.words.now) c.in-Ok.read c.at_home-request.result c.home_of.result c.at_home-request.ensures c.in-Ok.ensures.read,
+      subst (λ p. IsHome c.args.paper_size.now (g.W.World.gives c.args.world) p) (sym (ap (λ r. r.home_paper) c.at_home-request.ensures)) c.home_of.ensures,
+      c.carry_out-left.ensures);
+}

@@ -1,0 +1,173 @@
+//! What is said of words that the command doesn't take.
+use crate::shown::{is_shown_whole, push_shown, shown_word};
+use clap::Error;
+use clap::error::ErrorKind;
+use std::alloc::{AllocError, Global};
+
+/// What is said of words that the command doesn't take, of which the first is the program's name: clap's text, with a tip of
+/// our own on what to do. Clap's tip to put an option behind `--` is left out, as the option would be taken for a
+/// file then. No control character of a word is left, and long words are cut.
+pub fn words_text(alloc: Global, error: &Error, words: &[String]) -> Result<String, AllocError> {
+    let mut text = format!(in alloc; "{error}")?;
+    for word in words {
+        let word = word.as_str();
+        text = with_shown(alloc, text, word)?;
+        text = with_shown(alloc, text, value_in(word))?;
+    }
+    with_tip(alloc, text.as_str(), tip(error.kind(), words))
+}
+
+/// The text with a word in it as it is shown.
+fn with_shown(alloc: Global, text: String, word: &str) -> Result<String, AllocError> {
+    if is_shown_whole(word) {
+        return Ok(text);
+    }
+    let shown = shown_word(alloc, word)?;
+    text.as_str().replace(alloc, word, shown.as_str())
+}
+
+/// The value in a word that has an option and its value: what stands behind an equals sign, or else behind a letter.
+fn value_in(word: &str) -> &str {
+    match word.split_once("=") {
+        Some((_, value)) => value,
+        None => match word.strip_prefix("-p") {
+            Some(value) => value,
+            None => word,
+        },
+    }
+}
+
+/// Clap's text with this tip above the usage, or the last line if there is none, and without the tip to hide an option.
+fn with_tip(alloc: Global, text: &str, tip: Option<&str>) -> Result<String, AllocError> {
+    let mut out = String::new(alloc);
+    let mut left = tip;
+    let mut is_behind_blank = false;
+    for line in text.lines() {
+        if line.starts_with("  tip: to pass ") || line.is_empty() && is_behind_blank {
+            continue;
+        }
+        if line.starts_with("Usage:") || line.starts_with("For more information") {
+            push_tip(&mut out, left)?;
+            left = None;
+        }
+        push_line(&mut out, line)?;
+        is_behind_blank = line.is_empty();
+    }
+    Ok(out)
+}
+
+fn push_tip(out: &mut String, tip: Option<&str>) -> Result<(), AllocError> {
+    match tip {
+        Some(tip) => {
+            out.push_str("  tip: ")?;
+            out.push_str(tip)?;
+            out.push_str("\n\n")
+        }
+        None => Ok(()),
+    }
+}
+
+fn push_line(out: &mut String, line: &str) -> Result<(), AllocError> {
+    for letter in line.chars() {
+        push_shown(out, letter)?;
+    }
+    out.push('\n')
+}
+
+/// What to do at a mistake of this kind in these words, if more can be said than clap says.
+fn tip(kind: ErrorKind, words: &[String]) -> Option<&'static str> {
+    let [_, command, behind @ ..] = words else {
+        return None;
+    };
+    let command = command.as_str();
+    if !is_command(command) {
+        return tip_on_command(command);
+    }
+    match kind {
+        ErrorKind::UnknownArgument => tip_on_unknown(command, behind),
+        ErrorKind::ValueValidation | ErrorKind::InvalidValue | ErrorKind::MissingRequiredArgument =>
+            tip_on_argument(command),
+        _ => None,
+    }
+}
+
+fn is_command(word: &str) -> bool {
+    word == "nup" || word == "booklet" || word == "select" || word == "spec"
+}
+
+/// The first word is no command.
+fn tip_on_command(word: &str) -> Option<&'static str> {
+    if word.starts_with("-") {
+        Some("options stand behind the command, as in: impose nup 2 -q in.ps out.ps")
+    } else if looks_like_file(word) {
+        Some("a command stands before the files, as in: impose booklet in.ps out.ps")
+    } else if word.starts_with(|letter: char| letter.is_ascii_digit()) {
+        Some("a command stands before its number, as in: impose nup 2 in.ps out.ps")
+    } else {
+        None
+    }
+}
+
+/// The argument that the command begins with is missing, or it is none.
+fn tip_on_argument(command: &str) -> Option<&'static str> {
+    if command == "nup" {
+        Some("the number of pages stands behind nup, as in: impose nup 2 in.ps out.ps")
+    } else if command == "booklet" {
+        Some("a signature is a number of sides, as in: impose booklet --signature 16 in.ps out.ps")
+    } else if command == "select" {
+        Some("the pages stand behind select, and 1- are all: impose select 1- --odd in.ps out.ps")
+    } else {
+        Some("the specification stands behind spec, as in: impose spec 0,0 in.ps out.ps")
+    }
+}
+
+/// An option that there isn't, or a word too many.
+fn tip_on_unknown(command: &str, behind: &[String]) -> Option<&'static str> {
+    for word in behind {
+        let word = word.as_str();
+        if word.starts_with("-o") || word.starts_with("--out") {
+            return Some(
+                "the sheets go to the second file, without an option: impose nup 2 in.ps out.ps",
+            );
+        }
+        if begins_with_minus_and_digit(word) {
+            return Some(tip_on_negative(command));
+        }
+        if word.starts_with("-") && looks_like_file(word) {
+            return Some(
+                "a file whose name begins with a minus is written with its folder: ./-in.ps",
+            );
+        }
+    }
+    if behind.iter().any(|word| word.as_str().starts_with("-")) {
+        None
+    } else {
+        Some("there are two files at most, INFILE and OUTFILE; a name with blanks stands in quotes")
+    }
+}
+
+fn begins_with_minus_and_digit(word: &str) -> bool {
+    match word.strip_prefix("-") {
+        Some(rest) => rest.starts_with(|letter: char| letter.is_ascii_digit()),
+        None => false,
+    }
+}
+
+fn tip_on_negative(command: &str) -> &'static str {
+    if command == "nup" {
+        "the number of pages has no sign, as in: impose nup 2 in.ps out.ps"
+    } else if command == "spec" {
+        "a specification that begins with a minus is written with its modulo: 1:-0"
+    } else {
+        "a range begins with the number of a page: 1-3 are the first three"
+    }
+}
+
+/// Whether a word is more likely the name of a file than anything else.
+pub(crate) fn looks_like_file(word: &str) -> bool {
+    word.ends_with(".ps")
+        || word.ends_with(".eps")
+        || word.ends_with(".pdf")
+        || word.ends_with(".gz")
+        || word.contains("/")
+}

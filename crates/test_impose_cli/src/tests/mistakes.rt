@@ -1,0 +1,86 @@
+//! What is said of words that the command doesn't take, and of names that no terminal should get as they are.
+use super::{read, words_of};
+use impose_cli::{CommandFault, Fault, fault_text, read_command, words_text};
+use std::alloc::{AllocError, Global};
+use std::process::Abort;
+use std::test::Fail;
+
+/// What is said of words that the command doesn't take, and nothing of others.
+fn said(alloc: Global, words: &[String]) -> Result<String, AllocError> {
+    match read_command(alloc, words) {
+        Err(CommandFault::Words(error)) => words_text(alloc, &error, words),
+        _ => Ok(String::new(alloc)),
+    }
+}
+
+fn assert_tip(rt: &(impl Abort + AllocGlobal), line: &str, wanted: &str) -> Result<(), Fail> {
+    let words = words_of(rt.alloc(), line)?;
+    let text = said(rt.alloc(), words.as_slice())?;
+    assert!(rt; text.as_str().contains(wanted), "at {line}: {text}");
+    assert!(rt; !text.as_str().contains("-- -"), "at {line}: {text}");
+    Ok(())
+}
+
+#[test]
+fn each_mistake_has_a_tip(rt: HostRuntime) -> Result<(), Fail> {
+    let rows = [
+        ("in.ps out.ps", "tip: a command stands before the files"),
+        ("-q nup 2", "tip: options stand behind the command"),
+        ("2 in.ps", "tip: a command stands before its number"),
+        ("nup in.ps", "tip: the number of pages stands behind nup"),
+        ("nup 2x in.ps", "tip: the number of pages stands behind nup"),
+        ("nup", "tip: the number of pages stands behind nup"),
+        ("nup -2 in.ps", "tip: the number of pages has no sign"),
+        ("select", "tip: the pages stand behind select"),
+        (
+            "select -3 in.ps",
+            "tip: a range begins with the number of a page",
+        ),
+        (
+            "spec -0 in.ps",
+            "tip: a specification that begins with a minus",
+        ),
+        (
+            "booklet --signature x in.ps",
+            "tip: a signature is a number of sides",
+        ),
+        (
+            "nup 2 -o out.ps in.ps",
+            "tip: the sheets go to the second file",
+        ),
+        (
+            "nup 2 -in.ps out.ps",
+            "tip: a file whose name begins with a minus",
+        ),
+        (
+            "nup 2 my file.ps out.ps",
+            "tip: there are two files at most",
+        ),
+        ("nup 2 --bodrer 1pt", "--border"),
+    ];
+    for (line, wanted) in rows {
+        assert_tip(&rt, line, wanted)?;
+    }
+    Ok(())
+}
+
+#[test]
+fn names_are_shown_without_control_characters(rt: HostRuntime) -> Result<(), Fail> {
+    let request = read(rt.alloc(), "nup 2 \u{1b}[2J.ps")?;
+    let text = fault_text(rt.alloc(), &Fault::Read(None), Some(&request))?;
+    assert_eq!(rt; text.as_str(), "cannot read \\u{1b}[2J.ps");
+    let words = words_of(rt.alloc(), "nup 2 --\u{7}\u{9b}")?;
+    let text = said(rt.alloc(), words.as_slice())?;
+    assert!(rt; text.as_str().contains("--\\u{7}\\u{9b}"), "{text}");
+    Ok(())
+}
+
+#[test]
+fn a_printed_specification_goes_to_standard_output(rt: HostRuntime) -> Result<(), Fail> {
+    let request = read(rt.alloc(), "nup 2 --print-spec in.ps out.ps")?;
+    let written = 0;
+    let cause = None;
+    let text = fault_text(rt.alloc(), &Fault::Write { written, cause }, Some(&request))?;
+    assert_eq!(rt; text.as_str(), "cannot write standard output");
+    Ok(())
+}
