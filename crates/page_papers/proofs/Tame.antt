@@ -6,7 +6,6 @@ use Rattle.rules.specs.Numbers.{points_text}
 use Rattle.rules.specs.Units.{begins_block, has_key, is_comment}
 use Rattle.seams.proofs.Plainly.{no_ends_append, no_ends_points}
 use Rattle.seams.specs.Seams.{no_ends}
-use Rattle.made_sheets.specs.Made.{MadeSheet}
 use Rattle.imposed_again.specs.MadeAgain.{AreTame, IsTame, IsTameDress}
 use Rattle.page_papers.specs.Own.{covering}
 use Rattle.page_papers.specs.Told.{TellingIsTame, box_line, medium_line, medium_text, page_size_lines, papers_told, size_name, size_text, telling_of}

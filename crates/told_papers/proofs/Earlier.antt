@@ -1,9 +1,9 @@
 -- Sheets that were the first of their size.
-use Rattle.std.proofs.Common.{ℕ, zero, suc, ◌+◌, ◌<◌, ◌≡◌, ◌∙◌, refl, ap, sym, subst, arith, [], ◌∷◌, ◌++◌, Bool, true, false, List, Some, length, codes, int_eq, get_or, ℤ}
-use Rattle.std.specs.Prelude.{slice_get, ◌&&◌, All}
+use Rattle.std.proofs.Common.{ℕ, zero, suc, ◌<◌, ◌≡◌, ◌∙◌, refl, ap, sym, subst, arith, [], ◌∷◌, ◌++◌, Bool, true, false, List, Some, length, codes, int_eq, get_or, ℤ}
+use Rattle.std.specs.Prelude.{slice_get, ◌&&◌}
 use Rattle.std.proofs.lemmas.Bool.Decides.{Decides-int_eq}
-use Rattle.std.proofs.lemmas.List.Elements.{All-append, All-map}
-use Rattle.std.proofs.lemmas.Option.{slice_get_within, get_or_from_slice_get, slice_get-get_or}
+use Rattle.std.proofs.lemmas.List.Elements.{All-append}
+use Rattle.std.proofs.lemmas.Option.{slice_get_within, get_or_from_slice_get}
 use Rattle.rules.specs.Numbers.{printed}
 use Rattle.rules.specs.Papers.{Paper}
 use Rattle.sheet_text.specs.Dressings.{Hem}

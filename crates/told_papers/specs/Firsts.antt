@@ -1,8 +1,8 @@
 -- Sheets that were the first of their size.
-use Rattle.std.specs.Prelude.{◌≡◌, ℕ, List, Some, true, slice_get, All}
+use Rattle.std.specs.Prelude.{◌≡◌, ℕ, List, Some, slice_get, All}
 use Rattle.rules.specs.Papers.{Paper}
 use Rattle.sheet_text.specs.Dressings.{Hem}
-use Rattle.told_papers.specs.Sizes.{size_of, is_same_size}
+use Rattle.told_papers.specs.Sizes.{size_of}
 use Rattle.told_papers.specs.Dressings.{hem_of_sheet}
 use Rattle.told_papers.specs.declared.told.Size.{Size}
 use Rattle.told_papers.specs.declared.dress.Kind.{Kind}

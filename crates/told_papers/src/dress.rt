@@ -54,12 +54,7 @@ fn untold(alloc: Global, dress: Dress, count: u32) -> Result<Dress, AllocError>
 }
 
 /// The dress with these sheets, each of which names its paper and sets the device's page size.
-fn named(
-    alloc: Global,
-    dress: Dress,
-    sheets: &MadeSheets,
-    count: u32,
-) -> Result<Dress, AllocError>
+fn named(alloc: Global, dress: Dress, sheets: &MadeSheets, count: u32) -> Result<Dress, AllocError>
     requires none { dress.hems ≡ [] }
     requires count { count ≡ length sheets.now }
     ensures { IfOk result (λ d. d ≡ record { header = dress.header; hems = hems_told sheets.now }) }

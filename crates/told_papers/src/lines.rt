@@ -128,7 +128,9 @@ fn push_page_size(alloc: Global, lines: &mut Lines, paper: &Paper) -> Result<(),
     ensures { OnOk result (lines.new ≡ lines.old ++ size_lines paper.now) }
 {
     lines.push(b"/PStoPSenablepage where {pop PStoPSenablepage}")?;
-    lines.push(b"{userdict /showpage 2 copy known {get dup type /operatortype eq {pop true} {length 0 ne} ifelse} {pop pop true} ifelse} ifelse")?;
+    lines.push(
+        b"{userdict /showpage 2 copy known {get dup type /operatortype eq {pop true} {length 0 ne} ifelse} {pop pop true} ifelse} ifelse",
+    )?;
     push_size_if_shown(alloc, lines, paper)?;
     Ok(())
 }

@@ -82,11 +82,7 @@ fn is_among(sizes: &[Size], size: Size) -> bool
 }
 
 /// The least paper that covers those of all sheets, of which there are so many.
-fn covering_alone(
-    alloc: Global,
-    sheets: &MadeSheets,
-    count: u32,
-) -> Result<Vec<Paper>, AllocError>
+fn covering_alone(alloc: Global, sheets: &MadeSheets, count: u32) -> Result<Vec<Paper>, AllocError>
     requires some { 0 < count }
     requires count { count ≡ length sheets.now }
     ensures { IfOk result (λ alone. alone.items ≡ all_covering (papers_of sheets.now) ∷ []) }

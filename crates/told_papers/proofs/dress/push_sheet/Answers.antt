@@ -1,21 +1,41 @@
-use Rattle.std.proofs.Common.{rules, ◌≡◌, ◌++◌, ◌∷◌, [], IfOk, IfSome, OnOk, length, ℕ, ◌+◌, ◌-◌, ◌*◌, ◌<◌, ◌≤◌, ◌/◌, ◌%◌, Bool, true, false, nat_eq, nat_lt, List, slice_index_or, slice_set, bit_and, bit_or, Fits, w8, w32, w64, Bor, MutBor}
-use Rattle.page_papers.specs.Told.{telling_of}
-use Rattle.told_papers.specs.Dressings.{dressing_of, hem_of_sheet, hems_told, plain_hems}
+use Rattle.std.proofs.Common.{rules, ◌≡◌, ◌++◌, ◌∷◌, [], sym, subst, List}
+use Rattle.std.proofs.lemmas.Option.{slice_get_within}
+use Rattle.sheet_text.specs.Dressings.{Dressing}
+use Rattle.told_papers.specs.Dressings.{hem_of_sheet}
 use Rattle.told_papers.specs.Firsts.{AreKinds, IsAmong}
+use Rattle.told_papers.specs.declared.dress.Kind.{Kind}
+use Rattle.told_papers.proofs.Earlier.{found_like, kind_more, kinds_stay}
 use Rattle.told_papers.proofs.dress.push_sheet.Goals as goal
 
--- src/dress.rt:91:9
 pub push_like-requires : goal.push_like-requires
-push_like-requires c = ?
+push_like-requires c =
+    let hems = c.args.dress.now.hems in
+    let among : IsAmong c.args.kinds.now.items c.size_in_print-size.result c.in-Some.like =
+    subst (λ (ks : List Kind). IsAmong ks c.size_in_print-size.result c.in-Some.like) c.as_slice.ensures.value c.in-Some.ensures in
+    slice_get_within hems c.in-Some.like _ (found_like hems c.args.kinds.now.items c.args.paper.now c.size_in_print-size.result c.in-Some.like c.size_in_print-size.ensures c.requires.kinds among)
 
--- src/dress.rt:92:9
 pub returns-in-Some-clause-pushed : goal.returns-in-Some-clause-pushed
-returns-in-Some-clause-pushed c = ?
+returns-in-Some-clause-pushed c =
+    let hems = c.args.dress.now.hems in
+    let among : IsAmong c.args.kinds.now.items c.size_in_print-size.result c.in-Some.like =
+    subst (λ (ks : List Kind). IsAmong ks c.size_in_print-size.result c.in-Some.like) c.as_slice.ensures.value c.in-Some.ensures in
+    c.in_ok-push_like.ensures.pushed (hem_of_sheet c.args.paper.now)
+    (found_like hems c.args.kinds.now.items c.args.paper.now c.size_in_print-size.result c.in-Some.like c.size_in_print-size.ensures c.requires.kinds among)
 
--- src/dress.rt:92:9
 pub returns-in-Some-clause-kinds : goal.returns-in-Some-clause-kinds
-returns-in-Some-clause-kinds c = ?
+returns-in-Some-clause-kinds c =
+    let hems = c.args.dress.now.hems in
+    let hem = hem_of_sheet c.args.paper.now in
+    let pushed = returns-in-Some-clause-pushed c in
+    subst (λ (d : Dressing). AreKinds d.hems c.args.kinds.now.items) (sym pushed) (kinds_stay hems hem c.args.kinds.now.items c.requires.kinds)
 
--- src/dress.rt:76:1
 pub returns-clause-kinds : goal.returns-clause-kinds
-returns-clause-kinds c = ?
+returns-clause-kinds c =
+    let hems = c.args.dress.now.hems in
+    let kinds = c.args.kinds.now.items in
+    let hem = hem_of_sheet c.args.paper.now in
+    let one : Kind = record { size = c.size_in_print-size.result; sheet = c.args.sheet } in
+    let pushed : c.push.new.self ≡ record { header = c.args.dress.now.header; hems = hems ++ hem ∷ [] } = search rules in
+    let more = kind_more hems kinds c.args.paper.now c.args.sheet c.size_in_print-size.result c.requires.next c.size_in_print-size.ensures c.requires.kinds in
+    subst (λ (d : Dressing). AreKinds d.hems c.push-2.new.self.items) (sym pushed)
+    (subst (λ (ks : List Kind). AreKinds (hems ++ hem ∷ []) ks) (sym c.in_ok-push-2.ensures.items) more)

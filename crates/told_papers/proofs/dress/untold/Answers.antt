@@ -1,4 +1,4 @@
-use Rattle.std.proofs.Common.{◌≡◌, ◌∙◌, ◌+◌, ◌<◌, ◌++◌, ◌∷◌, [], List, ap, sym, subst, length, arith}
+use Rattle.std.proofs.Common.{◌≡◌, ◌∙◌, ◌<◌, List, ap, sym, subst, length, arith}
 use Rattle.sheet_text.specs.Dressings.{Dressing, Hem}
 use Rattle.told_papers.specs.Dressings.{plain_hem, plain_hems}
 use Rattle.std.specs.Prelude.{slice_get}

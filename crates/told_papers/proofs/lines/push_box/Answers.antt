@@ -1,4 +1,4 @@
-use Rattle.std.proofs.Common.{rules, ◌≡◌, ◌∙◌, ap, refl, [], ◌∷◌, ◌++◌, List, ℕ, codes}
+use Rattle.std.proofs.Common.{rules, ◌≡◌, ◌∙◌, ap, [], ◌∷◌, ◌++◌, List, ℕ}
 use Rattle.page_papers.specs.Told.{box_line}
 use Rattle.page_papers.proofs.Tame.{box}
 use Rattle.told_papers.proofs.Plain.{may_stand}

@@ -1,4 +1,4 @@
-use Rattle.std.proofs.Common.{rules, ◌≡◌, ◌∙◌, ap, refl, [], ◌∷◌, ◌++◌, List, ℕ, codes}
+use Rattle.std.proofs.Common.{rules, ◌≡◌, ◌∙◌, ap, [], ◌∷◌, ◌++◌, List, ℕ, codes}
 use Rattle.page_papers.specs.Told.{medium_line, size_name}
 use Rattle.page_papers.proofs.Tame.{one_more}
 use Rattle.told_papers.proofs.Plain.{may_stand}

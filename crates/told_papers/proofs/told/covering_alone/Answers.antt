@@ -1,4 +1,4 @@
-use Rattle.std.proofs.Common.{◌≡◌, ◌∙◌, ◌+◌, ap, sym, drop, fold}
+use Rattle.std.proofs.Common.{◌∙◌, ◌+◌, ap, sym, drop, fold}
 use Rattle.rules.specs.Papers.{Paper}
 use Rattle.page_papers.specs.Own.{covering}
 use Rattle.told_papers.specs.Sizes.{papers_of}

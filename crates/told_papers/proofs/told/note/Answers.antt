@@ -1,4 +1,4 @@
-use Rattle.std.proofs.Common.{◌≡◌, ◌∙◌, sym}
+use Rattle.std.proofs.Common.{◌∙◌, sym}
 use Rattle.told_papers.proofs.Turns.{told_already, not_told_yet}
 use Rattle.told_papers.proofs.told.note.Goals as goal
 

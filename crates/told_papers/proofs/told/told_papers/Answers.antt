@@ -1,9 +1,9 @@
-use Rattle.std.proofs.Common.{◌≡◌, ◌∙◌, ◌+◌, ◌<◌, ◌≤◌, ap, sym, subst, drop, length, List, [], ◌∷◌}
+use Rattle.std.proofs.Common.{◌≡◌, ◌∙◌, ◌+◌, ◌<◌, ◌≤◌, ap, sym, subst, drop, length, List, []}
 use Rattle.std.specs.Prelude.{IfOk}
 use Rattle.rules.specs.Papers.{Paper}
-use Rattle.page_papers.specs.Told.{different_from, papers_told}
-use Rattle.told_papers.specs.Sizes.{papers_of, with_paper}
-use Rattle.told_papers.proofs.Turns.{over, paper_more, within}
+use Rattle.page_papers.specs.Told.{different_from}
+use Rattle.told_papers.specs.Sizes.{papers_of}
+use Rattle.told_papers.proofs.Turns.{over, paper_more}
 use Rattle.told_papers.proofs.told.told_papers.Goals as goal
 
 pub returns-then-noted-gt-MOST_TOLD : goal.returns-then-noted-gt-MOST_TOLD
@@ -22,8 +22,8 @@ loop-sheet-preserved c =
     let all = papers_of c.args.sheets.now in
     record {
       rest = ap (λ (t : List Paper). different_from t (drop (c.loop-sheet.sheet + 1) all)) c.in_ok-note.ensures.told
-      ∙ sym (paper_more all c.loop-sheet.told.items c.loop-sheet.sheet c.paper.result.now c.paper.ensures)
-      ∙ c.loop-sheet.invariant.rest;
+          ∙ sym (paper_more all c.loop-sheet.told.items c.loop-sheet.sheet c.paper.result.now c.paper.ensures)
+          ∙ c.loop-sheet.invariant.rest;
       sizes = c.in_ok-note.ensures.sizes;
       few = subst (λ (t : List Paper). length t ≤ 64) c.as_slice-noted.ensures.value c.if-noted-gt-MOST_TOLD.false;
     }
