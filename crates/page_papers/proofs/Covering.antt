@@ -1,10 +1,10 @@
 -- A paper is covered by the one that it counts as.
-use Rattle.std.proofs.Common.{arith, ◌≡◌, ℕ, zero, suc, ◌+◌, ◌<◌, ◌≤◌, List, [], ◌∷◌, Bool, true, false, refl, sym, ap, subst, ◌∙◌, length, map, get_or, cond, true≢false}
+use Rattle.std.proofs.Common.{arith, ◌≡◌, ℕ, zero, suc, ◌<◌, ◌≤◌, List, [], ◌∷◌, Bool, true, false, refl, sym, ap, ◌∙◌, length, get_or, cond, true≢false}
 use Rattle.std.specs.Prelude.{ℤ, pos, negsuc, int_le, nat_le, ◌&&◌, ◌==◌, if◌then◌else◌, fold, filter}
 use Rattle.std.proofs.lemmas.Bool.Decides.{nat_tests}
 use Rattle.std.proofs.lemmas.List.{get_or-map}
 use Rattle.rules.specs.Papers.{Paper}
-use Rattle.page_papers.specs.Own.{NothingIsCut, as_one, covering, covers, kind_of, kinds, larger, no_size, paper_of_kind}
+use Rattle.page_papers.specs.Own.{NothingIsCut, covering, covers, kind_of, kinds, larger, no_size, paper_of_kind}
 
 -- ---- the order of sides
 is_le : (a b : ℕ) → a ≤ b → nat_le a b ≡ true

@@ -7,7 +7,7 @@ use Rattle.rules.specs.Specification.{Item, Upright}
 use Rattle.rules.specs.Units.{◌>>=◌}
 use Rattle.rules.specs.Run.{document_of, DocumentFault}
 use Rattle.lengths.specs.Reading.{number_at}
-use Rattle.made_sheets.specs.Made.{MadeSheet, MadeSlot, Blank, Placed}
+use Rattle.made_sheets.specs.Made.{MadeSheet, Blank, Placed}
 use Rattle.made_sheets.specs.MadeOutput.{made_output}
 use Rattle.page_papers.specs.Own.{as_one, own_papers}
 use Rattle.page_papers.specs.Told.{telling}

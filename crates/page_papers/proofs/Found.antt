@@ -1,5 +1,5 @@
 -- A paper that was told is found.
-use Rattle.std.specs.Prelude.{codes, decimal, map, filter, flat_map, replicate, nat_lt, nat_le, not, ℤ, pos, Option, Some, None, option_and_then, if◌then◌else◌, ◌&&◌}
+use Rattle.std.specs.Prelude.{codes, decimal, filter, flat_map, replicate, nat_lt, nat_le, not, ℤ, pos, Option, Some, None, option_and_then, if◌then◌else◌, ◌&&◌}
 use Rattle.std.specs.List.{All, AllPass, slice_split}
 use Rattle.std.specs.Char.{is_ascii_digit}
 use Rattle.std.proofs.Common.{arith, ◌≡◌, ◌≢◌, ℕ, zero, suc, ◌+◌, ◌-◌, ◌*◌, ◌/◌, ◌%◌, ◌^◌, ◌<◌, ◌≤◌, List, [], ◌∷◌, ◌++◌, Bool, true, false, cond, true≢false, refl, sym, ap, subst, ◌∙◌, length, drop, append_assoc, append-nil}
@@ -22,7 +22,7 @@ use Rattle.document_paper.specs.Media.{comment_fields, media_paper, paper_of, po
 use Rattle.made_sheets.specs.Made.{Blank, MadeSheet, MadeSlot, Placed}
 use Rattle.made_sheets.specs.MadeOutput.{made_sheet_text, made_slot_text}
 use Rattle.page_papers.specs.Comments.{box_of, else_take, first_named, head_of, media, page_head, told_by_document, told_by_page}
-use Rattle.page_papers.specs.Found.{IsTellable, OneIsFound}
+use Rattle.page_papers.specs.Found.{OneIsFound}
 use Rattle.page_papers.specs.Own.{or_this, own_paper}
 use Rattle.page_papers.specs.Told.{box_line, medium_line, telling_of}
 

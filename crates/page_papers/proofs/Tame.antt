@@ -6,10 +6,9 @@ use Rattle.rules.specs.Numbers.{points_text}
 use Rattle.rules.specs.Units.{begins_block, has_key, is_comment}
 use Rattle.seams.proofs.Plainly.{no_ends_append, no_ends_points}
 use Rattle.seams.specs.Seams.{no_ends}
-use Rattle.made_sheets.specs.Made.{MadeSheet}
 use Rattle.imposed_again.specs.MadeAgain.{AreTame, IsTame, IsTameDress}
 use Rattle.page_papers.specs.Own.{covering}
-use Rattle.page_papers.specs.Told.{TellingIsTame, box_line, different_from, medium_line, medium_text, page_size_lines, size_name, size_text, telling_of}
+use Rattle.page_papers.specs.Told.{TellingIsTame, box_line, medium_line, medium_text, page_size_lines, papers_told, size_name, size_text, telling_of}
 
 -- ---- no line ends in them
 whole_sides : (p : Paper) (between : List ℕ) → no_ends between ≡ true → no_ends (points_text p.width ++ (between ++ points_text p.height)) ≡ true
@@ -19,7 +18,7 @@ whole_sides p between plain =
 whole_size : (p : Paper) → no_ends (size_text p) ≡ true
 whole_size p = whole_sides p (codes " ") refl
 
-whole_name : (p : Paper) → no_ends (size_name p) ≡ true
+pub whole_name : (p : Paper) → no_ends (size_name p) ≡ true
 whole_name p = whole_sides p (codes "x") refl
 
 whole_medium : (name : List ℕ) (p : Paper) → no_ends name ≡ true → no_ends (medium_text name p) ≡ true
@@ -28,10 +27,10 @@ whole_medium name p plain =
     (no_ends_append (codes " ") (size_text p ++ codes " 0 () ()") refl (no_ends_append (size_text p) (codes " 0 () ()") (whole_size p) refl))
 
 -- ---- lines by what they begin with
-box : (p : Paper) → IsTame (box_line p)
+pub box : (p : Paper) → IsTame (box_line p)
 box p = record { whole = no_ends_append (codes "%%BoundingBox: 0 0 ") (size_text p) refl (whole_size p); no_data = refl; no_document = refl; no_end = refl; no_page = refl; no_trailer = refl }
 
-medium : (name : List ℕ) (p : Paper) → no_ends name ≡ true → IsTame (medium_line (codes "%%DocumentMedia: ") name p)
+pub medium : (name : List ℕ) (p : Paper) → no_ends name ≡ true → IsTame (medium_line (codes "%%DocumentMedia: ") name p)
 medium name p plain =
     record {
       whole = no_ends_append (codes "%%DocumentMedia: ") (medium_text name p) refl (whole_medium name p plain);
@@ -42,7 +41,7 @@ medium name p plain =
       no_trailer = refl;
     }
 
-one_more : (p : Paper) → IsTame (medium_line (codes "%%+ ") (size_name p) p)
+pub one_more : (p : Paper) → IsTame (medium_line (codes "%%+ ") (size_name p) p)
 one_more p =
     record {
       whole = no_ends_append (codes "%%+ ") (medium_text (size_name p) p) refl (whole_medium (size_name p) p (whole_name p));
@@ -57,7 +56,7 @@ all_more : (ps : List Paper) → AreTame (map (λ r. medium_line (codes "%%+ ") 
 all_more [] = tt
 all_more (p ∷ ps) = (one_more p, all_more ps)
 
-named : (p : Paper) → IsTame (codes "%%PageMedia: " ++ size_name p)
+pub named : (p : Paper) → IsTame (codes "%%PageMedia: " ++ size_name p)
 named p =
     record {
       whole = no_ends_append (codes "%%PageMedia: ") (size_name p) refl (whole_name p);
@@ -72,7 +71,7 @@ known : (l : List ℕ) → no_ends l ≡ true → begins_block l ≡ false → h
     → is_comment (codes "%%Page") l ≡ false → has_key (codes "%%Trailer" ∷ codes "%%EOF" ∷ []) l ≡ false → IsTame l
 known l a b d e f g = record { whole = a; no_data = b; no_document = d; no_end = e; no_page = f; no_trailer = g }
 
-set_size : (p : Paper) → AreTame (page_size_lines p)
+pub set_size : (p : Paper) → AreTame (page_size_lines p)
 set_size p = (
   known (codes "/PStoPSenablepage where {pop PStoPSenablepage}") refl refl refl refl refl refl,
   (
@@ -104,4 +103,4 @@ told (p ∷ q ∷ ps) =
     }
 
 pub telling_is_tame : TellingIsTame
-telling_is_tame all = told (different_from [] (map (λ sheet. sheet.paper) all))
+telling_is_tame all = told (papers_told (map (λ sheet. sheet.paper) all))

@@ -59,6 +59,11 @@ covering a b = record { width = larger a.width b.width; height = larger a.height
 abbrev pub no_size : Paper
 no_size = record { width = pos 0; height = pos 0 }
 
+-- the least paper that covers all of these
+abbrev pub covering_all : List Paper → Paper
+covering_all [] = no_size
+covering_all (p ∷ ps) = fold covering p ps
+
 -- the paper of a kind: the least one that covers all of the kind, so that no page is cut for another one's sake
 abbrev pub paper_of_kind : List Paper → (kind : ℕ) → Paper
 paper_of_kind all kind = fold covering no_size (filter (λ q. kind_of (kinds all) q == kind) all)

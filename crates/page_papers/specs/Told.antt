@@ -1,15 +1,15 @@
 -- How sheets tell their paper: the lines that are added to an output for it. Their comments are of DSC 3.0
 -- (%%BoundingBox, %%DocumentMedia and %%+ of General Header Comments, %%PageMedia of Page Requirement Comments), their
 -- operators of the PostScript Language Reference. The rest is this project's own rules.
-use Rattle.std.specs.Prelude.{ℕ, Bool, if◌then◌else◌, List, [], ◌∷◌, ◌++◌, map, fold, codes}
+use Rattle.std.specs.Prelude.{ℕ, ℤ, Bool, ◌&&◌, nat_lt, if◌then◌else◌, List, [], ◌∷◌, ◌++◌, length, map, fold, codes}
+use Rattle.std.specs.Ordering.{int_eq}
 use Rattle.std.specs.List.{list_any}
-use Rattle.std.specs.Str.{bytes_eq}
-use Rattle.rules.specs.Numbers.{points_text}
+use Rattle.rules.specs.Numbers.{points_text, rounded}
 use Rattle.rules.specs.Papers.{Paper}
 use Rattle.made_sheets.specs.Made.{MadeSheet}
 use Rattle.made_sheets.specs.Dress.{Dress, undressed}
 use Rattle.imposed_again.specs.MadeAgain.{IsTameDress}
-use Rattle.page_papers.specs.Own.{covering}
+use Rattle.page_papers.specs.Own.{covering, covering_all}
 
 -- both sides, in points
 abbrev pub size_text : Paper → List ℕ
@@ -26,15 +26,35 @@ medium_text name paper = name ++ (codes " " ++ (size_text paper ++ codes " 0 () 
 abbrev pub size_name : Paper → List ℕ
 size_name paper = points_text paper.width ++ (codes "x" ++ points_text paper.height)
 
+-- a side in whole 10^-5 points, as it is printed
+abbrev pub in_print : ℤ → ℤ
+in_print side = rounded side 1_270_000
+
 -- two papers whose sides are printed alike are told as one
 abbrev pub is_told_alike : (a b : Paper) → Bool
-is_told_alike a b = bytes_eq (size_text a) (size_text b)
+is_told_alike a b = int_eq (in_print a.width) (in_print b.width) && int_eq (in_print a.height) (in_print b.height)
 
 -- with those found before, each paper that is told otherwise than all before it
 abbrev pub different_from : (found : List Paper) → List Paper → List Paper
 different_from found [] = found
 different_from found (p ∷ ps) =
     if list_any (is_told_alike p) found then different_from found ps else different_from (found ++ p ∷ []) ps
+
+-- the most papers that are told
+abbrev pub most_told : ℕ
+most_told = 64
+
+-- the papers that are told: each that is told otherwise than all before it; but of more than the most, the least paper
+-- that covers all of them, alone
+abbrev pub papers_told : List Paper → List Paper
+papers_told all =
+    let told = different_from [] all in if nat_lt most_told (length told) then covering_all all ∷ [] else told
+
+-- the line that sets the device's page size, if the interpreter has `setpagedevice`, and what is on the stack says so
+abbrev pub setting_line : Paper → List ℕ
+setting_line paper =
+    codes "systemdict /setpagedevice known and {1 dict dup /PageSize ["
+    ++ (size_text paper ++ codes "] put systemdict /setpagedevice get exec} if")
 
 -- the lines that set the device's page size, if the interpreter has `setpagedevice`. A page that is placed on a sheet may
 -- itself be a sheet with these lines, where they mustn't do anything: there `PStoPSenablepage`, if there is such a name,
@@ -43,32 +63,39 @@ abbrev pub page_size_lines : Paper → List (List ℕ)
 page_size_lines paper =
     codes "/PStoPSenablepage where {pop PStoPSenablepage}"
     ∷ codes "{userdict /showpage 2 copy known {get dup type /operatortype eq {pop true} {length 0 ne} ifelse} {pop pop true} ifelse} ifelse"
-    ∷ (codes "systemdict /setpagedevice known and {1 dict dup /PageSize ["
-    ++ (size_text paper ++ codes "] put systemdict /setpagedevice get exec} if"))
+    ∷ setting_line paper
     ∷ []
 
 abbrev pub medium_line : (key name : List ℕ) → Paper → List ℕ
 medium_line key name paper = key ++ medium_text name paper
 
+-- the header's lines if all sheets have one paper, and if they have several
+abbrev pub one_header : Paper → List (List ℕ)
+one_header p = box_line p ∷ medium_line (codes "%%DocumentMedia: ") (codes "Plain") p ∷ []
+
+abbrev pub several_header : Paper → List Paper → List (List ℕ)
+several_header p ps =
+    box_line (fold covering p ps) ∷ medium_line (codes "%%DocumentMedia: ") (size_name p) p
+    ∷ map (λ r. medium_line (codes "%%+ ") (size_name r) r) ps
+
+-- the lines of a sheet that is one of several papers
+abbrev pub sheet_lines : Paper → List (List ℕ)
+sheet_lines paper = (codes "%%PageMedia: " ++ size_name paper) ∷ page_size_lines paper
+
 -- Sheets of one paper tell it in the header. If they have several, the header has them all, and each sheet names its own
 -- and sets the device's page size
 abbrev pub telling_of : List Paper → Dress
 telling_of [] = undressed
-telling_of (p ∷ []) = record {
-  header = box_line p ∷ medium_line (codes "%%DocumentMedia: ") (codes "Plain") p ∷ [];
-  start = λ s paper. [];
-  finish = λ s paper. [];
-}
+telling_of (p ∷ []) = record { header = one_header p; start = λ s paper. []; finish = λ s paper. [] }
 telling_of (p ∷ q ∷ ps) = record {
-  header = box_line (fold covering p (q ∷ ps)) ∷ medium_line (codes "%%DocumentMedia: ") (size_name p) p
-      ∷ map (λ r. medium_line (codes "%%+ ") (size_name r) r) (q ∷ ps);
-  start = λ s paper. (codes "%%PageMedia: " ++ size_name paper) ∷ page_size_lines paper;
+  header = several_header p (q ∷ ps);
+  start = λ s paper. sheet_lines paper;
   finish = λ s paper. [];
 }
 
 -- the dress that tells the papers of these sheets
 abbrev pub telling : List MadeSheet → Dress
-telling all = telling_of (different_from [] (map (λ sheet. sheet.paper) all))
+telling all = telling_of (papers_told (map (λ sheet. sheet.paper) all))
 
 -- its lines begin no page, no data and no embedded document, so what it is added to is a document again: a law
 abbrev pub TellingIsTame : Type 0

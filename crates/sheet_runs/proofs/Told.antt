@@ -1,0 +1,64 @@
+-- What a job on made sheets writes and tells, if each sheet has the lines by which it tells its paper.
+use Rattle.std.proofs.Common.{◌≡◌, ◌∙◌, ℕ, ◌≤◌, ℤ, inr, ap, subst, List, length, take, Option}
+use Rattle.std.specs.List.{enumerate_from}
+use Rattle.std.specs.Io.KnownBytes.{Appends}
+use Rattle.std.proofs.lemmas.List.{length-map}
+use Rattle.std.proofs.lemmas.List.FromFn.{length-enumerate_from}
+use Rattle.rules.specs.Parts.{NestedUnit, pages}
+use Rattle.rules.specs.Sheets.{Plan, layout}
+use Rattle.made_sheets.specs.Made.{MadeSheet}
+use Rattle.made_sheets.specs.Dress.{Dress}
+use Rattle.made_sheets.specs.Dressed.{DressedSheet, dressed_output}
+use Rattle.made_sheets.specs.MadePlans.{made_layout}
+use Rattle.made_sheets.proofs.Dressed.{dressed_is_made}
+use Rattle.sheet_plan.specs.OfSheets.{made_plan}
+use Rattle.sheet_plan.specs.Places.{born_complete}
+use Rattle.sheet_text.specs.Dressings.{Dressing, dressed_by}
+use Rattle.sheet_text.specs.Jobs.{JobView, output_of}
+use Rattle.sheet_writer.specs.Sinks.{SinkView}
+use Rattle.told_papers.specs.Dressings.{dressing_of}
+use Rattle.told_papers.proofs.Given.{dressing_dresses}
+use Rattle.page_papers.specs.Told.{telling}
+use Rattle.imposer.specs.Gathering.{ReportsOf, WrotePartOf}
+use Rattle.imposer.specs.declared.outcome.Report.{Report}
+use Rattle.imposer.specs.declared.outcome.RunError.{RunError}
+use Rattle.imposer.specs.declared.outcome.RunError.TheVariants as run
+use Rattle.sheet_runs.specs.Errors.{of_run}
+use Rattle.sheet_runs.specs.Runs.{ReportsOn, WroteWith, told_output}
+
+-- each sheet has its lines
+pub each_dressed : (dress : Dressing) (d : Dress) (all : List MadeSheet) → dress ≡ dressing_of d all → length dress.hems ≡ length all
+each_dressed dress d all is = ap (λ (x : Dressing). length x.hems) is ∙ length-map (enumerate_from 0 all) _ ∙ length-enumerate_from 0 all
+
+-- the output
+pub output_told : (border : Option ℤ) (all : List MadeSheet) (us : List NestedUnit) (dress : Dressing) → dress ≡ dressing_of (telling all) all
+    → dressed_output border dress.header (dressed_by dress.hems all) us ≡ told_output border all us
+output_told border all us dress is =
+    ap (λ (x : Dressing). dressed_output border x.header (dressed_by x.hems all) us) is
+    ∙ ap (λ (sheets : List DressedSheet). dressed_output border (telling all).header sheets us) (dressing_dresses (telling all) all)
+    ∙ dressed_is_made border (telling all) all us
+
+-- the report
+pub report_told : (job : JobView) (border : Option ℤ) (all : List MadeSheet) (us : List NestedUnit) (n : ℕ) (report : Report) → job.plan ≡ made_plan n all → n ≡ length (pages us)
+    → layout (made_plan n all) ≡ made_layout n all → output_of job ≡ told_output border all us → ReportsOf job report → ReportsOn border all us report
+report_told job border all us n report plan count laid out told =
+    record {
+      page_count = told.page_count ∙ ap (λ (p : Plan). p.pages) plan ∙ count;
+      sheet_count = told.sheet_count ∙ ap (λ (p : Plan). length p.sheets) plan ∙ length-map all _;
+      born_blank = told.born_blank ∙ ap (λ (p : Plan). length (born_complete (layout p))) plan ∙ ap (λ l. length (born_complete l)) laid ∙ ap (λ k. length (born_complete (made_layout k all))) count;
+      swept_within = told.swept_within;
+      byte_count = told.byte_count ∙ ap length out;
+    }
+
+first_bytes : (job : JobView) (text : List ℕ) (old new : SinkView) (written : ℕ) → output_of job ≡ text → (written ≤ length (output_of job)) × Appends old.bytes new.bytes (take written (output_of job))
+    → (written ≤ length text) × Appends old.bytes new.bytes (take written text)
+first_bytes job text old new written out told = subst (λ (t : List ℕ). (written ≤ length t) × Appends old.bytes new.bytes (take written t)) out told
+
+-- what was written before an error
+pub part_told : (e : RunError) (job : JobView) (text : List ℕ) (old new : SinkView) → output_of job ≡ text → WrotePartOf job old new e → WroteWith (of_run e) text old new
+part_told run.Options job text old new out told = elim told [ ]
+part_told (run.Spec e) job text old new out told = elim told [ ]
+part_told (run.Document e) job text old new out told = elim told [ ]
+part_told (run.Plan e) job text old new out told = elim told [ ]
+part_told (run.NoMemory written) job text old new out told = inr (first_bytes job text old new written out told)
+part_told (run.Write written) job text old new out told = first_bytes job text old new written out told

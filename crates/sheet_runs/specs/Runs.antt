@@ -1,0 +1,54 @@
+-- What the answers of a run on made sheets mean.
+use Rattle.std.specs.Prelude.{◌≡◌, ◌⊎◌, ℕ, ◌+◌, ◌≤◌, ℤ, List, length, take, Option, Ok}
+use Rattle.std.specs.Io.KnownBytes.{Appends, Keeps}
+use Rattle.rules.specs.Parts.{NestedUnit, pages}
+use Rattle.made_sheets.specs.Made.{MadeSheet}
+use Rattle.made_sheets.specs.MadeOutput.{made_output}
+use Rattle.made_sheets.specs.MadePlans.{made_layout, made_plan_of}
+use Rattle.page_papers.specs.Told.{telling}
+use Rattle.sheet_plan.specs.MadeRefusals.{RefusesMade}
+use Rattle.sheet_plan.specs.Places.{born_complete}
+use Rattle.sheet_writer.specs.Sinks.{SinkView}
+use Rattle.imposer.specs.declared.outcome.Report.{Report}
+use Rattle.sheet_runs.specs.declared.error.SheetsError.{SheetsError}
+use Rattle.sheet_runs.specs.declared.error.SheetsError.TheVariants as error
+
+-- the output of sheets that tell their papers
+abbrev pub told_output : (border : Option ℤ) → List MadeSheet → List NestedUnit → List ℕ
+told_output border all us = made_output border (telling all) all us
+
+-- the numbers of a report
+pub record ReportsOn (border : Option ℤ) (all : List MadeSheet) (us : List NestedUnit) (report : Report) : Type 0 where
+  pub page_count : report.pages ≡ length (pages us)
+  pub sheet_count : report.sheets ≡ length all
+  pub born_blank : report.born ≡ length (born_complete (made_layout (length (pages us)) all))
+  pub swept_within : report.swept ≤ report.sheets
+  pub byte_count : report.bytes ≡ length (told_output border all us)
+
+-- what holds after an error: after a refusal; of the number of bytes that were written, after out of memory and after a
+-- failed write
+abbrev pub AfterError : SheetsError → (refused : Type 0) → (spent failed : ℕ → Type 0) → Type 0
+AfterError (error.Sheets e) refused spent failed = refused
+AfterError (error.NoMemory written) refused spent failed = spent written
+AfterError (error.Write written) refused spent failed = failed written
+
+-- a refusal names the first fault of the sheets; the other errors come once they are planned
+abbrev pub RefusesSheets : (pages : ℕ) → List MadeSheet → SheetsError → Type 0
+RefusesSheets pages all (error.Sheets e) = RefusesMade pages all e
+RefusesSheets pages all (error.NoMemory written) = made_plan_of pages all ≡ Ok all
+RefusesSheets pages all (error.Write written) = made_plan_of pages all ≡ Ok all
+
+-- the first bytes of this text were written, so many, and nothing else
+abbrev pub WroteStart : List ℕ → (old new : SinkView) → (written : ℕ) → Type 0
+WroteStart text old new written = (written ≤ length text) × Appends old.bytes new.bytes (take written text)
+
+abbrev pub WroteWith : SheetsError → List ℕ → (old new : SinkView) → Type 0
+WroteWith e text old new =
+    AfterError e (Keeps old.bytes new.bytes)
+    (λ written. ((written ≡ 0) × Keeps old.bytes new.bytes) ⊎ WroteStart text old new written) (WroteStart text old new)
+
+-- how often the sink failed: a failed write is one failure, and out of memory may have met one too
+abbrev pub FailedWith : SheetsError → (old new : SinkView) → Type 0
+FailedWith e old new = AfterError e (new.failures ≡ old.failures)
+    (λ written. (new.failures ≡ old.failures) ⊎ (new.failures ≡ old.failures + 1))
+    (λ written. new.failures ≡ old.failures + 1)

@@ -1,0 +1,6 @@
+use Rattle.std.proofs.Common.{◌≡◌}
+use Rattle.told_papers.specs.Dressings.{plain_hems}
+use Rattle.told_papers.proofs.dress.untold.Given as goal
+
+abbrev pub invariant-loop : goal.invariant-loop
+invariant-loop l = l.dress ≡ record { header = l.fn.dress.header; hems = plain_hems l.counter }

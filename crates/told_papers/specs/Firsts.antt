@@ -1,0 +1,19 @@
+-- Sheets that were the first of their size.
+use Rattle.std.specs.Prelude.{◌≡◌, ℕ, List, Some, slice_get, All}
+use Rattle.rules.specs.Papers.{Paper}
+use Rattle.sheet_text.specs.Dressings.{Hem}
+use Rattle.told_papers.specs.Sizes.{size_of}
+use Rattle.told_papers.specs.Dressings.{hem_of_sheet}
+use Rattle.told_papers.specs.declared.told.Size.{Size}
+use Rattle.told_papers.specs.declared.dress.Kind.{Kind}
+
+-- this sheet has the lines of a sheet of this size
+abbrev pub IsKind : List Hem → Kind → Type 0
+IsKind hems kind = (paper : Paper) → size_of paper ≡ kind.size → slice_get hems kind.sheet ≡ Some (hem_of_sheet paper)
+
+abbrev pub AreKinds : List Hem → List Kind → Type 0
+AreKinds hems kinds = All (IsKind hems) kinds
+
+-- a sheet of this size is among them
+abbrev pub IsAmong : List Kind → Size → (sheet : ℕ) → Type 0
+IsAmong kinds size sheet = (i : ℕ) × (kind : Kind) × (slice_get kinds i ≡ Some kind) × (kind.size ≡ size) × (kind.sheet ≡ sheet)
