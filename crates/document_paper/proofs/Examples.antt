@@ -1,9 +1,10 @@
 -- Documents and their papers, worked out.
 use Rattle.std.proofs.Common.{◌≡◌, ℕ, true, false, List, [], ◌∷◌, refl}
-use Rattle.std.specs.Prelude.{codes, None, Some, pos, neg_ℤ, map}
+use Rattle.std.specs.Prelude.{codes, None, Some, pos, map}
 use Rattle.rules.specs.Papers.{points}
-use Rattle.document_paper.specs.declared.media.Comment.TheVariants.{DocumentMedia, BoundingBox}
+use Rattle.document_paper.specs.declared.media.Comment.TheVariants.{DocumentMedia, DocumentPaperSizes, BoundingBox}
 use Rattle.lengths.specs.Reading.{number_at}
+use Rattle.paper_names.specs.Names.{papers}
 use Rattle.document_paper.specs.Media.{points_of, is_zero, comment_fields, media_paper, box_paper, document_paper}
 
 -- What a field names.
@@ -132,3 +133,20 @@ first_line = refl
 
 empty : document_paper [] ≡ None
 empty = refl
+
+-- Names of papers.
+
+abbrev names_and_box : List ℕ
+names_and_box = codes "%!\n%%DocumentPaperSizes: other A5 a4\n%%BoundingBox: 0 0 1 2\n"
+
+known_name : document_paper names_and_box ≡ Some (points 420 595, DocumentPaperSizes)
+unfolding number_at papers
+known_name = refl
+
+medium_before_names : document_paper (codes "%!\n%%DocumentPaperSizes: a5\n%%DocumentMedia: a 3 4\n") ≡ Some (points 3 4, DocumentMedia)
+unfolding number_at
+medium_before_names = refl
+
+no_known_name : document_paper (codes "%!\n%%DocumentPaperSizes: other\n%%BoundingBox: 0 0 1 2\n") ≡ Some (points 1 2, BoundingBox)
+unfolding number_at papers
+no_known_name = refl

@@ -1,5 +1,6 @@
--- The paper that a document is made for, as its header comments tell it (DSC 3.0, %%DocumentMedia and %%BoundingBox).
-use Rattle.std.specs.Prelude.{ℕ, zero, suc, ℤ, pos, ◌+◌, ◌≡◌, Bool, false, if◌then◌else◌, option_map, option_and_then}
+-- The paper that a document is made for, as its header comments tell it (DSC 3.0, %%DocumentMedia and %%BoundingBox;
+-- DSC 2.1, %%DocumentPaperSizes).
+use Rattle.std.specs.Prelude.{ℕ, zero, suc, ℤ, pos, Bool, false, if◌then◌else◌, option_map, option_and_then}
 use Rattle.std.specs.Prelude.{List, [], ◌∷◌, length, take, drop, codes, Option, Some, None}
 use Rattle.std.specs.Ordering.{int_eq}
 use Rattle.rules.specs.Papers.{Paper, Pt, grains, is_paper}
@@ -8,8 +9,9 @@ use Rattle.rules.specs.Units.{content_of, line_len, is_comment, fields}
 use Rattle.dsc.specs.Header.{header_len}
 use Rattle.lengths.specs.Lengths.{a4}
 use Rattle.lengths.specs.Reading.{is_empty, number_at}
+use Rattle.paper_names.specs.Names.{paper_named}
 use Rattle.document_paper.specs.declared.media.Comment.{Comment}
-use Rattle.document_paper.specs.declared.media.Comment.TheVariants.{DocumentMedia, BoundingBox}
+use Rattle.document_paper.specs.declared.media.Comment.TheVariants.{DocumentMedia, DocumentPaperSizes, BoundingBox}
 
 -- ---- fields
 
@@ -66,12 +68,26 @@ box_paper other = None
 abbrev pub header : List ℕ → List (List ℕ)
 header text = contents (take (header_len text) text)
 
+-- the paper of the first field that is the name of one
+abbrev pub else_take : Option Paper → Option Paper → Option Paper
+else_take (Some paper) other = Some paper
+else_take None other = other
+
+abbrev pub first_named : List (List ℕ) → Option Paper
+first_named [] = None
+first_named (name ∷ more) = else_take (paper_named name) (first_named more)
+
+-- the document's own paper, and which comment tells it: the first of these that does
 abbrev pub or_box : List (List ℕ) → Option Paper → Option (Paper × Comment)
-or_box lines (Some paper) = Some (paper, DocumentMedia)
+or_box lines (Some paper) = Some (paper, DocumentPaperSizes)
 or_box lines None = option_map (λ paper. (paper, BoundingBox))
     (option_and_then box_paper (comment_fields (codes "%%BoundingBox") lines))
 
--- the document's own paper, and which comment tells it
+abbrev pub or_named : List (List ℕ) → Option Paper → Option (Paper × Comment)
+or_named lines (Some paper) = Some (paper, DocumentMedia)
+or_named lines None =
+    or_box lines (option_and_then first_named (comment_fields (codes "%%DocumentPaperSizes") lines))
+
 abbrev pub document_paper : List ℕ → Option (Paper × Comment)
-document_paper text = or_box (header text)
+document_paper text = or_named (header text)
     (option_and_then media_paper (comment_fields (codes "%%DocumentMedia") (header text)))

@@ -1,5 +1,5 @@
 //! The paper that a document is made for, as its header comments tell it.
-ghost use Rattle.std.specs.Prelude.{◌≡◌, ◌++◌, ◌∷◌, [], option_and_then, option_map, codes};
+ghost use Rattle.std.specs.Prelude.{◌≡◌, ◌++◌, ◌∷◌, [], option_and_then, option_map, codes, None};
 ghost use Rattle.rules.specs.Bytes.{colon};
 ghost use Rattle.rules.specs.Units.{content_of, is_comment};
 ghost use Rattle.dsc.specs.Fields.{fields_in};
@@ -8,26 +8,61 @@ ghost use Rattle.document_paper.specs.Media as meaning;
 use crate::fields::{is_zero, points_of};
 use dsc::{first_content, header_len, key_of, line_end_after, next_field};
 use lengths::{Grains, Paper};
+use paper_names::paper_by_name;
 
 /// The comment that tells the paper.
 #[derive(Clone, Copy, Debug, PartialEq, Eq)]
 pub enum Comment {
     /// The first `%%DocumentMedia:`.
     DocumentMedia,
+    /// The first `%%DocumentPaperSizes:`, of which a field is the name of a paper.
+    DocumentPaperSizes,
     /// The first `%%BoundingBox:`, which begins at 0 0.
     BoundingBox,
 }
 
-/// The paper of a document, by the width and height of its first `%%DocumentMedia:`, else by a `%%BoundingBox:` that
-/// begins at 0 0, among its header comments (DSC 3.0, 5.2).
+/// The paper of a document, by the width and height of its first `%%DocumentMedia:`, else by the first known name in its
+/// `%%DocumentPaperSizes:`, else by a `%%BoundingBox:` that begins at 0 0, among its header comments (DSC 3.0, 5.2).
 pub fn document_paper(text: &[u8]) -> Option<(Paper, Comment)>
     ensures { result ≡ meaning.document_paper text.now }
 {
     let (header, _) = text.split_at(header_len(text));
     match media_in(header) {
         Some(paper) => Some((paper, Comment::DocumentMedia)),
+        None => named_or_boxed(header),
+    }
+}
+
+/// The paper of the first known name among the comments, else that of the first box.
+fn named_or_boxed(header: &[u8]) -> Option<(Paper, Comment)>
+    ensures { result ≡ meaning.or_named (meaning.contents header.now) None }
+{
+    match named_in(header) {
+        Some(paper) => Some((paper, Comment::DocumentPaperSizes)),
         None => Some((box_in(header)?, Comment::BoundingBox)),
     }
+}
+
+/// The paper of the first known name in the first list of names among the comments.
+fn named_in(header: &[u8]) -> Option<Paper>
+    ensures { result ≡ option_and_then meaning.first_named
+        (meaning.comment_fields (codes "%%DocumentPaperSizes") (meaning.contents header.now)) }
+{
+    first_named(value_of(header, b"%%DocumentPaperSizes", b"%%DocumentPaperSizes:")?)
+}
+
+/// The paper of the first field that is the name of one.
+fn first_named(value: &[u8]) -> Option<Paper>
+    ensures { result ≡ meaning.first_named (fields_in value.now) }
+{
+    let mut rest = value;
+    while let Some((name, others)) = next_field(rest) {
+        if let Some(paper) = paper_by_name(name) {
+            return Some(paper);
+        }
+        rest = others;
+    }
+    None
 }
 
 /// The paper of the first medium among the comments.

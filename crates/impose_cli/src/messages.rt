@@ -63,6 +63,7 @@ fn origin_text(origin: PaperOrigin) -> &'static str {
     match origin {
         PaperOrigin::Named => "as named",
         PaperOrigin::ByComment(Comment::DocumentMedia) => "by its %%DocumentMedia",
+        PaperOrigin::ByComment(Comment::DocumentPaperSizes) => "by its %%DocumentPaperSizes",
         PaperOrigin::ByComment(Comment::BoundingBox) => "by its %%BoundingBox",
         PaperOrigin::Assumed => "which is a4 as the document names none",
     }

@@ -20,8 +20,8 @@ struct Side {
 /// The paper that a text means: the one with this name, or of this width and height with an `x` between them.
 ///
 /// A side is a number up to 99,999.999999999 with `pt`, `cm`, `mm` or `in` behind it. A unit behind the height alone holds
-/// for both, as in `210x297mm`. Numbers without any unit are points if both are over 150; else they are refused, since
-/// most who write `210x297` mean another unit.
+/// for both, as in `210x297mm`. Numbers without any unit are points if both are over 150; else they are refused, since who
+/// writes `8.5x11` means another unit.
 pub fn read_paper(text: &[u8]) -> Result<Paper, PaperError>
     ensures { result ≡ meaning.paper_of text.now }
 {

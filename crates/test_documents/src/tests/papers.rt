@@ -10,6 +10,12 @@ fn comments_tell_the_paper(rt: HostRuntime) {
     assert_eq!(rt; document_paper(media), Some((a4, Comment::DocumentMedia)));
     let by_box = b"%!PS\n%%DocumentMedia: (atend)\n%%BoundingBox:\t0 0.0 595 842\n%%EndComments\n";
     assert_eq!(rt; document_paper(by_box), Some((a4, Comment::BoundingBox)));
+    let by_name =
+        b"%!PS\n%%BoundingBox: 0 0 10 20\n%%DocumentPaperSizes: none A4 a5\n%%EndComments\n";
+    assert_eq!(rt;
+        document_paper(by_name),
+        Some((a4, Comment::DocumentPaperSizes))
+    );
     assert_eq!(rt; document_paper(b"%!PS\n%%BoundingBox: 0 1 595 842\n"), None);
     assert_eq!(rt; document_paper(b"%!PS\n%%BoundingBox: (atend)\n"), None);
     assert_eq!(rt;

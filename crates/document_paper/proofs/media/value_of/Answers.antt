@@ -1,5 +1,5 @@
-use Rattle.std.proofs.Common.{rules, arith, ◌≡◌, ◌<◌, ◌∙◌, length, drop, ap, sym, false}
-use Rattle.rules.specs.Units.{content_of, is_comment, line_len}
+use Rattle.std.proofs.Common.{rules, ◌≡◌, ◌<◌, ◌∙◌, length, drop, ap, sym, false}
+use Rattle.rules.specs.Units.{content_of, is_comment}
 use Rattle.document_paper.specs.Media.{comment_fields, contents}
 use Rattle.document_paper.proofs.Contents.{found_behind}
 use Rattle.document_paper.proofs.media.value_of.Goals as goal
