@@ -17,6 +17,7 @@ mod signatures;
 mod tallies;
 
 pub use choices::{Choice, Part, chosen_row};
+pub use entries::entry_at;
 pub use error::RowError;
 pub use named_rows::read_row;
 pub use parts::{all_pages, even_part, odd_part};

@@ -1,0 +1,5 @@
+-- Read in this order: how papers are kept; the papers of pages; sheets of a row.
+pub mod Papers
+pub mod Pages
+pub mod RowSheets
+pub mod Kinds
