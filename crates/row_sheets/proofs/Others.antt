@@ -1,5 +1,5 @@
 -- What stands for a paper that isn't there; sheets one by one.
-use Rattle.std.proofs.Common.{◌≡◌, ℕ, ◌∙◌, List, Option, None, get_or, sym, ap}
+use Rattle.std.proofs.Common.{◌≡◌, ℕ, ◌∙◌, List, None, get_or, sym, ap}
 use Rattle.std.specs.Prelude.{slice_get, unwrap_or}
 use Rattle.std.proofs.lemmas.Option.{unwrap_or-slice_get}
 

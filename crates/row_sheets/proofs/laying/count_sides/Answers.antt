@@ -1,4 +1,4 @@
-use Rattle.std.proofs.Common.{◌∙◌, arith, ◌*◌, refl}
+use Rattle.std.proofs.Common.{◌∙◌, arith, refl}
 use Rattle.row_sheets.proofs.Counted.{sides_few, sides_are, less_many}
 use Rattle.row_sheets.proofs.laying.count_sides.Goals as goal
 

@@ -1,4 +1,4 @@
-use Rattle.std.proofs.Common.{rules, ◌∙◌, ap, sym, ◌++◌, ◌∷◌, [], List}
+use Rattle.std.proofs.Common.{rules, ◌∙◌, ap, ◌++◌, ◌∷◌, [], List}
 use Rattle.rules.specs.Papers.{Paper}
 use Rattle.row_sheets.proofs.KeptPapers.{papers_stay, paper_more, numbers_more}
 use Rattle.row_sheets.proofs.papers.PaperList.push.Goals as goal
