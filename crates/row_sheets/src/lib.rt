@@ -2,6 +2,7 @@
 #![tactic(auto)]
 
 mod cells;
+pub mod laws;
 mod laying;
 mod papers;
 mod selecting;
