@@ -1,7 +1,9 @@
 -- Parts of a row, entry by entry.
-use Rattle.std.proofs.Common.{ℕ, suc, ◌+◌, ◌<◌, ◌≤◌, ◌≡◌, ◌∙◌, refl, ap, sym, arith, [], ◌∷◌, ◌++◌, Option, None, length, drop, drop-drop, append_assoc, append-nil}
+use Rattle.std.proofs.Common.{ℕ, suc, ◌+◌, ◌-◌, ◌*◌, ◌/◌, ◌%◌, min, ◌<◌, ◌≤◌, ◌≡◌, ◌∙◌, refl, ap, sym, arith, [], ◌∷◌, ◌++◌, Option, None, length, drop, drop-drop, append_assoc, append-nil}
 use Rattle.std.proofs.Math.Seq.{drop-cons}
 use Rattle.std.proofs.Math.ListN.{drop_of_length-le}
+use Rattle.std.proofs.lemmas.Grind.{div_ceil_times}
+use Rattle.std.proofs.lemmas.Nat.{div-mul-add}
 use Rattle.rules.specs.Signatures.{entry_of}
 use Rattle.made_sheets.specs.Rows.{Row, odd_part, even_part}
 
@@ -29,3 +31,27 @@ part_more part row at lt =
 pub part_all : (part row whole : Row) (at : ℕ) → length row ≤ at → part ++ odd_part (drop at row) ≡ whole → part ≡ whole
 part_all part row whole at le is =
     sym (append-nil part) ∙ ap (λ rest. part ++ odd_part rest) (sym (drop_of_length-le row le)) ∙ is
+
+-- how long the parts are
+pub odd_length : (row : Row) → (length row ≤ length (odd_part row) * 2) × (length (odd_part row) * 2 ≤ length row + 1)
+odd_length [] = (omega arith, omega arith)
+odd_length (x ∷ []) = (omega arith, omega arith)
+odd_length (x ∷ y ∷ row) = let rest = odd_length row in (omega (arith, rest.0), omega (arith, rest.1))
+
+pub even_length : (row : Row) → (length (even_part row) * 2 ≤ length row) × (length row ≤ length (even_part row) * 2 + 1)
+even_length [] = (omega arith, omega arith)
+even_length (x ∷ []) = (omega arith, omega arith)
+even_length (x ∷ y ∷ row) = let rest = even_length row in (omega (arith, rest.0), omega (arith, rest.1))
+
+pub odd_count : (row : Row) (n q : ℕ) → length row ≡ n → q ≡ n / 2 + min 1 (n % 2) → length (odd_part row) ≡ q
+odd_count row n q len is =
+    let t = div_ceil_times n 2 (omega arith) in
+    let l = odd_length row in
+    omega (arith, len, is, t.0, t.1, l.0, l.1)
+
+pub even_count : (row : Row) (n : ℕ) → length row ≡ n → length (even_part row) ≡ n / 2
+even_count row n len =
+    let l = even_length row in
+    let e = length (even_part row) in
+    let split : e * 2 + (n - e * 2) ≡ n = omega (arith, l.0, len) in
+    sym (div-mul-add e 2 (n - e * 2) (omega (arith, l.0, l.1, len))) ∙ ap (λ k. k / 2) split

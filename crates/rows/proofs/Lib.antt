@@ -1,2 +1,9 @@
 pub mod Alternate
-pub mod Signing
+pub mod Between
+pub mod Faults
+pub mod InBlocks
+pub mod Parted
+pub mod RangeParts
+pub mod Sewn
+pub mod Tallied
+pub mod Walked

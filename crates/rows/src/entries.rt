@@ -3,7 +3,7 @@ ghost use Rattle.std.specs.Prelude.{◌≡◌};
 ghost use Rattle.rules.specs.Signatures.{entry_of};
 
 /// An entry of the row; behind its end all is blank.
-pub(crate) fn entry_at(row: &[Option<u32>], entry: usize) -> Option<u32>
+pub fn entry_at(row: &[Option<u32>], entry: usize) -> Option<u32>
     ensures { result ≡ entry_of row.now entry }
 {
     if entry < row.len() { row[entry] } else { None }

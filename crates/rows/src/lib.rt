@@ -2,9 +2,24 @@
 //! None; each step makes a row of a row.
 #![tactic(auto)]
 
+mod choices;
+mod cutting;
 mod entries;
+mod error;
+mod filling;
+mod found_ranges;
+pub mod laws;
+mod named_rows;
 mod parts;
+mod places;
+mod sewing;
 mod signatures;
+mod tallies;
 
+pub use choices::{Choice, Part, chosen_row};
+pub use entries::entry_at;
+pub use error::RowError;
+pub use named_rows::read_row;
 pub use parts::{all_pages, even_part, odd_part};
+pub use sewing::{Signing, auto_sides, imposed_row, signed_row};
 pub use signatures::in_signatures;

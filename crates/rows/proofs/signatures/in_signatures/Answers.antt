@@ -1,7 +1,7 @@
 use Rattle.std.proofs.Common.{arith, ap, ◌≡◌, ◌∙◌, length}
 use Rattle.std.specs.Prelude.{flat_map}
 use Rattle.std.specs.List.{range_with_len}
-use Rattle.rows.proofs.Signing.{ceil, signature_of, signature_more}
+use Rattle.rows.proofs.InBlocks.{ceil, signature_of, signature_more}
 use Rattle.rows.proofs.signatures.in_signatures.Goals as goal
 
 pub loop-signature-preserved : goal.loop-signature-preserved

@@ -1,0 +1,4 @@
+pub mod Counted
+pub mod KeptPapers
+pub mod OfOnePaper
+pub mod Others

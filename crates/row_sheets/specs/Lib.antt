@@ -1,0 +1,7 @@
+-- Read in this order: how papers are kept; the papers of pages; sheets of a row; those
+-- of one paper.
+pub mod Papers
+pub mod Pages
+pub mod RowSheets
+pub mod Kinds
+pub mod OnePaper

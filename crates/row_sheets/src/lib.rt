@@ -1,0 +1,13 @@
+//! Sheets of a row: each entry on a sheet of its own, or several in the cells of a sheet, each page by its own paper.
+#![tactic(auto)]
+
+mod cells;
+pub mod laws;
+mod laying;
+mod papers;
+mod selecting;
+
+pub use cells::Cells;
+pub use laying::lay_out;
+pub use papers::{PagePapers, PaperList};
+pub use selecting::select;

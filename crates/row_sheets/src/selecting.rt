@@ -1,0 +1,76 @@
+//! Each entry of a row on a sheet of its own.
+ghost use Rattle.std.specs.Prelude.{◌≡◌, ◌++◌, ◌∷◌, [], IfOk, OnOk};
+ghost use Rattle.pagespec.specs.Items.{item_of};
+ghost use Rattle.row_sheets.specs.RowSheets.{as_it_is as item_as_it_is, paper_of, selected, selected_sheet};
+
+use crate::papers::PagePapers;
+use lengths::{Number, Paper};
+use pagespec::{Item, Measure, Turn};
+use sheet_plan::{MadeSheets, MadeSlot};
+use std::alloc::{AllocError, Global};
+
+/// Each page of a row as it is, on a sheet of its own paper, and each blank on a sheet of the paper for blanks.
+pub fn select(
+    alloc: Global,
+    row: &[Option<u32>],
+    papers: &PagePapers,
+    blank: &Paper,
+) -> Result<MadeSheets, AllocError>
+    ensures { IfOk result (λ made. made ≡ selected papers.now blank.now row.now) }
+{
+    let mut made = MadeSheets::with_room(alloc, row.len(), row.len())?;
+    for entry in row {
+        push_entry(&mut made, *entry, papers, blank)?;
+    }
+    Ok(made)
+}
+
+/// Puts a sheet with this entry behind the others.
+fn push_entry(
+    made: &mut MadeSheets,
+    entry: Option<u32>,
+    papers: &PagePapers,
+    blank: &Paper,
+) -> Result<(), AllocError>
+    ensures { OnOk result (made.new ≡ made.old ++ selected_sheet papers.now blank.now entry ∷ []) }
+{
+    match entry {
+        Some(page) => {
+            let paper = paper_or(papers, page, blank);
+            let slot = MadeSlot::Placed {
+                page,
+                item: as_it_is(),
+                paper,
+            };
+            made.push(&paper, [slot].as_slice())?;
+            Ok(())
+        }
+        None => {
+            made.push(blank, [MadeSlot::Blank].as_slice())?;
+            Ok(())
+        }
+    }
+}
+
+/// The paper of a page, and another one if the page isn't there.
+pub(crate) fn paper_or(papers: &PagePapers, page: u32, other: &Paper) -> Paper
+    ensures { result ≡ paper_of papers.now other.now page }
+{
+    match papers.paper_of(page) {
+        Some(paper) => *paper,
+        None => *other,
+    }
+}
+
+/// The item by which a page stands as it is.
+pub(crate) fn as_it_is() -> Item
+    ensures { item_of result ≡ item_as_it_is }
+{
+    Item {
+        page: 0,
+        from_end: false,
+        turn: Turn::None,
+        scale: Number::ONE,
+        offset: (Measure::ZERO, Measure::ZERO),
+    }
+}

@@ -1,0 +1,50 @@
+-- A walk over the pieces of a text.
+use Rattle.std.proofs.Common.{ℕ, ◌+◌, ◌-◌, ◌≡◌, ◌≤◌, ◌∙◌, Option, Some, None, List, ◌∷◌, Bor, arith, ap, sym, refl, length}
+use Rattle.std.specs.Prelude.{◌==◌, Result, Ok, flat_map, IfSome, option_map}
+use Rattle.std.specs.List.{slice_split}
+use Rattle.rules.specs.Units.{◌>>=◌}
+use Rattle.rows.specs.declared.found_ranges.Found.{Found}
+use Rattle.rows.specs.declared.tallies.Tally.{Tally}
+use Rattle.made_sheets.specs.Rows.{Row}
+use Rattle.rows.specs.Found.{parts_left, piece_found, found_in}
+use Rattle.made_sheets.specs.Ranges.{Range, range_at}
+use Rattle.rows.specs.Tallies.{tally_from, tally_piece, counted}
+
+abbrev pub bytes_left : Option (Bor (List ℕ)) → ℕ
+bytes_left None = 0
+bytes_left (Some rest) = length rest.now + 1
+
+-- what is counted in the end of what is left of a text of so many bytes
+abbrev pub tally_left : (most pages whole : ℕ) → Option (Bor (List ℕ)) → Tally → Result Tally ℕ
+tally_left most pages whole None t = Ok t
+tally_left most pages whole (Some rest) t = tally_from most pages (whole - length rest.now) (parts_left 44 (Some rest)) t
+
+-- the entries of what is left
+abbrev pub row_left : (pages : ℕ) → Option (Bor (List ℕ)) → Row
+row_left pages left = flat_map (piece_found pages) (parts_left 44 left)
+
+piece_step : (most pages at : ℕ) (range : Found) (t : Tally) (o : Option Range) → Some range ≡ option_map (found_in pages) o → tally_piece most pages at o t ≡ Ok (counted most at range t)
+piece_step most pages at range t None e = absurd (cc (e))
+piece_step most pages at range t (Some r) e = ap (λ f. Ok (counted most at f t)) (sym (some_same range (found_in pages r) e))
+  where
+    some_same : (f g : Found) → ◌≡◌ {A = Option Found} (Some f) (Some g) → f ≡ g
+    some_same f g e = cc
+
+left_is : (most pages whole : ℕ) (rest piece : List ℕ) (behind : Option (Bor (List ℕ))) (u : Tally) → length rest ≤ whole → IfSome behind (λ r. length rest ≡ length piece + 1 + length r.now)
+    → tally_left most pages whole behind u ≡ tally_from most pages (whole - length rest + length piece + 1) (parts_left 44 behind) u
+left_is most pages whole rest piece None u within len = refl
+left_is most pages whole rest piece (Some r) u within len =
+    let same : whole - length r.now ≡ whole - length rest + length piece + 1 = omega (arith, within, len) in
+    ap (λ at. tally_from most pages at (parts_left 44 (Some r)) u) same
+
+-- one piece more is counted
+pub tally_step : (most pages whole : ℕ) (rest piece : List ℕ) (behind : Option (Bor (List ℕ))) (range : Found) (t u : Tally)
+    → slice_split (λ b. b == 44) rest ≡ piece ∷ parts_left 44 behind → IfSome behind (λ r. length rest ≡ length piece + 1 + length r.now) → length rest ≤ whole
+    → Some range ≡ option_map (found_in pages) (range_at piece) → u ≡ counted most (whole - length rest) range t
+    → tally_left most pages whole behind u ≡ tally_from most pages (whole - length rest) (slice_split (λ b. b == 44) rest) t
+tally_step most pages whole rest piece behind range t u parts len within found is =
+    let at = whole - length rest in
+    left_is most pages whole rest piece behind u within len
+    ∙ ap (λ v. tally_from most pages (at + length piece + 1) (parts_left 44 behind) v) is
+    ∙ sym (ap (λ x. x >>= λ v. tally_from most pages (at + length piece + 1) (parts_left 44 behind) v) (piece_step most pages at range t (range_at piece) found))
+    ∙ sym (ap (λ ps. tally_from most pages at ps t) parts)

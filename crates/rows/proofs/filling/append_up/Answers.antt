@@ -1,0 +1,15 @@
+use Rattle.std.proofs.Common.{◌+◌, ◌-◌, ◌++◌, ◌∙◌, ◌≡◌, ap, arith, map, Some}
+use Rattle.std.specs.List.{range_with_len}
+use Rattle.made_sheets.specs.Rows.{Row}
+use Rattle.rows.proofs.Between.{one_more, all_up}
+use Rattle.rows.proofs.filling.append_up.Goals as goal
+
+pub loop-i-preserved : goal.loop-i-preserved
+loop-i-preserved c = one_more (λ i. Some (c.args.first - 1 + i)) c.args.row.now.items c.loop-i.row.items _ c.loop-i.i c.loop-i.invariant c.in_ok-push.ensures.items
+
+pub returns : goal.returns
+returns c =
+    let all : c.loop-i.i ≡ c.args.last - c.args.first + 1 = omega (arith, c.loop-i-test.false, c.loop-i.auto.i-end) in
+    c.loop-i.invariant
+    ∙ ap (λ n. c.args.row.now.items ++ map (λ i. Some (c.args.first - 1 + i)) (range_with_len 0 n)) all
+    ∙ ap (λ (r : Row). c.args.row.now.items ++ r) (all_up c.args.first c.args.last c.requires.first c.requires.last)

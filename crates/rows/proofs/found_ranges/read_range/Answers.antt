@@ -1,0 +1,18 @@
+use Rattle.std.proofs.Common.{◌∙◌, ◌∷◌, sym, ap}
+use Rattle.rows.specs.Found.{parts_left}
+use Rattle.rows.proofs.RangeParts.{too_many, two_places}
+use Rattle.rows.proofs.found_ranges.read_range.Goals as goal
+
+pub returns-in-Some-more : goal.returns-in-Some-more
+returns-in-Some-more c =
+    too_many c.args.pages c.args.text.now c.cut.result.0.now c.in-Some.rest.now c.cut-2.result.0.now c.in-Some-more.field-0.now (sym c.is_blank.ensures ∙ c.if-is_blank.false)
+    (c.cut.ensures.parts ∙ ap (λ o. c.cut.result.0.now ∷ parts_left 45 o) c.in-Some.is)
+    (c.cut-2.ensures.parts ∙ ap (λ o. c.cut-2.result.0.now ∷ parts_left 45 o) c.in-Some-more.is)
+
+pub returns-in-None-more : goal.returns-in-None-more
+returns-in-None-more c =
+    c.from_to.ensures
+    ∙ two_places c.args.pages c.args.text.now c.cut.result.0.now c.in-Some.rest.now c.cut-2.result.0.now _ _ (sym c.is_blank.ensures ∙ c.if-is_blank.false)
+    (c.cut.ensures.parts ∙ ap (λ o. c.cut.result.0.now ∷ parts_left 45 o) c.in-Some.is)
+    (c.cut-2.ensures.parts ∙ ap (λ o. c.cut-2.result.0.now ∷ parts_left 45 o) c.in-None-more.is)
+    c.read_place-in-None-more.ensures c.read_last_place.ensures

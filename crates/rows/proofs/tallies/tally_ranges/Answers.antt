@@ -1,0 +1,17 @@
+use Rattle.std.proofs.Common.{rules, ◌∙◌, ap, sym, length}
+use Rattle.made_sheets.specs.Choice.{most_entries}
+use Rattle.rows.proofs.Walked.{tally_left, tally_step}
+use Rattle.rows.proofs.tallies.tally_ranges.Goals as goal
+
+pub loop-left-preserved : goal.loop-left-preserved
+loop-left-preserved c =
+    let n = length c.args.text.now in
+    record {
+      rest =
+          tally_step most_entries c.args.pages n c.in-Some.rest.now c.cut.result.0.now c.cut.result.1 c.in-Some-read_range.range c.loop-left.tally c.counted-tally.result c.cut.ensures.parts c.cut.ensures.whole
+          (search rules) (sym c.in-Some-read_range.is ∙ c.read_range.ensures) c.counted-tally.ensures.value
+          ∙ ap (λ left. tally_left most_entries c.args.pages n left c.loop-left.tally) (sym c.in-Some.is)
+          ∙ c.loop-left.invariant.rest;
+      within = search rules;
+      few = c.counted-tally.ensures.few;
+    }

@@ -1,0 +1,7 @@
+-- Read in this order: what is found in a document of so many pages; how ranges are counted; what refusals say; choices;
+-- how rows are sewn, and read.
+pub mod Found
+pub mod Tallies
+pub mod Refusals
+pub mod Choices
+pub mod Sewing

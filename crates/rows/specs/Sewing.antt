@@ -1,0 +1,29 @@
+-- How a booklet is sewn, as the code has it; and what is read of it.
+use Rattle.std.specs.Prelude.{⊤, ◌≡◌, ◌*◌, ◌/◌, length, map, flat_map, Some}
+use Rattle.std.specs.List.{range_with_len}
+use Rattle.rules.specs.Sheets.{blocks}
+use Rattle.rules.specs.Signatures.{AreSides, entry_of}
+use Rattle.made_sheets.specs.Rows.{Row}
+use Rattle.made_sheets.specs.Choice.{Signing, InOne, OfSides, Auto, sides_for, signed}
+use Rattle.made_sheets.specs.Leaves.{faces, read_signature}
+use Rattle.rows.specs.declared.sewing.Signing as code
+use Rattle.rows.specs.declared.sewing.Signing.TheVariants as sewn
+
+abbrev pub signing_of : code.Signing → Signing
+signing_of sewn.InOne = InOne
+signing_of (sewn.OfSides sides) = OfSides sides
+signing_of sewn.Auto = Auto
+
+-- a number of sides, if one is named, is one that a signature may have
+abbrev pub MayBeSewn : code.Signing → Type 0
+MayBeSewn (sewn.OfSides sides) = AreSides sides
+MayBeSewn how = ⊤
+
+-- a row that is signed, laid on leaves, folded and read, signature by signature, is read in its order; behind its end are
+-- the blanks that fill up the last signature
+abbrev pub SignedIsRead : Type 0
+SignedIsRead = (how : Signing) (row : Row) → AreSides (sides_for how (length row)) →
+    (let sides = sides_for how (length row) in
+    let signatures = blocks sides (length row) in
+    flat_map (read_signature (sides / 4) (faces (signed (Some how) row))) (range_with_len 0 signatures)
+    ≡ map (entry_of row) (range_with_len 0 (signatures * sides)))

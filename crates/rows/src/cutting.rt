@@ -1,0 +1,26 @@
+//! Texts that are cut at a byte.
+ghost use Rattle.std.specs.Prelude.{◌≡◌, ◌==◌, ◌+◌, ◌∷◌, length, IfSome, position};
+ghost use Rattle.std.specs.List.{slice_split};
+ghost use Rattle.rows.specs.Found.{parts_left};
+
+/// What stands before the first such byte, and what stands behind it, if there is one.
+pub(crate) fn cut(byte: u8, text: &[u8]) -> (&[u8], Option<&[u8]>)
+    ensures parts { slice_split (λ b. b == byte) text.now ≡ result.0.now ∷ parts_left byte result.1 }
+    ensures whole { IfSome result.1 (λ rest. length text.now ≡ length result.0.now + 1 + length rest.now) }
+{
+    match first_at(byte, text) {
+        Some(at) => {
+            let (part, from) = text.split_at(at);
+            let (_, rest) = from.split_at(1);
+            (part, Some(rest))
+        }
+        None => (text, None),
+    }
+}
+
+/// Where the first such byte stands.
+fn first_at(byte: u8, text: &[u8]) -> Option<usize>
+    ensures { result ≡ position (λ b. b == byte) text.now }
+{
+    text.iter().position(|b| *b == byte)
+}

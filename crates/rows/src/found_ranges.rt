@@ -1,0 +1,105 @@
+//! Ranges, as they are found in a document.
+ghost use Rattle.std.specs.Prelude.{◌≡◌, ◌^◌, ◌≤◌, length, option_map, option_and_then};
+ghost use Rattle.made_sheets.specs.Ranges.{FromTo, place_at, last_place_at, range_at, is_blank_page};
+ghost use Rattle.rows.specs.Found.{found_in, is_missing, entries_found, range_found, pages_from_to};
+
+use crate::cutting::cut;
+use crate::places::{read_last_place, read_place};
+
+/// A range in a document: a blank, or the numbers of its first and its last page, of which 0 is one that the document
+/// hasn't.
+#[derive(Clone, Copy)]
+pub enum Found {
+    Blank,
+    FromTo(u32, u32),
+}
+
+impl Found {
+    /// Whether the document hasn't both ends.
+    pub(crate) fn is_missing(self) -> bool
+        ensures { result ≡ is_missing self }
+    {
+        match self {
+            Found::Blank => false,
+            Found::FromTo(first, last) => first == 0 || last == 0,
+        }
+    }
+
+    /// How many entries it has.
+    pub(crate) fn entries(self) -> u64
+        ensures value { result ≡ length (entries_found self) }
+        ensures few { result ≤ 2 ^ 32 }
+    {
+        match self {
+            Found::Blank => 1,
+            Found::FromTo(first, last) => {
+                if first == 0 || last == 0 {
+                    0
+                } else {
+                    pages_between(first, last)
+                }
+            }
+        }
+    }
+}
+
+/// How many pages there are from one number to another, up or down.
+fn pages_between(first: u32, last: u32) -> u64
+    ensures value { result ≡ length (pages_from_to first last) }
+    ensures few { result ≤ 2 ^ 32 }
+{
+    if first <= last {
+        u64::from(last - first) + 1
+    } else {
+        u64::from(first - last) + 1
+    }
+}
+
+/// The range that a text stands for, in a document of so many pages.
+pub(crate) fn read_range(pages: u32, text: &[u8]) -> Option<Found>
+    ensures { result ≡ option_map (found_in pages) (range_at text.now) }
+{
+    if is_blank(text) {
+        return Some(Found::Blank);
+    }
+    let (first, rest) = cut(b'-', text);
+    let rest = match rest {
+        Some(rest) => rest,
+        None => return one_page(read_place(pages, first)),
+    };
+    let (second, more) = cut(b'-', rest);
+    match more {
+        Some(_) => None,
+        None => from_to(read_place(pages, first), read_last_place(pages, second)),
+    }
+}
+
+/// Whether a text stands for a blank.
+fn is_blank(text: &[u8]) -> bool
+    ensures { result ≡ is_blank_page text.now }
+{
+    text == b"blank".as_slice() || text == b"_".as_slice()
+}
+
+/// A page alone.
+fn one_page(page: Option<u32>) -> Option<Found>
+    ensures { result ≡ option_map (λ n. range_found n n) page }
+{
+    match page {
+        Some(page) => Some(Found::FromTo(page, page)),
+        None => None,
+    }
+}
+
+/// The pages from one to another, if both are some.
+fn from_to(first: Option<u32>, last: Option<u32>) -> Option<Found>
+    ensures { result ≡ option_and_then (λ n. option_map (range_found n) last) first }
+{
+    match first {
+        Some(first) => match last {
+            Some(last) => Some(Found::FromTo(first, last)),
+            None => None,
+        },
+        None => None,
+    }
+}

@@ -1,0 +1,42 @@
+//! Rows as texts name them.
+ghost use Rattle.std.specs.Prelude.{◌≡◌, Ok, IfOk, IfErr};
+ghost use Rattle.made_sheets.specs.Choice.{row_of_text};
+ghost use Rattle.rows.specs.Found.{row_found};
+ghost use Rattle.rows.specs.Refusals.{RefusesRow};
+
+use crate::error::RowError;
+use crate::filling::append_text;
+use crate::tallies::entry_count;
+use std::alloc::{AllocError, Global};
+
+/// The row that a text names in a document of so many pages.
+///
+/// The text is ranges with commas between them: `3`, `4-7`, `9-5`, `5-` to the last page, `_2` the last but one, `last`,
+/// and `blank` or `_` for a blank page. A refused text takes no memory.
+pub fn read_row(alloc: Global, pages: u32, text: &[u8]) -> Result<Vec<Option<u32>>, RowError>
+    ensures row { IfOk result (λ row. row_of_text pages text.now ≡ Ok row.items) }
+    ensures refused { IfErr result (RefusesRow (row_of_text pages text.now)) }
+{
+    let entries = match entry_count(pages, text) {
+        Ok(entries) => entries,
+        Err(error) => return Err(error),
+    };
+    match text_row(alloc, pages, text, entries) {
+        Ok(row) => Ok(row),
+        Err(_) => Err(RowError::NoMemory),
+    }
+}
+
+/// The entries of all ranges of a text, so many.
+pub(crate) fn text_row(
+    alloc: Global,
+    pages: u32,
+    text: &[u8],
+    entries: usize,
+) -> Result<Vec<Option<u32>>, AllocError>
+    ensures { IfOk result (λ row. row.items ≡ row_found pages text.now) }
+{
+    let mut row = Vec::with_capacity(alloc, entries)?;
+    append_text(&mut row, pages, text)?;
+    Ok(row)
+}

@@ -1,0 +1,100 @@
+//! Places: pages by their number, from the start of a document or from its end.
+ghost use Rattle.std.specs.Prelude.{◌≡◌, true, false, min, option_map, MatchOption};
+ghost use Rattle.std.specs.List.{list_all};
+ghost use Rattle.std.specs.Char.{is_ascii_digit};
+ghost use Rattle.rules.specs.Numbers.{number_of};
+ghost use Rattle.made_sheets.specs.Ranges.{FromStart, FromEnd, by_digits, is_number as is_number_text, place_at, last_place_at};
+ghost use Rattle.rows.specs.Found.{number_found};
+
+/// The number of the page that a text stands for, in a document of so many, counted from 1; 0 if it hasn't this page,
+/// None if the text stands for no page.
+pub(crate) fn read_place(pages: u32, text: &[u8]) -> Option<u32>
+    ensures { result ≡ option_map (number_found pages) (place_at text.now) }
+{
+    if text == b"last".as_slice() {
+        return Some(pages);
+    }
+    match text.split_first() {
+        Some((first, digits)) if *first == b'_' => from_end(pages, digits),
+        _ => from_start(pages, text),
+    }
+}
+
+/// The same; and the last page, if nothing is written.
+pub(crate) fn read_last_place(pages: u32, text: &[u8]) -> Option<u32>
+    ensures { result ≡ option_map (number_found pages) (last_place_at text.now) }
+{
+    if text.is_empty() {
+        Some(pages)
+    } else {
+        read_place(pages, text)
+    }
+}
+
+/// The page with this number.
+fn from_start(pages: u32, digits: &[u8]) -> Option<u32>
+    ensures { result ≡ option_map (number_found pages) (by_digits FromStart digits.now) }
+{
+    match number_in(digits) {
+        Some(number) => Some(start_number(pages, number)),
+        None => None,
+    }
+}
+
+/// The page that has this number, counted from the end.
+fn from_end(pages: u32, digits: &[u8]) -> Option<u32>
+    ensures { result ≡ option_map (number_found pages) (by_digits FromEnd digits.now) }
+{
+    match number_in(digits) {
+        Some(number) => Some(end_number(pages, number)),
+        None => None,
+    }
+}
+
+/// This number, if the document has it, else 0.
+fn start_number(pages: u32, number: usize) -> u32
+    ensures { result ≡ number_found pages (FromStart number) }
+{
+    if number <= pages as usize {
+        number as u32
+    } else {
+        0
+    }
+}
+
+/// This number from the end, if the document has it, else 0.
+fn end_number(pages: u32, number: usize) -> u32
+    ensures { result ≡ number_found pages (FromEnd number) }
+{
+    if 1 <= number && number <= pages as usize {
+        pages - (number as u32 - 1)
+    } else {
+        0
+    }
+}
+
+/// The number that digits stand for, or the greatest one; None if there is none, or a byte that is no digit.
+fn number_in(text: &[u8]) -> Option<usize>
+    ensures { MatchOption result (is_number_text text.now ≡ false) (λ n.
+        (is_number_text text.now ≡ true) × (n ≡ min (number_of text.now) usize.MAX)) }
+{
+    if text.is_empty() {
+        return None;
+    }
+    count_in(text)
+}
+
+/// The same; 0 if there are none.
+fn count_in(text: &[u8]) -> Option<usize>
+    ensures { MatchOption result (list_all is_ascii_digit text.now ≡ false) (λ n.
+        (list_all is_ascii_digit text.now ≡ true) × (n ≡ min (number_of text.now) usize.MAX)) }
+{
+    let mut n = 0usize;
+    for b in text {
+        if !b.is_ascii_digit() {
+            return None;
+        }
+        n = n.saturating_mul(10).saturating_add(usize::from(*b - b'0'));
+    }
+    Some(n)
+}

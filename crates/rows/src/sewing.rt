@@ -1,0 +1,118 @@
+//! How booklets are sewn: their rows in signatures.
+ghost use Rattle.std.specs.Prelude.{◌≡◌, ◌*◌, ◌≤◌, ◌<◌, length, IfOk, IfErr, IfSome, Ok, option_map};
+ghost use Rattle.rules.specs.Sheets.{blocks};
+ghost use Rattle.rules.specs.Signatures.{AreSides};
+ghost use Rattle.made_sheets.specs.Rows.{auto_sides, leaves_for};
+ghost use Rattle.made_sheets.specs.Choice.{imposed_row, signed, sides_for, most_entries};
+ghost use Rattle.rows.specs.Choices.{choice_of};
+ghost use Rattle.rows.specs.Sewing.{signing_of, MayBeSewn};
+ghost use Rattle.rows.specs.Refusals.{RefusesRow};
+
+use crate::choices::{Choice, chosen_row};
+use crate::error::RowError;
+use crate::signatures::in_signatures;
+use std::alloc::{AllocError, Global};
+
+const MOST_LEAVES: usize = 8;
+
+/// How a booklet is sewn: in one signature of all pages, in signatures of so many sides, or in as few as are easy to
+/// fold.
+#[derive(Clone, Copy, Debug, PartialEq, Eq)]
+pub enum Signing {
+    InOne,
+    OfSides(u32),
+    Auto,
+}
+
+impl Signing {
+    /// How many sides a signature has, for a row of so many entries.
+    pub fn sides(self, entries: usize) -> u32
+        requires sides { MayBeSewn self }
+        requires some { 0 < entries }
+        requires few { entries ≤ most_entries }
+        ensures value { result ≡ sides_for (signing_of self) entries }
+        ensures are_sides { AreSides result }
+    {
+        match self {
+            Signing::InOne => leaves_for(entries) * 4,
+            Signing::OfSides(sides) => sides,
+            Signing::Auto => auto_sides(entries),
+        }
+    }
+}
+
+/// How many sides signatures have of which none has over eight leaves, as few as that and all alike, for so many
+/// entries.
+pub fn auto_sides(entries: usize) -> u32
+    requires some { 0 < entries }
+    requires few { entries ≤ most_entries }
+    ensures value { result ≡ auto_sides entries }
+    ensures are_sides { AreSides result }
+{
+    let leaves = leaves_for(entries) as usize;
+    let signatures = leaves.div_ceil(MOST_LEAVES);
+    leaves.div_ceil(signatures) as u32 * 4
+}
+
+/// How many leaves carry so many entries, four each.
+fn leaves_for(entries: usize) -> u32
+    requires some { 0 < entries }
+    requires few { entries ≤ most_entries }
+    ensures value { result ≡ leaves_for entries }
+    ensures are_sides { AreSides (result * 4) }
+{
+    entries.div_ceil(4) as u32
+}
+
+/// The row in signatures, if there are to be some.
+pub fn signed_row(
+    alloc: Global,
+    row: Vec<Option<u32>>,
+    signing: Option<Signing>,
+) -> Result<Vec<Option<u32>>, AllocError>
+    requires sides { IfSome signing MayBeSewn }
+    requires some { 0 < length row.items }
+    requires few { length row.items ≤ most_entries }
+    ensures { IfOk result (λ printed. printed.items ≡ signed (option_map signing_of signing) row.items) }
+{
+    match signing {
+        Some(how) => sewn_row(alloc, row.as_slice(), how),
+        None => Ok(row),
+    }
+}
+
+/// The row in signatures.
+fn sewn_row(
+    alloc: Global,
+    row: &[Option<u32>],
+    how: Signing,
+) -> Result<Vec<Option<u32>>, AllocError>
+    requires sides { MayBeSewn how }
+    requires some { 0 < length row.now }
+    requires few { length row.now ≤ most_entries }
+    ensures { IfOk result (λ printed. printed.items ≡ signed (Some (signing_of how)) row.now) }
+{
+    in_signatures(alloc, row, how.sides(row.len()))
+}
+
+/// The row of what is imposed of a document of so many pages: what is chosen, in signatures if there are to be some.
+pub fn imposed_row(
+    alloc: Global,
+    pages: u32,
+    choice: &Choice<'_>,
+    signing: Option<Signing>,
+) -> Result<Vec<Option<u32>>, RowError>
+    requires pages { pages ≤ most_entries }
+    requires sides { IfSome signing MayBeSewn }
+    ensures row { IfOk result (λ row. imposed_row pages (choice_of choice.now) (option_map signing_of signing) ≡ Ok row.items) }
+    ensures refused { IfErr result (RefusesRow (imposed_row pages (choice_of choice.now) (option_map signing_of signing))) }
+{
+    let row = match chosen_row(alloc, pages, choice) {
+        Ok(row) => row,
+        Err(error) => return Err(error),
+    };
+    match signed_row(alloc, row, signing) {
+        Ok(row) => Ok(row),
+        Err(_) => Err(RowError::NoMemory),
+    }
+}

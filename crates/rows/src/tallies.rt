@@ -1,0 +1,95 @@
+//! What is known of the ranges of a text before they are kept.
+ghost use Rattle.std.specs.Prelude.{◌≡◌, ◌≤◌, length, Ok, IfOk, IfErr};
+ghost use Rattle.made_sheets.specs.Ranges.{pieces_of};
+ghost use Rattle.made_sheets.specs.Choice.{most_entries, row_of_text};
+ghost use Rattle.rows.specs.Found.{row_found};
+ghost use Rattle.rows.specs.Tallies.{counted, tally_from, no_tally};
+ghost use Rattle.rows.specs.Refusals.{IsFault};
+
+use crate::cutting::cut;
+use crate::error::RowError;
+use crate::found_ranges::{Found, read_range};
+
+const MOST_ENTRIES: u64 = 1_000_000;
+
+/// Where the first range begins that the document hasn't; where the first one begins by which there are too many
+/// entries; and how many entries there are, as long as there are neither.
+#[derive(Clone, Copy)]
+pub struct Tally {
+    pub missing: Option<usize>,
+    pub over: Option<usize>,
+    pub entries: u64,
+}
+
+/// How many entries the row of a text has, or why it has no row.
+pub(crate) fn entry_count(pages: u32, text: &[u8]) -> Result<usize, RowError>
+    ensures row { IfOk result (λ n. row_of_text pages text.now ≡ Ok (row_found pages text.now)) }
+    ensures count { IfOk result (λ n. n ≡ length (row_found pages text.now)) }
+    ensures few { IfOk result (λ n. n ≤ most_entries) }
+    ensures refused { IfErr result (IsFault (row_of_text pages text.now)) }
+{
+    let tally = match tally_ranges(pages, text) {
+        Ok(tally) => tally,
+        Err(at) => return Err(RowError::NotARange(at)),
+    };
+    match tally.missing {
+        Some(at) => return Err(RowError::NotInDocument(at)),
+        None => (),
+    }
+    match tally.over {
+        Some(at) => Err(RowError::TooManyEntries(at)),
+        None => Ok(tally.entries as usize),
+    }
+}
+
+/// What is known of all ranges, or where the first one begins that is none.
+fn tally_ranges(pages: u32, text: &[u8]) -> Result<Tally, usize>
+    ensures value { result ≡ tally_from most_entries pages 0 (pieces_of text.now) no_tally }
+    ensures few { IfOk result (λ t. t.entries ≤ most_entries) }
+{
+    let mut tally = Tally {
+        missing: None,
+        over: None,
+        entries: 0,
+    };
+    let mut left = Some(text);
+    while let Some(rest) = left {
+        let at = text.len() - rest.len();
+        let (piece, behind) = cut(b',', rest);
+        match read_range(pages, piece) {
+            Some(range) => tally = counted(tally, at, range),
+            None => return Err(at),
+        }
+        left = behind;
+    }
+    Ok(tally)
+}
+
+/// What is known with one range more, which begins at this byte.
+fn counted(tally: Tally, at: usize, range: Found) -> Tally
+    requires { tally.entries ≤ most_entries }
+    ensures value { result ≡ counted most_entries at range tally }
+    ensures few { result.entries ≤ most_entries }
+{
+    if tally.missing.is_some() {
+        return tally;
+    }
+    if range.is_missing() {
+        return Tally {
+            missing: Some(at),
+            ..tally
+        };
+    }
+    if tally.over.is_some() {
+        return tally;
+    }
+    let entries = tally.entries + range.entries();
+    if entries > MOST_ENTRIES {
+        Tally {
+            over: Some(at),
+            ..tally
+        }
+    } else {
+        Tally { entries, ..tally }
+    }
+}
