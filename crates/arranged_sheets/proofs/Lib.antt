@@ -1,0 +1,6 @@
+mod Runs
+mod Behind
+mod Inside
+mod Leaves
+mod Tiles
+mod Examples
