@@ -3,9 +3,9 @@
 -- counts of its side.
 use Rattle.std.proofs.Common.{arith, rules, ◌≡◌, ℕ, false, suc, zero, ◌+◌, ◌-◌, ◌*◌, ◌/◌, ◌<◌, ◌≤◌, ap}
 use Rattle.std.specs.Prelude.{◌==◌, if◌then◌else◌}
-use Rattle.std.proofs.Math.Nat.{mul-div-le, div-mul-le_self, lt-div-mul-add, mul-le-mul_left, mul-le-mul_right, mul_assoc, mul_left_comm, suc-mul, zero-div, mul-add}
+use Rattle.std.proofs.Math.Nat.{mul-div-le, div-mul-le_self, lt-div-mul-add, mul-le-mul_right, mul_assoc, mul_left_comm, suc-mul, zero-div, mul-add}
 use Rattle.layouts.specs.Placed.{Room}
-use Rattle.layouts.specs.Cells.{part, fitting, slack, step, left_free, kept, trimmed, whole}
+use Rattle.layouts.specs.Cells.{part, fitting, slack, step, left_free, kept, whole}
 
 -- the parts of a side are no longer than the side
 pub parts_fit : (side parts : ℕ) → 1_270_000 * (parts * part side parts) ≤ side

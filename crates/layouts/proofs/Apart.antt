@@ -9,8 +9,8 @@ use Rattle.layouts.specs.declared.arrangement.Run.{Run}
 use Rattle.layouts.specs.declared.arrangement.Run.TheVariants.{Rows, Columns}
 use Rattle.layouts.specs.declared.arrangement.Turned.{Turned}
 use Rattle.layouts.specs.declared.arrangement.Turned.TheVariants as sideways
-use Rattle.layouts.specs.Placed.{Room, fine, stands, held, read, across, up, ComesFirst, AreApart, IsLeftOf, IsAbove}
-use Rattle.layouts.specs.Cells.{Grid, item_in, run_in}
+use Rattle.layouts.specs.Placed.{Room, fine, stands, held, read, across, up, ComesFirst, AreApart, IsAbove}
+use Rattle.layouts.specs.Cells.{item_in, run_in}
 use Rattle.layouts.specs.Laws.{IsBeside, ComesInRun, ComesInRunBefore, GridIsApart}
 use Rattle.layouts.proofs.InOrder.{grid_in_order}
 

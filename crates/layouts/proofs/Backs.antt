@@ -1,17 +1,17 @@
 -- Pages on sheets that are turned by half.
-use Rattle.std.proofs.Common.{arith, ◌≡◌, ℕ, ◌+◌, ◌-◌, ◌*◌, ◌<◌, ◌≤◌, Bool, true, false}
+use Rattle.std.proofs.Common.{arith, ◌≡◌, ℕ, ◌+◌, Bool, true, false}
 use Rattle.std.specs.Prelude.{ℤ, pos, neg_ℤ, ◌≤ℤ◌, ◌+ℤ◌, ◌*ℤ◌, ◌-ℤ◌, nat_abs, if◌then◌else◌}
 use Rattle.std.proofs.lemmas.Int.{ints}
 use Rattle.rules.specs.Papers.{Paper}
-use Rattle.rules.specs.Specification.{Upright, Left, Half, Right}
+use Rattle.rules.specs.Specification.{Upright, Left}
 use Rattle.rules.specs.Placement.{Point}
 use Rattle.layouts.specs.declared.arrangement.Order.{Order}
 use Rattle.layouts.specs.declared.arrangement.Turned.TheVariants as sideways
-use Rattle.layouts.specs.Placed.{Room, stands, fine, IsOfPage, ComesFirst, IsLeftOf}
-use Rattle.layouts.specs.Cells.{Grid, size, half_turned, item_in, back_in, to_right, to_top, whole, row_of, column_of}
+use Rattle.layouts.specs.Placed.{Room, stands, fine, IsLeftOf}
+use Rattle.layouts.specs.Cells.{half_turned, item_in, back_in, to_right, to_top, whole, row_of, column_of}
 use Rattle.layouts.specs.Grids.{beside}
-use Rattle.layouts.specs.Laws.{IsHalfTurnOf, BackIsInside, BackIsHalfTurn}
-use Rattle.layouts.proofs.Sides.{placed, far, LiesIn}
+use Rattle.layouts.specs.Laws.{BackIsInside, BackIsHalfTurn}
+use Rattle.layouts.proofs.Sides.{placed, LiesIn}
 use Rattle.layouts.proofs.InGrid.{in_whole, on_sheet}
 use Rattle.layouts.proofs.InOrder.{place_fits}
 

@@ -1,6 +1,6 @@
 -- All that an arrangement, or a binding, comes to if nothing refuses it.
-use Rattle.std.proofs.Common.{arith, ◌≡◌, ◌⊎◌, inl, inr, ℕ, ◌*◌, ◌<◌, ◌≤◌, Bool, true, false, Option, Some, None, List, refl, sym, ap, subst, ◌∙◌}
-use Rattle.std.specs.Prelude.{ℤ, IsTrue}
+use Rattle.std.proofs.Common.{arith, ◌≡◌, ℕ, ◌≤◌, true, false, Some, None, List, refl, sym, ap, subst, ◌∙◌}
+use Rattle.std.specs.Prelude.{IsTrue}
 use Rattle.rules.specs.Admissible.{most_slots}
 use Rattle.rules.specs.Papers.{Paper}
 use Rattle.rules.specs.Specification.{Item, Spec}
@@ -14,9 +14,9 @@ use Rattle.std.specs.List.{range_with_len}
 use Rattle.layouts.specs.declared.arrangement.Order.{Order}
 use Rattle.layouts.specs.Cells.{Grid, size, scale_in, item_in, back_in, in_grid}
 use Rattle.layouts.specs.Grids.{beside, is_itself, room_of, grid_of, scale_for, count_of, arranged, bound, sides_in, leaf_order}
-use Rattle.layouts.specs.Refusals.{is_near, why_no_scale, why_no_sheet, why_not_arranged, why_not_bound, folds_short, IsFault, is_shown}
+use Rattle.layouts.specs.Refusals.{is_near, why_no_scale, why_no_sheet, why_not_arranged, why_not_bound, folds_short}
 use Rattle.layouts.specs.Laws.{IsPaper, HasPlace, IsArranged, IsBound}
-use Rattle.layouts.proofs.Writable.{IsMade, grid_writable, itself_writable, leaves_writable}
+use Rattle.layouts.proofs.Writable.{grid_writable, itself_writable, leaves_writable}
 use Rattle.layouts.proofs.LaidOut.{enough, itself}
 use Rattle.layouts.proofs.Possible.{good_sheet, good_scale, place, made, cells_made, cells_laid_out, cells_reasons, itself_made, itself_laid_out, itself_possible, leaves_laid_out, leaves_possible}
 

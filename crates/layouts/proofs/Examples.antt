@@ -1,11 +1,10 @@
 -- Worked examples.
 use Rattle.std.proofs.Common.{◌≡◌, refl}
-use Rattle.std.specs.Prelude.{codes, ℕ, ℤ, pos, true, false, [], ◌∷◌, None, Some, Option}
+use Rattle.std.specs.Prelude.{codes, ℤ, pos, true, false, [], ◌∷◌, None, Some, Option}
 use Rattle.std.specs.Fmt.{digits}
 use Rattle.rules.specs.Papers.{Paper, points}
 use Rattle.rules.specs.Specification.{canonical}
 use Rattle.layouts.specs.declared.arrangement.Arrangement.{Arrangement}
-use Rattle.layouts.specs.declared.arrangement.Binding.{Binding}
 use Rattle.layouts.specs.declared.arrangement.Cells.{Cells}
 use Rattle.layouts.specs.declared.arrangement.Cells.TheVariants.{AtLeast, Exactly}
 use Rattle.layouts.specs.declared.arrangement.Run.TheVariants.{Rows, Columns}
@@ -16,7 +15,7 @@ use Rattle.layouts.specs.declared.error.LayoutError.TheVariants.{FoldOnLongEdge,
 use Rattle.layouts.specs.Placed.{bare}
 use Rattle.layouts.specs.Cells.{scale_in}
 use Rattle.layouts.specs.Grids.{n_up, best_grid, leaves, arranged, bound, plain}
-use Rattle.layouts.specs.Refusals.{is_count, is_reached, is_scale, is_length, why_not, why_no_booklet, why_not_arranged, why_not_bound}
+use Rattle.layouts.specs.Refusals.{is_count, is_reached, is_scale, is_length, why_not, why_no_booklet, why_not_arranged}
 use Rattle.pagespec.specs.Reading.{joined_at}
 use Rattle.layouts.specs.declared.selections.Which.TheVariants.{All, Odd, Even}
 use Rattle.layouts.specs.Selections.{One, FromTo, From, row_of, misses}

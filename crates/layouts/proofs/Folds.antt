@@ -1,18 +1,17 @@
 -- Nothing crosses the fold of a leaf.
-use Rattle.std.proofs.Common.{arith, ◌≡◌, ℕ, suc, zero, ◌+◌, ◌-◌, ◌*◌, ◌/◌, ◌<◌, ◌≤◌, Bool, true, false, refl, sym, subst}
+use Rattle.std.proofs.Common.{arith, ℕ, suc, zero, ◌+◌, ◌-◌, ◌*◌, ◌<◌, ◌≤◌, Bool, true, false, refl, sym, subst}
 use Rattle.std.specs.Prelude.{ℤ, pos, negsuc, ◌≤ℤ◌, ◌+ℤ◌, ◌-ℤ◌, ◌*ℤ◌, nat_abs, ◌==◌, if◌then◌else◌}
-use Rattle.std.proofs.Math.Nat.{lt-div-mul-add, div-mul-le_self, mul-le-mul_left}
+use Rattle.std.proofs.Math.Nat.{lt-div-mul-add, div-mul-le_self}
 use Rattle.std.proofs.lemmas.Int.{ints}
 use Rattle.rules.specs.Papers.{Paper}
 use Rattle.rules.specs.Specification.{Left}
-use Rattle.rules.specs.Placement.{Point}
 use Rattle.layouts.specs.Placed.{Room, fine, stands, IsOfPage}
-use Rattle.layouts.specs.Cells.{kept, step, left_free, part, trimmed, whole, item_at, item_in, to_right, to_top}
+use Rattle.layouts.specs.Cells.{kept, step, left_free, trimmed, whole, item_in, to_right}
 use Rattle.layouts.specs.Grids.{beside, leaf_order}
-use Rattle.layouts.specs.Laws.{IsPaper, HasPlace, LiesBefore, LiesBehind, KeepsFold, LeafKeepsFold, RightToLeftIsMirror}
-use Rattle.layouts.proofs.AlongSide.{kept_at, moved_back, in_cell, parted, cells_fit}
-use Rattle.layouts.proofs.Sides.{of_sides, placed, point, far, start, end, between}
-use Rattle.layouts.proofs.OnSide.{HasCell, Ends, ends, cell, shown, from_start}
+use Rattle.layouts.specs.Laws.{HasPlace, KeepsFold, LeafKeepsFold, RightToLeftIsMirror}
+use Rattle.layouts.proofs.AlongSide.{moved_back, in_cell, cells_fit}
+use Rattle.layouts.proofs.Sides.{of_sides, placed, point, between}
+use Rattle.layouts.proofs.OnSide.{HasCell, ends, cell, shown, from_start}
 use Rattle.layouts.proofs.InGrid.{fits, sides_are}
 
 -- twice as far up as the fold

@@ -1,14 +1,14 @@
 -- Pages in the cells of a grid: where they are. A page has the sides v and u, its sheet w and h, and its scale is s; the
 -- other page's are v', u' and s'.
 use Rattle.std.proofs.Common.{arith, rules, ◌≡◌, ℕ, ◌+◌, ◌-◌, ◌*◌, ◌<◌, ◌≤◌, Bool, true, false, refl, sym, subst}
-use Rattle.std.specs.Prelude.{ℤ, pos, negsuc, nat_abs, IsTrue, ◌&&◌, ◌≤ℤ◌, ◌+ℤ◌}
+use Rattle.std.specs.Prelude.{ℤ, pos, negsuc, nat_abs, IsTrue, ◌&&◌}
 use Rattle.std.proofs.Math.Nat.{min-le_left, min-le_right, div-mul-le_self}
 use Rattle.std.proofs.lemmas.Int.{ints}
 use Rattle.rules.specs.Papers.{Paper, is_side}
 use Rattle.rules.specs.Placement.{Point}
 use Rattle.layouts.specs.declared.arrangement.Turned.TheVariants as sideways
-use Rattle.layouts.specs.Placed.{Room, stands, fine, IsOfPage, IsInside, LiesWithin, IsLeftOf, IsAbove}
-use Rattle.layouts.specs.Cells.{Grid, wide, high, counted, fitting, scale_in, whole, to_right, to_top, item_at}
+use Rattle.layouts.specs.Placed.{Room, stands, IsOfPage, LiesWithin, IsLeftOf, IsAbove}
+use Rattle.layouts.specs.Cells.{Grid, wide, high, counted, fitting, whole, to_right, to_top, item_at}
 use Rattle.layouts.specs.Laws.{IsPaper, HasPlace}
 use Rattle.layouts.specs.Refusals.{is_reached, are_reached}
 use Rattle.layouts.proofs.AlongSide.{scaled_fits, some_cell}

@@ -1,8 +1,8 @@
 -- What holds of pages that are arranged, and of the sheets of a booklet.
 use Rattle.std.proofs.Common.{arith, rules, ◌≡◌, ◌⊎◌, inl, inr, ℕ, suc, zero, ◌+◌, ◌-◌, ◌*◌, ◌/◌, ◌<◌, ◌≤◌, List, [], ◌∷◌, Bool, true, false, refl, sym, ap, subst, None, Option}
-use Rattle.std.specs.Prelude.{map, ℤ, pos, ◌+ℤ◌, ◌*ℤ◌, nat_abs, nat_le, ◌==◌, ◌&&◌, IsTrue, if◌then◌else◌}
+use Rattle.std.specs.Prelude.{map, ℤ, pos, nat_abs, nat_le, ◌==◌, IsTrue, if◌then◌else◌}
 use Rattle.std.specs.List.{range_with_len, AllByRecursion}
-use Rattle.std.proofs.Math.Nat.{le_of_mul-le-mul_left, mul_comm, mul-le-mul_left, mul_assoc, lt-div-mul-add, div-mul-le_self}
+use Rattle.std.proofs.Math.Nat.{le_of_mul-le-mul_left, mul_comm, mul-le-mul_left, lt-div-mul-add, div-mul-le_self}
 use Rattle.std.proofs.lemmas.Bool.{cases_lt}
 use Rattle.std.proofs.lemmas.Int.{ints}
 use Rattle.lengths.proofs.Numbers.{same_byte}
@@ -13,13 +13,12 @@ use Rattle.layouts.specs.declared.arrangement.Cells.TheVariants.{AtLeast, Exactl
 use Rattle.layouts.specs.declared.arrangement.Turned.{Turned}
 use Rattle.layouts.specs.declared.arrangement.Turned.TheVariants as sideways
 use Rattle.layouts.specs.declared.arrangement.Order.{Order}
-use Rattle.layouts.specs.Placed.{Room, fine, IsInside, AreApart}
-use Rattle.layouts.specs.Cells.{Grid, size, item_in, back_in, in_grid, scale_in, turn_in, run_in, read_columns, read_rows, row_of, column_of, counted, kept, step, wide, high}
-use Rattle.layouts.specs.Grids.{best_grid, formed, best_formed, grid_of, count_of, scale_for, beside, leaf_order, alone, is_same, sides_in}
-use Rattle.layouts.specs.Refusals.{folds_short, is_shown}
-use Rattle.layouts.specs.Laws.{IsPaper, HasPlace, IsNotTiny, Allows, EachTwo, IsInOrder, IsLike, IsExact, IsLaidOut, ArePages, IsChosen, IsArrangedIn, AreInMiddle, IsInMiddle, IsMean, cell_at, AreSidesIn, AreFolded}
-use Rattle.layouts.proofs.Sides.{of_sides, within_upright}
-use Rattle.layouts.proofs.InGrid.{cells, room_in, both_true, with_sides, sides_are, on_sheet}
+use Rattle.layouts.specs.Placed.{Room, IsInside, AreApart}
+use Rattle.layouts.specs.Cells.{Grid, size, item_in, back_in, in_grid, scale_in, turn_in, run_in, read_columns, read_rows, row_of, column_of}
+use Rattle.layouts.specs.Grids.{formed, best_formed, grid_of, count_of, scale_for, beside, leaf_order, alone, is_same, sides_in}
+use Rattle.layouts.specs.Laws.{IsPaper, HasPlace, IsNotTiny, Allows, EachTwo, IsInOrder, IsLike, IsExact, IsLaidOut, ArePages, IsChosen, IsArrangedIn, AreInMiddle, IsInMiddle, cell_at, AreSidesIn, AreFolded}
+use Rattle.layouts.proofs.Sides.{of_sides}
+use Rattle.layouts.proofs.InGrid.{cells, room_in, both_true, with_sides}
 use Rattle.layouts.proofs.InOrder.{grid_inside, grid_in_order, place_fits}
 use Rattle.layouts.proofs.Apart.{grid_apart, in_run_apart}
 use Rattle.layouts.proofs.Middle.{grid_in_middle}

@@ -1,12 +1,12 @@
 -- A page stands in the middle of its cell.
-use Rattle.std.proofs.Common.{arith, ◌≡◌, ℕ, suc, zero, ◌+◌, ◌-◌, ◌*◌, ◌/◌, ◌<◌, ◌≤◌, Bool, true, false, sym, subst, ap}
-use Rattle.std.specs.Prelude.{ℤ, pos, ◌≤ℤ◌, ◌+ℤ◌, ◌-ℤ◌, nat_abs}
-use Rattle.std.proofs.Math.Nat.{div-mul-le_self, lt-div-mul-add, mul_left_comm, mul-add}
+use Rattle.std.proofs.Common.{arith, ◌≡◌, ℕ, ◌+◌, ◌-◌, ◌*◌, ◌/◌, ◌<◌, ◌≤◌, Bool, true, false, sym, subst, ap}
+use Rattle.std.specs.Prelude.{pos, ◌+ℤ◌, ◌-ℤ◌, nat_abs}
+use Rattle.std.proofs.Math.Nat.{lt-div-mul-add, mul_left_comm, mul-add}
 use Rattle.std.proofs.lemmas.Int.{ints}
 use Rattle.rules.specs.Papers.{Paper}
 use Rattle.layouts.specs.Placed.{Room}
-use Rattle.layouts.specs.Cells.{Grid, kept, step, slack, trimmed, item_at, row_of, column_of, held_width, held_height, wide, high}
-use Rattle.layouts.specs.Laws.{IsPaper, HasPlace, IsMean, IsInMiddle, GridIsInMiddle, cell_at}
+use Rattle.layouts.specs.Cells.{Grid, kept, step, trimmed, item_at, row_of, column_of}
+use Rattle.layouts.specs.Laws.{HasPlace, IsMean, IsInMiddle, GridIsInMiddle, cell_at}
 use Rattle.layouts.proofs.AlongSide.{in_cell, in_middle, moved_back, counted_and}
 use Rattle.layouts.proofs.Sides.{of_sides, far, start}
 use Rattle.layouts.proofs.OnSide.{HasCell, cell, shown, from_start, from_end}

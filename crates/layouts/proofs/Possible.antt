@@ -1,9 +1,8 @@
 -- Where nothing refuses, and what follows from that.
-use Rattle.std.proofs.Common.{arith, rules, ◌≡◌, ◌⊎◌, inl, inr, ℕ, ◌+◌, ◌*◌, ◌/◌, ◌<◌, ◌≤◌, Bool, true, false, Option, Some, None, refl, sym, ap, subst, ◌∙◌}
+use Rattle.std.proofs.Common.{arith, rules, ◌≡◌, inl, inr, ℕ, ◌+◌, ◌*◌, ◌/◌, ◌<◌, ◌≤◌, Bool, true, false, Option, Some, None, refl, sym, ap, subst, ◌∙◌}
 use Rattle.std.specs.Prelude.{ℤ, pos, negsuc, nat_abs, IsTrue, ◌&&◌, ◌||◌, ◌==◌, nat_le, nat_lt, if◌then◌else◌, is_none}
 use Rattle.lengths.proofs.Numbers.{same_byte}
 use Rattle.rules.specs.Papers.{Paper, is_side}
-use Rattle.rules.specs.Specification.{Spec}
 use Rattle.layouts.specs.declared.arrangement.Arrangement.{Arrangement}
 use Rattle.layouts.specs.declared.arrangement.Binding.{Binding}
 use Rattle.layouts.specs.declared.arrangement.Cells.TheVariants.{AtLeast}
@@ -12,9 +11,9 @@ use Rattle.layouts.specs.declared.error.LayoutError.TheVariants as layout
 use Rattle.layouts.specs.declared.error.ArrangementError.{ArrangementError}
 use Rattle.layouts.specs.declared.error.ArrangementError.TheVariants as why
 use Rattle.layouts.specs.Placed.{Room, bare}
-use Rattle.layouts.specs.Cells.{Grid, scale_in, whole, trimmed, in_grid}
-use Rattle.layouts.specs.Grids.{best_grid, beside, is_same, is_itself, room_of, grid_of, scale_for, count_of, rounded_up, rounded_down, arranged, in_cells, plain, bound, sides_in, leaf_order, plain_binding}
-use Rattle.layouts.specs.Refusals.{first_of, is_count, is_reached, are_reached, is_length, is_shown, is_near, is_scale, why_no_scale, why_no_sheet, why_not_arranged, why_not_bound, why_not, why_no_booklet, folds_short, as_layout, IsFault, IsRefusal}
+use Rattle.layouts.specs.Cells.{Grid, scale_in, whole, trimmed}
+use Rattle.layouts.specs.Grids.{best_grid, beside, is_same, is_itself, room_of, grid_of, scale_for, count_of, rounded_up, rounded_down, arranged, in_cells, plain, bound, plain_binding}
+use Rattle.layouts.specs.Refusals.{first_of, is_count, are_reached, is_length, is_shown, is_near, is_scale, why_no_scale, why_no_sheet, why_not_arranged, why_not_bound, why_not, why_no_booklet, folds_short, as_layout, IsFault, IsRefusal}
 use Rattle.layouts.specs.Laws.{IsPaper, HasPlace, IsArranged, IsArrangedIn, IsBound}
 use Rattle.layouts.proofs.InGrid.{both_true, room_in, both_reached}
 use Rattle.layouts.proofs.Writable.{IsMade, scale_range}

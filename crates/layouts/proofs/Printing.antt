@@ -1,7 +1,6 @@
 -- Whole numbers of 10^-5 of a point are printed as they are.
-use Rattle.std.proofs.Common.{arith, ◌≡◌, ℕ, suc, ◌+◌, ◌-◌, ◌*◌, ◌/◌, true, refl, ap, ◌∙◌, sym}
-use Rattle.std.specs.Prelude.{ℤ, pos, negsuc, neg_ℤ, ◌*ℤ◌, ◌-ℤ◌, nat_abs}
-use Rattle.std.proofs.Math.IntN.{*ℤ-negsuc}
+use Rattle.std.proofs.Common.{arith, ◌≡◌, ℕ, suc, ◌+◌, ◌*◌, ◌/◌, true, refl, ap, ◌∙◌, sym}
+use Rattle.std.specs.Prelude.{ℤ, pos, negsuc, ◌*ℤ◌, ◌-ℤ◌, nat_abs}
 use Rattle.std.proofs.lemmas.Int.{ints}
 use Rattle.rules.specs.Numbers.{signed}
 use Rattle.rules.specs.Papers.{Paper}

@@ -1,5 +1,5 @@
 -- How far pages are moved can be printed.
-use Rattle.std.proofs.Common.{arith, rules, ◌≡◌, ℕ, ◌+◌, ◌-◌, ◌*◌, ◌<◌, ◌≤◌, Bool, true, false, ap, ◌∙◌}
+use Rattle.std.proofs.Common.{arith, rules, ◌≡◌, ℕ, ◌+◌, ◌-◌, ◌<◌, ◌≤◌, Bool, true, false, ap, ◌∙◌}
 use Rattle.std.specs.Prelude.{ℤ, pos, ◌+ℤ◌, ◌-ℤ◌, nat_abs, IsTrue, nat_lt, if◌then◌else◌}
 use Rattle.std.proofs.lemmas.Int.{ints}
 use Rattle.rules.specs.Papers.{Paper}
@@ -95,10 +95,9 @@ item_is page room g s k row column t scale x y turn is right top =
     ∙ ap (λ z. record { page = k; from_end = false; turn = turn_in g; scale = pos s; x = in_points (to_right page room g s row column); y = z }) top))
 
 -- an item is one with the same parts
-pub parts_are : (k : ℕ) (t t' : Turn) (scale scale' : ℤ) (x x' y y' : Measure) → t ≡ t' → scale ≡ scale' → x ≡ x' → y ≡ y'
-    → record { page = k; from_end = false; turn = t; scale = scale; x = x; y = y } ≡ record { page = k; from_end = false; turn = t'; scale = scale'; x = x'; y = y' }
+abbrev parts : (k : ℕ) (t : Turn) (scale : ℤ) (x y : Measure) → Item
+parts k t scale x y = record { page = k; from_end = false; turn = t; scale = scale; x = x; y = y }
+
+pub parts_are : (k : ℕ) (t t' : Turn) (scale scale' : ℤ) (x x' y y' : Measure) → t ≡ t' → scale ≡ scale' → x ≡ x' → y ≡ y' → parts k t scale x y ≡ parts k t' scale' x' y'
 parts_are k t t' scale scale' x x' y y' turn is right top =
-    ap (λ z. record { page = k; from_end = false; turn = z; scale = scale; x = x; y = y }) turn
-    ∙ (ap (λ z. record { page = k; from_end = false; turn = t'; scale = z; x = x; y = y }) is
-    ∙ (ap (λ z. record { page = k; from_end = false; turn = t'; scale = scale'; x = z; y = y }) right
-    ∙ ap (λ z. record { page = k; from_end = false; turn = t'; scale = scale'; x = x'; y = z }) top))
+    ap (λ z. parts k z scale x y) turn ∙ (ap (λ z. parts k t' z x y) is ∙ (ap (λ z. parts k t' scale' z y) right ∙ ap (λ z. parts k t' scale' x' z) top))

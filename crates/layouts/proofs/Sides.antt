@@ -1,13 +1,13 @@
 -- Upright pages and pages turned to the left, so far from the edges and from one another. A page has the sides v and u,
 -- of which l is trimmed; it is moved by x and y. The sheet has m and n whole 10^-5 of a point.
-use Rattle.std.proofs.Common.{arith, ◌≡◌, ℕ, ◌+◌, ◌-◌, ◌*◌, ◌≤◌}
+use Rattle.std.proofs.Common.{arith, ℕ, ◌+◌, ◌-◌, ◌*◌, ◌≤◌}
 use Rattle.std.specs.Prelude.{ℤ, pos, negsuc, ◌≤ℤ◌, ◌+ℤ◌, ◌*ℤ◌, neg_ℤ, false}
 use Rattle.std.proofs.Math.Nat.{mul-le-mul_left}
 use Rattle.std.proofs.lemmas.Int.{ints}
 use Rattle.rules.specs.Papers.{Paper}
 use Rattle.rules.specs.Specification.{Item, Turn, Upright, Left}
 use Rattle.rules.specs.Placement.{Point}
-use Rattle.layouts.specs.Placed.{Room, stands, fine, IsOfPage}
+use Rattle.layouts.specs.Placed.{stands, fine, IsOfPage}
 use Rattle.layouts.specs.Cells.{in_points}
 
 abbrev pub of_sides : (w h : ℕ) → Paper

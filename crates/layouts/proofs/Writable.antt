@@ -1,6 +1,6 @@
 -- A sheet in a grid is a specification that can be written.
-use Rattle.std.proofs.Common.{arith, rules, ◌≡◌, ℕ, suc, zero, ◌+◌, ◌-◌, ◌*◌, ◌<◌, ◌≤◌, List, [], ◌∷◌, ◌++◌, length, Bool, true, false, sym, ap, ◌∙◌, refl}
-use Rattle.std.specs.Prelude.{map, ℤ, pos, negsuc, ◌*ℤ◌, ◌+ℤ◌, ◌-ℤ◌, int_le, nat_abs, IsTrue, nat_le, ◌&&◌, decimal}
+use Rattle.std.proofs.Common.{arith, rules, ◌≡◌, ℕ, suc, zero, ◌+◌, ◌*◌, ◌<◌, ◌≤◌, List, [], ◌∷◌, ◌++◌, length, Bool, true, false, sym, ap, ◌∙◌}
+use Rattle.std.specs.Prelude.{map, ℤ, pos, negsuc, ◌*ℤ◌, ◌-ℤ◌, int_le, nat_abs, IsTrue, nat_le, decimal}
 use Rattle.std.specs.List.{range_with_len, AllByRecursion}
 use Rattle.std.proofs.Math.IntN.{*ℤ-negsuc}
 use Rattle.std.proofs.lemmas.Int.{ints}
@@ -8,7 +8,7 @@ use Rattle.std.proofs.lemmas.List.FromFn.{length-map-range_with_len, map-range_w
 use Rattle.std.proofs.lemmas.List.{map-append, length-append}
 use Rattle.rules.specs.Numbers.{is_large}
 use Rattle.rules.specs.Papers.{Paper}
-use Rattle.rules.specs.Specification.{Item, Measure, Turn, item_text, turn_text, scale_part, offset_part}
+use Rattle.rules.specs.Specification.{Item, Turn, item_text, turn_text, scale_part, offset_part}
 use Rattle.pagespec.specs.Items.{group_text}
 use Rattle.pagespec.specs.Made.{IsItemOf, IsGroupOf, IsWritable}
 use Rattle.pagespec.proofs.MadeShort.{page_few, group_few, groups_short}

@@ -4,8 +4,8 @@
 -- the grid than what the margin leaves of the sheet.
 -- The gap is no part of the pages, so it isn't scaled: it is added to the side once, as if one more gap came behind the
 -- last cell, the side is cut into equal parts, and each part gives up one gap.
-use Rattle.std.specs.Prelude.{ℕ, ◌+◌, ◌-◌, ◌*◌, ◌/◌, ◌%◌, min, suc, zero, ℤ, pos, ◌+ℤ◌, ◌-ℤ◌, ◌*ℤ◌, nat_abs, Bool, true}
-use Rattle.std.specs.Prelude.{false, ◌&&◌, ◌||◌, ◌==◌, not, nat_lt, if◌then◌else◌, [], ◌∷◌, map}
+use Rattle.std.specs.Prelude.{ℕ, ◌+◌, ◌-◌, ◌*◌, ◌/◌, ◌%◌, min, ℤ, pos, ◌+ℤ◌, ◌-ℤ◌, ◌*ℤ◌, nat_abs, Bool, true}
+use Rattle.std.specs.Prelude.{false, ◌==◌, if◌then◌else◌, [], ◌∷◌, map}
 use Rattle.std.specs.List.{range_with_len}
 use Rattle.rules.specs.Papers.{Paper, Pt}
 use Rattle.rules.specs.Specification.{Item, Spec, Measure, Turn, Upright, Left, Half, Right}

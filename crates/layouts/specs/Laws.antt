@@ -13,11 +13,10 @@ use Rattle.layouts.specs.declared.arrangement.Cells.TheVariants.{AtLeast, Exactl
 use Rattle.layouts.specs.declared.arrangement.Run.{Run}
 use Rattle.layouts.specs.declared.arrangement.Run.TheVariants.{Rows, Columns}
 use Rattle.layouts.specs.declared.arrangement.Turned.{Turned}
-use Rattle.layouts.specs.declared.arrangement.Turned.TheVariants as sideways
 use Rattle.layouts.specs.declared.arrangement.Order.{Order}
 use Rattle.layouts.specs.Placed.{Room, bare, stands, fine, IsOfPage, IsInside, AreApart, IsLeftOf, IsAbove}
 use Rattle.layouts.specs.Cells.{Grid, size, held_width, held_height, step_across, step_down, wide, high, kept, counted}
-use Rattle.layouts.specs.Cells.{scale_in, item_at, item_in, back_in, run_in, read_columns, read_rows, row_of, column_of}
+use Rattle.layouts.specs.Cells.{scale_in, item_in, back_in, run_in, read_columns, read_rows, row_of, column_of}
 use Rattle.layouts.specs.Cells.{whole}
 use Rattle.layouts.specs.Grids.{best_grid, formed, count_of, room_of, scale_for, plain, plain_order, plain_binding}
 use Rattle.layouts.specs.Grids.{leaf_order, beside}

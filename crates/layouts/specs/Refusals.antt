@@ -10,9 +10,8 @@ use Rattle.layouts.specs.declared.error.LayoutError.TheVariants.{PagesOutOfRange
 use Rattle.layouts.specs.declared.error.LayoutError.TheVariants.{ScaleOutOfRange, NoMemory}
 use Rattle.layouts.specs.declared.error.ArrangementError.{ArrangementError}
 use Rattle.layouts.specs.declared.error.ArrangementError.TheVariants as why
-use Rattle.layouts.specs.Cells.{Grid, scale_in, counted, trimmed, whole}
+use Rattle.layouts.specs.Cells.{scale_in, trimmed, whole}
 use Rattle.layouts.specs.Grids.{best_grid, beside, is_same, is_itself, room_of, grid_of, scale_for, count_of}
-use Rattle.layouts.specs.Grids.{rounded_up, rounded_down}
 
 -- how many pages a sheet takes at most
 abbrev pub most_on_sheet : ℕ

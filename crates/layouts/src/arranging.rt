@@ -38,7 +38,12 @@ pub fn arrange(
     ensures possible { OnOk result (why_not_arranged papers.now.page papers.now.sheet arrangement.now ≡ None) }
     ensures refused { IfErr result (IsFault (why_not_arranged papers.now.page papers.now.sheet arrangement.now)) }
 {
-    let found = sheet_in(papers, arrangement.margin, arrangement.gap, arrangement.trim);
+    let found = sheet_in(
+        papers,
+        arrangement.margin,
+        arrangement.gap,
+        arrangement.trim,
+    );
     let count = count_in(arrangement.cells);
     if count < 1 || MOST_ON_SHEET < count {
         return Err(ArrangementError::CellsOutOfRange);

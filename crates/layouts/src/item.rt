@@ -45,6 +45,14 @@ fn points(n: i64) -> Measure
     }
 }
 
+/// From one place to another, in whole numbers of 10^-5 of a point.
+fn distance(from: i64, to: i64) -> Measure
+    requires { nat_abs (to -ℤ from) ≤ 9_999_999_999 }
+    ensures { measure_of result ≡ in_points (to -ℤ from) }
+{
+    points(to - from)
+}
+
 /// Half of what a scaled side leaves of its cell, in 10^-5 of a point.
 fn slack(cell: u64, side: u64, scale: u64) -> u128
     ensures { result ≡ slack_of cell side scale }
@@ -226,7 +234,7 @@ impl Layout {
                 Turn::Half
             },
             scale: number(self.scale),
-            offset: (points(width - x), points(height - y)),
+            offset: (distance(x, width), distance(y, height)),
         }
     }
 

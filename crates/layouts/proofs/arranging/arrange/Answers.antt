@@ -1,10 +1,8 @@
-use Rattle.std.proofs.Common.{arith, rules, ◌≡◌, inl, inr, ℕ, ◌≤◌, sym, ap, subst, ◌∙◌, true, false, None, refl}
+use Rattle.std.proofs.Common.{arith, rules, ◌≡◌, inr, ◌≤◌, sym, ap, subst, ◌∙◌, true, false, refl}
 use Rattle.rules.specs.Admissible.{most_slots}
 use Rattle.pagespec.specs.Made.{IsWritable}
-use Rattle.layouts.specs.Cells.{Grid, scale_in, in_grid}
-use Rattle.layouts.specs.Placed.{Room}
-use Rattle.layouts.specs.Grids.{arranged, count_of, is_itself, room_of, grid_of, scale_for}
-use Rattle.layouts.specs.Refusals.{why_no_scale, why_not_arranged}
+use Rattle.layouts.specs.Cells.{in_grid}
+use Rattle.layouts.specs.Grids.{count_of, is_itself}
 use Rattle.layouts.specs.Laws.{IsArranged}
 use Rattle.layouts.proofs.LaidOut.{itself}
 use Rattle.layouts.proofs.Writable.{itself_writable}

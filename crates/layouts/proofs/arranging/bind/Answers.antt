@@ -1,4 +1,4 @@
-use Rattle.std.proofs.Common.{arith, rules, ◌≡◌, inr, sym, ap, subst, ◌∙◌, true, None}
+use Rattle.std.proofs.Common.{rules, ◌≡◌, inr, sym, ap, subst, ◌∙◌, true}
 use Rattle.rules.specs.Admissible.{most_slots}
 use Rattle.pagespec.specs.Made.{IsWritable}
 use Rattle.layouts.specs.Cells.{scale_in}

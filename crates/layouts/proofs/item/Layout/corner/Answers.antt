@@ -1,4 +1,4 @@
-use Rattle.std.proofs.Common.{arith, rules, ◌≡◌, ◌≤◌}
+use Rattle.std.proofs.Common.{arith, rules, ◌≡◌}
 use Rattle.layouts.specs.Cells.{corner_x, corner_y}
 use Rattle.layouts.proofs.Reach.{corner_fits}
 use Rattle.layouts.proofs.item.Layout.corner.Goals as goal

@@ -1,6 +1,6 @@
 use Rattle.std.proofs.Common.{rules, ◌≡◌, ◌≤◌, ◌∙◌, subst, sym}
-use Rattle.std.specs.Prelude.{ℤ, pos, ◌+ℤ◌, ◌-ℤ◌, nat_abs, if◌then◌else◌}
-use Rattle.layouts.specs.Cells.{to_right, to_top, trimmed, row_of, column_of, whole}
+use Rattle.std.specs.Prelude.{pos, ◌+ℤ◌, ◌-ℤ◌, nat_abs, if◌then◌else◌}
+use Rattle.layouts.specs.Cells.{trimmed, row_of, column_of, whole}
 use Rattle.layouts.proofs.Reach.{shift_fits, right_is, top_is}
 use Rattle.layouts.proofs.item.Layout.shift.Goals as goal
 
