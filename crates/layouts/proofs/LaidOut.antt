@@ -66,7 +66,7 @@ turn_is false = inl refl
 
 -- ---- which grid
 
-some_each : (columns rows : ℕ) → 0 < columns * rows → (0 < columns) × (0 < rows)
+pub some_each : (columns rows : ℕ) → 0 < columns * rows → (0 < columns) × (0 < rows)
 some_each zero rows h = absurd (omega (arith, h))
 some_each (suc columns) zero h = absurd (omega (arith, h))
 some_each (suc columns) (suc rows) h = (omega arith, omega arith)
@@ -81,10 +81,10 @@ either_read : (t : Turned) (columns rows : ℕ) (b : Bool)
 either_read t columns rows true = read_formed t true columns rows
 either_read t columns rows false = read_formed t false columns rows
 
-read_best : (page : Paper) (room : Room) (t : Turned) (columns rows : ℕ) → (read_columns t (best_formed page room t columns rows) ≡ columns) × (read_rows t (best_formed page room t columns rows) ≡ rows)
+pub read_best : (page : Paper) (room : Room) (t : Turned) (columns rows : ℕ) → (read_columns t (best_formed page room t columns rows) ≡ columns) × (read_rows t (best_formed page room t columns rows) ≡ rows)
 read_best page room t columns rows = either_read t columns rows _
 
-is_chosen : (page : Paper) (room : Room) (t : Turned) (c : Cells) → 0 < count_of c → IsChosen page room t c (scale_in page room (grid_of page room t c)) (grid_of page room t c)
+pub is_chosen : (page : Paper) (room : Room) (t : Turned) (c : Cells) → 0 < count_of c → IsChosen page room t c (scale_in page room (grid_of page room t c)) (grid_of page room t c)
 is_chosen page room t (AtLeast n) some = (
   best_has_cells page room n some,
   λ h s sides many allows. best_is_large page room n h s sides some many allows,
@@ -98,7 +98,7 @@ is_chosen page room t (Exactly columns rows) some =
     let read = read_best page room t columns rows in
     (read.0, read.1, λ b s sides allows. formed_is_large page room t columns rows b s some' some'' sides allows)
 
-read_square : (t : Turned) (g : Grid) → read_columns t g * read_rows t g ≡ size g
+pub read_square : (t : Turned) (g : Grid) → read_columns t g * read_rows t g ≡ size g
 read_square sideways.Upright g = mul_comm g.columns g.rows
 read_square sideways.Left g = refl
 read_square sideways.Right g = refl
@@ -160,7 +160,7 @@ one_of_many t w d c W some h =
     let gap : d * 1 ≤ d * c = mul-le-mul_left d some in
     omega (arith, h, one, gap)
 
-itself_large_at : (page sheet : Paper) (d r c : ℕ) (b : Bool) (t : ℕ) → SameSides page sheet → IsNotTiny page (room_in sheet 0 d 0) → 0 < r → 0 < c → Allows page (room_in sheet 0 d 0) (cells r c b) t
+pub itself_large_at : (page sheet : Paper) (d r c : ℕ) (b : Bool) (t : ℕ) → SameSides page sheet → IsNotTiny page (room_in sheet 0 d 0) → 0 < r → 0 < c → Allows page (room_in sheet 0 d 0) (cells r c b) t
     → t < 1_000_001_000
 itself_large_at page sheet d r c false t same sides some_r some_c allows =
     let wide = one_of_many t (nat_abs page.width - 2_540_000 * 0) d c (nat_abs sheet.width - 2_540_000 * 0) some_c allows.wide in
@@ -189,26 +189,45 @@ one_cell w d =
     let least = lt-div-mul-add {a = w - 2_540_000 * 0 + 1_270_000 * d} {b = 1_270_000 * 1} (omega arith) in
     (omega (arith, most, least), omega (arith, most, least))
 
-itself_middle_at : (v u d row column : ℕ) → row < 1 → column < 1 → IsInMiddle (of_sides v u) (cell_at (room_in (of_sides v u) 0 d 0) (cells 1 1 false) row column) (alone 0)
-itself_middle_at v u d zero zero in_rows in_columns =
+itself_middle_at : (v u d : ℕ) (b : Bool) (row column : ℕ) → row < 1 → column < 1 → IsInMiddle (of_sides v u) (cell_at (room_in (of_sides v u) 0 d 0) (cells 1 1 b) row column) (alone 0)
+itself_middle_at v u d false zero zero in_rows in_columns =
     let a = one_cell v d in
     let b = one_cell u d in
     record {
       across = (omega (arith, ints, a.0, a.1), omega (arith, ints, a.0, a.1));
       up = (omega (arith, ints, b.0, b.1), omega (arith, ints, b.0, b.1));
     }
-itself_middle_at v u d (suc row) column in_rows in_columns = absurd (omega (arith, in_rows))
-itself_middle_at v u d zero (suc column) in_rows in_columns = absurd (omega (arith, in_columns))
+itself_middle_at v u d true zero zero in_rows in_columns =
+    let a = one_cell v d in
+    let b = one_cell u d in
+    record {
+      across = (omega (arith, ints, a.0, a.1), omega (arith, ints, a.0, a.1));
+      up = (omega (arith, ints, b.0, b.1), omega (arith, ints, b.0, b.1));
+    }
+itself_middle_at v u d b (suc row) column in_rows in_columns = absurd (omega (arith, in_rows))
+itself_middle_at v u d b zero (suc column) in_rows in_columns = absurd (omega (arith, in_columns))
 
-abbrev ItselfIn : (d row column : ℕ) → (o q : Paper) → Type 0
-ItselfIn d row column o q = SameSides o q → IsInside (room_in q 0 d 0) o (alone 0) × IsInMiddle o (cell_at (room_in q 0 d 0) (cells 1 1 false) row column) (alone 0)
+abbrev ItselfIn : (d : ℕ) (b : Bool) (row column : ℕ) → (o q : Paper) → Type 0
+ItselfIn d b row column o q = SameSides o q → IsInside (room_in q 0 d 0) o (alone 0) × IsInMiddle o (cell_at (room_in q 0 d 0) (cells 1 1 b) row column) (alone 0)
 
-itself_at : (v u w h d row column : ℕ) → row < 1 → column < 1 → ItselfIn d row column (of_sides v u) (of_sides w h)
-itself_at v u w h d row column in_rows in_columns same =
-    subst (λ m. ItselfIn d row column (of_sides v u) (of_sides m h)) same.wide
-    (subst (λ n. ItselfIn d row column (of_sides v u) (of_sides v n)) same.high
-    (λ again. (itself_inside_at v u d, itself_middle_at v u d row column in_rows in_columns)))
+itself_at : (v u w h d : ℕ) (b : Bool) (row column : ℕ) → row < 1 → column < 1 → ItselfIn d b row column (of_sides v u) (of_sides w h)
+itself_at v u w h d b row column in_rows in_columns same =
+    subst (λ m. ItselfIn d b row column (of_sides v u) (of_sides m h)) same.wide
+    (subst (λ n. ItselfIn d b row column (of_sides v u) (of_sides v n)) same.high
+    (λ again. (itself_inside_at v u d, itself_middle_at v u d b row column in_rows in_columns)))
     (record { wide = same.wide; high = same.high })
+
+-- one page on a sheet of its paper, whichever way its one cell is held
+pub itself_in : (page sheet : Paper) (d : ℕ) (b : Bool) (o : Order) → IsPaper page → IsPaper sheet → SameSides page sheet
+    → IsInside (room_in sheet 0 d 0) page (alone 0) × IsInMiddle page (cell_at (room_in sheet 0 d 0) (cells 1 1 b) (row_of o (cells 1 1 b) 0) (column_of o (cells 1 1 b) 0)) (alone 0)
+itself_in page sheet d b o is on same =
+    let g = cells 1 1 b in
+    let fit = place_fits o.run o.right_to_left o.turned g 0 (omega arith) in
+    with_sides (ItselfIn d b (row_of o g 0) (column_of o g 0)) page sheet is on
+    (itself_at (nat_abs page.width) (nat_abs page.height) (nat_abs sheet.width) (nat_abs sheet.height) d b (row_of o g 0) (column_of o g 0) fit.0 fit.1) same
+
+pub itself_exact : (page : Paper) → IsExact page (alone 0)
+itself_exact page = placed_exact page Upright 0 1_000_000_000 (pos 0) (pos 0)
 
 abbrev pub itself : Spec
 itself = record { modulo = 1; groups = (alone 0 ∷ []) ∷ [] }
@@ -239,10 +258,7 @@ itself_chosen page sheet d t (Exactly columns rows) one same =
 pub itself_arranged : (page sheet : Paper) (d : ℕ) (c : Cells) (o : Order) → IsPaper page → IsPaper sheet → count_of c ≡ 1 → SameSides page sheet → IsArrangedIn page (room_in sheet 0 d 0) c o None itself
 itself_arranged page sheet d c o is on one same =
     let g = cells 1 1 false in
-    let fit = place_fits o.run o.right_to_left o.turned g 0 (omega arith) in
-    let at : IsInside (room_in sheet 0 d 0) page (alone 0) × IsInMiddle page (cell_at (room_in sheet 0 d 0) g (row_of o g 0) (column_of o g 0)) (alone 0) =
-    with_sides (ItselfIn d (row_of o g 0) (column_of o g 0)) page sheet is on
-    (itself_at (nat_abs page.width) (nat_abs page.height) (nat_abs sheet.width) (nat_abs sheet.height) d (row_of o g 0) (column_of o g 0) fit.0 fit.1) same in
+    let at = itself_in page sheet d false o is on same in
     record {
       modulo = sym one;
       items = alone 0 ∷ [];
@@ -260,7 +276,7 @@ itself_arranged page sheet d c o is on one same =
         inside = (at.0, tt);
         apart = (tt, tt);
         in_order = (tt, tt);
-        exact = (placed_exact page Upright 0 1_000_000_000 (pos 0) (pos 0), tt);
+        exact = (itself_exact page, tt);
       };
       middle = (at.1, tt);
     }

@@ -22,7 +22,7 @@ use Rattle.layouts.proofs.LaidOut.{SameSides, same_sides, itself, itself_arrange
 -- ---- chains of reasons
 
 -- if there is none, the test holds and there is none behind it
-passed : (b : Bool) (e : ArrangementError) (next : Option ArrangementError) → first_of b e next ≡ None → (b ≡ true) × (next ≡ None)
+pub passed : (b : Bool) (e : ArrangementError) (next : Option ArrangementError) → first_of b e next ≡ None → (b ≡ true) × (next ≡ None)
 passed true e next h = (refl, h)
 passed false e next h = absurd (cc (h))
 
@@ -105,11 +105,11 @@ made page room g s shown good = record { place = place page room g s shown good;
 count_passed : (n : ℕ) → 1 ≤ n → n ≤ 1_024 → is_count n ≡ true
 count_passed n some most = search (rules, some, most)
 
-either_way : {X : Type 0} (b : Bool) (x y : X) → b ≡ false → (if b then x else y) ≡ y
+pub either_way : {X : Type 0} (b : Bool) (x y : X) → b ≡ false → (if b then x else y) ≡ y
 either_way true x y e = cc
 either_way false x y e = refl
 
-one_way : {X : Type 0} (b : Bool) (x y : X) → b ≡ true → (if b then x else y) ≡ x
+pub one_way : {X : Type 0} (b : Bool) (x y : X) → b ≡ true → (if b then x else y) ≡ x
 one_way true x y e = refl
 one_way false x y e = cc
 
@@ -144,18 +144,18 @@ pub cells_reasons : (page sheet : Paper) (a : Arrangement) → 1 ≤ count_of a.
 cells_reasons page sheet a some most h is = arranged_by page sheet a some most h ∙ either_way (is_itself page sheet a) None _ is
 
 -- what it is to be the page itself
-record IsAlone (page sheet : Paper) (a : Arrangement) : Type 0 where
+pub record IsAlone (page sheet : Paper) (a : Arrangement) : Type 0 where
   pub one : count_of a.cells ≡ 1
   pub same : SameSides page sheet
   pub edge : rounded_up a.margin ≡ 0
   pub trim : rounded_down a.trim ≡ 0
   pub scale : a.scale ≡ None
 
-no_scale : (asked : Option ℤ) → is_none asked ≡ true → asked ≡ None
+pub no_scale : (asked : Option ℤ) → is_none asked ≡ true → asked ≡ None
 no_scale None e = refl
 no_scale (Some s) e = absurd (cc (e))
 
-is_alone : (page sheet : Paper) (a : Arrangement) → is_itself page sheet a ≡ true → IsAlone page sheet a
+pub is_alone : (page sheet : Paper) (a : Arrangement) → is_itself page sheet a ≡ true → IsAlone page sheet a
 is_alone page sheet a h =
     let four = both_true ((count_of a.cells == 1) && is_same page sheet && (rounded_up a.margin == 0) && (rounded_down a.trim == 0)) (is_none a.scale) h in
     let three = both_true ((count_of a.cells == 1) && is_same page sheet && (rounded_up a.margin == 0)) (rounded_down a.trim == 0) four.0 in

@@ -1,4 +1,7 @@
 //! What a sheet looks like: cells, margin, gap, order, scale.
+ghost use Rattle.std.specs.Prelude.{◌≡◌};
+ghost use Rattle.layouts.specs.Grids.{count_of};
+
 use lengths::{Grains, Number, Paper};
 
 /// The paper of the pages, and that of the sheets.
@@ -16,6 +19,18 @@ pub enum Cells {
     AtLeast(u32),
     /// So many columns and rows, as one reads the sheet, with upright pages unless turned ones are larger.
     Exactly { columns: u32, rows: u32 },
+}
+
+impl Cells {
+    /// How many pages a sheet has.
+    pub fn count(self) -> u64
+        ensures { result ≡ count_of self }
+    {
+        match self {
+            Cells::AtLeast(n) => u64::from(n),
+            Cells::Exactly { columns, rows } => u64::from(columns) * u64::from(rows),
+        }
+    }
 }
 
 /// Along what the pages run, until the next row or the next column begins.

@@ -8,7 +8,7 @@ ghost use Rattle.layouts.specs.Grids.{scale_for, above_zero, leaf_order as leaf_
 ghost use Rattle.layouts.specs.Refusals.{why_not_arranged, why_not_bound, IsFault};
 ghost use Rattle.layouts.specs.Refusals.{are_reached, folds_short, why_no_sheet, why_no_scale, is_shown as are_shown};
 
-use super::arrangement::{Arrangement, Binding, Cells, Order, Papers, Run, Turned};
+use super::arrangement::{Arrangement, Binding, Order, Papers, Run, Turned};
 use super::best::grid_of;
 use super::error::ArrangementError;
 use super::grid::Grid;
@@ -20,7 +20,7 @@ use pagespec::Spec;
 use std::alloc::Global;
 
 /// How many pages a sheet takes at most.
-const MOST_ON_SHEET: u64 = 1_024;
+pub const MOST_ON_SHEET: u64 = 1_024;
 
 /// Pages on each sheet as they are asked for, each in the middle of its cell: as many as there are cells, or as many as
 /// are asked for in a grid of at least as many cells. They keep the margin and the gap, are as large as they can be
@@ -44,7 +44,7 @@ pub fn arrange(
         arrangement.gap,
         arrangement.trim,
     );
-    let count = count_in(arrangement.cells);
+    let count = arrangement.cells.count();
     if count < 1 || MOST_ON_SHEET < count {
         return Err(ArrangementError::CellsOutOfRange);
     }
@@ -126,16 +126,6 @@ pub fn bind(alloc: Global, papers: &Papers, binding: &Binding) -> Result<Spec, A
     }
 }
 
-/// How many pages a sheet has.
-fn count_in(cells: Cells) -> u64
-    ensures { result ≡ count_of cells }
-{
-    match cells {
-        Cells::AtLeast(n) => u64::from(n),
-        Cells::Exactly { columns, rows } => u64::from(columns) * u64::from(rows),
-    }
-}
-
 /// From the left, or from the right if the booklet is bound there.
 pub fn leaf_order(right_to_left: bool) -> Order
     ensures { result ≡ leaf_order_of right_to_left }
@@ -148,7 +138,7 @@ pub fn leaf_order(right_to_left: bool) -> Order
 }
 
 /// The sheet with what is kept free on it, if lengths and papers can be kept to.
-fn sheet_in(
+pub fn sheet_in(
     papers: &Papers,
     margin: Grains,
     gap: Grains,
@@ -178,7 +168,11 @@ fn sheet_in(
 }
 
 /// The scale of pages in cells that take so large ones at most, if they can have it.
-fn scale_found(room: &Room, asked: Option<Number>, largest: u128) -> Result<u64, ArrangementError>
+pub fn scale_found(
+    room: &Room,
+    asked: Option<Number>,
+    largest: u128,
+) -> Result<u64, ArrangementError>
     ensures value { IfOk result (λ scale. scale ≡ scale_for asked largest) }
     ensures possible { OnOk result (why_no_scale room.now (scale_for asked largest) largest ≡ None) }
     ensures refused { IfErr result (λ error. why_no_scale room.now (scale_for asked largest) largest ≡ Some error) }
@@ -217,7 +211,7 @@ fn positive(n: i64) -> u128
 }
 
 /// Whether something is left of the page.
-fn is_shown(page: &Paper, room: &Room) -> bool
+pub fn is_shown(page: &Paper, room: &Room) -> bool
     ensures { result ≡ are_shown page.now room.now }
 {
     let trimmed = 2_540_000 * room.trim;
@@ -225,12 +219,12 @@ fn is_shown(page: &Paper, room: &Room) -> bool
 }
 
 /// Whether one page of the sheet's own paper is asked for, and nothing else.
-fn is_itself(papers: &Papers, room: &Room, arrangement: &Arrangement) -> bool
+pub fn is_itself(papers: &Papers, room: &Room, arrangement: &Arrangement) -> bool
     requires edge { room.now.edge ≡ rounded_up_of arrangement.now.margin }
     requires trim { room.now.trim ≡ rounded_down_of arrangement.now.trim }
     ensures { result ≡ is_page_itself papers.now.page papers.now.sheet arrangement.now }
 {
-    count_in(arrangement.cells) == 1
+    arrangement.cells.count() == 1
         && is_of_size(&papers.page, &papers.sheet)
         && room.edge == 0
         && room.trim == 0
@@ -238,7 +232,7 @@ fn is_itself(papers: &Papers, room: &Room, arrangement: &Arrangement) -> bool
 }
 
 /// Whether offsets in points reach across the paper.
-fn is_reached_across(paper: &Paper) -> bool
+pub fn is_reached_across(paper: &Paper) -> bool
     ensures value { result ≡ are_reached paper.now }
     ensures in_range { IsTrue (is_paper paper.now.width paper.now.height) }
 {
@@ -247,8 +241,10 @@ fn is_reached_across(paper: &Paper) -> bool
 }
 
 /// Whether the papers have the same sides.
-fn is_of_size(page: &Paper, sheet: &Paper) -> bool
-    ensures { result ≡ is_same page.now sheet.now }
+pub fn is_of_size(page: &Paper, sheet: &Paper) -> bool
+    ensures value { result ≡ is_same page.now sheet.now }
+    ensures page { IsPaper page.now }
+    ensures sheet { IsPaper sheet.now }
 {
     let (width, height) = (side(page.width()), side(page.height()));
     let (sheet_width, sheet_height) = (side(sheet.width()), side(sheet.height()));

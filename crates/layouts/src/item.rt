@@ -190,7 +190,7 @@ impl Layout {
     }
 
     /// Page k in its cell.
-    fn item_in(&self, k: u32) -> Item
+    pub fn item_in(&self, k: u32) -> Item
         requires place { HasPlace self.now.page self.now.room self.now.grid self.now.scale }
         requires near { IsTrue (are_near self.now.room self.now.scale) }
         requires scale { self.now.scale ≤ greatest_number }
@@ -346,7 +346,7 @@ pub fn is_near(room: &Room, scale: u128) -> bool
 }
 
 /// So many 10^-9.
-fn number(billionths: u64) -> Number
+pub fn number(billionths: u64) -> Number
     requires { billionths ≤ greatest_number }
     ensures { result ≡ pos billionths }
 {
@@ -370,12 +370,19 @@ pub fn page_alone(alloc: Global, k: u32) -> Result<Vec<Item>, AllocError>
     ensures { IfOk result (λ items. map item_of items.items ≡ alone_of k ∷ []) }
 {
     let mut items = Vec::new(alloc);
-    items.push(Item {
+    items.push(whole_page(k))?;
+    Ok(items)
+}
+
+/// A page as it is; it is counted from 0.
+pub fn whole_page(k: u32) -> Item
+    ensures { item_of result ≡ alone_of k }
+{
+    Item {
         page: k,
         from_end: false,
         turn: Turn::None,
         scale: Number::ONE,
         offset: (Measure::ZERO, Measure::ZERO),
-    })?;
-    Ok(items)
+    }
 }

@@ -1,5 +1,6 @@
 //! Laws of the definitions. The functions do nothing.
 ghost use Rattle.layouts.specs.Placed.{StandsWherePut};
+ghost use Rattle.layouts.specs.Fitted.{FittedIsApart, FittedIsInOrder, ArrangedIsFitted};
 ghost use Rattle.layouts.specs.Selections.{SheetsAreRow};
 ghost use Rattle.layouts.specs.Laws.{GridIsInside, GridIsApart, GridIsInOrder, GridIsInMiddle};
 ghost use Rattle.layouts.specs.Laws.{BestHasCells, BestIsBest, BestIsLarge};
@@ -63,6 +64,21 @@ pub fn leaf_keeps_fold()
 /// A booklet that is bound at the right differs from one that is bound at the left in the places of its pages alone.
 pub fn right_to_left_is_mirror()
     ensures { RightToLeftIsMirror }
+{}
+
+/// Two pages in cells, each fitted into its own by its paper, are apart by the gap.
+pub fn fitted_is_apart()
+    ensures { FittedIsApart }
+{}
+
+/// Pages of several papers stand in the order that is asked for, as one reads the sheet.
+pub fn fitted_is_in_order()
+    ensures { FittedIsInOrder }
+{}
+
+/// What is arranged for pages of one paper is each of them fitted into its cell.
+pub fn arranged_is_fitted()
+    ensures { ArrangedIsFitted }
 {}
 
 /// The matrix that is written for a page in a cell is the item's own: nothing of its shift is rounded.
