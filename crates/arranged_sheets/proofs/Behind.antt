@@ -7,7 +7,8 @@ use Rattle.layouts.specs.declared.arrangement.Run.TheVariants.{Rows, Columns}
 use Rattle.layouts.specs.declared.arrangement.Turned.{Turned}
 use Rattle.layouts.specs.declared.arrangement.Turned.TheVariants as sideways
 use Rattle.layouts.specs.Cells.{Grid, size, read_columns, read_rows, read_row, nth_column, read_column}
-use Rattle.arranged_sheets.specs.Filled.{Setting, cell_behind, behind_in, BehindIsMirror}
+use Rattle.layouts.specs.declared.setting.Setting.{Setting}
+use Rattle.arranged_sheets.specs.Filled.{cell_behind, behind_in, BehindIsMirror}
 
 some_of_both : (r c k : ℕ) → k < r * c → (0 < r) × (0 < c)
 some_of_both zero c k h = absurd (omega (arith, h))

@@ -6,7 +6,8 @@ use Rattle.std.proofs.Math.Nat.{suc-mul, zero-mul}
 use Rattle.rules.specs.Signatures.{entry_of}
 use Rattle.made_sheets.specs.Rows.{Row}
 use Rattle.layouts.specs.Cells.{size}
-use Rattle.arranged_sheets.specs.Filled.{Setting, grid_entry, stack_entry, duplex_entry, part_of_leaf, behind_in, GridRunsOn, StackRunsOn, DuplexRunsOn}
+use Rattle.layouts.specs.declared.setting.Setting.{Setting}
+use Rattle.arranged_sheets.specs.Filled.{grid_entry, stack_entry, duplex_entry, part_of_leaf, behind_in, GridRunsOn, StackRunsOn, DuplexRunsOn}
 use Rattle.arranged_sheets.proofs.Behind.{behind_twice}
 
 -- numbers that go on

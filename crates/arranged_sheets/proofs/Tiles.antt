@@ -54,13 +54,18 @@ covers_at v u p k (pos a) (pos b) has of =
     let wide = has.wide in let high = has.high in
     let column = on_tile (1_270_000_000_000_000 * begins_at (poster_width p) v s + s * a) (stride w p.edge p.overlap) (tile w p.edge) p.columns (omega (arith, wide)) (omega arith) has.some_columns across in
     let row = on_tile (1_270_000_000_000_000 * begins_at (poster_height p) u s + s * b) (stride h p.edge p.overlap) (tile h p.edge) p.rows (omega (arith, high)) (omega arith) has.some_rows up in
-    let left = column.from in let right = column.to in let bottom = row.from in let top = row.to in
-    (column.at, row.at, column.less, row.less, record {
-      left = omega (arith, ints, left);
-      right = omega (arith, ints, right);
-      bottom = omega (arith, ints, bottom);
-      top = omega (arith, ints, top);
-    })
+    let left = column.from in let right = column.to in let bottom = row.from in let top = row.to in (
+      column.at,
+      row.at,
+      column.less,
+      row.less,
+      record {
+        left = omega (arith, ints, left);
+        right = omega (arith, ints, right);
+        bottom = omega (arith, ints, bottom);
+        top = omega (arith, ints, top);
+      },
+    )
 covers_at v u p k (negsuc a) b has of = absurd (let f = of.left in omega (arith, ints))
 covers_at v u p k (pos a) (negsuc b) has of = absurd (let f = of.bottom in omega (arith, ints))
 

@@ -40,7 +40,7 @@ CreepMoves = (page : Paper) (room : Room) (right_to_left : Bool) (s creep k : �
     ≡ (stands page (item_in page room (beside true) (leaf_order right_to_left) s k) p).x)
     × ((stands page (leaf_item page room right_to_left s creep k) p).y
     ≡ (stands page (item_in page room (beside true) (leaf_order right_to_left) s k) p).y
-      +ℤ (pos 1_270_000_000_000_000 *ℤ to_fold right_to_left k creep))
+    +ℤ (pos 1_270_000_000_000_000 *ℤ to_fold right_to_left k creep))
 
 -- the outermost leaf stays, the innermost is moved by the whole creep, and none is moved farther than the next one in
 abbrev pub CreepGrows : Type 0
@@ -75,4 +75,4 @@ abbrev pub CreepKeepsSides : Type 0
 CreepKeepsSides = (page : Paper) (room : Room) (right_to_left : Bool) (s creep : ℕ) → IsPaper page
     → HasPlace page room (beside true) s → may_creep page room s creep ≡ true
     → KeepsSides page room (leaf_item page room right_to_left s creep (if right_to_left then 1 else 0))
-      (leaf_item page room right_to_left s creep (if right_to_left then 0 else 1))
+    (leaf_item page room right_to_left s creep (if right_to_left then 0 else 1))

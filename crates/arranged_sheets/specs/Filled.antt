@@ -11,31 +11,28 @@ use Rattle.made_sheets.specs.Rows.{Row}
 use Rattle.layouts.specs.declared.arrangement.Run.{Run}
 use Rattle.layouts.specs.declared.arrangement.Run.TheVariants.{Rows, Columns}
 use Rattle.layouts.specs.declared.arrangement.Turned.{Turned}
-use Rattle.layouts.specs.declared.arrangement.Order.{Order}
+use Rattle.layouts.specs.declared.setting.Setting.{Setting}
 use Rattle.layouts.specs.Placed.{Room, IsInside, AreApart}
-use Rattle.layouts.specs.Cells.{Grid, size, item_in, read_columns, read_rows, read_row, nth_column, read_column}
-use Rattle.layouts.specs.Laws.{IsPaper, HasPlace}
+use Rattle.layouts.specs.Cells.{Grid, size, read_columns, read_rows, read_row, nth_column, read_column}
+use Rattle.layouts.specs.Fitted.{fitted, why_not_fitted}
+use Rattle.layouts.specs.Laws.{IsPaper}
 
--- where pages stand: a sheet, the grid of its cells and their order, the paper of each page, and the scale of a paper
-pub record Setting : Type 0 where
-  pub room : Room
-  pub grid : Grid
-  pub order : Order
+-- what the cells are filled with: the cells of a sheet, and the paper of each page
+pub record Filling : Type 0 where
+  pub setting : Setting
   pub paper_of : (page : ℕ) → Paper
-  pub scale_of : Paper → ℕ
 
 -- an entry of a row in cell c
-abbrev pub slot_in : Setting → (c : ℕ) → Option ℕ → MadeSlot
-slot_in t c None = Blank
-slot_in t c (Some page) = let paper = t.paper_of page in
-    Placed page (item_in paper t.room t.grid t.order (t.scale_of paper) c) paper
+abbrev pub slot_in : Filling → (c : ℕ) → Option ℕ → MadeSlot
+slot_in f c None = Blank
+slot_in f c (Some page) = let paper = f.paper_of page in Placed page (fitted f.setting paper c) paper
 
 -- so many sheets with so many cells each, of which cell c of sheet s has this entry
-abbrev pub filled : Setting → (sheets cells : ℕ) → (entry : (s c : ℕ) → Option ℕ) → List MadeSheet
-filled t sheets cells entry = map (λ s. record {
-      paper = t.room.paper;
-      slots = map (λ c. slot_in t c (entry s c)) (range_with_len 0 cells);
-    }) (range_with_len 0 sheets)
+abbrev pub filled : Filling → (sheets cells : ℕ) → (entry : (s c : ℕ) → Option ℕ) → List MadeSheet
+filled f sheets cells entry = map (λ s. record {
+  paper = f.setting.room.paper;
+  slots = map (λ c. slot_in f c (entry s c)) (range_with_len 0 cells);
+}) (range_with_len 0 sheets)
 
 -- ---- what stands where
 
@@ -62,21 +59,21 @@ abbrev pub duplex_entry : (leaves : ℕ) → (behind : ℕ → ℕ) → Row → 
 duplex_entry leaves behind row s c = if s % 2 == 0 then entry_of row (c * (2 * leaves) + s)
     else entry_of row (behind c * (2 * leaves) + s)
 
-abbrev pub grid_sheets : Setting → (cells : ℕ) → Row → List MadeSheet
-grid_sheets t cells row = filled t (blocks cells (length row)) cells (grid_entry cells row)
+abbrev pub grid_sheets : Filling → (cells : ℕ) → Row → List MadeSheet
+grid_sheets f cells row = filled f (blocks cells (length row)) cells (grid_entry cells row)
 
-abbrev pub card_sheets : Setting → (cells : ℕ) → Row → List MadeSheet
-card_sheets t cells row = filled t (length row) cells (card_entry row)
+abbrev pub card_sheets : Filling → (cells : ℕ) → Row → List MadeSheet
+card_sheets f cells row = filled f (length row) cells (card_entry row)
 
-abbrev pub stack_sheets : Setting → (cells : ℕ) → Row → List MadeSheet
-stack_sheets t cells row = let sheets = blocks cells (length row) in filled t sheets cells (stack_entry sheets row)
+abbrev pub stack_sheets : Filling → (cells : ℕ) → Row → List MadeSheet
+stack_sheets f cells row = let sheets = blocks cells (length row) in filled f sheets cells (stack_entry sheets row)
 
 abbrev pub behind_in : Setting → ℕ → ℕ
 behind_in t = cell_behind t.order.run (read_rows t.order.turned t.grid) (read_columns t.order.turned t.grid)
 
-abbrev pub duplex_sheets : Setting → Row → List MadeSheet
-duplex_sheets t row = let leaves = blocks (2 * size t.grid) (length row) in
-    filled t (2 * leaves) (size t.grid) (duplex_entry leaves (behind_in t) row)
+abbrev pub duplex_sheets : Filling → Row → List MadeSheet
+duplex_sheets f row = let leaves = blocks (2 * size f.setting.grid) (length row) in
+    filled f (2 * leaves) (size f.setting.grid) (duplex_entry leaves (behind_in f.setting) row)
 
 -- ---- laws
 
@@ -113,9 +110,8 @@ BehindIsMirror = (run : Run) (right_to_left : Bool) (t : Turned) (g : Grid) (c :
     × (read_column run right_to_left t g b + read_column run right_to_left t g c + 1 ≡ read_columns t g))
 
 -- all pages have a place in the cells
-abbrev pub HavePlaces : Setting → Type 0
-HavePlaces t = (page : ℕ) → IsPaper (t.paper_of page)
-    × HasPlace (t.paper_of page) t.room t.grid (t.scale_of (t.paper_of page))
+abbrev pub HavePlaces : Filling → Type 0
+HavePlaces f = (page : ℕ) → IsPaper (f.paper_of page) × (why_not_fitted f.setting (f.paper_of page) ≡ None)
 
 -- a placed slot lies on what the margin leaves of the sheet; a blank one shows nothing
 abbrev pub SlotIsInside : Room → MadeSlot → Type 0
@@ -130,10 +126,10 @@ SlotsAreApart room (Placed page item paper) (Placed page' item' paper') = AreApa
 
 -- whatever the entries are, and whatever their papers
 abbrev pub FilledIsInside : Type 0
-FilledIsInside = (t : Setting) (c : ℕ) (entry : Option ℕ) → IsPaper t.room.paper → HavePlaces t → c < size t.grid
-    → SlotIsInside t.room (slot_in t c entry)
+FilledIsInside = (f : Filling) (c : ℕ) (entry : Option ℕ) → IsPaper f.setting.room.paper → HavePlaces f
+    → c < size f.setting.grid → SlotIsInside f.setting.room (slot_in f c entry)
 
 abbrev pub FilledIsApart : Type 0
-FilledIsApart = (t : Setting) (c d : ℕ) (one other : Option ℕ) → IsPaper t.room.paper → HavePlaces t → c < size t.grid
-    → d < size t.grid → c ≢ d
-    → SlotsAreApart t.room (slot_in t c one) (slot_in t d other)
+FilledIsApart = (f : Filling) (c d : ℕ) (one other : Option ℕ) → IsPaper f.setting.room.paper → HavePlaces f
+    → c < size f.setting.grid → d < size f.setting.grid → c ≢ d
+    → SlotsAreApart f.setting.room (slot_in f c one) (slot_in f d other)

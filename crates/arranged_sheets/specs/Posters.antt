@@ -62,9 +62,9 @@ tile_item page p k column row = let s = poster_scale page p in record {
 -- the sheets of a page: row by row from the head, and each from the left
 abbrev pub poster_sheets : (page : Paper) → Poster → (page_number : ℕ) → List MadeSheet
 poster_sheets page p k = flat_map (λ row. map (λ column. record {
-      paper = p.sheet;
-      slots = Placed k (tile_item page p k column (p.rows - (row + 1))) page ∷ [];
-    }) (range_with_len 0 p.columns)) (range_with_len 0 p.rows)
+  paper = p.sheet;
+  slots = Placed k (tile_item page p k column (p.rows - (row + 1))) page ∷ [];
+}) (range_with_len 0 p.columns)) (range_with_len 0 p.rows)
 
 -- a tile shows what stands between its margins
 pub record IsShown (p : Poster) (at : Point) : Type 0 where
@@ -91,7 +91,7 @@ abbrev pub TilesOverlap : Type 0
 TilesOverlap = (page : Paper) (p : Poster) (k column row : ℕ) (at : Point) → HasTiles p
     → ((stands page (tile_item page p k column row) at).x
     ≡ (stands page (tile_item page p k (column + 1) row) at).x
-      +ℤ (fine (tile (nat_abs p.sheet.width) p.edge) -ℤ fine p.overlap))
+    +ℤ (fine (tile (nat_abs p.sheet.width) p.edge) -ℤ fine p.overlap))
     × ((stands page (tile_item page p k column row) at).y
     ≡ (stands page (tile_item page p k column (row + 1)) at).y
-      +ℤ (fine (tile (nat_abs p.sheet.height) p.edge) -ℤ fine p.overlap))
+    +ℤ (fine (tile (nat_abs p.sheet.height) p.edge) -ℤ fine p.overlap))

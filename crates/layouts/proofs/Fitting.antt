@@ -18,7 +18,7 @@ use Rattle.layouts.specs.Cells.{Grid, size, scale_in, item_in, run_in, read_rows
 use Rattle.layouts.specs.Grids.{alone, is_same, is_itself, room_of, grid, grid_of, best_grid, best_of, best_formed, scale_for, count_of, rounded_up, rounded_down, arranged}
 use Rattle.layouts.specs.Refusals.{first_of, is_count, are_reached, is_length, is_shown, why_no_scale, why_not_arranged}
 use Rattle.layouts.specs.Laws.{IsPaper, HasPlace, IsExact, IsInMiddle, cell_at, ComesInRun, ComesInRunBefore, IsNotTiny, Allows, IsChosen}
-use Rattle.layouts.specs.Fitted.{is_whole, scale_on, fitted, setting_of, why_no_scale_on, why_not_fitted, IsFitted, FittedIsApart, FittedIsInOrder, ArrangedIsFitted}
+use Rattle.layouts.specs.Fitted.{is_whole, scale_on, fitted, setting_of, why_no_scale_on, why_not_fitted, IsFitted, FittedStands, FittedIsApart, FittedIsInOrder, ArrangedIsFitted}
 use Rattle.layouts.proofs.InGrid.{cells, room_in, both_true}
 use Rattle.layouts.proofs.InOrder.{grid_inside, grid_in_order}
 use Rattle.layouts.proofs.Apart.{grid_apart}
@@ -123,6 +123,17 @@ cell_fitted t page k is on within h =
           omega (arith, less, asked);
     }
 
+by_test : {P : Type 0} (b : Bool) → (b ≡ true → P) → (b ≡ false → P) → P
+by_test true f g = f refl
+by_test false f g = g refl
+
+pub fitted_stands : FittedStands
+fitted_stands t page k is on within h =
+    by_test (is_whole t page)
+    (λ e. subst (IsFitted t page k) (sym (one_way (is_whole t page) (alone k) (item_in page t.room t.grid t.order (scale_on t page) k) e)) (whole_fitted t page k is on within e))
+    (λ e. subst (IsFitted t page k) (sym (either_way (is_whole t page) (alone k) (item_in page t.room t.grid t.order (scale_on t page) k) e))
+    (cell_fitted t page k is on within (sym (either_way (is_whole t page) None (why_no_scale_on t page) e) ∙ h)))
+
 -- ---- two pages
 
 is_false : (b : Bool) → (b ≡ true → ⊥) → b ≡ false
@@ -207,10 +218,6 @@ one_group n f = record { modulo = n; groups = map f (range_with_len 0 n) ∷ [] 
 
 abbrev single : Item → Spec
 single i = record { modulo = 1; groups = (i ∷ []) ∷ [] }
-
-by_test : {P : Type 0} (b : Bool) → (b ≡ true → P) → (b ≡ false → P) → P
-by_test true f g = f refl
-by_test false f g = g refl
 
 at_least_one : (n : ℕ) → is_count n ≡ true → 1 ≤ n
 at_least_one n h = search (rules, both_true (nat_le 1 n) (nat_le n 1_024) h)

@@ -15,7 +15,7 @@ mod Writable
 mod LaidOut
 mod Possible
 mod Complete
-mod Fitting
+pub mod Fitting
 mod Examples
 mod ReadRanges
 mod Selected

@@ -58,6 +58,12 @@ pub record IsFitted (t : Setting) (page : Paper) (k : ℕ) (item : Item) : Type 
   pub scale_is : item.scale ≡ pos scale
   pub large : (s : ℕ) → t.scale ≡ None → IsNotTiny page t.room → Allows page t.room t.grid s → s < scale + 1_000
 
+-- a page that nothing refuses stands so: a law
+abbrev pub FittedStands : Type 0
+FittedStands =
+    (t : Setting) (page : Paper) (k : ℕ) → IsPaper page → IsPaper t.room.paper → k < size t.grid
+    → why_not_fitted t page ≡ None → IsFitted t page k (fitted t page k)
+
 -- two pages in cells, whatever their papers, are as far apart as the gap, at least: a law
 abbrev pub FittedIsApart : Type 0
 FittedIsApart =

@@ -1,6 +1,6 @@
 //! Laws of the definitions. The functions do nothing.
 ghost use Rattle.layouts.specs.Placed.{StandsWherePut};
-ghost use Rattle.layouts.specs.Fitted.{FittedIsApart, FittedIsInOrder, ArrangedIsFitted};
+ghost use Rattle.layouts.specs.Fitted.{FittedStands, FittedIsApart, FittedIsInOrder, ArrangedIsFitted};
 ghost use Rattle.layouts.specs.Selections.{SheetsAreRow};
 ghost use Rattle.layouts.specs.Laws.{GridIsInside, GridIsApart, GridIsInOrder, GridIsInMiddle};
 ghost use Rattle.layouts.specs.Laws.{BestHasCells, BestIsBest, BestIsLarge};
@@ -64,6 +64,11 @@ pub fn leaf_keeps_fold()
 /// A booklet that is bound at the right differs from one that is bound at the left in the places of its pages alone.
 pub fn right_to_left_is_mirror()
     ensures { RightToLeftIsMirror }
+{}
+
+/// A page that nothing refuses keeps the margin, stands in the middle of its cell, and is as large as the cell allows.
+pub fn fitted_stands()
+    ensures { FittedStands }
 {}
 
 /// Two pages in cells, each fitted into its own by its paper, are apart by the gap.
