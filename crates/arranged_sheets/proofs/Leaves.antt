@@ -8,7 +8,7 @@ use Rattle.rules.specs.Papers.{Paper}
 use Rattle.rules.specs.Specification.{Left}
 use Rattle.rules.specs.Placement.{Point}
 use Rattle.layouts.specs.Placed.{Room, fine, stands, IsOfPage}
-use Rattle.layouts.specs.Cells.{slack, trimmed, whole, item_in, to_right, to_top}
+use Rattle.layouts.specs.Cells.{slack, trimmed, whole, item_in, to_right, to_top, row_of, column_of}
 use Rattle.layouts.specs.Grids.{beside, leaf_order}
 use Rattle.layouts.specs.Laws.{IsPaper, HasPlace}
 use Rattle.layouts.proofs.AlongSide.{moved_back, in_cell}
@@ -25,7 +25,9 @@ moved_at page k s x y by p = (refl, omega (arith, ints))
 
 pub creep_moves : CreepMoves
 creep_moves page room b s creep k p =
-    moved_at page k s (to_right page room (beside true) s 0 _) (to_top page room (beside true) s 0 _) (to_fold b k creep) p
+    let row = row_of (leaf_order b) (beside true) k in
+    let column = column_of (leaf_order b) (beside true) k in
+    moved_at page k s (to_right page room (beside true) s row column) (to_top page room (beside true) s row column) (to_fold b k creep) p
 
 -- ---- how far
 

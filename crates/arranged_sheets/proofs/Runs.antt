@@ -1,5 +1,5 @@
 -- Sheets cut and laid: rows that run on.
-use Rattle.std.proofs.Common.{arith, ◌≡◌, ℕ, suc, zero, ◌+◌, ◌*◌, ◌%◌, ◌<◌, ◌≤◌, List, [], ◌∷◌, ◌++◌, Bool, true, false, refl, sym, ap, ◌∙◌, Option, append_assoc}
+use Rattle.std.proofs.Common.{arith, rules, ◌≡◌, ℕ, suc, zero, ◌+◌, ◌*◌, ◌%◌, ◌<◌, ◌≤◌, List, [], ◌∷◌, ◌++◌, Bool, true, false, refl, sym, ap, ◌∙◌, Option, append_assoc}
 use Rattle.std.specs.Prelude.{map, flat_map, ◌==◌, if◌then◌else◌}
 use Rattle.std.specs.List.{range_with_len}
 use Rattle.std.proofs.Math.Nat.{suc-mul, zero-mul}
@@ -101,7 +101,7 @@ odd l = is_one ((2 * l + 1) % 2) (omega arith)
   where
     is_one : (n : ℕ) → n ≡ 1 → n == 0 ≡ false
     is_one zero e = absurd (omega (arith, e))
-    is_one (suc n) e = refl
+    is_one (suc n) e = search rules
 
 one_way : {X : Type 0} (b : Bool) (x y : X) → b ≡ true → (if b then x else y) ≡ x
 one_way true x y e = refl
