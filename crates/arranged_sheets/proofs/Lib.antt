@@ -4,3 +4,4 @@ mod Inside
 mod Leaves
 mod Tiles
 mod Examples
+mod Filling

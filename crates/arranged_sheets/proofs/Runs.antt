@@ -115,9 +115,10 @@ other_way false x y e = refl
 leaf_is : (t : Setting) (leaves : ℕ) (row : Row) (c l : ℕ) → c < size t.grid
     → part_of_leaf leaves (behind_in t) row c l ≡ entry_of row (c * (2 * leaves) + 2 * l) ∷ entry_of row (c * (2 * leaves) + (2 * l + 1)) ∷ []
 leaf_is t leaves row c l within =
-    let front : duplex_entry leaves (behind_in t) row (2 * l) c ≡ entry_of row (c * (2 * leaves) + 2 * l) = one_way ((2 * l) % 2 == 0) _ _ (even l) in
+    let front : duplex_entry leaves (behind_in t) row (2 * l) c ≡ entry_of row (c * (2 * leaves) + 2 * l) =
+    ap (λ d. entry_of row (d * (2 * leaves) + 2 * l)) (one_way ((2 * l) % 2 == 0) c (behind_in t c) (even l)) in
     let back : duplex_entry leaves (behind_in t) row (2 * l + 1) (behind_in t c) ≡ entry_of row (c * (2 * leaves) + (2 * l + 1)) =
-    other_way ((2 * l + 1) % 2 == 0) _ _ (odd l) ∙ ap (λ d. entry_of row (d * (2 * leaves) + (2 * l + 1))) (behind_twice t c within) in
+    ap (λ d. entry_of row (d * (2 * leaves) + (2 * l + 1))) (other_way ((2 * l + 1) % 2 == 0) (behind_in t c) (behind_in t (behind_in t c)) (odd l) ∙ behind_twice t c within) in
     ap (λ x. x ∷ duplex_entry leaves (behind_in t) row (2 * l + 1) (behind_in t c) ∷ []) front ∙ ap (λ x. entry_of row (c * (2 * leaves) + 2 * l) ∷ x ∷ []) back
 
 part_is : (t : Setting) (leaves : ℕ) (row : Row) (c : ℕ) → c < size t.grid

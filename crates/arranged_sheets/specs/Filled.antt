@@ -56,8 +56,7 @@ cell_behind Columns rows columns c = (columns - (c / rows + 1)) * rows + c % row
 
 -- a stack on both sides of leaves: sheet 2 l is the front of leaf l, and sheet 2 l + 1 its back
 abbrev pub duplex_entry : (leaves : ℕ) → (behind : ℕ → ℕ) → Row → (s c : ℕ) → Option ℕ
-duplex_entry leaves behind row s c = if s % 2 == 0 then entry_of row (c * (2 * leaves) + s)
-    else entry_of row (behind c * (2 * leaves) + s)
+duplex_entry leaves behind row s c = entry_of row ((if s % 2 == 0 then c else behind c) * (2 * leaves) + s)
 
 abbrev pub grid_sheets : Filling → (cells : ℕ) → Row → List MadeSheet
 grid_sheets f cells row = filled f (blocks cells (length row)) cells (grid_entry cells row)

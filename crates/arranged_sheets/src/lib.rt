@@ -1,5 +1,8 @@
 //! Sheets that are made of a row, papers and an arrangement: grids of pages of several sizes, cards, stacks, leaves that
-//! creep, posters. Definitions and their laws; there is no code in it.
+//! creep, posters. Of the last two there are definitions and laws alone.
 #![tactic(auto)]
 
+mod fill;
 pub mod laws;
+
+pub use fill::{card_sheets, grid_sheets, leaf_sheets, stack_sheets};
