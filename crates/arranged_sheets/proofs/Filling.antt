@@ -2,19 +2,13 @@
 use Rattle.std.proofs.Common.{arith, ◌≡◌, ℕ, suc, zero, ◌+◌, ◌*◌, ◌<◌, List, [], ◌∷◌, ◌++◌, sym, ap, ◌∙◌, Option}
 use Rattle.std.specs.Prelude.{map}
 use Rattle.std.specs.List.{range_with_len}
-use Rattle.std.proofs.Common.{map-append}
-use Rattle.std.proofs.Math.Nat.{suc-mul}
+use Rattle.std.proofs.lemmas.List.{map-append}
 use Rattle.std.proofs.lemmas.List.FromFn.{map-range_with_len_more}
 use Rattle.rules.specs.Papers.{Paper}
 use Rattle.rules.specs.Signatures.{entry_of}
 use Rattle.made_sheets.specs.Made.{MadeSlot, MadeSheet}
 use Rattle.made_sheets.specs.Rows.{Row}
 use Rattle.arranged_sheets.specs.Filled.{Filling, slot_in}
-
-pub some_cells : (r c n : ℕ) → 0 < r → 0 < c → n ≡ r * c → 0 < n
-some_cells zero c n some some' e = absurd (omega (arith, some))
-some_cells (suc r) zero n some some' e = absurd (omega (arith, some'))
-some_cells (suc r) (suc c) n some some' e = omega (arith, e, suc-mul r (suc c))
 
 pub pushed : {X Y : Type 0} (h : X → Y) (f : ℕ → Y) (xs ys : List X) (x : X) (k : ℕ) → map h xs ≡ map f (range_with_len 0 k) → h x ≡ f k → ys ≡ xs ++ x ∷ [] → map h ys ≡ map f (range_with_len 0 (k + 1))
 pushed h f xs ys x k so_far here e =

@@ -169,8 +169,7 @@ fn cells_in(setting: &Setting) -> Result<u32, ArrangementError>
     ensures some { IfOk result (λ n. 0 < n) }
     ensures refused { IfErr result (λ error. error ≡ ArrangementError.NoMemory) }
 {
-    let grid = setting.grid;
-    match u32::try_from(u64::from(grid.rows) * u64::from(grid.columns)) {
+    match u32::try_from(setting.grid.size()) {
         Ok(cells) => Ok(cells),
         Err(_) => Err(ArrangementError::NoMemory),
     }

@@ -2,7 +2,7 @@
 use Rattle.std.proofs.Common.{arith, rules, ◌≡◌, ◌⊎◌, inl, inr, ℕ, suc, zero, ◌+◌, ◌-◌, ◌*◌, ◌/◌, ◌<◌, ◌≤◌, List, [], ◌∷◌, Bool, true, false, refl, sym, ap, subst, None, Option}
 use Rattle.std.specs.Prelude.{map, ℤ, pos, nat_abs, nat_le, ◌==◌, IsTrue, if◌then◌else◌}
 use Rattle.std.specs.List.{range_with_len, AllByRecursion}
-use Rattle.std.proofs.Math.Nat.{le_of_mul-le-mul_left, mul_comm, mul-le-mul_left, lt-div-mul-add, div-mul-le_self}
+use Rattle.std.proofs.Math.Nat.{le_of_mul-le-mul_left, mul_comm, mul-le-mul_left, lt-div-mul-add, div-mul-le_self, suc-mul}
 use Rattle.std.proofs.lemmas.Bool.{cases_lt}
 use Rattle.std.proofs.lemmas.Int.{ints}
 use Rattle.lengths.proofs.Numbers.{same_byte}
@@ -70,6 +70,11 @@ pub some_each : (columns rows : ℕ) → 0 < columns * rows → (0 < columns) ×
 some_each zero rows h = absurd (omega (arith, h))
 some_each (suc columns) zero h = absurd (omega (arith, h))
 some_each (suc columns) (suc rows) h = (omega arith, omega arith)
+
+pub some_cells : (r c n : ℕ) → 0 < r → 0 < c → n ≡ r * c → 0 < n
+some_cells zero c n some some' e = absurd (omega (arith, some))
+some_cells (suc r) zero n some some' e = absurd (omega (arith, some'))
+some_cells (suc r) (suc c) n some some' e = omega (arith, e, suc-mul r (suc c))
 
 read_formed : (t : Turned) (b : Bool) (columns rows : ℕ) → (read_columns t (formed t b columns rows) ≡ columns) × (read_rows t (formed t b columns rows) ≡ rows)
 read_formed sideways.Upright b columns rows = (refl, refl)

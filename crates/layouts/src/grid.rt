@@ -80,7 +80,8 @@ impl Grid {
 
     /// How many cells it has.
     pub fn size(self) -> u64
-        ensures { result ≡ size_of self }
+        ensures value { result ≡ size_of self }
+        ensures some { 0 < result }
     {
         u64::from(self.rows) * u64::from(self.columns)
     }
