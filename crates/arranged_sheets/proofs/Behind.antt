@@ -1,12 +1,12 @@
 -- The cell that stands behind a cell.
-use Rattle.std.proofs.Common.{arith, ◌≡◌, ℕ, suc, zero, ◌+◌, ◌-◌, ◌*◌, ◌/◌, ◌%◌, ◌<◌, ◌≤◌, Bool, true, false, refl, sym, ap, ◌∙◌}
+use Rattle.std.proofs.Common.{arith, ◌≡◌, ℕ, suc, zero, ◌+◌, ◌-◌, ◌*◌, ◌/◌, ◌%◌, ◌<◌, true, false, ap}
 use Rattle.std.proofs.Math.Nat.{mod-lt, div-lt_iff_lt-mul, mul_comm, suc-mul, mul-le-mul_right}
 use Rattle.std.proofs.lemmas.Nat.{div-mul-add, mod-mul-add, div-add-mod'}
 use Rattle.layouts.specs.declared.arrangement.Run.{Run}
 use Rattle.layouts.specs.declared.arrangement.Run.TheVariants.{Rows, Columns}
 use Rattle.layouts.specs.declared.arrangement.Turned.{Turned}
 use Rattle.layouts.specs.declared.arrangement.Turned.TheVariants as sideways
-use Rattle.layouts.specs.Cells.{Grid, size, read_columns, read_rows, read_row, nth_column, read_column}
+use Rattle.layouts.specs.Cells.{Grid, size, read_columns, read_rows}
 use Rattle.layouts.specs.declared.setting.Setting.{Setting}
 use Rattle.arranged_sheets.specs.Filled.{cell_behind, behind_in, BehindIsMirror}
 

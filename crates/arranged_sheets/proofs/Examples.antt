@@ -1,6 +1,6 @@
 -- Worked examples.
 use Rattle.std.proofs.Common.{◌≡◌, refl}
-use Rattle.std.specs.Prelude.{ℕ, map, [], ◌∷◌, Some, None}
+use Rattle.std.specs.Prelude.{map, [], ◌∷◌, Some, None}
 use Rattle.std.specs.List.{range_with_len}
 use Rattle.layouts.specs.declared.arrangement.Run.TheVariants.{Rows, Columns}
 use Rattle.made_sheets.specs.Rows.{all_pages}

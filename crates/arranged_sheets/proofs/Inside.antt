@@ -1,5 +1,5 @@
 -- Pages of all papers in their cells.
-use Rattle.std.proofs.Common.{◌≡◌, ℕ, Option, Some, None}
+use Rattle.std.proofs.Common.{Some, None}
 use Rattle.layouts.proofs.Fitting.{fitted_stands, fitted_is_apart}
 use Rattle.arranged_sheets.specs.Filled.{FilledIsInside, FilledIsApart}
 

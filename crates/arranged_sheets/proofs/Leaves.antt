@@ -1,16 +1,16 @@
 -- Leaves that creep.
-use Rattle.std.proofs.Common.{arith, rules, ◌≡◌, ℕ, suc, zero, ◌+◌, ◌-◌, ◌*◌, ◌/◌, ◌<◌, ◌≤◌, Bool, true, false, refl, sym, ap, subst, ◌∙◌}
+use Rattle.std.proofs.Common.{arith, rules, ◌≡◌, ℕ, ◌+◌, ◌-◌, ◌*◌, ◌/◌, ◌<◌, ◌≤◌, Bool, true, false, refl, sym, ap, subst, ◌∙◌}
 use Rattle.std.specs.Prelude.{ℤ, pos, negsuc, ◌≤ℤ◌, ◌+ℤ◌, ◌-ℤ◌, ◌*ℤ◌, nat_abs, nat_le, if◌then◌else◌}
-use Rattle.std.proofs.Math.Nat.{mul-div_cancel, mul_comm, zero-mul, zero-div, suc-mul, mul-le-mul_right, div-mul-le_self}
+use Rattle.std.proofs.Math.Nat.{mul-div_cancel, mul_comm, zero-mul, zero-div, mul-le-mul_right, div-mul-le_self}
 use Rattle.std.proofs.lemmas.Nat.{le-div}
 use Rattle.std.proofs.lemmas.Int.{ints}
 use Rattle.rules.specs.Papers.{Paper}
 use Rattle.rules.specs.Specification.{Left}
 use Rattle.rules.specs.Placement.{Point}
 use Rattle.layouts.specs.Placed.{Room, fine, stands, IsOfPage}
-use Rattle.layouts.specs.Cells.{slack, trimmed, whole, item_in, to_right, to_top, row_of, column_of}
+use Rattle.layouts.specs.Cells.{slack, trimmed, to_right, to_top, row_of, column_of}
 use Rattle.layouts.specs.Grids.{beside, leaf_order}
-use Rattle.layouts.specs.Laws.{IsPaper, HasPlace}
+use Rattle.layouts.specs.Laws.{HasPlace}
 use Rattle.layouts.proofs.AlongSide.{moved_back, in_cell}
 use Rattle.layouts.proofs.Sides.{of_sides, placed, point, between}
 use Rattle.layouts.proofs.OnSide.{HasCell, ends, cell, shown, from_start}

@@ -1,5 +1,5 @@
 -- Sheets cut and laid: rows that run on.
-use Rattle.std.proofs.Common.{arith, rules, ◌≡◌, ℕ, suc, zero, ◌+◌, ◌*◌, ◌%◌, ◌<◌, ◌≤◌, List, [], ◌∷◌, ◌++◌, Bool, true, false, refl, sym, ap, ◌∙◌, Option, append_assoc}
+use Rattle.std.proofs.Common.{arith, rules, ◌≡◌, ℕ, suc, zero, ◌+◌, ◌*◌, ◌%◌, ◌<◌, List, [], ◌∷◌, ◌++◌, Bool, true, false, refl, sym, ap, ◌∙◌}
 use Rattle.std.specs.Prelude.{map, flat_map, ◌==◌, if◌then◌else◌}
 use Rattle.std.specs.List.{range_with_len}
 use Rattle.std.proofs.Math.Nat.{suc-mul, zero-mul}
@@ -7,7 +7,7 @@ use Rattle.rules.specs.Signatures.{entry_of}
 use Rattle.made_sheets.specs.Rows.{Row}
 use Rattle.layouts.specs.Cells.{size}
 use Rattle.layouts.specs.declared.setting.Setting.{Setting}
-use Rattle.arranged_sheets.specs.Filled.{grid_entry, stack_entry, duplex_entry, part_of_leaf, behind_in, GridRunsOn, StackRunsOn, DuplexRunsOn}
+use Rattle.arranged_sheets.specs.Filled.{duplex_entry, part_of_leaf, behind_in, GridRunsOn, StackRunsOn, DuplexRunsOn}
 use Rattle.arranged_sheets.proofs.Behind.{behind_twice}
 
 -- numbers that go on

@@ -1,17 +1,16 @@
 -- Tiles of a poster.
-use Rattle.std.proofs.Common.{arith, ◌≡◌, inl, inr, ℕ, suc, zero, ◌+◌, ◌-◌, ◌*◌, ◌/◌, ◌<◌, ◌≤◌, sym, ap, subst}
-use Rattle.std.specs.Prelude.{ℤ, pos, negsuc, ◌≤ℤ◌, ◌+ℤ◌, ◌-ℤ◌, nat_abs, min}
+use Rattle.std.proofs.Common.{arith, ◌≡◌, inl, inr, ℕ, suc, ◌+◌, ◌-◌, ◌*◌, ◌/◌, ◌<◌, ◌≤◌, sym, ap, subst}
+use Rattle.std.specs.Prelude.{ℤ, pos, negsuc, nat_abs}
 use Rattle.std.proofs.Math.Nat.{lt-div-mul-add, div-mul-le_self, suc-mul, mul-le-mul_left, mul-le-mul_right, min-le_left, min-le_right, mul_left_comm}
 use Rattle.std.proofs.lemmas.Bool.{cases_lt}
 use Rattle.std.proofs.lemmas.Int.{ints}
 use Rattle.rules.specs.Papers.{Paper}
-use Rattle.rules.specs.Specification.{Upright}
 use Rattle.layouts.specs.Placed.{stands, IsOfPage}
 use Rattle.layouts.specs.Cells.{fitting}
 use Rattle.layouts.proofs.AlongSide.{scaled_fits, in_cell}
-use Rattle.layouts.proofs.Sides.{of_sides, placed, point}
+use Rattle.layouts.proofs.Sides.{of_sides, point}
 use Rattle.layouts.proofs.InGrid.{sides_are}
-use Rattle.arranged_sheets.specs.Posters.{Poster, tile, stride, length_of, poster_width, poster_height, poster_scale, begins_at, tile_item, IsShown, HasTiles, PosterCovers, TilesOverlap}
+use Rattle.arranged_sheets.specs.Posters.{Poster, tile, stride, poster_width, poster_height, poster_scale, begins_at, tile_item, IsShown, HasTiles, PosterCovers, TilesOverlap}
 
 -- ---- a point along a side
 

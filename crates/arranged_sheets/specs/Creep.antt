@@ -1,6 +1,6 @@
 -- Leaves that creep: in a folded signature the inner leaves stick out, so what stands on them is moved towards the fold.
 -- All here is this project's own rules.
-use Rattle.std.specs.Prelude.{◌≡◌, ℕ, ◌+◌, ◌-◌, ◌*◌, ◌/◌, ◌%◌, ◌<◌, ◌≤◌, ℤ, pos, ◌+ℤ◌, ◌-ℤ◌, ◌*ℤ◌, ◌≤ℤ◌, Bool, true, false}
+use Rattle.std.specs.Prelude.{◌≡◌, ℕ, ◌+◌, ◌-◌, ◌*◌, ◌/◌, ◌<◌, ◌≤◌, ℤ, pos, ◌+ℤ◌, ◌-ℤ◌, ◌*ℤ◌, ◌≤ℤ◌, Bool, true}
 use Rattle.std.specs.Prelude.{◌==◌, if◌then◌else◌, nat_le, nat_abs}
 use Rattle.rules.specs.Papers.{Paper, Pt}
 use Rattle.rules.specs.Specification.{Item}

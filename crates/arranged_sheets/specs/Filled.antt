@@ -13,7 +13,7 @@ use Rattle.layouts.specs.declared.arrangement.Run.TheVariants.{Rows, Columns}
 use Rattle.layouts.specs.declared.arrangement.Turned.{Turned}
 use Rattle.layouts.specs.declared.setting.Setting.{Setting}
 use Rattle.layouts.specs.Placed.{Room, IsInside, AreApart}
-use Rattle.layouts.specs.Cells.{Grid, size, read_columns, read_rows, read_row, nth_column, read_column}
+use Rattle.layouts.specs.Cells.{Grid, size, read_columns, read_rows, read_row, read_column}
 use Rattle.layouts.specs.Fitted.{fitted, why_not_fitted}
 use Rattle.layouts.specs.Laws.{IsPaper}
 

@@ -1,4 +1,3 @@
-use Rattle.std.proofs.Common.{◌≡◌}
 use Rattle.sheet_plan.specs.OfSheets.{slot_of}
 use Rattle.arranged_sheets.specs.Filled.{slot_in}
 use Rattle.arranged_sheets.specs.Shapes.{filling, place, entry_in}
