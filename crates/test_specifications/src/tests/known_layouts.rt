@@ -1,7 +1,7 @@
 //! Known layouts, the laws on printed matrices by the tests' own arithmetic, and each public call once.
 use layouts::{
-    Arrangement, ArrangementError, Binding, Cells, LayoutError, Order, Papers, Run, Turned, Which, arrange, bind, booklet,
-    laws, nup, selection,
+    Arrangement, ArrangementError, Binding, Cells, LayoutError, Order, Papers, Run, Turned, Which,
+    arrange, bind, booklet, laws, nup, selection,
 };
 use lengths::{Grains, Number, Paper, paper_by_name};
 use pagespec::{Item, Spec, write_spec};
@@ -247,8 +247,9 @@ fn largest(n: i64, page: (i64, i64), sheet: (i64, i64), kept: Kept) -> i64 {
             .checked_div(rows)
             .unwrap_or(0);
         for (width, height) in [sheet, (sheet.1, sheet.0)] {
-            best = best
-                .max(room(width, columns, page.0, kept).min(room(height, rows, page.1, kept)));
+            best = best.max(room(width, columns, page.0, kept).min(room(
+                height, rows, page.1, kept,
+            )));
         }
     }
     best
@@ -319,7 +320,12 @@ fn fault_of(
     if !are_in_order(pages, columns) {
         return Ok("not in order");
     }
-    let best = largest(i64::from(n), page_sides, sheet_sides, Kept { margin: 0, gap: 0 });
+    let best = largest(
+        i64::from(n),
+        page_sides,
+        sheet_sides,
+        Kept { margin: 0, gap: 0 },
+    );
     if best < first.scale || first.scale.saturating_add(1_000) <= best {
         return Ok("not large");
     }
@@ -721,8 +727,22 @@ fn cells_margins_scales_and_trims(rt: HostRuntime) -> Result<(), Fail> {
 #[test]
 fn arrangements_that_are_refused(rt: HostRuntime) -> Result<(), Fail> {
     for (cells, margin, gap, scale, trim, wanted) in [
-        (Cells::AtLeast(0), 0, 0, None, 0, Some(ArrangementError::CellsOutOfRange)),
-        (Cells::AtLeast(1_025), 0, 0, None, 0, Some(ArrangementError::CellsOutOfRange)),
+        (
+            Cells::AtLeast(0),
+            0,
+            0,
+            None,
+            0,
+            Some(ArrangementError::CellsOutOfRange),
+        ),
+        (
+            Cells::AtLeast(1_025),
+            0,
+            0,
+            None,
+            0,
+            Some(ArrangementError::CellsOutOfRange),
+        ),
         (
             Cells::Exactly {
                 columns: 0,
@@ -745,11 +765,46 @@ fn arrangements_that_are_refused(rt: HostRuntime) -> Result<(), Fail> {
             0,
             Some(ArrangementError::CellsOutOfRange),
         ),
-        (Cells::AtLeast(4), -1, 0, None, 0, Some(ArrangementError::LengthOutOfRange)),
-        (Cells::AtLeast(4), 0, 10_000_000_000, None, 0, Some(ArrangementError::LengthOutOfRange)),
-        (Cells::AtLeast(4), 0, 0, None, 29_750_000, Some(ArrangementError::NothingLeftOfPage)),
-        (Cells::AtLeast(4), 29_750_000, 0, None, 0, Some(ArrangementError::NoRoom)),
-        (Cells::AtLeast(4), 0, 59_500_000, None, 0, Some(ArrangementError::NoRoom)),
+        (
+            Cells::AtLeast(4),
+            -1,
+            0,
+            None,
+            0,
+            Some(ArrangementError::LengthOutOfRange),
+        ),
+        (
+            Cells::AtLeast(4),
+            0,
+            10_000_000_000,
+            None,
+            0,
+            Some(ArrangementError::LengthOutOfRange),
+        ),
+        (
+            Cells::AtLeast(4),
+            0,
+            0,
+            None,
+            29_750_000,
+            Some(ArrangementError::NothingLeftOfPage),
+        ),
+        (
+            Cells::AtLeast(4),
+            29_750_000,
+            0,
+            None,
+            0,
+            Some(ArrangementError::NoRoom),
+        ),
+        (
+            Cells::AtLeast(4),
+            0,
+            59_500_000,
+            None,
+            0,
+            Some(ArrangementError::NoRoom),
+        ),
         (Cells::AtLeast(4), 0, 0, Number::new(500_000_000), 0, None),
         (
             Cells::AtLeast(4),
