@@ -5,3 +5,4 @@ mod Leaves
 mod Tiles
 mod Examples
 mod Filling
+mod Offsets

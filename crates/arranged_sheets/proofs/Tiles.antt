@@ -10,7 +10,8 @@ use Rattle.layouts.specs.Cells.{fitting}
 use Rattle.layouts.proofs.AlongSide.{scaled_fits, in_cell}
 use Rattle.layouts.proofs.Sides.{of_sides, point}
 use Rattle.layouts.proofs.InGrid.{sides_are}
-use Rattle.arranged_sheets.specs.Posters.{Poster, tile, stride, poster_width, poster_height, poster_scale, begins_at, tile_item, IsShown, HasTiles, PosterCovers, TilesOverlap}
+use Rattle.arranged_sheets.specs.declared.poster.Poster.{Poster}
+use Rattle.arranged_sheets.specs.Posters.{tile, stride, poster_width, poster_height, poster_scale, begins_at, tile_item, IsShown, HasTiles, PosterCovers, TilesOverlap}
 
 -- ---- a point along a side
 

@@ -3,7 +3,9 @@ ghost use Rattle.std.specs.Prelude.{◌≤◌, IfSome};
 ghost use Rattle.layouts.specs.Cells.{size};
 
 use super::plans::sheets_text;
-use arranged_sheets::{card_sheets, grid_sheets, leaf_sheets, stack_sheets};
+use arranged_sheets::{
+    Poster, PosterError, card_sheets, grid_sheets, leaf_sheets, poster_sheets, stack_sheets,
+};
 use layouts::{Arrangement, ArrangementError, Cells, Order, Papers, Run, Setting, Turned};
 use lengths::{Grains, Paper, paper_by_name};
 use sheet_plan::{MadeSheets, Plan};
@@ -119,5 +121,66 @@ fn a_page_that_is_too_large(rt: HostRuntime) -> Result<(), Fail> {
     let row = [Some(0), Some(1)];
     let made = grid_sheets(rt.alloc(), &setting, &[a4, vast], 2, &row);
     assert_eq!(rt; made.err(), Some(ArrangementError::SideTooLong));
+    Ok(())
+}
+
+/// Two columns and one row of A4 sheets, with 10 points free along each edge, that overlap by 20 points.
+fn two_tiles() -> Option<Poster> {
+    Some(Poster {
+        sheet: paper_by_name("a4")?,
+        columns: 2,
+        rows: 1,
+        edge: 1_000_000,
+        overlap: 2_000_000,
+    })
+}
+
+#[test]
+fn a_poster(rt: HostRuntime) -> Result<(), Fail> {
+    let poster = two_tiles().expect(&rt, "a poster");
+    // the tiles are 2 * 575 - 20 points wide, and 822 high
+    let page = paper(565, 411).expect(&rt, "a paper");
+    let made = poster_sheets(rt.alloc(), &poster, &page, 3);
+    let made = made.ok().expect(&rt, "sheets");
+    assert_eq!(rt; made.len(), 2);
+    let mut at = 0;
+    for right in [10_000_000_000, -545_000_000_000] {
+        let offset = offset_on(&made, at).expect(&rt, "a page");
+        assert_eq!(rt; offset.0, right);
+        assert_eq!(rt; offset.1, 10_000_000_000);
+        at = 1;
+    }
+    Ok(())
+}
+
+/// Where the page on a sheet is moved, in 10^-9 of a point.
+fn offset_on(made: &MadeSheets, sheet: u32) -> Option<(i64, i64)> {
+    if made.len() <= sheet as usize || made.slots(sheet) == 0 {
+        return None;
+    }
+    let placed = made.placed(sheet, 0)?;
+    Some((
+        placed.item.offset.0.number.billionths(),
+        placed.item.offset.1.number.billionths(),
+    ))
+}
+
+#[test]
+fn posters_that_are_refused(rt: HostRuntime) -> Result<(), Fail> {
+    let page = paper(565, 411).expect(&rt, "a paper");
+    for (columns, edge, overlap, wanted) in [
+        (0, 0, 0, PosterError::TilesOutOfRange),
+        (1_025, 0, 0, PosterError::TilesOutOfRange),
+        (2, 29_750_000, 0, PosterError::NothingButOverlap),
+        (2, 0, 59_500_000, PosterError::NothingButOverlap),
+        (1_000, 0, 0, PosterError::SideTooLong),
+    ] {
+        let mut poster = two_tiles().expect(&rt, "a poster");
+        poster.columns = columns;
+        poster.edge = edge;
+        poster.overlap = overlap;
+        let made = poster_sheets(rt.alloc(), &poster, &page, 0);
+        assert_eq!(rt; made.err(), Some(wanted));
+    }
     Ok(())
 }
