@@ -1,41 +1,66 @@
 -- Worked examples.
 use Rattle.std.proofs.Common.{◌≡◌, refl}
-use Rattle.std.specs.Prelude.{codes, true, false, [], ◌∷◌, None, Some}
+use Rattle.std.specs.Prelude.{codes, ℤ, pos, true, false, [], ◌∷◌, None, Some, Option}
 use Rattle.std.specs.Fmt.{digits}
-use Rattle.rules.specs.Papers.{points}
+use Rattle.rules.specs.Papers.{Paper, points}
 use Rattle.rules.specs.Specification.{canonical}
+use Rattle.layouts.specs.declared.arrangement.Arrangement.{Arrangement}
+use Rattle.layouts.specs.declared.arrangement.Cells.{Cells}
+use Rattle.layouts.specs.declared.arrangement.Cells.TheVariants.{AtLeast, Exactly}
+use Rattle.layouts.specs.declared.arrangement.Run.TheVariants.{Rows, Columns}
+use Rattle.layouts.specs.declared.arrangement.Turned.TheVariants as sideways
+use Rattle.layouts.specs.declared.arrangement.Order.{Order}
+use Rattle.layouts.specs.declared.error.ArrangementError.TheVariants as why
 use Rattle.layouts.specs.declared.error.LayoutError.TheVariants.{FoldOnLongEdge, PagesOutOfRange, SideTooLong}
-use Rattle.layouts.specs.Grids.{n_up, best_grid, scale_in, leaves}
-use Rattle.layouts.specs.Refusals.{is_count, is_reached, is_scale, why_not, why_no_booklet}
+use Rattle.layouts.specs.Placed.{bare}
+use Rattle.layouts.specs.Cells.{scale_in}
+use Rattle.layouts.specs.Grids.{n_up, best_grid, leaves, arranged, bound, plain}
+use Rattle.layouts.specs.Refusals.{is_count, is_reached, is_scale, is_length, why_not, why_no_booklet, why_not_arranged}
 use Rattle.pagespec.specs.Reading.{joined_at}
 use Rattle.layouts.specs.declared.selections.Which.TheVariants.{All, Odd, Even}
 use Rattle.layouts.specs.Selections.{One, FromTo, From, row_of, misses}
 use Rattle.layouts.specs.Reading.{ranges_at, range_at}
 
-two_on_a4 : best_grid (points 595 842) (points 595 842) 2 ≡ record { rows = 1; columns = 2; turned = true }
+two_on_a4 : best_grid (points 595 842) (bare (points 595 842)) 2 ≡ record { rows = 1; columns = 2; turned = true }
 two_on_a4 = refl
 
-two_on_a4_scale : scale_in (points 595 842) (points 595 842) (best_grid (points 595 842) (points 595 842) 2) ≡ 706_650_831
+two_on_a4_scale : scale_in (points 595 842) (bare (points 595 842)) (best_grid (points 595 842) (bare (points 595 842)) 2) ≡ 706_650_831
 two_on_a4_scale = refl
 
-four_on_letter : best_grid (points 612 792) (points 612 792) 4 ≡ record { rows = 2; columns = 2; turned = false }
+four_on_letter : best_grid (points 612 792) (bare (points 612 792)) 4 ≡ record { rows = 2; columns = 2; turned = false }
 four_on_letter = refl
 
 -- two squares stand as well above one another as beside one another, and as well turned as upright: then with the
 -- fewest columns, and upright
-two_squares : best_grid (points 100 100) (points 200 200) 2 ≡ record { rows = 2; columns = 1; turned = false }
+two_squares : best_grid (points 100 100) (bare (points 200 200)) 2 ≡ record { rows = 2; columns = 1; turned = false }
 two_squares = refl
 
 -- on a sheet that isn't as high as wide they stand beside one another
-two_on_a_wide_sheet : best_grid (points 100 100) (points 200 199) 2 ≡ record { rows = 1; columns = 2; turned = false }
+two_on_a_wide_sheet : best_grid (points 100 100) (bare (points 200 199)) 2 ≡ record { rows = 1; columns = 2; turned = false }
 two_on_a_wide_sheet = refl
 
--- a number that columns don't divide: all in one row, or all in one column
-three_on_a_row : best_grid (points 100 100) (points 300 100) 3 ≡ record { rows = 1; columns = 3; turned = false }
+three_on_a_row : best_grid (points 100 100) (bare (points 300 100)) 3 ≡ record { rows = 1; columns = 3; turned = false }
 three_on_a_row = refl
 
-three_in_a_column : best_grid (points 100 100) (points 100 300) 3 ≡ record { rows = 3; columns = 1; turned = false }
+three_in_a_column : best_grid (points 100 100) (bare (points 100 300)) 3 ≡ record { rows = 3; columns = 1; turned = false }
 three_in_a_column = refl
+
+-- numbers that columns don't divide have as much room as the next good grid
+three_on_a4 : best_grid (points 595 842) (bare (points 595 842)) 3 ≡ record { rows = 2; columns = 2; turned = false }
+three_on_a4 = refl
+
+five_on_a4 : best_grid (points 595 842) (bare (points 595 842)) 5 ≡ record { rows = 2; columns = 3; turned = true }
+five_on_a4 = refl
+
+seven_on_a4 : best_grid (points 595 842) (bare (points 595 842)) 7 ≡ record { rows = 2; columns = 4; turned = true }
+seven_on_a4 = refl
+
+eight_on_a4 : best_grid (points 595 842) (bare (points 595 842)) 8 ≡ record { rows = 2; columns = 4; turned = true }
+eight_on_a4 = refl
+
+-- upright in three columns and turned in four have the same scale and as many cells: then upright
+eleven_on_a4 : best_grid (points 595 842) (bare (points 595 842)) 11 ≡ record { rows = 4; columns = 3; turned = false }
+eleven_on_a4 = refl
 
 two_on_a4_text : canonical (n_up (points 595 842) (points 595 842) 2) ≡ codes "2:0L@.706650831(595,.27137)+1L@.706650831(595,421.27137)"
 unfolding digits
@@ -76,6 +101,101 @@ higher_sheet_text = refl
 wider_sheet_text : canonical (n_up (points 595 842) (points 597 842) 1) ≡ codes "0(1,0)"
 unfolding digits
 wider_sheet_text = refl
+
+-- what is asked for
+
+a4 : Paper
+a4 = points 595 842
+
+four : Order → Arrangement
+four order = record { cells = AtLeast 4; margin = pos 0; gap = pos 0; order = order; scale = None; trim = pos 0 }
+
+by_columns : canonical (arranged a4 a4 (four (record { run = Columns; right_to_left = false; turned = sideways.Upright }))) ≡ codes "4:0@.5(0,421)+1@.5+2@.5(297.5,421)+3@.5(297.5,0)"
+unfolding digits a4 four
+by_columns = refl
+
+from_the_right : canonical (arranged a4 a4 (four (record { run = Rows; right_to_left = true; turned = sideways.Upright }))) ≡ codes "4:0@.5(297.5,421)+1@.5(0,421)+2@.5(297.5,0)+3@.5"
+unfolding digits a4 four
+from_the_right = refl
+
+-- what stands on the pages is read if the sheet is turned to the left: its first row is the last column
+read_to_the_left : canonical (arranged a4 a4 (four (record { run = Rows; right_to_left = false; turned = sideways.Left }))) ≡ codes "4:0@.5(297.5,421)+1@.5(297.5,0)+2@.5(0,421)+3@.5"
+unfolding digits a4 four
+read_to_the_left = refl
+
+read_to_the_right : canonical (arranged a4 a4 (four (record { run = Rows; right_to_left = false; turned = sideways.Right }))) ≡ codes "4:0@.5+1@.5(0,421)+2@.5(297.5,0)+3@.5(297.5,421)"
+unfolding digits a4 four
+read_to_the_right = refl
+
+-- 10 mm along the edges and 5 mm between cells
+asked : Cells → (margin gap trim : ℤ) → Option ℤ → Arrangement
+asked cells margin gap trim scale = record {
+  cells = cells;
+  margin = margin;
+  gap = gap;
+  order = record { run = Rows; right_to_left = false; turned = sideways.Upright };
+  scale = scale;
+  trim = trim;
+}
+
+roomy : canonical (arranged a4 a4 (asked (Exactly 2 4) (pos 3_600_000_000_000) (pos 1_800_000_000_000) (pos 0) None)) ≡ codes "8:0@.220542565(93.7685,627.95667)+1@.220542565(370.00865,627.95667)+2@.220542565(93.7685,428.0866)+3@.220542565(370.00865,428.0866)+4@.220542565(93.7685,228.21653)+5@.220542565(370.00865,228.21653)+6@.220542565(93.7685,28.34646)+7@.220542565(370.00865,28.34646)"
+unfolding digits a4 asked
+roomy = refl
+
+-- a scale that is asked for
+smaller : canonical (arranged a4 a4 (asked (AtLeast 4) (pos 0) (pos 0) (pos 0) (Some (pos 400_000_000)))) ≡ codes "4:0@.4(29.75,463.1)+1@.4(327.25,463.1)+2@.4(29.75,42.1)+3@.4(327.25,42.1)"
+unfolding digits a4 asked
+smaller = refl
+
+-- pages of which 10 pt are trimmed on all sides
+trimmed_text : canonical (arranged a4 a4 (asked (AtLeast 4) (pos 0) (pos 0) (pos 1_270_000_000_000) None)) ≡ codes "4:0@.512165425(-3.61921,415.87835)+1@.512165425(293.88078,415.87835)+2@.512165425(-3.61921,-5.12164)+3@.512165425(293.88078,-5.12164)"
+unfolding digits a4 asked
+trimmed_text = refl
+
+-- five pages, and five in a row
+five_text : canonical (arranged a4 a4 (plain (AtLeast 5))) ≡ codes "5:0L@.353325415(297.5,35.21901)+1L@.353325415(297.5,315.88567)+2L@.353325415(297.5,596.55233)+3L@.353325415(595,35.21901)+4L@.353325415(595,315.88567)"
+unfolding digits a4
+five_text = refl
+
+five_in_a_row : canonical (arranged a4 a4 (plain (Exactly 5 1))) ≡ codes "5:0L@.28302521(416.65362,0)+1L@.28302521(416.65362,168.4)+2L@.28302521(416.65362,336.8)+3L@.28302521(416.65362,505.2)+4L@.28302521(416.65362,673.6)"
+unfolding digits a4
+five_in_a_row = refl
+
+-- leaves that are bound at the right, and leaves with 20 pt at the fold
+at_the_right : canonical (bound a4 a4 (record { margin = pos 0; gap = pos 0; right_to_left = true; trim = pos 0; long_edge = false })) ≡ codes "2:0L@.706650831(595,421.27137)+1L@.706650831(595,.27137)"
+unfolding digits a4
+at_the_right = refl
+
+gap_at_the_fold : canonical (bound a4 a4 (record { margin = pos 0; gap = pos 2_540_000_000_000; right_to_left = false; trim = pos 0; long_edge = false })) ≡ codes "2:0L@.690756302(588.30841,0)+1L@.690756302(588.30841,431)"
+unfolding digits a4
+gap_at_the_fold = refl
+
+-- refusals, in their order
+too_many_cells : why_not_arranged a4 a4 (asked (Exactly 33 32) (pos 0) (pos 0) (pos 0) None) ≡ Some why.CellsOutOfRange
+unfolding a4 asked
+too_many_cells = refl
+
+longest_length : is_length (pos 12_699_999_999_999_999) ≡ true
+longest_length = refl
+
+length_too_long : is_length (pos 12_700_000_000_000_000) ≡ false
+length_too_long = refl
+
+trimmed_away : why_not_arranged a4 a4 (asked (AtLeast 4) (pos 0) (pos 0) (pos 37_782_500_000_000) None) ≡ Some why.NothingLeftOfPage
+unfolding a4 asked
+trimmed_away = refl
+
+no_room : why_not_arranged a4 a4 (asked (AtLeast 4) (pos 37_782_500_000_000) (pos 0) (pos 0) None) ≡ Some why.NoRoom
+unfolding a4 asked
+no_room = refl
+
+as_large_as_cells : why_not_arranged a4 a4 (asked (AtLeast 4) (pos 0) (pos 0) (pos 0) (Some (pos 500_000_000))) ≡ None
+unfolding a4 asked
+as_large_as_cells = refl
+
+larger_than_cells : why_not_arranged a4 a4 (asked (AtLeast 4) (pos 0) (pos 0) (pos 0) (Some (pos 500_000_001))) ≡ Some why.ScaleTooLarge
+unfolding a4 asked
+larger_than_cells = refl
 
 -- the limits, on both sides
 no_page : is_count 0 ≡ false

@@ -1,15 +1,22 @@
-mod Examples
-mod Cells
+pub mod AlongSide
 mod Standing
-mod Sides
-mod InGrid
-mod Apart
-mod Large
-mod Writable
-mod Backs
-mod LaidOut
+pub mod Sides
+pub mod OnSide
+pub mod InGrid
+pub mod InOrder
+mod Reach
+pub mod Apart
+mod BestGrid
+mod Middle
 mod Printing
+mod Backs
+pub mod Folds
+mod Writable
+mod LaidOut
 mod Possible
+mod Complete
+pub mod Fitting
+mod Examples
 mod ReadRanges
 mod Selected
 mod NamedRanges

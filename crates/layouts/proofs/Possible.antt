@@ -1,41 +1,324 @@
--- Where nothing refuses.
-use Rattle.std.proofs.Common.{◌≡◌, ℕ, Bool, true, false, None, List, [], ◌∷◌, refl, sym, ap, subst, ◌∙◌}
-use Rattle.std.specs.Prelude.{IsTrue, ◌&&◌, map}
-use Rattle.std.specs.List.{range_with_len}
-use Rattle.rules.specs.Papers.{Paper}
-use Rattle.rules.specs.Specification.{Item, Spec}
-use Rattle.layouts.specs.Grids.{Grid, scale_in, beside, item_in, back_in, leaves}
-use Rattle.layouts.specs.Refusals.{are_reached, folds_short, is_scale, why_no_booklet}
-use Rattle.layouts.proofs.InGrid.{both_true}
+-- Where nothing refuses, and what follows from that.
+use Rattle.std.proofs.Common.{arith, rules, ◌≡◌, inl, inr, ℕ, ◌+◌, ◌*◌, ◌/◌, ◌<◌, ◌≤◌, Bool, true, false, Option, Some, None, refl, sym, ap, subst, ◌∙◌}
+use Rattle.std.specs.Prelude.{ℤ, pos, negsuc, nat_abs, IsTrue, ◌&&◌, ◌||◌, ◌==◌, nat_le, nat_lt, if◌then◌else◌, is_none}
+use Rattle.lengths.proofs.Numbers.{same_byte}
+use Rattle.rules.specs.Papers.{Paper, is_side}
+use Rattle.layouts.specs.declared.arrangement.Arrangement.{Arrangement}
+use Rattle.layouts.specs.declared.arrangement.Binding.{Binding}
+use Rattle.layouts.specs.declared.arrangement.Cells.TheVariants.{AtLeast}
+use Rattle.layouts.specs.declared.error.LayoutError.{LayoutError}
+use Rattle.layouts.specs.declared.error.LayoutError.TheVariants as layout
+use Rattle.layouts.specs.declared.error.ArrangementError.{ArrangementError}
+use Rattle.layouts.specs.declared.error.ArrangementError.TheVariants as why
+use Rattle.layouts.specs.Placed.{Room, bare}
+use Rattle.layouts.specs.Cells.{Grid, scale_in, whole, trimmed}
+use Rattle.layouts.specs.Grids.{best_grid, beside, is_same, is_itself, room_of, grid_of, scale_for, count_of, rounded_up, rounded_down, arranged, in_cells, plain, bound, plain_binding}
+use Rattle.layouts.specs.Refusals.{first_of, is_count, are_reached, is_length, is_shown, is_near, is_scale, why_no_scale, why_no_sheet, why_not_arranged, why_not_bound, why_not, why_no_booklet, folds_short, as_layout, IsFault, IsRefusal}
+use Rattle.layouts.specs.Laws.{IsPaper, HasPlace, IsArranged, IsArrangedIn, IsBound}
+use Rattle.layouts.proofs.InGrid.{both_true, room_in, both_reached}
+use Rattle.layouts.proofs.Writable.{IsMade, scale_range}
+use Rattle.layouts.proofs.LaidOut.{SameSides, same_sides, itself, itself_arranged, cells_arranged, sides_laid_out, sides_folded, beside_large}
 
-pub both_papers : (page sheet : Paper) (b : Bool) → b ≡ (are_reached page && are_reached sheet) → b ≡ true → IsTrue (are_reached page) × IsTrue (are_reached sheet)
-both_papers page sheet b e h = both_true (are_reached page) (are_reached sheet) (sym e ∙ h)
+-- ---- chains of reasons
 
-pub booklet_possible : (page sheet : Paper) → IsTrue (are_reached page && are_reached sheet) → IsTrue (folds_short page sheet) → IsTrue (is_scale (scale_in page sheet (beside true)))
-    → why_no_booklet page sheet ≡ None
-booklet_possible page sheet reached folds scaled = rw reached (rw folds (rw scaled refl))
+-- if there is none, the test holds and there is none behind it
+pub passed : (b : Bool) (e : ArrangementError) (next : Option ArrangementError) → first_of b e next ≡ None → (b ≡ true) × (next ≡ None)
+passed true e next h = (refl, h)
+passed false e next h = absurd (cc (h))
 
--- the sides of a leaf, in a grid that is two cells side by side
+-- another end of a chain without a reason
+abbrev Chain3 : Bool → Bool → Bool → Option ArrangementError → Option ArrangementError
+Chain3 a b c next = first_of a why.SideTooLong (first_of b why.LengthOutOfRange (first_of c why.NothingLeftOfPage next))
 
-abbrev pub one_side_of : (page sheet : Paper) → Grid → List (List Item)
-one_side_of page sheet g = map (item_in page sheet g) (range_with_len 0 2) ∷ []
+chain_on : (a b c : Bool) (next : Option ArrangementError) → Chain3 a b c None ≡ None → Chain3 a b c next ≡ next
+chain_on true true true next h = refl
+chain_on true true false next h = absurd (cc (h))
+chain_on true false c next h = absurd (cc (h))
+chain_on false b c next h = absurd (cc (h))
 
-abbrev pub two_sides_of : (page sheet : Paper) → Grid → List (List Item)
-two_sides_of page sheet g = map (item_in page sheet g) (range_with_len 0 2) ∷ map (back_in page sheet g 2) (range_with_len 0 2) ∷ []
+chain_stops : (a b c : Bool) (next : Option ArrangementError) (e : ArrangementError) → Chain3 a b c None ≡ Some e → Chain3 a b c next ≡ Some e
+chain_stops true true true next e h = absurd (cc (h))
+chain_stops true true false next e h = h
+chain_stops true false c next e h = h
+chain_stops false b c next e h = h
 
-pub one_side : (page sheet : Paper) (gs : List (List Item)) (g : Grid) → gs ≡ one_side_of page sheet g → g ≡ beside true → gs ≡ (leaves page sheet false).groups
-one_side page sheet gs g e f = e ∙ ap (one_side_of page sheet) f
+pub sheet_on : (page sheet : Paper) (margin gap trim : ℤ) (next : Option ArrangementError) → why_no_sheet page sheet margin gap trim None ≡ None → why_no_sheet page sheet margin gap trim next ≡ next
+sheet_on page sheet margin gap trim next h =
+    chain_on (are_reached page && are_reached sheet) (is_length margin && is_length gap && is_length trim) (is_shown page (room_of sheet margin gap trim)) next h
 
-pub two_sides : (page sheet : Paper) (gs : List (List Item)) (g : Grid) → gs ≡ two_sides_of page sheet g → g ≡ beside true → gs ≡ (leaves page sheet true).groups
-two_sides page sheet gs g e f = e ∙ ap (two_sides_of page sheet) f
+pub sheet_stops : (page sheet : Paper) (margin gap trim : ℤ) (next : Option ArrangementError) (e : ArrangementError) → why_no_sheet page sheet margin gap trim None ≡ Some e → why_no_sheet page sheet margin gap trim next ≡ Some e
+sheet_stops page sheet margin gap trim next e h =
+    chain_stops (are_reached page && are_reached sheet) (is_length margin && is_length gap && is_length trim) (is_shown page (room_of sheet margin gap trim)) next e h
 
-abbrev spec_of : ℕ → List (List Item) → Spec
-spec_of modulo gs = record { modulo = modulo; groups = gs }
+-- what holds of a sheet on which nothing is amiss
+pub record IsGoodSheet (page sheet : Paper) (margin gap trim : ℤ) : Type 0 where
+  pub margin_is : IsTrue (is_length margin)
+  pub gap_is : IsTrue (is_length gap)
+  pub trim_is : IsTrue (is_length trim)
+  pub shown : IsTrue (is_shown page (room_of sheet margin gap trim))
 
-pub one_side_made : (page sheet : Paper) (long_edge : Bool) (spec : Spec) (gs : List (List Item)) (g : Grid) → spec ≡ spec_of 2 gs → gs ≡ one_side_of page sheet g → g ≡ beside true → long_edge ≡ false
-    → spec ≡ leaves page sheet long_edge
-one_side_made page sheet long_edge spec gs g e groups f b = subst (λ edge. spec ≡ leaves page sheet edge) (sym b) (e ∙ ap (spec_of 2) (one_side page sheet gs g groups f))
+pub good_sheet : (page sheet : Paper) (margin gap trim : ℤ) → why_no_sheet page sheet margin gap trim None ≡ None → IsGoodSheet page sheet margin gap trim
+good_sheet page sheet margin gap trim h =
+    let one = passed (are_reached page && are_reached sheet) why.SideTooLong (first_of (is_length margin && is_length gap && is_length trim) why.LengthOutOfRange (first_of (is_shown page (room_of sheet margin gap trim)) why.NothingLeftOfPage None)) h in
+    let two = passed (is_length margin && is_length gap && is_length trim) why.LengthOutOfRange (first_of (is_shown page (room_of sheet margin gap trim)) why.NothingLeftOfPage None) one.1 in
+    let three = passed (is_shown page (room_of sheet margin gap trim)) why.NothingLeftOfPage None two.1 in
+    let lengths = both_true (is_length margin && is_length gap) (is_length trim) two.0 in
+    let first = both_true (is_length margin) (is_length gap) lengths.0 in
+    record { margin_is = first.0; gap_is = first.1; trim_is = lengths.1; shown = three.0 }
 
-pub two_sides_made : (page sheet : Paper) (long_edge : Bool) (spec : Spec) (gs : List (List Item)) (g : Grid) → spec ≡ spec_of 4 gs → gs ≡ two_sides_of page sheet g → g ≡ beside true → long_edge ≡ true
-    → spec ≡ leaves page sheet long_edge
-two_sides_made page sheet long_edge spec gs g e groups f b = subst (λ edge. spec ≡ leaves page sheet edge) (sym b) (e ∙ ap (spec_of 4) (two_sides page sheet gs g groups f))
+-- and of a scale
+pub record IsGoodScale (room : Room) (s largest : ℕ) : Type 0 where
+  pub scale : IsTrue (is_scale s)
+  pub fits : s ≤ largest
+  pub near : IsTrue (is_near room s)
+
+at_most : (a b : ℕ) → nat_le a b ≡ true → a ≤ b
+at_most a b e = search (rules, e)
+
+pub good_scale : (room : Room) (s largest : ℕ) → why_no_scale room s largest ≡ None → IsGoodScale room s largest
+good_scale room s largest h =
+    let one = passed (nat_le 1 largest) why.NoRoom (first_of (is_scale s) why.ScaleOutOfRange (first_of (nat_le s largest) why.ScaleTooLarge (first_of (is_near room s) why.ScaleOutOfRange None))) h in
+    let two = passed (is_scale s) why.ScaleOutOfRange (first_of (nat_le s largest) why.ScaleTooLarge (first_of (is_near room s) why.ScaleOutOfRange None)) one.1 in
+    let three = passed (nat_le s largest) why.ScaleTooLarge (first_of (is_near room s) why.ScaleOutOfRange None) two.1 in
+    let four = passed (is_near room s) why.ScaleOutOfRange None three.1 in
+    record { scale = two.0; fits = at_most s largest three.0; near = four.0 }
+
+less : (a b : ℕ) → IsTrue (nat_lt a b) → a < b
+less a b e = search (rules, e)
+
+-- so each page has its place
+pub place : (page : Paper) (room : Room) (g : Grid) (s : ℕ) → IsTrue (is_shown page room) → IsGoodScale room s (scale_in page room g) → HasPlace page room g s
+place page room g s shown good =
+    let sides = both_true (nat_lt (2_540_000 * room.trim) (nat_abs page.width)) (nat_lt (2_540_000 * room.trim) (nat_abs page.height)) shown in
+    record {
+      some_wide = less (2_540_000 * room.trim) (nat_abs page.width) sides.0;
+      some_high = less (2_540_000 * room.trim) (nat_abs page.height) sides.1;
+      above_zero = (scale_range s good.scale).0;
+      fits = good.fits;
+    }
+
+pub made : (page : Paper) (room : Room) (g : Grid) (s : ℕ) → IsTrue (is_shown page room) → IsGoodScale room s (scale_in page room g) → IsMade page room g s
+made page room g s shown good = record { place = place page room g s shown good; near = good.near; most = (scale_range s good.scale).1 }
+
+-- ---- arrangements
+
+count_passed : (n : ℕ) → 1 ≤ n → n ≤ 1_024 → is_count n ≡ true
+count_passed n some most = search (rules, some, most)
+
+pub either_way : {X : Type 0} (b : Bool) (x y : X) → b ≡ false → (if b then x else y) ≡ y
+either_way true x y e = cc
+either_way false x y e = refl
+
+pub one_way : {X : Type 0} (b : Bool) (x y : X) → b ≡ true → (if b then x else y) ≡ x
+one_way true x y e = refl
+one_way false x y e = cc
+
+-- the reasons behind those of the sheet
+abbrev arranged_reasons : (page sheet : Paper) → Arrangement → Option ArrangementError
+arranged_reasons page sheet a =
+    let room = room_of sheet a.margin a.gap a.trim in
+    let largest = scale_in page room (grid_of page room a.order.turned a.cells) in
+    if is_itself page sheet a then None else why_no_scale room (scale_for a.scale largest) largest
+
+counted : (page sheet : Paper) (a : Arrangement) (next : Option ArrangementError) → 1 ≤ count_of a.cells → count_of a.cells ≤ 1_024 → first_of (is_count (count_of a.cells)) why.CellsOutOfRange next ≡ next
+counted page sheet a next some most = one_way (is_count (count_of a.cells)) next (Some why.CellsOutOfRange) (count_passed (count_of a.cells) some most)
+
+pub sheet_refused : (page sheet : Paper) (a : Arrangement) (e : ArrangementError) → 1 ≤ count_of a.cells → count_of a.cells ≤ 1_024 → why_no_sheet page sheet a.margin a.gap a.trim None ≡ Some e
+    → why_not_arranged page sheet a ≡ Some e
+sheet_refused page sheet a e some most h =
+    counted page sheet a _ some most ∙ sheet_stops page sheet a.margin a.gap a.trim (arranged_reasons page sheet a) e h
+
+arranged_by : (page sheet : Paper) (a : Arrangement) → 1 ≤ count_of a.cells → count_of a.cells ≤ 1_024 → why_no_sheet page sheet a.margin a.gap a.trim None ≡ None
+    → why_not_arranged page sheet a ≡ arranged_reasons page sheet a
+arranged_by page sheet a some most h =
+    counted page sheet a _ some most ∙ sheet_on page sheet a.margin a.gap a.trim (arranged_reasons page sheet a) h
+
+pub itself_possible : (page sheet : Paper) (a : Arrangement) → 1 ≤ count_of a.cells → count_of a.cells ≤ 1_024 → why_no_sheet page sheet a.margin a.gap a.trim None ≡ None → is_itself page sheet a ≡ true
+    → why_not_arranged page sheet a ≡ None
+itself_possible page sheet a some most h is = arranged_by page sheet a some most h ∙ one_way (is_itself page sheet a) None _ is
+
+pub cells_reasons : (page sheet : Paper) (a : Arrangement) → 1 ≤ count_of a.cells → count_of a.cells ≤ 1_024 → why_no_sheet page sheet a.margin a.gap a.trim None ≡ None → is_itself page sheet a ≡ false
+    → (let room = room_of sheet a.margin a.gap a.trim in
+    let largest = scale_in page room (grid_of page room a.order.turned a.cells) in
+    why_not_arranged page sheet a ≡ why_no_scale room (scale_for a.scale largest) largest)
+cells_reasons page sheet a some most h is = arranged_by page sheet a some most h ∙ either_way (is_itself page sheet a) None _ is
+
+-- what it is to be the page itself
+pub record IsAlone (page sheet : Paper) (a : Arrangement) : Type 0 where
+  pub one : count_of a.cells ≡ 1
+  pub same : SameSides page sheet
+  pub edge : rounded_up a.margin ≡ 0
+  pub trim : rounded_down a.trim ≡ 0
+  pub scale : a.scale ≡ None
+
+pub no_scale : (asked : Option ℤ) → is_none asked ≡ true → asked ≡ None
+no_scale None e = refl
+no_scale (Some s) e = absurd (cc (e))
+
+pub is_alone : (page sheet : Paper) (a : Arrangement) → is_itself page sheet a ≡ true → IsAlone page sheet a
+is_alone page sheet a h =
+    let four = both_true ((count_of a.cells == 1) && is_same page sheet && (rounded_up a.margin == 0) && (rounded_down a.trim == 0)) (is_none a.scale) h in
+    let three = both_true ((count_of a.cells == 1) && is_same page sheet && (rounded_up a.margin == 0)) (rounded_down a.trim == 0) four.0 in
+    let two = both_true ((count_of a.cells == 1) && is_same page sheet) (rounded_up a.margin == 0) three.0 in
+    let one = both_true (count_of a.cells == 1) (is_same page sheet) two.0 in
+    record {
+      one = same_byte (count_of a.cells) 1 one.0;
+      same = same_sides page sheet one.1;
+      edge = same_byte (rounded_up a.margin) 0 two.1;
+      trim = same_byte (rounded_down a.trim) 0 three.1;
+      scale = no_scale a.scale four.1;
+    }
+
+pub itself_made : (page sheet : Paper) (a : Arrangement) → is_itself page sheet a ≡ true → arranged page sheet a ≡ itself
+itself_made page sheet a is = one_way (is_itself page sheet a) itself _ is
+
+pub itself_laid_out : (page sheet : Paper) (a : Arrangement) → IsPaper page → IsPaper sheet → is_itself page sheet a ≡ true → IsArranged page sheet a (arranged page sheet a)
+itself_laid_out page sheet a is on h =
+    let alone = is_alone page sheet a h in
+    subst (IsArranged page sheet a) (sym (itself_made page sheet a h))
+    (subst (λ asked. IsArrangedIn page (room_of sheet a.margin a.gap a.trim) a.cells a.order asked itself) (sym alone.scale)
+    (subst (λ e. IsArrangedIn page (room_in sheet e (rounded_up a.gap) (rounded_down a.trim)) a.cells a.order None itself) (sym alone.edge)
+    (subst (λ l. IsArrangedIn page (room_in sheet 0 (rounded_up a.gap) l) a.cells a.order None itself) (sym alone.trim)
+    (itself_arranged page sheet (rounded_up a.gap) a.cells a.order is on alone.one alone.same))))
+
+pub cells_made : (page sheet : Paper) (a : Arrangement) → is_itself page sheet a ≡ false
+    → (let room = room_of sheet a.margin a.gap a.trim in arranged page sheet a ≡ in_cells page room (grid_of page room a.order.turned a.cells) a)
+cells_made page sheet a is = either_way (is_itself page sheet a) itself _ is
+
+pub cells_laid_out : (page sheet : Paper) (a : Arrangement) → IsPaper page → IsPaper sheet → 1 ≤ count_of a.cells → is_itself page sheet a ≡ false
+    → (let room = room_of sheet a.margin a.gap a.trim in
+    let g = grid_of page room a.order.turned a.cells in
+    HasPlace page room g (scale_for a.scale (scale_in page room g)))
+    → IsArranged page sheet a (arranged page sheet a)
+cells_laid_out page sheet a is on some not has =
+    subst (IsArranged page sheet a) (sym (cells_made page sheet a not))
+    (cells_arranged page (room_of sheet a.margin a.gap a.trim) a.cells a.order a.scale is on some has)
+
+-- ---- leaves
+
+pub leaves_refused : (page sheet : Paper) (b : Binding) (e : ArrangementError) → why_no_sheet page sheet b.margin b.gap b.trim None ≡ Some e → why_not_bound page sheet b ≡ Some e
+leaves_refused page sheet b e h = sheet_stops page sheet b.margin b.gap b.trim _ e h
+
+pub leaves_reasons : (page sheet : Paper) (b : Binding) → why_no_sheet page sheet b.margin b.gap b.trim None ≡ None
+    → (let room = room_of sheet b.margin b.gap b.trim in
+    let largest = scale_in page room (beside true) in
+    why_not_bound page sheet b ≡ first_of (folds_short page room) why.FoldOnLongEdge (why_no_scale room largest largest))
+leaves_reasons page sheet b h = sheet_on page sheet b.margin b.gap b.trim _ h
+
+pub leaves_possible : (page sheet : Paper) (b : Binding) → why_no_sheet page sheet b.margin b.gap b.trim None ≡ None → folds_short page (room_of sheet b.margin b.gap b.trim) ≡ true
+    → (let room = room_of sheet b.margin b.gap b.trim in
+    let largest = scale_in page room (beside true) in
+    why_not_bound page sheet b ≡ why_no_scale room largest largest)
+leaves_possible page sheet b h folds = leaves_reasons page sheet b h ∙ one_way (folds_short page (room_of sheet b.margin b.gap b.trim)) _ _ folds
+
+no_wider : (w h : ℕ) → IsTrue (nat_le w h) → w ≤ h
+no_wider w h e = search (rules, e)
+
+pub leaves_laid_out : (page sheet : Paper) (b : Binding) → IsPaper page → IsPaper sheet → IsTrue (folds_short page (room_of sheet b.margin b.gap b.trim))
+    → (let room = room_of sheet b.margin b.gap b.trim in HasPlace page room (beside true) (scale_in page room (beside true)))
+    → IsBound page sheet b (bound page sheet b)
+leaves_laid_out page sheet b is on folds has =
+    let room = room_of sheet b.margin b.gap b.trim in
+    let (high, most) = both_true (nat_le (nat_abs sheet.width) (nat_abs sheet.height)) (nat_le (scale_in page room (beside false)) (scale_in page room (beside true))) folds in
+    record {
+      fold = no_wider (nat_abs sheet.width) (nat_abs sheet.height) high;
+      scale = scale_in page room (beside true);
+      sides = sides_laid_out page room b.right_to_left b.long_edge is on has;
+      folded = λ front more e. sides_folded page room b.right_to_left b.long_edge is on has front more e;
+      large = λ g t sides rows columns allows. beside_large page room g t most sides rows columns allows;
+    }
+
+-- ---- nothing asked for but cells, or leaves
+
+abbrev as_layouts : Option ArrangementError → Option LayoutError
+as_layouts None = None
+as_layouts (Some e) = Some (as_layout e)
+
+some_side : (z : ℤ) → IsTrue (is_side z) → 0 < nat_abs z
+some_side (pos n) h = search (rules, h)
+some_side (negsuc n) h = omega arith
+
+below_shown : (a b : ℕ) → 0 < a → 0 < b → nat_lt 0 a && nat_lt 0 b ≡ true
+below_shown a b h h' = search (rules, h, h')
+
+bare_shown : (page sheet : Paper) → IsPaper page → is_shown page (bare sheet) ≡ true
+bare_shown page sheet is =
+    let sides = both_true (is_side page.width) (is_side page.height) is in
+    below_shown (nat_abs page.width) (nat_abs page.height) (some_side page.width sides.0) (some_side page.height sides.1)
+
+both_near : (a b : ℕ) → a < 10_000_000_000 → b < 10_000_000_000 → nat_lt a 10_000_000_000 && nat_lt b 10_000_000_000 ≡ true
+both_near a b h h' = search (rules, h, h')
+
+bare_near : (page sheet : Paper) (s : ℕ) → are_reached page && are_reached sheet ≡ true → is_near (bare sheet) s ≡ true
+bare_near page sheet s e =
+    let sheets = (both_true (are_reached page) (are_reached sheet) e).1 in
+    let sides = both_reached sheet sheets in
+    both_near (whole (nat_abs sheet.width) + trimmed (bare sheet) s) (whole (nat_abs sheet.height) + trimmed (bare sheet) s)
+    (near_one (nat_abs sheet.width) s sides.0) (near_one (nat_abs sheet.height) s sides.1)
+  where
+    near_one : (w s : ℕ) → w < 12_700_000_000_000_000 → whole w + s * 0 / 1_000_000_000 < 10_000_000_000
+    near_one w s h = omega (arith, h)
+
+same_is : (n : ℕ) → nat_le n n ≡ true
+same_is n = search rules
+
+-- the reasons of the one are those of the other
+
+plain_chain : (c r i one rest near shown same : Bool) → shown ≡ true → same ≡ true → (r ≡ true → near ≡ true)
+    → as_layouts (first_of c why.CellsOutOfRange (first_of r why.SideTooLong (first_of shown why.NothingLeftOfPage
+    (if i && true && true && true then None
+    else first_of one why.NoRoom (first_of (one && rest) why.ScaleOutOfRange (first_of same why.ScaleTooLarge (first_of near why.ScaleOutOfRange None)))))))
+    ≡ (if c then (if r then (if i || (one && rest) then None else Some layout.ScaleOutOfRange) else Some layout.SideTooLong) else Some layout.PagesOutOfRange)
+plain_chain false r i one rest near shown same e f g = refl
+plain_chain true false i one rest near shown same e f g = refl
+plain_chain true true true one rest near shown same e f g = rw e refl
+plain_chain true true false false rest near shown same e f g = rw e refl
+plain_chain true true false true false near shown same e f g = rw e refl
+plain_chain true true false true true near shown same e f g = rw e (rw f (rw (g refl) refl))
+
+pub plain_reasons : (page sheet : Paper) (n : ℕ) → IsPaper page → why_not page sheet n ≡ as_layouts (why_not_arranged page sheet (plain (AtLeast n)))
+plain_reasons page sheet n is =
+    let largest = scale_in page (bare sheet) (best_grid page (bare sheet) n) in
+    sym (plain_chain (is_count n) (are_reached page && are_reached sheet) ((n == 1) && is_same page sheet) (nat_le 1 largest) (nat_le largest 99_999_000_000_000) (is_near (bare sheet) largest)
+    (is_shown page (bare sheet)) (nat_le largest largest) (bare_shown page sheet is) (same_is largest) (λ e. bare_near page sheet largest e))
+
+leaf_chain : (r folds one rest near shown same : Bool) → shown ≡ true → same ≡ true → (r ≡ true → near ≡ true)
+    → as_layouts (first_of r why.SideTooLong (first_of shown why.NothingLeftOfPage (first_of folds why.FoldOnLongEdge
+    (first_of one why.NoRoom (first_of (one && rest) why.ScaleOutOfRange (first_of same why.ScaleTooLarge (first_of near why.ScaleOutOfRange None)))))))
+    ≡ (if r then (if folds then (if one && rest then None else Some layout.ScaleOutOfRange) else Some layout.FoldOnLongEdge) else Some layout.SideTooLong)
+leaf_chain false folds one rest near shown same e f g = refl
+leaf_chain true false one rest near shown same e f g = rw e refl
+leaf_chain true true false rest near shown same e f g = rw e refl
+leaf_chain true true true false near shown same e f g = rw e refl
+leaf_chain true true true true near shown same e f g = rw e (rw f (rw (g refl) refl))
+
+pub leaf_reasons : (page sheet : Paper) (long_edge : Bool) → IsPaper page → why_no_booklet page sheet ≡ as_layouts (why_not_bound page sheet (plain_binding long_edge))
+leaf_reasons page sheet long_edge is =
+    let largest = scale_in page (bare sheet) (beside true) in
+    sym (leaf_chain (are_reached page && are_reached sheet) (folds_short page (bare sheet)) (nat_le 1 largest) (nat_le largest 99_999_000_000_000) (is_near (bare sheet) largest)
+    (is_shown page (bare sheet)) (nat_le largest largest) (bare_shown page sheet is) (same_is largest) (λ e. bare_near page sheet largest e))
+
+-- a refusal of the one is one of the other
+
+pub none_there : (x : Option LayoutError) (y : Option ArrangementError) → x ≡ as_layouts y → y ≡ None → x ≡ None
+none_there x y e f = e ∙ ap as_layouts f
+
+pub some_there : (x : Option LayoutError) (y : Option ArrangementError) (error : ArrangementError) → x ≡ as_layouts y → IsFault y error → IsRefusal x (as_layout error)
+some_there x y error e (inl f) = inl (ap as_layout f)
+some_there x y error e (inr f) = inr (e ∙ ap as_layouts f)
+
+-- ---- the fold
+
+no_less : (a b : ℕ) → a ≤ b → nat_le a b ≡ true
+no_less a b h = search (rules, h)
+
+behind_true : (x y z : Bool) → x ≡ true → z ≡ y → z ≡ x && y
+behind_true true y z e f = f
+behind_true false y z e f = cc
+
+pub folds_is : (page : Paper) (room : Room) (w h a b : ℕ) → w ≡ nat_abs room.paper.width → h ≡ nat_abs room.paper.height → w ≤ h
+    → a ≡ scale_in page room (beside false) → b ≡ scale_in page room (beside true) → nat_le a b ≡ folds_short page room
+folds_is page room w h a b wide high most upright turned =
+    behind_true (nat_le (nat_abs room.paper.width) (nat_abs room.paper.height)) (nat_le (scale_in page room (beside false)) (scale_in page room (beside true))) (nat_le a b)
+    (no_less (nat_abs room.paper.width) (nat_abs room.paper.height) (omega (arith, wide, high, most)))
+    (ap (λ m. nat_le m b) upright ∙ ap (nat_le (scale_in page room (beside false))) turned)

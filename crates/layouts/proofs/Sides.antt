@@ -1,111 +1,153 @@
--- Upright pages and pages turned to the left. A page has the sides v and u, its sheet w and h; where the sheet is not
--- named, a page has the sides w and h.
-use Rattle.std.proofs.Common.{arith, ℕ, ◌+◌, ◌*◌, ◌≤◌}
-use Rattle.std.specs.Prelude.{ℤ, pos, negsuc, ◌≤ℤ◌, neg_ℤ, false}
+-- Upright pages and pages turned to the left, so far from the edges and from one another. A page has the sides v and u,
+-- of which l is trimmed; it is moved by x and y. The sheet has m and n whole 10^-5 of a point.
+use Rattle.std.proofs.Common.{arith, ℕ, ◌+◌, ◌-◌, ◌*◌, ◌≤◌}
+use Rattle.std.specs.Prelude.{ℤ, pos, negsuc, ◌≤ℤ◌, ◌+ℤ◌, ◌*ℤ◌, neg_ℤ, false}
 use Rattle.std.proofs.Math.Nat.{mul-le-mul_left}
 use Rattle.std.proofs.lemmas.Int.{ints}
 use Rattle.rules.specs.Papers.{Paper}
 use Rattle.rules.specs.Specification.{Item, Turn, Upright, Left}
 use Rattle.rules.specs.Placement.{Point}
-use Rattle.layouts.specs.Placed.{stands, IsOfPage, LiesOn, IsInside, IsLeftOf, IsAbove}
-use Rattle.layouts.specs.Grids.{in_points}
+use Rattle.layouts.specs.Placed.{stands, fine, IsOfPage}
+use Rattle.layouts.specs.Cells.{in_points}
 
 abbrev pub of_sides : (w h : ℕ) → Paper
 of_sides w h = record { width = pos w; height = pos h }
 
-abbrev pub placed : Turn → (page s x y : ℕ) → Item
+abbrev pub placed : Turn → (page s : ℕ) → (x y : ℤ) → Item
 placed t page s x y = record { page = page; from_end = false; turn = t; scale = pos s; x = in_points x; y = in_points y }
 
 abbrev pub point : ℤ → ℤ → Point
 point x y = record { x = x; y = y }
 
--- a point of the page, from its two numbers
-inside_upright_at : (v u w h page s x y : ℕ) → 1_270_000_000_000_000 * x + s * v ≤ 1_000_000_000 * w → 1_270_000_000_000_000 * y + s * u ≤ 1_000_000_000 * h
-    → (a b : ℤ) → IsOfPage (of_sides v u) (point a b) → LiesOn (of_sides w h) (stands (of_sides v u) (placed Upright page s x y) (point a b))
-inside_upright_at v u w h page s x y wide high (pos a) (pos b) of =
-    let in_width : a ≤ v = let f = of.right in omega (arith, ints) in
-    let in_height : b ≤ u = let f = of.top in omega (arith, ints) in
-    let sa = mul-le-mul_left s in_width in
-    let sb = mul-le-mul_left s in_height in
+-- in 10^-9 of a grain
+abbrev pub far : ℤ → ℤ
+far z = pos 1_270_000_000_000_000 *ℤ z
+
+-- on the whole 10^-5 of a point of a sheet, so far from its edges
+pub record LiesIn (m n e : ℕ) (p : Point) : Type 0 where
+  pub left : fine e ≤ℤ p.x
+  pub right : (p.x +ℤ fine e) ≤ℤ fine m
+  pub bottom : fine e ≤ℤ p.y
+  pub top : (p.y +ℤ fine e) ≤ℤ fine n
+
+-- where the page begins and ends
+abbrev pub start : (l s : ℕ) → ℕ
+start l s = s * (1_270_000 * l)
+
+abbrev pub end : (l v s : ℕ) → ℕ
+end l v s = s * (v - 1_270_000 * l)
+
+-- a number of the page's
+pub record IsBetween (l v : ℕ) (s a : ℕ) : Type 0 where
+  pub start : start l s ≤ s * a
+  pub end : s * a ≤ end l v s
+
+pub between : (l v s a : ℕ) → 1_270_000 * l ≤ a → a + 1_270_000 * l ≤ v → IsBetween l v s a
+between l v s a from to =
+    let most : a ≤ v - 1_270_000 * l = omega (arith, to) in
+    record { start = mul-le-mul_left s from; end = mul-le-mul_left s most }
+
+within_upright_at : (v u m n e l k s : ℕ) (x y : ℤ) → fine e ≤ℤ (far x +ℤ pos (start l s)) → ((far x +ℤ pos (end l v s)) +ℤ fine e) ≤ℤ fine m
+    → fine e ≤ℤ (far y +ℤ pos (start l s)) → ((far y +ℤ pos (end l u s)) +ℤ fine e) ≤ℤ fine n
+    → (a b : ℤ) → IsOfPage l (of_sides v u) (point a b) → LiesIn m n e (stands (of_sides v u) (placed Upright k s x y) (point a b))
+within_upright_at v u m n e l k s x y left right bottom top (pos a) (pos b) of =
+    let h = between l v s a (let f = of.left in omega (arith, ints)) (let f = of.right in omega (arith, ints)) in
+    let h' = between l u s b (let f = of.bottom in omega (arith, ints)) (let f = of.top in omega (arith, ints)) in
+    let i = h.start in let j = h.end in let i' = h'.start in let j' = h'.end in
     record {
       left = omega (arith, ints);
       right = omega (arith, ints);
       bottom = omega (arith, ints);
       top = omega (arith, ints);
     }
-inside_upright_at v u w h page s x y wide high (negsuc a) b of = absurd (let f = of.left in omega (arith, ints))
-inside_upright_at v u w h page s x y wide high (pos a) (negsuc b) of = absurd (let f = of.bottom in omega (arith, ints))
+within_upright_at v u m n e l k s x y left right bottom top (negsuc a) b of = absurd (let f = of.left in omega (arith, ints))
+within_upright_at v u m n e l k s x y left right bottom top (pos a) (negsuc b) of = absurd (let f = of.bottom in omega (arith, ints))
 
-inside_left_at : (v u w h page s x y : ℕ) → s * u ≤ 1_270_000_000_000_000 * x → 1_270_000_000_000_000 * x ≤ 1_000_000_000 * w → 1_270_000_000_000_000 * y + s * v ≤ 1_000_000_000 * h
-    → (a b : ℤ) → IsOfPage (of_sides v u) (point a b) → LiesOn (of_sides w h) (stands (of_sides v u) (placed Left page s x y) (point a b))
-inside_left_at v u w h page s x y near wide high (pos a) (pos b) of =
-    let in_width : a ≤ v = let f = of.right in omega (arith, ints) in
-    let in_height : b ≤ u = let f = of.top in omega (arith, ints) in
-    let sa = mul-le-mul_left s in_width in
-    let sb = mul-le-mul_left s in_height in
+within_left_at : (v u m n e l k s : ℕ) (x y : ℤ) → (fine e +ℤ pos (end l u s)) ≤ℤ far x → (far x +ℤ fine e) ≤ℤ (fine m +ℤ pos (start l s))
+    → fine e ≤ℤ (far y +ℤ pos (start l s)) → ((far y +ℤ pos (end l v s)) +ℤ fine e) ≤ℤ fine n
+    → (a b : ℤ) → IsOfPage l (of_sides v u) (point a b) → LiesIn m n e (stands (of_sides v u) (placed Left k s x y) (point a b))
+within_left_at v u m n e l k s x y left right bottom top (pos a) (pos b) of =
+    let h = between l v s a (let f = of.left in omega (arith, ints)) (let f = of.right in omega (arith, ints)) in
+    let h' = between l u s b (let f = of.bottom in omega (arith, ints)) (let f = of.top in omega (arith, ints)) in
+    let i = h.start in let j = h.end in let i' = h'.start in let j' = h'.end in
     record {
       left = omega (arith, ints);
       right = omega (arith, ints);
       bottom = omega (arith, ints);
       top = omega (arith, ints);
     }
-inside_left_at v u w h page s x y near wide high (negsuc a) b of = absurd (let f = of.left in omega (arith, ints))
-inside_left_at v u w h page s x y near wide high (pos a) (negsuc b) of = absurd (let f = of.bottom in omega (arith, ints))
+within_left_at v u m n e l k s x y left right bottom top (negsuc a) b of = absurd (let f = of.left in omega (arith, ints))
+within_left_at v u m n e l k s x y left right bottom top (pos a) (negsuc b) of = absurd (let f = of.bottom in omega (arith, ints))
 
-pub inside_upright : (v u w h page s x y : ℕ) → 1_270_000_000_000_000 * x + s * v ≤ 1_000_000_000 * w → 1_270_000_000_000_000 * y + s * u ≤ 1_000_000_000 * h
-    → IsInside (of_sides v u) (of_sides w h) (placed Upright page s x y)
-inside_upright v u w h page s x y wide high p of = inside_upright_at v u w h page s x y wide high p.x p.y of
+pub within_upright : (v u m n e l k s : ℕ) (x y : ℤ) → fine e ≤ℤ (far x +ℤ pos (start l s)) → ((far x +ℤ pos (end l v s)) +ℤ fine e) ≤ℤ fine m
+    → fine e ≤ℤ (far y +ℤ pos (start l s)) → ((far y +ℤ pos (end l u s)) +ℤ fine e) ≤ℤ fine n
+    → (p : Point) → IsOfPage l (of_sides v u) p → LiesIn m n e (stands (of_sides v u) (placed Upright k s x y) p)
+within_upright v u m n e l k s x y left right bottom top p of = within_upright_at v u m n e l k s x y left right bottom top p.x p.y of
 
-pub inside_left : (v u w h page s x y : ℕ) → s * u ≤ 1_270_000_000_000_000 * x → 1_270_000_000_000_000 * x ≤ 1_000_000_000 * w → 1_270_000_000_000_000 * y + s * v ≤ 1_000_000_000 * h
-    → IsInside (of_sides v u) (of_sides w h) (placed Left page s x y)
-inside_left v u w h page s x y near wide high p of = inside_left_at v u w h page s x y near wide high p.x p.y of
+pub within_left : (v u m n e l k s : ℕ) (x y : ℤ) → (fine e +ℤ pos (end l u s)) ≤ℤ far x → (far x +ℤ fine e) ≤ℤ (fine m +ℤ pos (start l s))
+    → fine e ≤ℤ (far y +ℤ pos (start l s)) → ((far y +ℤ pos (end l v s)) +ℤ fine e) ≤ℤ fine n
+    → (p : Point) → IsOfPage l (of_sides v u) p → LiesIn m n e (stands (of_sides v u) (placed Left k s x y) p)
+within_left v u m n e l k s x y left right bottom top p of = within_left_at v u m n e l k s x y left right bottom top p.x p.y of
 
--- one page before another, measured so
+-- one page before another, by d. The sides of the other are v' and u'
 
-left_of_upright_at : (w h k l s x y x' y' : ℕ) → 1_270_000_000_000_000 * x + s * w ≤ 1_270_000_000_000_000 * x' → (a b c d : ℤ) → IsOfPage (of_sides w h) (point a b) → IsOfPage (of_sides w h) (point c d)
-    → (stands (of_sides w h) (placed Upright k s x y) (point a b)).x ≤ℤ (stands (of_sides w h) (placed Upright l s x' y') (point c d)).x
-left_of_upright_at w h k l s x y x' y' apart (pos a) b (pos c) d of of' =
-    let in_width : a ≤ w = let f = of.right in omega (arith, ints) in
-    let sa = mul-le-mul_left s in_width in
+left_by_upright_at : (v u v' u' d l k k' s s' : ℕ) (x y x' y' : ℤ) → ((far x +ℤ pos (end l v s)) +ℤ fine d) ≤ℤ (far x' +ℤ pos (start l s'))
+    → (a b c e : ℤ) → IsOfPage l (of_sides v u) (point a b) → IsOfPage l (of_sides v' u') (point c e)
+    → ((stands (of_sides v u) (placed Upright k s x y) (point a b)).x +ℤ fine d) ≤ℤ (stands (of_sides v' u') (placed Upright k' s' x' y') (point c e)).x
+left_by_upright_at v u v' u' d l k k' s s' x y x' y' apart (pos a) b (pos c) e of of' =
+    let h = (between l v s a (let f = of.left in omega (arith, ints)) (let f = of.right in omega (arith, ints))).end in
+    let h' = (between l v' s' c (let f = of'.left in omega (arith, ints)) (let f = of'.right in omega (arith, ints))).start in
     omega (arith, ints)
-left_of_upright_at w h k l s x y x' y' apart (negsuc a) b c d of of' = absurd (let f = of.left in omega (arith, ints))
-left_of_upright_at w h k l s x y x' y' apart (pos a) b (negsuc c) d of of' = absurd (let f = of'.left in omega (arith, ints))
+left_by_upright_at v u v' u' d l k k' s s' x y x' y' apart (negsuc a) b c e of of' = absurd (let f = of.left in omega (arith, ints))
+left_by_upright_at v u v' u' d l k k' s s' x y x' y' apart (pos a) b (negsuc c) e of of' = absurd (let f = of'.left in omega (arith, ints))
 
-pub left_of_upright : (w h k l s x y x' y' : ℕ) → 1_270_000_000_000_000 * x + s * w ≤ 1_270_000_000_000_000 * x' → IsLeftOf (of_sides w h) (placed Upright k s x y) (placed Upright l s x' y')
-left_of_upright w h k l s x y x' y' apart p q of of' = left_of_upright_at w h k l s x y x' y' apart p.x p.y q.x q.y of of'
+pub left_by_upright : (v u v' u' d l k k' s s' : ℕ) (x y x' y' : ℤ) → ((far x +ℤ pos (end l v s)) +ℤ fine d) ≤ℤ (far x' +ℤ pos (start l s'))
+    → (p q : Point) → IsOfPage l (of_sides v u) p → IsOfPage l (of_sides v' u') q
+    → ((stands (of_sides v u) (placed Upright k s x y) p).x +ℤ fine d) ≤ℤ (stands (of_sides v' u') (placed Upright k' s' x' y') q).x
+left_by_upright v u v' u' d l k k' s s' x y x' y' apart p q of of' = left_by_upright_at v u v' u' d l k k' s s' x y x' y' apart p.x p.y q.x q.y of of'
 
-above_upright_at : (w h k l s x y x' y' : ℕ) → 1_270_000_000_000_000 * y' + s * h ≤ 1_270_000_000_000_000 * y → (a b c d : ℤ) → IsOfPage (of_sides w h) (point a b) → IsOfPage (of_sides w h) (point c d)
-    → (stands (of_sides w h) (placed Upright l s x' y') (point a b)).y ≤ℤ (stands (of_sides w h) (placed Upright k s x y) (point c d)).y
-above_upright_at w h k l s x y x' y' apart a (pos b) c (pos d) of of' =
-    let in_height : b ≤ h = let f = of.top in omega (arith, ints) in
-    let sb = mul-le-mul_left s in_height in
+below_by_upright_at : (v u v' u' d l k k' s s' : ℕ) (x y x' y' : ℤ) → ((far y +ℤ pos (end l u s)) +ℤ fine d) ≤ℤ (far y' +ℤ pos (start l s'))
+    → (a b c e : ℤ) → IsOfPage l (of_sides v u) (point a b) → IsOfPage l (of_sides v' u') (point c e)
+    → ((stands (of_sides v u) (placed Upright k s x y) (point a b)).y +ℤ fine d) ≤ℤ (stands (of_sides v' u') (placed Upright k' s' x' y') (point c e)).y
+below_by_upright_at v u v' u' d l k k' s s' x y x' y' apart a (pos b) c (pos e) of of' =
+    let h = (between l u s b (let f = of.bottom in omega (arith, ints)) (let f = of.top in omega (arith, ints))).end in
+    let h' = (between l u' s' e (let f = of'.bottom in omega (arith, ints)) (let f = of'.top in omega (arith, ints))).start in
     omega (arith, ints)
-above_upright_at w h k l s x y x' y' apart a (negsuc b) c d of of' = absurd (let f = of.bottom in omega (arith, ints))
-above_upright_at w h k l s x y x' y' apart a (pos b) c (negsuc d) of of' = absurd (let f = of'.bottom in omega (arith, ints))
+below_by_upright_at v u v' u' d l k k' s s' x y x' y' apart a (negsuc b) c e of of' = absurd (let f = of.bottom in omega (arith, ints))
+below_by_upright_at v u v' u' d l k k' s s' x y x' y' apart a (pos b) c (negsuc e) of of' = absurd (let f = of'.bottom in omega (arith, ints))
 
-pub above_upright : (w h k l s x y x' y' : ℕ) → 1_270_000_000_000_000 * y' + s * h ≤ 1_270_000_000_000_000 * y → IsAbove (of_sides w h) (placed Upright k s x y) (placed Upright l s x' y')
-above_upright w h k l s x y x' y' apart p q of of' = above_upright_at w h k l s x y x' y' apart p.x p.y q.x q.y of of'
+pub below_by_upright : (v u v' u' d l k k' s s' : ℕ) (x y x' y' : ℤ) → ((far y +ℤ pos (end l u s)) +ℤ fine d) ≤ℤ (far y' +ℤ pos (start l s'))
+    → (p q : Point) → IsOfPage l (of_sides v u) p → IsOfPage l (of_sides v' u') q
+    → ((stands (of_sides v u) (placed Upright k s x y) p).y +ℤ fine d) ≤ℤ (stands (of_sides v' u') (placed Upright k' s' x' y') q).y
+below_by_upright v u v' u' d l k k' s s' x y x' y' apart p q of of' = below_by_upright_at v u v' u' d l k k' s s' x y x' y' apart p.x p.y q.x q.y of of'
 
-left_of_left_at : (w h k l s x y x' y' : ℕ) → 1_270_000_000_000_000 * y + s * w ≤ 1_270_000_000_000_000 * y' → (a b c d : ℤ) → IsOfPage (of_sides w h) (point a b) → IsOfPage (of_sides w h) (point c d)
-    → (stands (of_sides w h) (placed Left k s x y) (point a b)).y ≤ℤ (stands (of_sides w h) (placed Left l s x' y') (point c d)).y
-left_of_left_at w h k l s x y x' y' apart (pos a) b (pos c) d of of' =
-    let in_width : a ≤ w = let f = of.right in omega (arith, ints) in
-    let sa = mul-le-mul_left s in_width in
+left_by_left_at : (v u v' u' d l k k' s s' : ℕ) (x y x' y' : ℤ) → ((far y +ℤ pos (end l v s)) +ℤ fine d) ≤ℤ (far y' +ℤ pos (start l s'))
+    → (a b c e : ℤ) → IsOfPage l (of_sides v u) (point a b) → IsOfPage l (of_sides v' u') (point c e)
+    → ((stands (of_sides v u) (placed Left k s x y) (point a b)).y +ℤ fine d) ≤ℤ (stands (of_sides v' u') (placed Left k' s' x' y') (point c e)).y
+left_by_left_at v u v' u' d l k k' s s' x y x' y' apart (pos a) b (pos c) e of of' =
+    let h = (between l v s a (let f = of.left in omega (arith, ints)) (let f = of.right in omega (arith, ints))).end in
+    let h' = (between l v' s' c (let f = of'.left in omega (arith, ints)) (let f = of'.right in omega (arith, ints))).start in
     omega (arith, ints)
-left_of_left_at w h k l s x y x' y' apart (negsuc a) b c d of of' = absurd (let f = of.left in omega (arith, ints))
-left_of_left_at w h k l s x y x' y' apart (pos a) b (negsuc c) d of of' = absurd (let f = of'.left in omega (arith, ints))
+left_by_left_at v u v' u' d l k k' s s' x y x' y' apart (negsuc a) b c e of of' = absurd (let f = of.left in omega (arith, ints))
+left_by_left_at v u v' u' d l k k' s s' x y x' y' apart (pos a) b (negsuc c) e of of' = absurd (let f = of'.left in omega (arith, ints))
 
-pub left_of_left : (w h k l s x y x' y' : ℕ) → 1_270_000_000_000_000 * y + s * w ≤ 1_270_000_000_000_000 * y' → IsLeftOf (of_sides w h) (placed Left k s x y) (placed Left l s x' y')
-left_of_left w h k l s x y x' y' apart p q of of' = left_of_left_at w h k l s x y x' y' apart p.x p.y q.x q.y of of'
+pub left_by_left : (v u v' u' d l k k' s s' : ℕ) (x y x' y' : ℤ) → ((far y +ℤ pos (end l v s)) +ℤ fine d) ≤ℤ (far y' +ℤ pos (start l s'))
+    → (p q : Point) → IsOfPage l (of_sides v u) p → IsOfPage l (of_sides v' u') q
+    → ((stands (of_sides v u) (placed Left k s x y) p).y +ℤ fine d) ≤ℤ (stands (of_sides v' u') (placed Left k' s' x' y') q).y
+left_by_left v u v' u' d l k k' s s' x y x' y' apart p q of of' = left_by_left_at v u v' u' d l k k' s s' x y x' y' apart p.x p.y q.x q.y of of'
 
-above_left_at : (w h k l s x y x' y' : ℕ) → 1_270_000_000_000_000 * x + s * h ≤ 1_270_000_000_000_000 * x' → (a b c d : ℤ) → IsOfPage (of_sides w h) (point a b) → IsOfPage (of_sides w h) (point c d)
-    → neg_ℤ (stands (of_sides w h) (placed Left l s x' y') (point a b)).x ≤ℤ neg_ℤ (stands (of_sides w h) (placed Left k s x y) (point c d)).x
-above_left_at w h k l s x y x' y' apart a (pos b) c (pos d) of of' =
-    let in_height : b ≤ h = let f = of.top in omega (arith, ints) in
-    let sb = mul-le-mul_left s in_height in
+-- the one above the other, as one holds the sheet
+above_by_left_at : (v u v' u' d l k k' s s' : ℕ) (x y x' y' : ℤ) → ((far x +ℤ pos (end l u' s')) +ℤ fine d) ≤ℤ (far x' +ℤ pos (start l s))
+    → (a b c e : ℤ) → IsOfPage l (of_sides v' u') (point a b) → IsOfPage l (of_sides v u) (point c e)
+    → (neg_ℤ (stands (of_sides v' u') (placed Left k' s' x' y') (point a b)).x +ℤ fine d) ≤ℤ neg_ℤ (stands (of_sides v u) (placed Left k s x y) (point c e)).x
+above_by_left_at v u v' u' d l k k' s s' x y x' y' apart a (pos b) c (pos e) of of' =
+    let h = (between l u' s' b (let f = of.bottom in omega (arith, ints)) (let f = of.top in omega (arith, ints))).end in
+    let h' = (between l u s e (let f = of'.bottom in omega (arith, ints)) (let f = of'.top in omega (arith, ints))).start in
     omega (arith, ints)
-above_left_at w h k l s x y x' y' apart a (negsuc b) c d of of' = absurd (let f = of.bottom in omega (arith, ints))
-above_left_at w h k l s x y x' y' apart a (pos b) c (negsuc d) of of' = absurd (let f = of'.bottom in omega (arith, ints))
+above_by_left_at v u v' u' d l k k' s s' x y x' y' apart a (negsuc b) c e of of' = absurd (let f = of.bottom in omega (arith, ints))
+above_by_left_at v u v' u' d l k k' s s' x y x' y' apart a (pos b) c (negsuc e) of of' = absurd (let f = of'.bottom in omega (arith, ints))
 
-pub above_left : (w h k l s x y x' y' : ℕ) → 1_270_000_000_000_000 * x + s * h ≤ 1_270_000_000_000_000 * x' → IsAbove (of_sides w h) (placed Left k s x y) (placed Left l s x' y')
-above_left w h k l s x y x' y' apart p q of of' = above_left_at w h k l s x y x' y' apart p.x p.y q.x q.y of of'
+pub above_by_left : (v u v' u' d l k k' s s' : ℕ) (x y x' y' : ℤ) → ((far x +ℤ pos (end l u' s')) +ℤ fine d) ≤ℤ (far x' +ℤ pos (start l s))
+    → (p q : Point) → IsOfPage l (of_sides v' u') p → IsOfPage l (of_sides v u) q
+    → (neg_ℤ (stands (of_sides v' u') (placed Left k' s' x' y') p).x +ℤ fine d) ≤ℤ neg_ℤ (stands (of_sides v u) (placed Left k s x y) q).x
+above_by_left v u v' u' d l k k' s s' x y x' y' apart p q of of' = above_by_left_at v u v' u' d l k k' s s' x y x' y' apart p.x p.y q.x q.y of of'

@@ -1,106 +1,196 @@
 -- What holds of the pages in a grid.
-use Rattle.std.specs.Prelude.{◌≡◌, ◌≢◌, ℕ, ◌+◌, ◌*◌, ◌/◌, ◌%◌, ◌<◌, ◌≤◌, ◌⊎◌, nat_abs, pos, ◌*ℤ◌, ◌-ℤ◌, Bool, true}
-use Rattle.std.specs.Prelude.{false, List, [], ◌∷◌, map, ⊤, IsTrue}
+use Rattle.std.specs.Prelude.{◌≡◌, ◌≢◌, ℕ, ◌+◌, ◌-◌, ◌*◌, ◌/◌, ◌%◌, ◌<◌, ◌≤◌, ◌⊎◌, nat_abs, ℤ, pos, ◌+ℤ◌, ◌*ℤ◌, ◌-ℤ◌, ◌≤ℤ◌}
+use Rattle.std.specs.Prelude.{Bool, true, false, if◌then◌else◌, List, [], ◌∷◌, map, ⊤, IsTrue, Option}
 use Rattle.std.specs.List.{AllByRecursion, AllZip, range_with_len}
 use Rattle.rules.specs.Papers.{Paper, is_paper}
 use Rattle.rules.specs.Specification.{Item, Spec, Turn, Upright, Left, Right}
 use Rattle.rules.specs.Placement.{Point, matrix_of}
 use Rattle.placement.specs.Printed.{printed_matrix}
-use Rattle.layouts.specs.Placed.{stands, IsInside, AreApart, IsLeftOf, IsAbove}
-use Rattle.layouts.specs.Grids.{Grid, item_in, back_in, held_width, held_height, scale_in, best_grid, whole}
+use Rattle.layouts.specs.declared.arrangement.Arrangement.{Arrangement}
+use Rattle.layouts.specs.declared.arrangement.Binding.{Binding}
+use Rattle.layouts.specs.declared.arrangement.Cells.{Cells}
+use Rattle.layouts.specs.declared.arrangement.Cells.TheVariants.{AtLeast, Exactly}
+use Rattle.layouts.specs.declared.arrangement.Run.{Run}
+use Rattle.layouts.specs.declared.arrangement.Run.TheVariants.{Rows, Columns}
+use Rattle.layouts.specs.declared.arrangement.Turned.{Turned}
+use Rattle.layouts.specs.declared.arrangement.Order.{Order}
+use Rattle.layouts.specs.Placed.{Room, bare, stands, fine, IsOfPage, IsInside, AreApart, IsLeftOf, IsAbove}
+use Rattle.layouts.specs.Cells.{Grid, size, held_width, held_height, step_across, step_down, wide, high, kept, counted}
+use Rattle.layouts.specs.Cells.{scale_in, item_in, back_in, run_in, read_columns, read_rows, row_of, column_of}
+use Rattle.layouts.specs.Cells.{whole}
+use Rattle.layouts.specs.Grids.{best_grid, formed, count_of, room_of, scale_for, plain, plain_order, plain_binding}
+use Rattle.layouts.specs.Grids.{leaf_order, beside}
 
 abbrev pub IsPaper : Paper → Type 0
 IsPaper paper = IsTrue (is_paper paper.width paper.height)
 
--- each page in a cell lies on the sheet
-abbrev pub GridIsInside : Type 0
-GridIsInside = (page_paper sheet_paper : Paper) (g : Grid) (k : ℕ) → IsPaper page_paper → IsPaper sheet_paper
-    → k < g.rows * g.columns → IsInside page_paper sheet_paper (item_in page_paper sheet_paper g k)
+-- a page has a place in the cells of a grid at this scale: something is left of it, and the cells are large enough
+pub record HasPlace (page : Paper) (room : Room) (g : Grid) (scale : ℕ) : Type 0 where
+  pub some_wide : 2_540_000 * room.trim < nat_abs page.width
+  pub some_high : 2_540_000 * room.trim < nat_abs page.height
+  pub above_zero : 0 < scale
+  pub fits : scale ≤ scale_in page room g
 
--- two pages in cells have no inner point in common
+-- each page in a cell lies on what the margin leaves of the sheet
+abbrev pub GridIsInside : Type 0
+GridIsInside = (page : Paper) (room : Room) (g : Grid) (o : Order) (s k : ℕ) → IsPaper page → IsPaper room.paper
+    → HasPlace page room g s → k < size g
+    → IsInside room page (item_in page room g o s k)
+
+-- two pages in cells, also of two papers and two scales, are as far apart as the gap, at least
 abbrev pub GridIsApart : Type 0
 GridIsApart =
-    (page_paper sheet_paper : Paper) (g : Grid) (k l : ℕ) → IsPaper page_paper → IsPaper sheet_paper
-    → k < g.rows * g.columns → l < g.rows * g.columns → k ≢ l
-    → AreApart page_paper (item_in page_paper sheet_paper g k) (item_in page_paper sheet_paper g l)
+    (page page' : Paper) (room : Room) (g : Grid) (o : Order) (s s' k l : ℕ) → IsPaper page → IsPaper page'
+    → IsPaper room.paper → HasPlace page room g s → HasPlace page' room g s' → k < size g → l < size g → k ≢ l
+    → AreApart room page (item_in page room g o s k) page' (item_in page' room g o s' l)
 
--- as one holds the sheet, page k stands in row k / c and column k % c: left of each page in a later column, and above
--- each in a later row
+-- beside one another, the one first: left of it, or right of it
+abbrev pub IsBeside : Room → Turned → (right_to_left : Bool) → (page : Paper) → (one : Item) → (page' : Paper) → (other : Item) → Type 0
+IsBeside room t false page one page' other = IsLeftOf room t page one page' other
+IsBeside room t true page one page' other = IsLeftOf room t page' other page one
+
+-- in a run of the order the one comes first; and in another run, one that comes first
+abbrev pub ComesInRun : Run → Room → Turned → (right_to_left : Bool) → (page : Paper) → (one : Item) → (page' : Paper) → (other : Item) → Type 0
+ComesInRun Rows room t right_to_left page one page' other = IsBeside room t right_to_left page one page' other
+ComesInRun Columns room t right_to_left page one page' other = IsAbove room t page one page' other
+
+abbrev pub ComesInRunBefore : Run → Room → Turned → (right_to_left : Bool) → (page : Paper) → (one : Item) → (page' : Paper) → (other : Item) → Type 0
+ComesInRunBefore Rows room t right_to_left page one page' other = IsAbove room t page one page' other
+ComesInRunBefore Columns room t right_to_left page one page' other = IsBeside room t right_to_left page one page' other
+
+-- as one reads the sheet, page k is the (k % run)th of its run, and stands in the (k / run)th
 abbrev pub GridIsInOrder : Type 0
 GridIsInOrder =
-    (page_paper sheet_paper : Paper) (g : Grid) (k l : ℕ) → IsPaper page_paper → IsPaper sheet_paper
-    → k < g.rows * g.columns → l < g.rows * g.columns
-    → (k % g.columns < l % g.columns
-    → IsLeftOf page_paper (item_in page_paper sheet_paper g k) (item_in page_paper sheet_paper g l))
-    × (k / g.columns < l / g.columns
-    → IsAbove page_paper (item_in page_paper sheet_paper g k) (item_in page_paper sheet_paper g l))
+    (page page' : Paper) (room : Room) (g : Grid) (o : Order) (s s' k l : ℕ) → IsPaper page → IsPaper page'
+    → IsPaper room.paper → HasPlace page room g s → HasPlace page' room g s' → k < size g → l < size g
+    → (k % run_in o.run o.turned g < l % run_in o.run o.turned g
+    → ComesInRun o.run room o.turned o.right_to_left page (item_in page room g o s k) page' (item_in page' room g o s' l))
+    × (k / run_in o.run o.turned g < l / run_in o.run o.turned g
+    → ComesInRunBefore o.run room o.turned o.right_to_left page (item_in page room g o s k) page' (item_in page' room g o s' l))
 
--- cells that are exact parts of the sheet have room for pages of this scale, in 10^-9
-pub record Allows (page_paper sheet_paper : Paper) (g : Grid) (scale : ℕ) : Type 0 where
-  pub wide : scale * nat_abs page_paper.width * g.columns ≤ 1_000_000_000 * held_width g.turned sheet_paper
-  pub high : scale * nat_abs page_paper.height * g.rows ≤ 1_000_000_000 * held_height g.turned sheet_paper
+-- exact parts of what the margins and the gaps leave have room for pages of this scale, in 10^-9
+pub record Allows (page : Paper) (room : Room) (g : Grid) (scale : ℕ) : Type 0 where
+  pub wide : scale * counted room page.width * g.columns + 1_270_000_000_000_000 * (kept room room.gap * g.columns)
+      ≤ 1_000_000_000 * (held_width g.turned room.paper - 2_540_000 * kept room room.edge)
+      + 1_270_000_000_000_000 * kept room room.gap
+  pub high : scale * counted room page.height * g.rows + 1_270_000_000_000_000 * (kept room room.gap * g.rows)
+      ≤ 1_000_000_000 * (held_height g.turned room.paper - 2_540_000 * kept room room.edge)
+      + 1_270_000_000_000_000 * kept room room.gap
 
--- the page's sides are 11 points or more
-abbrev pub IsNotTiny : (page_paper : Paper) → Type 0
-IsNotTiny page_paper = (1_397_000_000_000 ≤ nat_abs page_paper.width) × (1_397_000_000_000 ≤ nat_abs page_paper.height)
+-- the sides that count are 11 points or more
+abbrev pub IsNotTiny : (page : Paper) → Room → Type 0
+IsNotTiny page room = (1_397_000_000_000 ≤ counted room page.width) × (1_397_000_000_000 ≤ counted room page.height)
 
--- no grid of n cells, upright or turned, allows a scale that is larger by 10^-6 or more
+-- no grid of n cells or more, upright or turned, allows a scale that is larger by 10^-6 or more
 abbrev pub BestIsLarge : Type 0
 BestIsLarge =
-    (page_paper sheet_paper : Paper) (n : ℕ) (g : Grid) (scale : ℕ) → IsNotTiny page_paper → 0 < n
-    → g.rows * g.columns ≡ n → Allows page_paper sheet_paper g scale
-    → scale < scale_in page_paper sheet_paper (best_grid page_paper sheet_paper n) + 1_000
+    (page : Paper) (room : Room) (n : ℕ) (g : Grid) (t : ℕ) → IsNotTiny page room → 0 < n
+    → n ≤ size g → Allows page room g t
+    → t < scale_in page room (best_grid page room n) + 1_000
 
--- the chosen grid has n cells
+-- the one has the larger scale; or the same, and no more cells; of grids with the same scale and as many cells it is
+-- upright if the other is, and has no more columns if both are
+pub record IsAsGood (page : Paper) (room : Room) (one other : Grid) : Type 0 where
+  pub large : scale_in page room other ≤ scale_in page room one
+  pub few : scale_in page room one ≡ scale_in page room other → size one ≤ size other
+  pub upright : scale_in page room one ≡ scale_in page room other → size one ≡ size other
+      → other.turned ≡ false → one.turned ≡ false
+  pub narrow : scale_in page room one ≡ scale_in page room other → size one ≡ size other
+      → one.turned ≡ other.turned → one.columns ≤ other.columns
+
+-- no grid of n cells or more is better
+abbrev pub BestIsBest : Type 0
+BestIsBest = (page : Paper) (room : Room) (n : ℕ) (g : Grid) → 0 < n → n ≤ size g
+    → IsAsGood page room (best_grid page room n) g
+
+-- the chosen grid has n cells or more
 abbrev pub BestHasCells : Type 0
-BestHasCells = (page_paper sheet_paper : Paper) (n : ℕ) → 0 < n
-    → (best_grid page_paper sheet_paper n).rows * (best_grid page_paper sheet_paper n).columns ≡ n
+BestHasCells = (page : Paper) (room : Room) (n : ℕ) → 0 < n → n ≤ size (best_grid page room n)
 
--- each page of a sheet turned by half lies on the sheet too
+-- each page of a sheet turned by half lies on what the margin leaves too
 abbrev pub BackIsInside : Type 0
-BackIsInside = (page_paper sheet_paper : Paper) (g : Grid) (n k : ℕ) → IsPaper page_paper → IsPaper sheet_paper
-    → k < g.rows * g.columns → IsInside page_paper sheet_paper (back_in page_paper sheet_paper g n k)
-
--- and as one holds it, page k is left of each in a later column
-abbrev pub BackIsInOrder : Type 0
-BackIsInOrder =
-    (page_paper sheet_paper : Paper) (g : Grid) (n k l : ℕ) → IsPaper page_paper → IsPaper sheet_paper
-    → k < g.rows * g.columns → l < g.rows * g.columns
-    → k % g.columns < l % g.columns
-    → IsLeftOf page_paper (back_in page_paper sheet_paper g n k) (back_in page_paper sheet_paper g n l)
-    × AreApart page_paper (back_in page_paper sheet_paper g n k) (back_in page_paper sheet_paper g n l)
+BackIsInside = (page : Paper) (room : Room) (g : Grid) (o : Order) (s n k : ℕ) → IsPaper page → IsPaper room.paper
+    → HasPlace page room g s → k < size g
+    → IsInside room page (back_in page room g o s n k)
 
 -- the other stands where the one would, were the sheet turned by half about the middle of its whole 10^-5 of a point
-pub record IsHalfTurnOf (page_paper sheet_paper : Paper) (one other : Item) : Type 0 where
+pub record IsHalfTurnOf (page sheet : Paper) (one other : Item) : Type 0 where
   pub across : (p : Point)
-      → (stands page_paper other p).x
-      ≡ (pos 1_270_000_000_000_000 *ℤ pos (whole (nat_abs sheet_paper.width))) -ℤ (stands page_paper one p).x
+      → (stands page other p).x
+      ≡ (pos 1_270_000_000_000_000 *ℤ pos (whole (nat_abs sheet.width))) -ℤ (stands page one p).x
   pub up : (p : Point)
-      → (stands page_paper other p).y
-      ≡ (pos 1_270_000_000_000_000 *ℤ pos (whole (nat_abs sheet_paper.height))) -ℤ (stands page_paper one p).y
+      → (stands page other p).y
+      ≡ (pos 1_270_000_000_000_000 *ℤ pos (whole (nat_abs sheet.height))) -ℤ (stands page one p).y
 
 abbrev pub BackIsHalfTurn : Type 0
-BackIsHalfTurn = (page_paper sheet_paper : Paper) (g : Grid) (n k : ℕ) → k < g.rows * g.columns
-    → IsHalfTurnOf page_paper sheet_paper (item_in page_paper sheet_paper g k) (back_in page_paper sheet_paper g n k)
+BackIsHalfTurn = (page : Paper) (room : Room) (g : Grid) (o : Order) (s n k : ℕ)
+    → IsHalfTurnOf page room.paper (item_in page room g o s k) (back_in page room g o s n k)
 
 -- the shift of the page is printed as it is: the matrix that is written is the item's own
-abbrev pub IsExact : (page_paper : Paper) → Item → Type 0
-IsExact page_paper item = printed_matrix (matrix_of page_paper item) ≡ matrix_of page_paper item
+abbrev pub IsExact : (page : Paper) → Item → Type 0
+IsExact page item = printed_matrix (matrix_of page item) ≡ matrix_of page item
 
 abbrev pub PrintedAsItIs : Type 0
-PrintedAsItIs = (page_paper sheet_paper : Paper) (g : Grid) (n k : ℕ)
-    → IsExact page_paper (item_in page_paper sheet_paper g k) × IsExact page_paper (back_in page_paper sheet_paper g n k)
+PrintedAsItIs = (page : Paper) (room : Room) (g : Grid) (o : Order) (s n k : ℕ)
+    → IsExact page (item_in page room g o s k) × IsExact page (back_in page room g o s n k)
+
+-- a cell on the sheet, in 10^-5 of a point
+pub record Cell : Type 0 where
+  pub left : ℕ
+  pub bottom : ℕ
+  pub width : ℕ
+  pub height : ℕ
+
+-- the cell in this row and column, as one holds the sheet for its pages to be upright
+abbrev pub cell_at : Room → Grid → (row column : ℕ) → Cell
+cell_at room g row column = if g.turned
+    then record {
+      left = kept room room.edge + row * step_down room g;
+      bottom = kept room room.edge + column * step_across room g;
+      width = high room g;
+      height = wide room g;
+    }
+    else record {
+      left = kept room room.edge + column * step_across room g;
+      bottom = kept room room.edge + (g.rows - (row + 1)) * step_down room g;
+      width = wide room g;
+      height = high room g;
+    }
+
+-- twice a number is as far from the sum of these two as 2 * 10^-5 of a point, at most
+abbrev pub IsMean : (twice : ℕ) → (one other : ℤ) → Type 0
+IsMean twice one other =
+    ((one +ℤ other) ≤ℤ pos (1_270_000_000_000_000 * twice + 2_540_000_000_000_000))
+    × (pos (1_270_000_000_000_000 * twice) ≤ℤ ((one +ℤ other) +ℤ pos 2_540_000_000_000_000))
+
+-- the middle of the page, which is halfway between its lower left and its upper right corner, is the middle of the cell,
+-- to 10^-5 of a point
+pub record IsInMiddle (page : Paper) (cell : Cell) (item : Item) : Type 0 where
+  pub across : IsMean (2 * cell.left + cell.width) (stands page item (record { x = pos 0; y = pos 0 })).x
+      (stands page item (record { x = page.width; y = page.height })).x
+  pub up : IsMean (2 * cell.bottom + cell.height) (stands page item (record { x = pos 0; y = pos 0 })).y
+      (stands page item (record { x = page.width; y = page.height })).y
+
+abbrev pub GridIsInMiddle : Type 0
+GridIsInMiddle = (page : Paper) (room : Room) (g : Grid) (o : Order) (s k : ℕ) → IsPaper page
+    → HasPlace page room g s
+    → IsInMiddle page (cell_at room g (row_of o g k) (column_of o g k)) (item_in page room g o s k)
+
+-- ---- what holds of a specification
 
 -- each two of them, the earlier one first
 abbrev pub EachTwo : (Item → Item → Type 0) → List Item → Type 0
 EachTwo R [] = ⊤
 EachTwo R (i ∷ items) = AllByRecursion (R i) items × EachTwo R items
 
--- page k stands in row k / columns and column k % columns, as one holds the sheet
-pub record IsInOrder (page_paper : Paper) (columns : ℕ) (one other : Item) : Type 0 where
-  pub left : one.page % columns < other.page % columns → IsLeftOf page_paper one other
-  pub right : other.page % columns < one.page % columns → IsLeftOf page_paper other one
-  pub above : one.page / columns < other.page / columns → IsAbove page_paper one other
+-- as one reads the sheet, pages run along rows or columns of so many, from the left or from the right, from the top down
+pub record IsInOrder (page : Paper) (room : Room) (o : Order) (run : ℕ) (one other : Item) : Type 0 where
+  pub forth : one.page % run < other.page % run
+      → ComesInRun o.run room o.turned o.right_to_left page one page other
+  pub back : other.page % run < one.page % run
+      → ComesInRun o.run room o.turned o.right_to_left page other page one
+  pub next : one.page / run < other.page / run
+      → ComesInRunBefore o.run room o.turned o.right_to_left page one page other
 
 -- it has this turn and this scale, in 10^-9, and counts pages from the start
 pub record IsLike (turn : Turn) (scale : ℕ) (i : Item) : Type 0 where
@@ -108,51 +198,121 @@ pub record IsLike (turn : Turn) (scale : ℕ) (i : Item) : Type 0 where
   pub scale_is : i.scale ≡ pos scale
   pub from_start : i.from_end ≡ false
 
--- pages of one turn and one scale, in rows of so many columns: on the sheet, apart, in reading order, and printed
--- exactly
-pub record IsLaidOut (page_paper sheet_paper : Paper) (turn : Turn) (scale columns : ℕ)
-    (items : List Item) : Type 0 where
+-- pages of one turn and one scale, in runs of so many: on what the margin leaves of the sheet, apart by the gap, in
+-- order, and printed exactly
+pub record IsLaidOut (page : Paper) (room : Room) (o : Order) (turn : Turn) (scale run : ℕ) (items : List Item) : Type 0 where
   pub like : AllByRecursion (IsLike turn scale) items
-  pub inside : AllByRecursion (IsInside page_paper sheet_paper) items
-  pub apart : EachTwo (AreApart page_paper) items
-  pub in_order : EachTwo (IsInOrder page_paper columns) items
-  pub exact : AllByRecursion (IsExact page_paper) items
+  pub inside : AllByRecursion (IsInside room page) items
+  pub apart : EachTwo (λ one other. AreApart room page one page other) items
+  pub in_order : EachTwo (IsInOrder page room o run) items
+  pub exact : AllByRecursion (IsExact page) items
 
 -- these pages of a block, in order
 abbrev pub ArePages : (first n : ℕ) → List Item → Type 0
 ArePages first n items = map (λ i. i.page) items ≡ range_with_len first n
 
--- n pages on each sheet, in rows and columns, as large as any grid allows
-pub record IsNUp (page_paper sheet_paper : Paper) (n : ℕ) (spec : Spec) : Type 0 where
-  pub modulo : spec.modulo ≡ n
+-- the grid is the one that is asked for, and takes pages as large as any, of this scale: with so many cells or more no
+-- grid allows a scale that is larger by 10^-6 or more, and none with as large a scale has fewer cells
+abbrev pub IsChosen : (page : Paper) → Room → Turned → Cells → (largest : ℕ) → Grid → Type 0
+IsChosen page room t (AtLeast n) largest g =
+    (n ≤ size g)
+    × ((h : Grid) (s : ℕ) → IsNotTiny page room → n ≤ size h → Allows page room h s → s < largest + 1_000)
+    × ((h : Grid) → n ≤ size h → largest ≤ scale_in page room h → size g ≤ size h)
+IsChosen page room t (Exactly columns rows) largest g =
+    (read_columns t g ≡ columns) × (read_rows t g ≡ rows)
+    × ((b : Bool) (s : ℕ) → IsNotTiny page room → Allows page room (formed t b columns rows) s → s < largest + 1_000)
+
+-- each page stands in the middle of its cell
+abbrev pub AreInMiddle : (page : Paper) → Room → Grid → Order → List Item → Type 0
+AreInMiddle page room g o items =
+    AllByRecursion (λ i. IsInMiddle page (cell_at room g (row_of o g i.page) (column_of o g i.page)) i) items
+
+-- pages in these cells of a room, in this order, and with this scale if one is asked for
+pub record IsArrangedIn (page : Paper) (room : Room) (cells : Cells) (o : Order) (asked : Option ℤ) (spec : Spec) : Type 0 where
+  pub modulo : spec.modulo ≡ count_of cells
   pub items : List Item
   pub one_group : spec.groups ≡ items ∷ []
-  pub pages : ArePages 0 n items
+  pub pages : ArePages 0 (count_of cells) items
   pub turn : Turn
   pub upright_or_left : (turn ≡ Upright) ⊎ (turn ≡ Left)
+  pub grid : Grid
+  pub largest : ℕ
+  pub chosen : IsChosen page room o.turned cells largest grid
   pub scale : ℕ
-  pub rows : ℕ
-  pub columns : ℕ
-  pub cells : rows * columns ≡ n
-  pub laid_out : IsLaidOut page_paper sheet_paper turn scale columns items
-  pub large : (g : Grid) (t : ℕ) → IsNotTiny page_paper → g.rows * g.columns ≡ n
-      → Allows page_paper sheet_paper g t → t < scale + 1_000
+  pub scale_is : scale ≡ scale_for asked largest
+  pub laid_out : IsLaidOut page room o turn scale (run_in o.run o.turned grid) items
+  pub middle : AreInMiddle page room grid o items
+
+-- pages on each sheet as they are asked for
+abbrev pub IsArranged : (page sheet : Paper) → Arrangement → Spec → Type 0
+IsArranged page sheet a spec = IsArrangedIn page (room_of sheet a.margin a.gap a.trim) a.cells a.order a.scale spec
+
+-- n pages on each sheet, in rows and columns, as large as any grid allows
+abbrev pub IsNUp : (page sheet : Paper) → (n : ℕ) → Spec → Type 0
+IsNUp page sheet n spec = IsArranged page sheet (plain (AtLeast n)) spec
+
+-- ---- leaves
 
 -- the sides of a leaf: one side, or for printers that flip on the long edge a front, and a back that is turned by half
-abbrev pub AreSides : (page_paper sheet_paper : Paper) → (long_edge : Bool) → (scale : ℕ) → Spec → Type 0
-AreSides page_paper sheet_paper false scale spec =
+abbrev pub AreSidesIn : (page : Paper) → Room → Order → (long_edge : Bool) → (scale : ℕ) → Spec → Type 0
+AreSidesIn page room o false scale spec =
     (front : List Item) × (spec.modulo ≡ 2) × (spec.groups ≡ front ∷ []) × ArePages 0 2 front
-    × IsLaidOut page_paper sheet_paper Left scale 2 front
-AreSides page_paper sheet_paper true scale spec =
+    × IsLaidOut page room o Left scale 2 front
+AreSidesIn page room o true scale spec =
     (front back : List Item) × (spec.modulo ≡ 4) × (spec.groups ≡ front ∷ back ∷ []) × ArePages 0 2 front
-    × ArePages 2 2 back × AllZip (IsHalfTurnOf page_paper sheet_paper) front back
-    × IsLaidOut page_paper sheet_paper Left scale 2 front × IsLaidOut page_paper sheet_paper Right scale 2 back
+    × ArePages 2 2 back × AllZip (IsHalfTurnOf page room.paper) front back
+    × IsLaidOut page room o Left scale 2 front × IsLaidOut page room o Right scale 2 back
+
+abbrev pub AreSides : (page sheet : Paper) → (long_edge : Bool) → (scale : ℕ) → Spec → Type 0
+AreSides page sheet long_edge scale spec = AreSidesIn page (bare sheet) plain_order long_edge scale spec
+
+-- the page lies before a line across the sheet, or behind it, by half of the gap; the line is twice as far up as said
+abbrev pub LiesBefore : Room → (twice : ℕ) → (page : Paper) → Item → Type 0
+LiesBefore room twice page item = (p : Point) → IsOfPage room.trim page p
+    → ((pos 2 *ℤ (stands page item p).y) +ℤ fine room.gap) ≤ℤ fine twice
+
+abbrev pub LiesBehind : Room → (twice : ℕ) → (page : Paper) → Item → Type 0
+LiesBehind room twice page item = (p : Point) → IsOfPage room.trim page p
+    → (fine twice +ℤ fine room.gap) ≤ℤ (pos 2 *ℤ (stands page item p).y)
+
+-- a line across the sheet, in its middle to 10^-5 of a point, with the one page before it and the other behind it, each by
+-- half of the gap: nothing crosses the fold
+pub record KeepsFold (page : Paper) (room : Room) (one other : Item) : Type 0 where
+  pub twice : ℕ
+  pub no_farther : twice ≤ whole (nat_abs room.paper.height) + 1
+  pub no_nearer : whole (nat_abs room.paper.height) ≤ twice + 1
+  pub before : LiesBefore room twice page one
+  pub behind : LiesBehind room twice page other
+
+-- the two pages of a side, of which the second comes first if they stand from the right
+abbrev pub AreFolded : (page : Paper) → Room → (right_to_left : Bool) → List Item → Type 0
+AreFolded page room false items = (one other : Item) × (items ≡ one ∷ other ∷ []) × KeepsFold page room one other
+AreFolded page room true items = (one other : Item) × (items ≡ one ∷ other ∷ []) × KeepsFold page room other one
+
+-- on a leaf the first page lies before the fold, and the second behind it; from the right it is the other way
+abbrev pub LeafKeepsFold : Type 0
+LeafKeepsFold = (page : Paper) (room : Room) (right_to_left : Bool) (s : ℕ) → IsPaper page → IsPaper room.paper
+    → HasPlace page room (beside true) s
+    → KeepsFold page room (item_in page room (beside true) (leaf_order right_to_left) s (if right_to_left then 1 else 0))
+    (item_in page room (beside true) (leaf_order right_to_left) s (if right_to_left then 0 else 1))
+
+-- bound at the right a page stands where the other one stands in a booklet that is bound at the left, and differs in
+-- nothing else
+abbrev pub RightToLeftIsMirror : Type 0
+RightToLeftIsMirror = (page : Paper) (room : Room) (s k : ℕ) → k < 2
+    → item_in page room (beside true) (leaf_order true) s k
+    ≡ record (item_in page room (beside true) (leaf_order false) s (1 - k)) { page = k }
 
 -- two pages side by side on each side of a leaf, as large as any two side by side; the fold is parallel to the shorter
 -- edge, as they are turned to the left on a sheet that is no wider than high
-pub record IsBooklet (page_paper sheet_paper : Paper) (long_edge : Bool) (spec : Spec) : Type 0 where
-  pub fold : nat_abs sheet_paper.width ≤ nat_abs sheet_paper.height
+pub record IsBound (page sheet : Paper) (b : Binding) (spec : Spec) : Type 0 where
+  pub fold : nat_abs sheet.width ≤ nat_abs sheet.height
   pub scale : ℕ
-  pub sides : AreSides page_paper sheet_paper long_edge scale spec
-  pub large : (g : Grid) (t : ℕ) → IsNotTiny page_paper → g.rows ≡ 1 → g.columns ≡ 2
-      → Allows page_paper sheet_paper g t → t < scale + 1_000
+  pub sides : AreSidesIn page (room_of sheet b.margin b.gap b.trim) (leaf_order b.right_to_left) b.long_edge scale spec
+  pub folded : (front : List Item) (more : List (List Item)) → spec.groups ≡ front ∷ more
+      → AreFolded page (room_of sheet b.margin b.gap b.trim) b.right_to_left front
+  pub large : (g : Grid) (t : ℕ) → IsNotTiny page (room_of sheet b.margin b.gap b.trim) → g.rows ≡ 1 → g.columns ≡ 2
+      → Allows page (room_of sheet b.margin b.gap b.trim) g t → t < scale + 1_000
+
+abbrev pub IsBooklet : (page sheet : Paper) → (long_edge : Bool) → Spec → Type 0
+IsBooklet page sheet long_edge spec = IsBound page sheet (plain_binding long_edge) spec

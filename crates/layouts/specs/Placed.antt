@@ -1,10 +1,12 @@
 -- Where the pages of a layout stand on their sheet, and how they stand to one another. A page and a sheet each have a
 -- paper. A sheet is measured here in 10^-9 of a grain: a scale, in 10^-9, times a whole number of grains is a whole
 -- number of these.
-use Rattle.std.specs.Prelude.{◌≡◌, ℤ, pos, ◌*ℤ◌, neg_ℤ, ◌≤ℤ◌, ◌⊎◌}
+use Rattle.std.specs.Prelude.{◌≡◌, ℕ, ◌*◌, ℤ, pos, ◌+ℤ◌, ◌*ℤ◌, neg_ℤ, ◌≤ℤ◌, ◌⊎◌}
 use Rattle.rules.specs.Papers.{Paper}
 use Rattle.rules.specs.Specification.{Item, Turn, Upright, Left, Half, Right}
 use Rattle.rules.specs.Placement.{Point, offset, turned, moved, put}
+use Rattle.layouts.specs.declared.arrangement.Turned.{Turned}
+use Rattle.layouts.specs.declared.arrangement.Turned.TheVariants as sideways
 
 abbrev pub times : ℤ → Point → Point
 times n p = record { x = n *ℤ p.x; y = n *ℤ p.y }
@@ -13,38 +15,55 @@ times n p = record { x = n *ℤ p.x; y = n *ℤ p.y }
 abbrev pub finer : Point → Point
 finer p = times (pos 1_000_000_000) p
 
+-- so many 10^-5 of a point, in 10^-9 of a grain
+abbrev pub fine : ℕ → ℤ
+fine n = pos (1_270_000_000_000_000 * n)
+
 -- where a point of the page, in grains, stands on the sheet: it is scaled, then turned, then moved
-abbrev pub stands : (page_paper : Paper) → Item → Point → Point
-stands page_paper item p = moved (finer (offset page_paper item)) (turned item.turn (times item.scale p))
+abbrev pub stands : (page : Paper) → Item → Point → Point
+stands page item p = moved (finer (offset page item)) (turned item.turn (times item.scale p))
 
 -- a whole point of the page stands where the item puts it: a law
 abbrev pub StandsWherePut : Type 0
-StandsWherePut = (page_paper : Paper) (item : Item) (p : Point)
-    → stands page_paper item (times (pos 127_000_000_000) p) ≡ finer (put page_paper item p)
+StandsWherePut = (page : Paper) (item : Item) (p : Point)
+    → stands page item (times (pos 127_000_000_000) p) ≡ finer (put page item p)
 
--- the page has this point, in grains
-pub record IsOfPage (page_paper : Paper) (p : Point) : Type 0 where
-  pub left : pos 0 ≤ℤ p.x
-  pub right : p.x ≤ℤ page_paper.width
-  pub bottom : pos 0 ≤ℤ p.y
-  pub top : p.y ≤ℤ page_paper.height
+-- the page has this point, in grains, and if so many 10^-5 of a point are trimmed along each of its sides, it still does
+pub record IsOfPage (trim : ℕ) (page : Paper) (p : Point) : Type 0 where
+  pub left : pos (1_270_000 * trim) ≤ℤ p.x
+  pub right : (p.x +ℤ pos (1_270_000 * trim)) ≤ℤ page.width
+  pub bottom : pos (1_270_000 * trim) ≤ℤ p.y
+  pub top : (p.y +ℤ pos (1_270_000 * trim)) ≤ℤ page.height
 
--- the sheet has this point, in 10^-9 of a grain
-pub record LiesOn (sheet_paper : Paper) (p : Point) : Type 0 where
-  pub left : pos 0 ≤ℤ p.x
-  pub right : p.x ≤ℤ (pos 1_000_000_000 *ℤ sheet_paper.width)
-  pub bottom : pos 0 ≤ℤ p.y
-  pub top : p.y ≤ℤ (pos 1_000_000_000 *ℤ sheet_paper.height)
+-- a sheet: its paper, what is kept free along each of its edges, what is kept free between its cells, and what is
+-- trimmed of its pages along each of their sides, in 10^-5 of a point
+pub record Room : Type 0 where
+  pub paper : Paper
+  pub edge : ℕ
+  pub gap : ℕ
+  pub trim : ℕ
 
--- each point of the placed page, its corners among them, lies on the sheet
-abbrev pub IsInside : (page_paper sheet_paper : Paper) → Item → Type 0
-IsInside page_paper sheet_paper item =
-    (p : Point) → IsOfPage page_paper p → LiesOn sheet_paper (stands page_paper item p)
+-- nothing is kept free
+abbrev pub bare : (sheet : Paper) → Room
+bare sheet = record { paper = sheet; edge = 0; gap = 0; trim = 0 }
 
--- measured so, no point of the one page lies behind one of the other
-abbrev pub ComesFirst : (Point → ℤ) → (page_paper : Paper) → (one other : Item) → Type 0
-ComesFirst by page_paper one other = (p q : Point) → IsOfPage page_paper p → IsOfPage page_paper q
-    → by (stands page_paper one p) ≤ℤ by (stands page_paper other q)
+-- the sheet has this point, in 10^-9 of a grain, at least so far from each edge
+pub record LiesWithin (sheet : Paper) (edge : ℕ) (p : Point) : Type 0 where
+  pub left : fine edge ≤ℤ p.x
+  pub right : (p.x +ℤ fine edge) ≤ℤ (pos 1_000_000_000 *ℤ sheet.width)
+  pub bottom : fine edge ≤ℤ p.y
+  pub top : (p.y +ℤ fine edge) ≤ℤ (pos 1_000_000_000 *ℤ sheet.height)
+
+-- each point of the placed page, its corners among them, lies on what the margin leaves of the sheet
+abbrev pub IsInside : Room → (page : Paper) → Item → Type 0
+IsInside room page item = (p : Point) → IsOfPage room.trim page p
+    → LiesWithin room.paper room.edge (stands page item p)
+
+-- measured so, each point of the one page comes before each of the other, and that by the gap
+abbrev pub ComesFirst : (Point → ℤ) → Room → (page : Paper) → (one : Item) → (page' : Paper) → (other : Item) → Type 0
+ComesFirst by room page one page' other =
+    (p q : Point) → IsOfPage room.trim page p → IsOfPage room.trim page' q
+    → (by (stands page one p) +ℤ fine room.gap) ≤ℤ by (stands page' other q)
 
 abbrev pub across : Point → ℤ
 across p = p.x
@@ -52,22 +71,29 @@ across p = p.x
 abbrev pub up : Point → ℤ
 up p = p.y
 
--- a line along a side of the sheet parts them, and so they have no inner point in common
-abbrev pub AreApart : (page_paper : Paper) → (one other : Item) → Type 0
-AreApart page_paper one other =
-    (ComesFirst across page_paper one other ⊎ ComesFirst across page_paper other one)
-    ⊎ (ComesFirst up page_paper one other ⊎ ComesFirst up page_paper other one)
+-- a strip along a side of the sheet, as wide as the gap, parts them: so they have no inner point in common
+abbrev pub AreApart : Room → (page : Paper) → (one : Item) → (page' : Paper) → (other : Item) → Type 0
+AreApart room page one page' other =
+    (ComesFirst across room page one page' other ⊎ ComesFirst across room page' other page one)
+    ⊎ (ComesFirst up room page one page' other ⊎ ComesFirst up room page' other page one)
 
--- a point of the sheet as one holds it to read pages of this turn
+-- a point of the sheet as one holds it for pages of this turn to be upright
 abbrev pub held : Turn → Point → Point
 held Upright p = p
 held Left p = record { x = p.y; y = neg_ℤ p.x }
 held Half p = record { x = neg_ℤ p.x; y = neg_ℤ p.y }
 held Right p = record { x = neg_ℤ p.y; y = p.x }
 
--- as one holds the sheet, the one page stands left of the other, or above it
-abbrev pub IsLeftOf : (page_paper : Paper) → (one other : Item) → Type 0
-IsLeftOf page_paper one other = ComesFirst (λ p. across (held one.turn p)) page_paper one other
+-- and as one turns it further, if what stands on the pages lies on its side: to the left if one turns a page to the left
+-- to read it
+abbrev pub read : Turned → Point → Point
+read sideways.Upright p = p
+read sideways.Left p = held Right p
+read sideways.Right p = held Left p
 
-abbrev pub IsAbove : (page_paper : Paper) → (one other : Item) → Type 0
-IsAbove page_paper one other = ComesFirst (λ p. up (held one.turn p)) page_paper other one
+-- as one reads the sheet, the one page stands left of the other, or above it, by the gap
+abbrev pub IsLeftOf : Room → Turned → (page : Paper) → (one : Item) → (page' : Paper) → (other : Item) → Type 0
+IsLeftOf room r page one page' other = ComesFirst (λ p. across (read r (held one.turn p))) room page one page' other
+
+abbrev pub IsAbove : Room → Turned → (page : Paper) → (one : Item) → (page' : Paper) → (other : Item) → Type 0
+IsAbove room r page one page' other = ComesFirst (λ p. up (read r (held one.turn p))) room page' other page one

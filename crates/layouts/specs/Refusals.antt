@@ -1,11 +1,17 @@
 -- Why there is no layout.
-use Rattle.std.specs.Prelude.{◌≡◌, ◌⊎◌, ℕ, nat_abs, Bool, true, false, ◌&&◌, ◌||◌, nat_le, nat_lt, if◌then◌else◌}
-use Rattle.std.specs.Prelude.{Option, Some, None}
+use Rattle.std.specs.Prelude.{◌≡◌, ◌⊎◌, ℕ, ◌+◌, ◌*◌, ℤ, pos, int_le, nat_abs, Bool, true, false, ◌&&◌, ◌||◌, nat_le, nat_lt}
+use Rattle.std.specs.Prelude.{◌==◌, if◌then◌else◌, Option, Some, None}
 use Rattle.rules.specs.Papers.{Paper}
+use Rattle.layouts.specs.Placed.{Room, bare}
+use Rattle.layouts.specs.declared.arrangement.Arrangement.{Arrangement}
+use Rattle.layouts.specs.declared.arrangement.Binding.{Binding}
 use Rattle.layouts.specs.declared.error.LayoutError.{LayoutError}
 use Rattle.layouts.specs.declared.error.LayoutError.TheVariants.{PagesOutOfRange, SideTooLong, FoldOnLongEdge}
 use Rattle.layouts.specs.declared.error.LayoutError.TheVariants.{ScaleOutOfRange, NoMemory}
-use Rattle.layouts.specs.Grids.{scale_in, best_grid, beside, is_itself}
+use Rattle.layouts.specs.declared.error.ArrangementError.{ArrangementError}
+use Rattle.layouts.specs.declared.error.ArrangementError.TheVariants as why
+use Rattle.layouts.specs.Cells.{scale_in, trimmed, whole}
+use Rattle.layouts.specs.Grids.{best_grid, beside, is_same, is_itself, room_of, grid_of, scale_for, count_of}
 
 -- how many pages a sheet takes at most
 abbrev pub most_on_sheet : ℕ
@@ -34,31 +40,92 @@ abbrev pub is_scale : ℕ → Bool
 is_scale scale = nat_le 1 scale && nat_le scale greatest_scale
 
 -- the first reason why n pages of the one paper can't stand on a sheet of the other, if there is one
-abbrev pub why_not : (page_paper sheet_paper : Paper) → ℕ → Option LayoutError
-why_not page_paper sheet_paper n =
+abbrev pub why_not : (page sheet : Paper) → ℕ → Option LayoutError
+why_not page sheet n =
     if is_count n
-    then (if are_reached page_paper && are_reached sheet_paper
-    then (if is_itself page_paper sheet_paper n
-    || is_scale (scale_in page_paper sheet_paper (best_grid page_paper sheet_paper n))
+    then (if are_reached page && are_reached sheet
+    then (if ((n == 1) && is_same page sheet) || is_scale (scale_in page (bare sheet) (best_grid page (bare sheet) n))
     then None else Some ScaleOutOfRange)
     else Some SideTooLong)
     else Some PagesOutOfRange
 
 -- the sheet is no wider than high, and upright pages side by side would not be larger than turned ones
-abbrev pub folds_short : (page_paper sheet_paper : Paper) → Bool
-folds_short page_paper sheet_paper =
-    nat_le (nat_abs sheet_paper.width) (nat_abs sheet_paper.height)
-    && nat_le (scale_in page_paper sheet_paper (beside false)) (scale_in page_paper sheet_paper (beside true))
+abbrev pub folds_short : (page : Paper) → Room → Bool
+folds_short page room =
+    nat_le (nat_abs room.paper.width) (nat_abs room.paper.height)
+    && nat_le (scale_in page room (beside false)) (scale_in page room (beside true))
 
 -- the first reason why a booklet can't be made on such sheets, if there is one
-abbrev pub why_no_booklet : (page_paper sheet_paper : Paper) → Option LayoutError
-why_no_booklet page_paper sheet_paper =
-    if are_reached page_paper && are_reached sheet_paper
-    then (if folds_short page_paper sheet_paper
-    then (if is_scale (scale_in page_paper sheet_paper (beside true)) then None else Some ScaleOutOfRange)
+abbrev pub why_no_booklet : (page sheet : Paper) → Option LayoutError
+why_no_booklet page sheet =
+    if are_reached page && are_reached sheet
+    then (if folds_short page (bare sheet)
+    then (if is_scale (scale_in page (bare sheet) (beside true)) then None else Some ScaleOutOfRange)
     else Some FoldOnLongEdge)
     else Some SideTooLong
 
 -- the error is that one, or out of memory
 abbrev pub IsRefusal : Option LayoutError → LayoutError → Type 0
 IsRefusal why e = (e ≡ NoMemory) ⊎ (why ≡ Some e)
+
+-- ---- arrangements
+
+-- a length from 0 to 99,999 points and five nines behind the dot
+abbrev pub is_length : ℤ → Bool
+is_length z = int_le (pos 0) z && nat_lt (nat_abs z) out_of_reach
+
+-- something is left of the page
+abbrev pub is_shown : (page : Paper) → Room → Bool
+is_shown page room =
+    nat_lt (2_540_000 * room.trim) (nat_abs page.width) && nat_lt (2_540_000 * room.trim) (nat_abs page.height)
+
+-- the corner of a page that counts as smaller is within reach too
+abbrev pub is_near : Room → (scale : ℕ) → Bool
+is_near room s = nat_lt (whole (nat_abs room.paper.width) + trimmed room s) 10_000_000_000
+    && nat_lt (whole (nat_abs room.paper.height) + trimmed room s) 10_000_000_000
+
+abbrev pub first_of : Bool → ArrangementError → Option ArrangementError → Option ArrangementError
+first_of holds e next = if holds then next else Some e
+
+-- why pages can't have this scale in cells that take so large ones at most
+abbrev pub why_no_scale : Room → (scale largest : ℕ) → Option ArrangementError
+why_no_scale room s largest =
+    first_of (nat_le 1 largest) why.NoRoom
+    (first_of (is_scale s) why.ScaleOutOfRange
+    (first_of (nat_le s largest) why.ScaleTooLarge
+    (first_of (is_near room s) why.ScaleOutOfRange None)))
+
+-- why lengths or papers can't be kept to
+abbrev pub why_no_sheet : (page sheet : Paper) → (margin gap trim : ℤ) → Option ArrangementError → Option ArrangementError
+why_no_sheet page sheet margin gap trim next =
+    first_of (are_reached page && are_reached sheet) why.SideTooLong
+    (first_of (is_length margin && is_length gap && is_length trim) why.LengthOutOfRange
+    (first_of (is_shown page (room_of sheet margin gap trim)) why.NothingLeftOfPage next))
+
+-- the first reason why pages can't be arranged so, if there is one
+abbrev pub why_not_arranged : (page sheet : Paper) → Arrangement → Option ArrangementError
+why_not_arranged page sheet a =
+    let room = room_of sheet a.margin a.gap a.trim in
+    let largest = scale_in page room (grid_of page room a.order.turned a.cells) in
+    first_of (is_count (count_of a.cells)) why.CellsOutOfRange
+    (why_no_sheet page sheet a.margin a.gap a.trim
+    (if is_itself page sheet a then None else why_no_scale room (scale_for a.scale largest) largest))
+
+-- the first reason why leaves can't be bound so
+abbrev pub why_not_bound : (page sheet : Paper) → Binding → Option ArrangementError
+why_not_bound page sheet b =
+    let room = room_of sheet b.margin b.gap b.trim in
+    let largest = scale_in page room (beside true) in
+    why_no_sheet page sheet b.margin b.gap b.trim
+    (first_of (folds_short page room) why.FoldOnLongEdge (why_no_scale room largest largest))
+
+abbrev pub IsFault : Option ArrangementError → ArrangementError → Type 0
+IsFault found e = (e ≡ why.NoMemory) ⊎ (found ≡ Some e)
+
+-- what it is if nothing is asked for but cells or leaves
+abbrev pub as_layout : ArrangementError → LayoutError
+as_layout why.CellsOutOfRange = PagesOutOfRange
+as_layout why.SideTooLong = SideTooLong
+as_layout why.FoldOnLongEdge = FoldOnLongEdge
+as_layout why.NoMemory = NoMemory
+as_layout other = ScaleOutOfRange

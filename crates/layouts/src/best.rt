@@ -1,67 +1,67 @@
 //! Which grid takes the largest pages.
-ghost use Rattle.std.specs.Prelude.{◌≡◌, ◌<◌, ◌≤◌};
-ghost use Rattle.layouts.specs.Grids.{better as better_of, best_columns as best_columns_of, best_of as best_of_turn};
-ghost use Rattle.layouts.specs.Grids.{larger as larger_of, best_grid as best_grid_of};
+ghost use Rattle.std.specs.Prelude.{◌≡◌, ◌<◌, ◌≤◌, IsTrue};
+ghost use Rattle.layouts.specs.Refusals.{is_shown, is_count};
+ghost use Rattle.layouts.specs.Grids.{best_of as best_of_turn, better as better_of, best_grid as best_grid_of};
+ghost use Rattle.layouts.specs.Grids.{best_formed as best_formed_of, grid_of as grid_for, count_of};
 
+use super::arrangement::{Cells, Turned};
 use super::grid::Grid;
+use super::room::Room;
 use super::scale::scale_in;
 use lengths::Paper;
 
-/// The grid of n cells, upright or turned, that takes the largest pages: upright if both take as large ones, and
-/// with the fewest columns if several do.
-pub fn best_grid(page_paper: &Paper, sheet_paper: &Paper, n: u32) -> Grid
-    requires some { 0 < n }
-    ensures { result ≡ best_grid_of page_paper.now sheet_paper.now n }
+/// The grid that is asked for, or the best one.
+pub fn grid_of(page: &Paper, room: &Room, reading: Turned, cells: Cells) -> Grid
+    requires shown { IsTrue (is_shown page.now room.now) }
+    requires cells { IsTrue (is_count (count_of cells)) }
+    ensures { result ≡ grid_for page.now room.now reading cells }
 {
-    larger(
-        page_paper,
-        sheet_paper,
-        best_of(page_paper, sheet_paper, false, n),
-        best_of(page_paper, sheet_paper, true, n),
+    match cells {
+        Cells::AtLeast(n) => best_grid(page, room, n),
+        Cells::Exactly { columns, rows } => better(
+            page,
+            room,
+            Grid::formed(reading, false, columns, rows),
+            Grid::formed(reading, true, columns, rows),
+        ),
+    }
+}
+
+/// The grid of n cells or more, upright or turned, that takes the largest pages: of several the one with the fewest
+/// cells, then upright, then with the fewest columns.
+fn best_grid(page: &Paper, room: &Room, n: u32) -> Grid
+    requires shown { IsTrue (is_shown page.now room.now) }
+    requires cells { (0 < n) × (n ≤ 1_024) }
+    ensures { result ≡ best_grid_of page.now room.now n }
+{
+    better(
+        page,
+        room,
+        best_of(page, room, false, n),
+        best_of(page, room, true, n),
     )
 }
 
-/// Upright, unless turned is larger.
-fn larger(page_paper: &Paper, sheet_paper: &Paper, upright: Grid, left: Grid) -> Grid
-    ensures { result ≡ larger_of page_paper.now sheet_paper.now upright left }
+/// Of the grids of n cells or more with pages of this turn the best, and of the best the first.
+fn best_of(page: &Paper, room: &Room, turned: bool, n: u32) -> Grid
+    requires shown { IsTrue (is_shown page.now room.now) }
+    requires cells { (0 < n) × (n ≤ 1_024) }
+    ensures { result ≡ best_of_turn page.now room.now turned n n }
 {
-    if scale_in(page_paper, sheet_paper, upright) < scale_in(page_paper, sheet_paper, left) {
-        left
-    } else {
-        upright
-    }
-}
-
-/// Of the grids of n cells with pages of this turn, the first that takes the largest pages.
-fn best_of(page_paper: &Paper, sheet_paper: &Paper, turned: bool, n: u32) -> Grid
-    requires some { 0 < n }
-    ensures { result ≡ best_of_turn page_paper.now sheet_paper.now turned n }
-{
-    let mut columns = 1;
+    let mut best = Grid::of(turned, n, 1);
     for k in 0..n {
-        columns = better(page_paper, sheet_paper, turned, n, columns, k + 1);
+        best = better(page, room, best, Grid::of(turned, n, k + 1));
     }
-    Grid::of(turned, n, columns)
+    best
 }
 
-/// The columns of the one grid, unless the other has as many cells and a larger scale.
-fn better(
-    page_paper: &Paper,
-    sheet_paper: &Paper,
-    turned: bool,
-    n: u32,
-    one: u32,
-    other: u32,
-) -> u32
-    requires one { (0 < one) × (one ≤ n) }
-    requires other { (0 < other) × (other ≤ n) }
-    ensures value { result ≡ better_of page_paper.now sheet_paper.now turned n one other }
-    ensures in_range { (0 < result) × (result ≤ n) }
+/// The one grid, unless the other takes larger pages, or as large ones in fewer cells.
+fn better(page: &Paper, room: &Room, one: Grid, other: Grid) -> Grid
+    requires { IsTrue (is_shown page.now room.now) }
+    ensures { result ≡ better_of page.now room.now one other }
 {
-    if n % other == 0
-        && scale_in(page_paper, sheet_paper, Grid::of(turned, n, one))
-            < scale_in(page_paper, sheet_paper, Grid::of(turned, n, other))
-    {
+    let (first, second) = (scale_in(page, room, one), scale_in(page, room, other));
+    if first < second || first == second && other.size() < one.size() {
         other
     } else {
         one

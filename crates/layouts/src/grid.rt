@@ -1,11 +1,13 @@
 //! Rows and columns.
-ghost use Rattle.std.specs.Prelude.{◌≡◌, ◌<◌, ◌≤◌};
-ghost use Rattle.layouts.specs.Grids.{grid, beside as beside_of};
+ghost use Rattle.std.specs.Prelude.{◌≡◌, ◌*◌, ◌<◌, ◌≤◌};
+ghost use Rattle.layouts.specs.Cells.{size as size_of, read_columns};
+ghost use Rattle.layouts.specs.Grids.{grid, formed as formed_of, beside as beside_of};
 
+use super::arrangement::Turned;
 use std::marker::Model;
 
-/// Rows and columns of a sheet, as one holds it to read it: there is one of each at least. The pages are turned to
-/// the left, or upright. Contracts see it as the definitions' grid.
+/// Rows and columns of a sheet, as one holds it for its pages to be upright: there is one of each at least. The pages
+/// are turned to the left, or upright. Contracts see it as the definitions' grid.
 #[derive(Clone, Copy, Debug, PartialEq, Eq)]
 pub struct Grid {
     pub rows: u32,
@@ -15,7 +17,7 @@ pub struct Grid {
 
 impl Model for Grid {
     ghost use Rattle.std.specs.Prelude.{◌<◌};
-    ghost use Rattle.layouts.specs.Grids.{Grid as Cells};
+    ghost use Rattle.layouts.specs.Cells.{Grid as Cells};
 
     ghost Value = { Cells };
 
@@ -27,16 +29,41 @@ impl Model for Grid {
 }
 
 impl Grid {
-    /// The grid of n cells with so many columns.
+    /// The grid of n cells or more with so many columns, and with no row too many.
     pub fn of(turned: bool, n: u32, columns: u32) -> Grid
         requires some { 0 < columns }
-        requires most { columns ≤ n }
+        requires cells { 0 < n }
+        requires most { (columns ≤ 1_024) × (n ≤ 1_024) }
         ensures { result ≡ grid turned n columns }
     {
         Grid {
-            rows: n / columns,
+            rows: (n + (columns - 1)) / columns,
             columns,
             turned,
+        }
+    }
+
+    /// The grid of so many columns and rows as one reads the sheet.
+    pub fn formed(reading: Turned, turned: bool, columns: u32, rows: u32) -> Grid
+        requires { (0 < columns) × (0 < rows) }
+        ensures { result ≡ formed_of reading turned columns rows }
+    {
+        match reading {
+            Turned::Upright => Grid {
+                rows,
+                columns,
+                turned,
+            },
+            Turned::Left => Grid {
+                rows: columns,
+                columns: rows,
+                turned,
+            },
+            Turned::Right => Grid {
+                rows: columns,
+                columns: rows,
+                turned,
+            },
         }
     }
 
@@ -49,5 +76,13 @@ impl Grid {
             columns: 2,
             turned,
         }
+    }
+
+    /// How many cells it has.
+    pub fn size(self) -> u64
+        ensures value { result ≡ size_of self }
+        ensures some { 0 < result }
+    {
+        u64::from(self.rows) * u64::from(self.columns)
     }
 }

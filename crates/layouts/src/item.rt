@@ -1,25 +1,42 @@
 //! Pages in the cells of a grid.
-ghost use Rattle.std.specs.Prelude.{◌≡◌, ◌+◌, ◌-◌, ◌*◌, ◌/◌, ◌%◌, pos, IfOk, ◌<◌, ◌≤◌, nat_abs, IsTrue, map, ◌∷◌, []};
+ghost use Rattle.std.specs.Prelude.{◌≡◌, ◌+◌, ◌-◌, ◌*◌, pos, IfOk, ◌<◌, ◌≤◌, ◌+ℤ◌, ◌-ℤ◌, if◌then◌else◌, nat_abs, IsTrue, map, ◌∷◌, []};
 ghost use Rattle.std.specs.List.{range_with_len};
 ghost use Rattle.rules.specs.Numbers.{greatest_whole, greatest_number};
-ghost use Rattle.pagespec.specs.Items.{item_of, measure_of, groups_of, turn_of};
-ghost use Rattle.layouts.specs.Grids.{alone as alone_of, in_grid, item_in as item_of_grid, back_in as back_of_grid};
-ghost use Rattle.layouts.specs.Grids.{in_points, slack as slack_of, slack_x, slack_y, cell_width, cell_height};
-ghost use Rattle.layouts.specs.Grids.{turn_in, to_right as to_right_of, to_top as to_top_of, scale_in as scale_of};
-ghost use Rattle.layouts.specs.Refusals.{are_reached, is_scale};
+ghost use Rattle.rules.specs.Papers.{is_side};
+ghost use Rattle.pagespec.specs.Items.{item_of, measure_of, groups_of};
+ghost use Rattle.layouts.specs.Grids.{alone as alone_of};
+ghost use Rattle.layouts.specs.Cells.{size, in_points, slack as slack_of, slack_x, slack_y, kept as kept_of, high};
+ghost use Rattle.layouts.specs.Cells.{step_across, step_down, trimmed as trimmed_of, whole as whole_of, in_grid};
+ghost use Rattle.layouts.specs.Cells.{corner_x, corner_y, to_right as to_right_of, to_top as to_top_of};
+ghost use Rattle.layouts.specs.Cells.{read_columns as read_columns_of, read_rows as read_rows_of, read_row, read_column};
+ghost use Rattle.layouts.specs.Cells.{row_of, column_of, item_in as item_of_grid, back_in as back_of_grid};
+ghost use Rattle.layouts.specs.Refusals.{is_near as are_near, greatest_scale};
+ghost use Rattle.layouts.specs.Laws.{HasPlace};
 
+use super::arrangement::{Order, Run, Turned};
 use super::grid::Grid;
-use super::scale::{cells, scale_in, side};
-use lengths::{Number, Paper, Unit};
+use super::room::Room;
+use super::scale::{cells, counted, kept, side, steps};
+use lengths::{Grains, Number, Paper, Unit};
 use pagespec::{Item, Measure, Turn};
 use std::alloc::{AllocError, Global};
 
+/// Pages of one paper and one scale, in 10^-9, in the cells of a grid.
+#[derive(Drop)]
+pub struct Layout {
+    pub page: Paper,
+    pub room: Room,
+    pub grid: Grid,
+    pub order: Order,
+    pub scale: u64,
+}
+
 /// A whole number of 10^-5 of a point.
-fn points(n: u128) -> Measure
-    requires { n ≤ 9_999_999_999 }
+fn points(n: i64) -> Measure
+    requires { nat_abs n ≤ 9_999_999_999 }
     ensures { measure_of result ≡ in_points n }
 {
-    match Number::new(10_000 * n as i64) {
+    match Number::new(10_000 * n) {
         Some(number) => Measure {
             number,
             unit: Unit::Pt,
@@ -28,117 +45,308 @@ fn points(n: u128) -> Measure
     }
 }
 
+/// From one place to another, in whole numbers of 10^-5 of a point.
+fn distance(from: i64, to: i64) -> Measure
+    requires { nat_abs (to -ℤ from) ≤ 9_999_999_999 }
+    ensures { measure_of result ≡ in_points (to -ℤ from) }
+{
+    points(to - from)
+}
+
 /// Half of what a scaled side leaves of its cell, in 10^-5 of a point.
-fn slack(cell: u64, side: u64, scale: u128) -> u128
-    requires fits { scale * side ≤ 1_270_000_000_000_000 * cell }
+fn slack(cell: u64, side: u64, scale: u64) -> u128
     ensures { result ≡ slack_of cell side scale }
 {
-    (1_270_000_000_000_000 * u128::from(cell) - scale * u128::from(side)) / 2_540_000_000_000_000
+    (1_270_000_000_000_000 * u128::from(cell)).saturating_sub(u128::from(scale) * u128::from(side))
+        / 2_540_000_000_000_000
 }
 
-/// How far along its row the page in this column begins.
-fn along_row(page_paper: &Paper, sheet_paper: &Paper, grid: Grid, column: u32) -> u128
-    ensures { result ≡ column * cell_width sheet_paper.now grid + slack_x page_paper.now sheet_paper.now grid }
+/// The columns and the rows as one reads the sheet.
+fn read_sides(turned: Turned, grid: Grid) -> (u32, u32)
+    ensures columns { result.0 ≡ read_columns_of turned grid }
+    ensures rows { result.1 ≡ read_rows_of turned grid }
+    ensures size { result.1 * result.0 ≡ size grid }
+    ensures some { (0 < result.0) × (0 < result.1) }
 {
-    let (width, _) = cells(sheet_paper, grid);
-    u128::from(column) * u128::from(width)
-        + slack(
-            width,
-            side(page_paper.width()),
-            scale_in(page_paper, sheet_paper, grid),
-        )
+    match turned {
+        Turned::Upright => (grid.columns, grid.rows),
+        Turned::Left | Turned::Right => (grid.rows, grid.columns),
+    }
 }
 
-/// How far above the foot of the sheet, as one holds it upright, the page in this row begins.
-fn above_foot(page_paper: &Paper, sheet_paper: &Paper, grid: Grid, row: u32) -> u128
-    requires { row < grid.rows }
-    ensures { result ≡ (grid.rows - (row + 1)) * cell_height sheet_paper.now grid
-        + slack_y page_paper.now sheet_paper.now grid }
+/// The row and the column of page k as one reads the sheet.
+fn read_place(order: &Order, grid: Grid, k: u32) -> (u32, u32)
+    requires { k < size grid }
+    ensures row { result.0 ≡ read_row order.now.run order.now.turned grid k }
+    ensures column { result.1 ≡ read_column order.now.run order.now.right_to_left order.now.turned grid k }
+    ensures in_rows { result.0 < read_rows_of order.now.turned grid }
+    ensures in_columns { result.1 < read_columns_of order.now.turned grid }
 {
-    let (_, height) = cells(sheet_paper, grid);
-    u128::from(grid.rows - (row + 1)) * u128::from(height)
-        + slack(
-            height,
-            side(page_paper.height()),
-            scale_in(page_paper, sheet_paper, grid),
-        )
-}
-
-/// How far below the head of the sheet, as one holds it, the page in this row ends.
-fn below_head(page_paper: &Paper, sheet_paper: &Paper, grid: Grid, row: u32) -> u128
-    ensures { result ≡ (row + 1) * cell_height sheet_paper.now grid - slack_y page_paper.now sheet_paper.now grid }
-{
-    let (_, height) = cells(sheet_paper, grid);
-    (u128::from(row) + 1) * u128::from(height)
-        - slack(
-            height,
-            side(page_paper.height()),
-            scale_in(page_paper, sheet_paper, grid),
-        )
-}
-
-/// How far to the right, and how far up, page k is moved, in 10^-5 of a point.
-fn place_in(page_paper: &Paper, sheet_paper: &Paper, grid: Grid, k: u32) -> (u128, u128)
-    requires { k < grid.rows * grid.columns }
-    ensures right { result.0 ≡ to_right_of page_paper.now sheet_paper.now grid (k / grid.columns) (k % grid.columns) }
-    ensures top { result.1 ≡ to_top_of page_paper.now sheet_paper.now grid (k / grid.columns) (k % grid.columns) }
-    ensures across { 1_270_000 * result.0 ≤ nat_abs sheet_paper.now.width }
-    ensures up { 1_270_000 * result.1 ≤ nat_abs sheet_paper.now.height }
-{
-    let (row, column) = (k / grid.columns, k % grid.columns);
-    if grid.turned {
-        (
-            below_head(page_paper, sheet_paper, grid, row),
-            along_row(page_paper, sheet_paper, grid, column),
-        )
+    let (columns, rows) = read_sides(order.turned, grid);
+    let (row, nth) = match order.run {
+        Run::Rows => (k / columns, k % columns),
+        Run::Columns => (k % rows, k / rows),
+    };
+    let column = if order.right_to_left {
+        columns - (nth + 1)
     } else {
-        (
-            along_row(page_paper, sheet_paper, grid, column),
-            above_foot(page_paper, sheet_paper, grid, row),
-        )
+        nth
+    };
+    (row, column)
+}
+
+/// The row and the column of page k as one holds the sheet for its pages to be upright.
+fn place_of(order: &Order, grid: Grid, k: u32) -> (u32, u32)
+    requires { k < size grid }
+    ensures row { result.0 ≡ row_of order.now grid k }
+    ensures column { result.1 ≡ column_of order.now grid k }
+    ensures in_rows { result.0 < grid.rows }
+    ensures in_columns { result.1 < grid.columns }
+{
+    let (row, column) = read_place(order, grid, k);
+    match order.turned {
+        Turned::Upright => (row, column),
+        Turned::Left => (column, grid.columns - (row + 1)),
+        Turned::Right => (grid.rows - (column + 1), row),
     }
 }
 
-/// Page k in its cell.
-pub fn item_in(page_paper: &Paper, sheet_paper: &Paper, grid: Grid, k: u32) -> Item
-    requires place { k < grid.rows * grid.columns }
-    requires reached { IsTrue (are_reached sheet_paper.now) }
-    requires scaled { IsTrue (is_scale (scale_of page_paper.now sheet_paper.now grid)) }
-    ensures { item_of result ≡ item_of_grid page_paper.now sheet_paper.now grid k }
-{
-    let (x, y) = place_in(page_paper, sheet_paper, grid, k);
-    Item {
-        page: k,
-        from_end: false,
-        turn: if grid.turned { Turn::Left } else { Turn::None },
-        scale: number(scale_in(page_paper, sheet_paper, grid)),
-        offset: (points(x), points(y)),
+impl Layout {
+    /// How far along its row the page in this column begins.
+    fn along_row(&self, column: u32) -> u128
+        ensures { result ≡ kept_of self.now.room self.now.room.edge + column * step_across self.now.room self.now.grid
+            + slack_x self.now.page self.now.room self.now.grid self.now.scale }
+    {
+        let (across, _) = steps(&self.room, self.grid);
+        let (width, _) = cells(&self.room, self.grid);
+        u128::from(kept(&self.room, self.room.edge))
+            + u128::from(column) * u128::from(across)
+            + slack(width, counted(&self.room, self.page.width()), self.scale)
+    }
+
+    /// How far above the foot of the sheet, as one holds it upright, the page in this row begins.
+    fn above_foot(&self, row: u32) -> u128
+        requires { row < self.now.grid.rows }
+        ensures { result ≡ kept_of self.now.room self.now.room.edge
+            + (self.now.grid.rows - (row + 1)) * step_down self.now.room self.now.grid
+            + slack_y self.now.page self.now.room self.now.grid self.now.scale }
+    {
+        let (_, down) = steps(&self.room, self.grid);
+        let (_, height) = cells(&self.room, self.grid);
+        u128::from(kept(&self.room, self.room.edge))
+            + u128::from(self.grid.rows - (row + 1)) * u128::from(down)
+            + slack(height, counted(&self.room, self.page.height()), self.scale)
+    }
+
+    /// How far from the left edge of the sheet the page in this row ends if it is turned.
+    fn below_head(&self, row: u32) -> u128
+        ensures { result ≡ kept_of self.now.room self.now.room.edge + row * step_down self.now.room self.now.grid
+            + (high self.now.room self.now.grid - slack_y self.now.page self.now.room self.now.grid self.now.scale) }
+    {
+        let (_, down) = steps(&self.room, self.grid);
+        let (_, height) = cells(&self.room, self.grid);
+        let slack = slack(height, counted(&self.room, self.page.height()), self.scale);
+        u128::from(kept(&self.room, self.room.edge))
+            + u128::from(row) * u128::from(down)
+            + u128::from(height).saturating_sub(slack)
+    }
+
+    /// Where the corner of what counts of the page in this row and column stands.
+    fn corner(&self, row: u32, column: u32) -> (u128, u128)
+        requires place { HasPlace self.now.page self.now.room self.now.grid self.now.scale }
+        requires in_rows { row < self.now.grid.rows }
+        requires in_columns { column < self.now.grid.columns }
+        ensures x { result.0 ≡ corner_x self.now.page self.now.room self.now.grid self.now.scale row column }
+        ensures y { result.1 ≡ corner_y self.now.page self.now.room self.now.grid self.now.scale row column }
+        ensures across { result.0 ≤ whole_of (nat_abs self.now.room.paper.width) }
+        ensures up { result.1 ≤ whole_of (nat_abs self.now.room.paper.height) }
+    {
+        let turned = self.grid.turned;
+        if turned {
+            (self.below_head(row), self.along_row(column))
+        } else {
+            (self.along_row(column), self.above_foot(row))
+        }
+    }
+
+    /// How far to the right, and how far up, page k is moved, in 10^-5 of a point.
+    fn shift(&self, k: u32) -> (i64, i64)
+        requires place { HasPlace self.now.page self.now.room self.now.grid self.now.scale }
+        requires near { IsTrue (are_near self.now.room self.now.scale) }
+        requires cell { k < size self.now.grid }
+        ensures right { result.0 ≡ to_right_of self.now.page self.now.room self.now.grid self.now.scale
+            (row_of self.now.order self.now.grid k) (column_of self.now.order self.now.grid k) }
+        ensures top { result.1 ≡ to_top_of self.now.page self.now.room self.now.grid self.now.scale
+            (row_of self.now.order self.now.grid k) (column_of self.now.order self.now.grid k) }
+        ensures across { nat_abs result.0 ≤ 9_999_999_999 }
+        ensures up { nat_abs result.1 ≤ 9_999_999_999 }
+        ensures back_across { nat_abs (pos (whole_of (nat_abs self.now.room.paper.width)) -ℤ result.0) ≤ 9_999_999_999 }
+        ensures back_up { nat_abs (pos (whole_of (nat_abs self.now.room.paper.height)) -ℤ result.1) ≤ 9_999_999_999 }
+    {
+        let (row, column) = place_of(&self.order, self.grid, k);
+        let (x, y) = self.corner(row, column);
+        let back = trimmed(&self.room, self.scale);
+        moved_by(self.grid.turned, x as u64, y as u64, back)
+    }
+
+    /// Page k in its cell.
+    pub fn item_in(&self, k: u32) -> Item
+        requires place { HasPlace self.now.page self.now.room self.now.grid self.now.scale }
+        requires near { IsTrue (are_near self.now.room self.now.scale) }
+        requires scale { self.now.scale ≤ greatest_number }
+        requires cell { k < size self.now.grid }
+        ensures { item_of result
+            ≡ item_of_grid self.now.page self.now.room self.now.grid self.now.order self.now.scale k }
+    {
+        let (x, y) = self.shift(k);
+        Item {
+            page: k,
+            from_end: false,
+            turn: if self.grid.turned {
+                Turn::Left
+            } else {
+                Turn::None
+            },
+            scale: number(self.scale),
+            offset: (points(x), points(y)),
+        }
+    }
+
+    /// Page n + k of a block, where page k stands if the sheet is turned by half.
+    fn back_in(&self, n: u32, k: u32) -> Item
+        requires place { HasPlace self.now.page self.now.room self.now.grid self.now.scale }
+        requires near { IsTrue (are_near self.now.room self.now.scale) }
+        requires scale { self.now.scale ≤ greatest_number }
+        requires cell { k < size self.now.grid }
+        requires page { n + k ≤ greatest_whole }
+        ensures { item_of result
+            ≡ back_of_grid self.now.page self.now.room self.now.grid self.now.order self.now.scale n k }
+    {
+        let (x, y) = self.shift(k);
+        let width = whole(self.room.paper.width());
+        let height = whole(self.room.paper.height());
+        Item {
+            page: n + k,
+            from_end: false,
+            turn: if self.grid.turned {
+                Turn::Right
+            } else {
+                Turn::Half
+            },
+            scale: number(self.scale),
+            offset: (distance(x, width), distance(y, height)),
+        }
+    }
+
+    /// The pages of a sheet in their cells, in order.
+    fn items_in(&self, alloc: Global, n: u32) -> Result<Vec<Item>, AllocError>
+        requires place { HasPlace self.now.page self.now.room self.now.grid self.now.scale }
+        requires near { IsTrue (are_near self.now.room self.now.scale) }
+        requires scale { self.now.scale ≤ greatest_number }
+        requires cells { n ≤ size self.now.grid }
+        ensures { IfOk result (λ items. map item_of items.items
+            ≡ map (item_of_grid self.now.page self.now.room self.now.grid self.now.order self.now.scale)
+            (range_with_len 0 n)) }
+    {
+        let mut items = Vec::new(alloc);
+        for k in 0..n {
+            items.push(self.item_in(k))?;
+        }
+        Ok(items)
+    }
+
+    /// The two pages of a back, on a sheet that is turned by half.
+    fn backs_in(&self, alloc: Global) -> Result<Vec<Item>, AllocError>
+        requires place { HasPlace self.now.page self.now.room self.now.grid self.now.scale }
+        requires near { IsTrue (are_near self.now.room self.now.scale) }
+        requires scale { self.now.scale ≤ greatest_number }
+        requires cells { 2 ≤ size self.now.grid }
+        ensures { IfOk result (λ items. map item_of items.items
+            ≡ map (back_of_grid self.now.page self.now.room self.now.grid self.now.order self.now.scale 2)
+            (range_with_len 0 2)) }
+    {
+        let mut items = Vec::new(alloc);
+        for k in 0..2 {
+            items.push(self.back_in(2, k))?;
+        }
+        Ok(items)
+    }
+
+    /// One group of these pages.
+    pub fn groups_in(&self, alloc: Global, n: u32) -> Result<Vec<Vec<Item>>, AllocError>
+        requires place { HasPlace self.now.page self.now.room self.now.grid self.now.scale }
+        requires near { IsTrue (are_near self.now.room self.now.scale) }
+        requires scale { self.now.scale ≤ greatest_number }
+        requires cells { n ≤ size self.now.grid }
+        ensures { IfOk result (λ groups. groups_of groups.items
+            ≡ (in_grid self.now.page self.now.room self.now.grid self.now.order self.now.scale n).groups) }
+    {
+        let mut groups = Vec::new(alloc);
+        groups.push(self.items_in(alloc, n)?)?;
+        Ok(groups)
+    }
+
+    /// The two sides of a leaf, of which the second is turned by half.
+    pub fn sides_in(&self, alloc: Global) -> Result<Vec<Vec<Item>>, AllocError>
+        requires place { HasPlace self.now.page self.now.room self.now.grid self.now.scale }
+        requires near { IsTrue (are_near self.now.room self.now.scale) }
+        requires scale { self.now.scale ≤ greatest_number }
+        requires cells { 2 ≤ size self.now.grid }
+        ensures { IfOk result (λ groups. groups_of groups.items ≡
+            map (item_of_grid self.now.page self.now.room self.now.grid self.now.order self.now.scale) (range_with_len 0 2)
+            ∷ map (back_of_grid self.now.page self.now.room self.now.grid self.now.order self.now.scale 2)
+            (range_with_len 0 2) ∷ []) }
+    {
+        let mut groups = Vec::new(alloc);
+        groups.push(self.items_in(alloc, 2)?)?;
+        groups.push(self.backs_in(alloc)?)?;
+        Ok(groups)
     }
 }
 
-/// The place of page k in its cell on a sheet that is turned by half; it is page n + k of a block.
-pub fn back_in(page_paper: &Paper, sheet_paper: &Paper, grid: Grid, n: u32, k: u32) -> Item
-    requires place { k < grid.rows * grid.columns }
-    requires page { n + k ≤ greatest_whole }
-    requires reached { IsTrue (are_reached sheet_paper.now) }
-    requires scaled { IsTrue (is_scale (scale_of page_paper.now sheet_paper.now grid)) }
-    ensures { item_of result ≡ back_of_grid page_paper.now sheet_paper.now grid n k }
+/// How far a page is moved whose corner, less what is trimmed, is to stand there: turned pages are moved to the right, as
+/// their corner is at the right.
+fn moved_by(turned: bool, x: u64, y: u64, back: u64) -> (i64, i64)
+    requires across { x + back < 10_000_000_000 }
+    requires up { y + back < 10_000_000_000 }
+    ensures right { result.0 ≡ (if turned then pos x +ℤ pos back else pos x -ℤ pos back) }
+    ensures top { result.1 ≡ pos y -ℤ pos back }
 {
-    let (x, y) = place_in(page_paper, sheet_paper, grid, k);
-    Item {
-        page: n + k,
-        from_end: false,
-        turn: if grid.turned { Turn::Right } else { Turn::Half },
-        scale: number(scale_in(page_paper, sheet_paper, grid)),
-        offset: (
-            points(u128::from(side(sheet_paper.width()) / 1_270_000) - x),
-            points(u128::from(side(sheet_paper.height()) / 1_270_000) - y),
-        ),
-    }
+    let (x, y, back) = (x as i64, y as i64, back as i64);
+    (if turned { x + back } else { x - back }, y - back)
+}
+
+/// How long what is trimmed along a side of the page is on the sheet, in 10^-5 of a point.
+fn trimmed(room: &Room, scale: u64) -> u64
+    requires { IsTrue (are_near room.now scale) }
+    ensures value { result ≡ trimmed_of room.now scale }
+    ensures across { whole_of (nat_abs room.now.paper.width) + result < 10_000_000_000 }
+    ensures up { whole_of (nat_abs room.now.paper.height) + result < 10_000_000_000 }
+{
+    (u128::from(scale) * u128::from(room.trim) / 1_000_000_000) as u64
+}
+
+/// How many whole 10^-5 of a point a side has.
+fn whole(length: Grains) -> i64
+    requires { IsTrue (is_side length) }
+    ensures { result ≡ pos (whole_of (nat_abs length)) }
+{
+    (side(length) / 1_270_000) as i64
+}
+
+/// Whether the corners of pages of which so much is trimmed are within reach.
+pub fn is_near(room: &Room, scale: u128) -> bool
+    requires { scale ≤ greatest_scale }
+    ensures { result ≡ are_near room.now scale }
+{
+    let back = scale * u128::from(room.trim) / 1_000_000_000;
+    let width = u128::from(side(room.paper.width()) / 1_270_000);
+    let height = u128::from(side(room.paper.height()) / 1_270_000);
+    width + back < 10_000_000_000 && height + back < 10_000_000_000
 }
 
 /// So many 10^-9.
-fn number(billionths: u128) -> Number
+pub fn number(billionths: u64) -> Number
     requires { billionths ≤ greatest_number }
     ensures { result ≡ pos billionths }
 {
@@ -146,87 +354,6 @@ fn number(billionths: u128) -> Number
         Some(number) => number,
         None => unreachable!(),
     }
-}
-
-/// The pages of a sheet in their cells, in order.
-pub fn items_in(
-    alloc: Global,
-    page_paper: &Paper,
-    sheet_paper: &Paper,
-    grid: Grid,
-    n: u32,
-) -> Result<Vec<Item>, AllocError>
-    requires places { n ≤ grid.rows * grid.columns }
-    requires reached { IsTrue (are_reached sheet_paper.now) }
-    requires scaled { IsTrue (is_scale (scale_of page_paper.now sheet_paper.now grid)) }
-    ensures { IfOk result (λ items.
-        map item_of items.items ≡ map (item_of_grid page_paper.now sheet_paper.now grid) (range_with_len 0 n)) }
-{
-    let mut items = Vec::new(alloc);
-    for k in 0..n {
-        items.push(item_in(page_paper, sheet_paper, grid, k))?;
-    }
-    Ok(items)
-}
-
-/// One group of these pages.
-pub fn groups_in(
-    alloc: Global,
-    page_paper: &Paper,
-    sheet_paper: &Paper,
-    grid: Grid,
-    n: u32,
-) -> Result<Vec<Vec<Item>>, AllocError>
-    requires places { n ≤ grid.rows * grid.columns }
-    requires reached { IsTrue (are_reached sheet_paper.now) }
-    requires scaled { IsTrue (is_scale (scale_of page_paper.now sheet_paper.now grid)) }
-    ensures { IfOk result (λ groups. groups_of groups.items ≡ (in_grid page_paper.now sheet_paper.now grid n).groups) }
-{
-    let mut groups = Vec::new(alloc);
-    groups.push(items_in(alloc, page_paper, sheet_paper, grid, n)?)?;
-    Ok(groups)
-}
-
-/// The same pages on a sheet that is turned by half.
-fn backs_in(
-    alloc: Global,
-    page_paper: &Paper,
-    sheet_paper: &Paper,
-    grid: Grid,
-    n: u32,
-) -> Result<Vec<Item>, AllocError>
-    requires places { n ≤ grid.rows * grid.columns }
-    requires pages { n < 50_000 }
-    requires reached { IsTrue (are_reached sheet_paper.now) }
-    requires scaled { IsTrue (is_scale (scale_of page_paper.now sheet_paper.now grid)) }
-    ensures { IfOk result (λ items.
-        map item_of items.items ≡ map (back_of_grid page_paper.now sheet_paper.now grid n) (range_with_len 0 n)) }
-{
-    let mut items = Vec::new(alloc);
-    for k in 0..n {
-        items.push(back_in(page_paper, sheet_paper, grid, n, k))?;
-    }
-    Ok(items)
-}
-
-/// The two sides of a leaf, of which the second is turned by half.
-pub fn sides_in(
-    alloc: Global,
-    page_paper: &Paper,
-    sheet_paper: &Paper,
-    grid: Grid,
-) -> Result<Vec<Vec<Item>>, AllocError>
-    requires places { 2 ≤ grid.rows * grid.columns }
-    requires reached { IsTrue (are_reached sheet_paper.now) }
-    requires scaled { IsTrue (is_scale (scale_of page_paper.now sheet_paper.now grid)) }
-    ensures { IfOk result (λ groups. groups_of groups.items ≡
-        map (item_of_grid page_paper.now sheet_paper.now grid) (range_with_len 0 2)
-        ∷ map (back_of_grid page_paper.now sheet_paper.now grid 2) (range_with_len 0 2) ∷ []) }
-{
-    let mut groups = Vec::new(alloc);
-    groups.push(items_in(alloc, page_paper, sheet_paper, grid, 2)?)?;
-    groups.push(backs_in(alloc, page_paper, sheet_paper, grid, 2)?)?;
-    Ok(groups)
 }
 
 /// One group of the first page, as it is.
@@ -243,12 +370,19 @@ pub fn page_alone(alloc: Global, k: u32) -> Result<Vec<Item>, AllocError>
     ensures { IfOk result (λ items. map item_of items.items ≡ alone_of k ∷ []) }
 {
     let mut items = Vec::new(alloc);
-    items.push(Item {
+    items.push(whole_page(k))?;
+    Ok(items)
+}
+
+/// A page as it is; it is counted from 0.
+pub fn whole_page(k: u32) -> Item
+    ensures { item_of result ≡ alone_of k }
+{
+    Item {
         page: k,
         from_end: false,
         turn: Turn::None,
         scale: Number::ONE,
         offset: (Measure::ZERO, Measure::ZERO),
-    })?;
-    Ok(items)
+    }
 }

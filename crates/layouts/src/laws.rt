@@ -1,52 +1,89 @@
 //! Laws of the definitions. The functions do nothing.
 ghost use Rattle.layouts.specs.Placed.{StandsWherePut};
+ghost use Rattle.layouts.specs.Fitted.{FittedStands, FittedIsApart, FittedIsInOrder, ArrangedIsFitted};
 ghost use Rattle.layouts.specs.Selections.{SheetsAreRow};
-ghost use Rattle.layouts.specs.Laws.{GridIsInside, GridIsApart, GridIsInOrder, BestHasCells, BestIsLarge};
-ghost use Rattle.layouts.specs.Laws.{BackIsInside, BackIsInOrder, BackIsHalfTurn, PrintedAsItIs};
+ghost use Rattle.layouts.specs.Laws.{GridIsInside, GridIsApart, GridIsInOrder, GridIsInMiddle};
+ghost use Rattle.layouts.specs.Laws.{BestHasCells, BestIsBest, BestIsLarge};
+ghost use Rattle.layouts.specs.Laws.{BackIsInside, BackIsHalfTurn, PrintedAsItIs, LeafKeepsFold, RightToLeftIsMirror};
 
 /// A whole point of a page stands where its item puts it.
 pub fn stands_where_put()
     ensures { StandsWherePut }
 {}
 
-/// Each page in a cell of a grid lies on the sheet.
+/// Each page in a cell lies on what the margin leaves of the sheet.
 pub fn pages_are_inside()
     ensures { GridIsInside }
 {}
 
-/// Pages stand in rows and columns, as one holds the sheet to read them.
+/// Pages stand in the order that is asked for, along rows or columns, as one reads the sheet.
 pub fn pages_are_in_order()
     ensures { GridIsInOrder }
 {}
 
-/// Two pages in cells of a grid have no inner point in common.
+/// Two pages in cells, also of two papers and two scales, are apart by the gap.
 pub fn pages_are_apart()
     ensures { GridIsApart }
 {}
 
-/// The grid that is chosen for n pages has n cells.
+/// Each page stands in the middle of its cell, to 10^-5 of a point.
+pub fn pages_are_in_middle()
+    ensures { GridIsInMiddle }
+{}
+
+/// The grid that is chosen for n pages has n cells or more.
 pub fn best_has_cells()
     ensures { BestHasCells }
 {}
 
-/// No grid of as many cells, upright or turned, allows a scale that is larger by 10^-6 or more.
+/// No grid of n cells or more comes before the chosen one: larger scale, fewer cells, upright, fewer columns.
+pub fn best_is_best()
+    ensures { BestIsBest }
+{}
+
+/// No grid of n cells or more, upright or turned, allows a scale that is larger by 10^-6 or more.
 pub fn best_is_large()
     ensures { BestIsLarge }
 {}
 
-/// Each page of a sheet that is turned by half lies on the sheet.
+/// Each page of a sheet that is turned by half lies on what the margin leaves of it.
 pub fn back_is_inside()
     ensures { BackIsInside }
-{}
-
-/// Pages of a sheet that is turned by half stand in columns, as one holds it, and are apart.
-pub fn back_is_in_order()
-    ensures { BackIsInOrder }
 {}
 
 /// A back is its front, turned by half about the middle of the sheet.
 pub fn back_is_half_turn()
     ensures { BackIsHalfTurn }
+{}
+
+/// Nothing crosses the fold of a leaf: pages keep half of the gap from it.
+pub fn leaf_keeps_fold()
+    ensures { LeafKeepsFold }
+{}
+
+/// A booklet that is bound at the right differs from one that is bound at the left in the places of its pages alone.
+pub fn right_to_left_is_mirror()
+    ensures { RightToLeftIsMirror }
+{}
+
+/// A page that nothing refuses keeps the margin, stands in the middle of its cell, and is as large as the cell allows.
+pub fn fitted_stands()
+    ensures { FittedStands }
+{}
+
+/// Two pages in cells, each fitted into its own by its paper, are apart by the gap.
+pub fn fitted_is_apart()
+    ensures { FittedIsApart }
+{}
+
+/// Pages of several papers stand in the order that is asked for, as one reads the sheet.
+pub fn fitted_is_in_order()
+    ensures { FittedIsInOrder }
+{}
+
+/// What is arranged for pages of one paper is each of them fitted into its cell.
+pub fn arranged_is_fitted()
+    ensures { ArrangedIsFitted }
 {}
 
 /// The matrix that is written for a page in a cell is the item's own: nothing of its shift is rounded.

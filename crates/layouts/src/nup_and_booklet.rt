@@ -1,21 +1,16 @@
-//! Several pages on each sheet.
-ghost use Rattle.std.specs.Prelude.{◌≡◌, IfOk, IfErr, OnOk, None, IsTrue, ◌&&◌};
-ghost use Rattle.rules.specs.Papers.{is_paper};
+//! Pages on sheets and on leaves, with nothing asked for but how many.
+ghost use Rattle.std.specs.Prelude.{◌≡◌, IfOk, IfErr, OnOk, None, pos};
 ghost use Rattle.layouts.specs.Laws.{IsNUp, IsBooklet};
-ghost use Rattle.layouts.specs.Grids.{n_up, leaves, is_same};
-ghost use Rattle.layouts.specs.Refusals.{why_not, why_no_booklet, IsRefusal, are_reached, folds_short};
+ghost use Rattle.layouts.specs.Grids.{n_up, leaves, plain as plain_of, plain_binding};
+ghost use Rattle.layouts.specs.Refusals.{why_not, why_no_booklet, IsRefusal, as_layout};
+ghost use Rattle.layouts.specs.declared.arrangement.Cells.TheVariants.{AtLeast as at_least};
 
-use super::best::best_grid;
-use super::error::LayoutError;
-use super::grid::Grid;
-use super::item::{alone, groups_in, sides_in};
-use super::scale::{is_scale, scale_in, side};
-use lengths::Paper;
+use super::arrangement::{Arrangement, Binding, Cells, Papers};
+use super::arranging::{arrange, bind, leaf_order};
+use super::error::{ArrangementError, LayoutError};
+use lengths::{Grains, Paper};
 use pagespec::Spec;
 use std::alloc::Global;
-
-/// How many pages a sheet takes at most.
-const MOST_ON_SHEET: u32 = 1_024;
 
 /// This many pages of one paper on each sheet of another or the same, from 1 to 1,024: in rows and columns, upright or
 /// turned to the left, as large as they can be, each in the middle of its cell. One page on a sheet of its own paper
@@ -31,25 +26,13 @@ pub fn nup(
     ensures possible { OnOk result (why_not page_paper.now sheet_paper.now n ≡ None) }
     ensures refused { IfErr result (IsRefusal (why_not page_paper.now sheet_paper.now n)) }
 {
-    if n < 1 || MOST_ON_SHEET < n {
-        return Err(LayoutError::PagesOutOfRange);
-    }
-    if !are_both_reached(page_paper, sheet_paper) {
-        return Err(LayoutError::SideTooLong);
-    }
-    if n == 1 && is_of_size(page_paper, sheet_paper) {
-        return match alone(alloc) {
-            Ok(groups) => Ok(Spec::of_groups(1, groups)),
-            Err(_) => Err(LayoutError::NoMemory),
-        };
-    }
-    let grid = best_grid(page_paper, sheet_paper, n);
-    if !is_scale(scale_in(page_paper, sheet_paper, grid)) {
-        return Err(LayoutError::ScaleOutOfRange);
-    }
-    match groups_in(alloc, page_paper, sheet_paper, grid, n) {
-        Ok(groups) => Ok(Spec::of_groups(n, groups)),
-        Err(_) => Err(LayoutError::NoMemory),
+    let papers = Papers {
+        page: *page_paper,
+        sheet: *sheet_paper,
+    };
+    match arrange(alloc, &papers, &plain(n)) {
+        Ok(spec) => Ok(spec),
+        Err(error) => Err(as_layout_error(error)),
     }
 }
 
@@ -66,64 +49,65 @@ pub fn booklet(
     ensures possible { OnOk result (why_no_booklet page_paper.now sheet_paper.now ≡ None) }
     ensures refused { IfErr result (IsRefusal (why_no_booklet page_paper.now sheet_paper.now)) }
 {
-    if !are_both_reached(page_paper, sheet_paper) {
-        return Err(LayoutError::SideTooLong);
-    }
-    if !is_fold_short(page_paper, sheet_paper) {
-        return Err(LayoutError::FoldOnLongEdge);
-    }
-    let grid = Grid::beside(true);
-    if !is_scale(scale_in(page_paper, sheet_paper, grid)) {
-        return Err(LayoutError::ScaleOutOfRange);
-    }
-    if long_edge {
-        match sides_in(alloc, page_paper, sheet_paper, grid) {
-            Ok(groups) => Ok(Spec::of_groups(4, groups)),
-            Err(_) => Err(LayoutError::NoMemory),
-        }
-    } else {
-        match groups_in(alloc, page_paper, sheet_paper, grid, 2) {
-            Ok(groups) => Ok(Spec::of_groups(2, groups)),
-            Err(_) => Err(LayoutError::NoMemory),
-        }
+    let papers = Papers {
+        page: *page_paper,
+        sheet: *sheet_paper,
+    };
+    match bind(alloc, &papers, &plain_leaves(long_edge)) {
+        Ok(spec) => Ok(spec),
+        Err(error) => Err(as_layout_error(error)),
     }
 }
 
-/// Whether offsets in points reach across both papers.
-fn are_both_reached(page_paper: &Paper, sheet_paper: &Paper) -> bool
-    ensures value { result ≡ (are_reached page_paper.now && are_reached sheet_paper.now) }
-    ensures page_paper { IsTrue (is_paper page_paper.now.width page_paper.now.height) }
-    ensures sheet_paper { IsTrue (is_paper sheet_paper.now.width sheet_paper.now.height) }
+/// Nothing is asked for but n pages.
+fn plain(n: u32) -> Arrangement
+    ensures { result ≡ plain_of (at_least n) }
 {
-    let first = is_reached_across(page_paper);
-    let second = is_reached_across(sheet_paper);
-    first && second
+    Arrangement {
+        cells: Cells::AtLeast(n),
+        margin: no_length(),
+        gap: no_length(),
+        order: leaf_order(false),
+        scale: None,
+        trim: no_length(),
+    }
 }
 
-/// Whether offsets in points reach across the paper.
-fn is_reached_across(paper: &Paper) -> bool
-    ensures value { result ≡ are_reached paper.now }
-    ensures in_range { IsTrue (is_paper paper.now.width paper.now.height) }
+/// Nothing is asked for but how the printer flips a sheet.
+fn plain_leaves(long_edge: bool) -> Binding
+    ensures { result ≡ plain_binding long_edge }
 {
-    let (width, height) = (side(paper.width()), side(paper.height()));
-    width < 12_700_000_000_000_000 && height < 12_700_000_000_000_000
+    Binding {
+        margin: no_length(),
+        gap: no_length(),
+        right_to_left: false,
+        trim: no_length(),
+        long_edge,
+    }
 }
 
-/// Whether the papers have the same sides.
-fn is_of_size(page_paper: &Paper, sheet_paper: &Paper) -> bool
-    ensures { result ≡ is_same page_paper.now sheet_paper.now }
+fn no_length() -> Grains
+    ensures { result ≡ pos 0 }
 {
-    let (width, height) = (side(page_paper.width()), side(page_paper.height()));
-    let (sheet_width, sheet_height) = (side(sheet_paper.width()), side(sheet_paper.height()));
-    width == sheet_width && height == sheet_height
+    match Grains::new(0) {
+        Some(length) => length,
+        None => unreachable!(),
+    }
 }
 
-/// Whether the fold between two pages is parallel to the shorter edge of the sheet.
-fn is_fold_short(page_paper: &Paper, sheet_paper: &Paper) -> bool
-    ensures { result ≡ folds_short page_paper.now sheet_paper.now }
+/// What the fault is if nothing is asked for but cells or leaves.
+fn as_layout_error(error: ArrangementError) -> LayoutError
+    ensures { result ≡ as_layout error }
 {
-    let (width, height) = (side(sheet_paper.width()), side(sheet_paper.height()));
-    let upright = scale_in(page_paper, sheet_paper, Grid::beside(false));
-    let turned = scale_in(page_paper, sheet_paper, Grid::beside(true));
-    width <= height && upright <= turned
+    match error {
+        ArrangementError::CellsOutOfRange => LayoutError::PagesOutOfRange,
+        ArrangementError::SideTooLong => LayoutError::SideTooLong,
+        ArrangementError::FoldOnLongEdge => LayoutError::FoldOnLongEdge,
+        ArrangementError::NoMemory => LayoutError::NoMemory,
+        ArrangementError::LengthOutOfRange
+        | ArrangementError::NothingLeftOfPage
+        | ArrangementError::NoRoom
+        | ArrangementError::ScaleOutOfRange
+        | ArrangementError::ScaleTooLarge => LayoutError::ScaleOutOfRange,
+    }
 }

@@ -1,10 +1,12 @@
 //! How large pages in a grid are.
-ghost use Rattle.std.specs.Prelude.{◌≡◌, ◌*◌, ◌<◌, ◌≤◌, nat_abs, IsTrue};
+ghost use Rattle.std.specs.Prelude.{◌≡◌, ◌-◌, ◌*◌, ◌<◌, ◌≤◌, nat_abs, IsTrue};
 ghost use Rattle.rules.specs.Papers.{is_side, longest_side};
-ghost use Rattle.layouts.specs.Refusals.{is_scale as may_be_scale};
-ghost use Rattle.layouts.specs.Grids.{cell_width, cell_height, part as part_of, fitting as fits, scale_in as scale_of};
+ghost use Rattle.layouts.specs.Refusals.{is_scale as may_be_scale, is_shown};
+ghost use Rattle.layouts.specs.Cells.{kept as kept_of, part as part_of, step as step_of, step_across, step_down, wide, high};
+ghost use Rattle.layouts.specs.Cells.{counted as counted_of, fitting as fits, scale_in as scale_of};
 
 use super::grid::Grid;
+use super::room::Room;
 use lengths::{Grains, Paper};
 
 /// A side of a paper, in grains.
@@ -17,12 +19,72 @@ pub fn side(side: Grains) -> u64
     side.get() as u64
 }
 
+/// What is kept of a length, in 10^-5 of a point: one more if pages are trimmed, since how far they are moved back is
+/// rounded.
+pub fn kept(room: &Room, length: u64) -> u64
+    requires { length ≤ 10_000_000_000 }
+    ensures value { result ≡ kept_of room.now length }
+    ensures in_range { result ≤ 10_000_000_001 }
+{
+    if room.trim == 0 { length } else { length + 1 }
+}
+
 /// One of so many equal parts of a side, in 10^-5 of a point.
 fn part(side: u64, parts: u32) -> u64
     requires { 0 < parts }
     ensures { result ≡ part_of side parts }
 {
     side / (1_270_000 * u64::from(parts))
+}
+
+/// From where a cell begins to where the next one begins, if a side is cut into so many.
+fn step(room: &Room, side: u64, parts: u32) -> u64
+    requires some { 0 < parts }
+    requires in_range { side ≤ longest_side }
+    ensures { result ≡ step_of room.now side parts }
+{
+    let free = side.saturating_sub(2_540_000 * kept(room, room.edge));
+    part(free + 1_270_000 * kept(room, room.gap), parts)
+}
+
+/// From where a cell begins to where the next one begins, across and down, as one holds the sheet for its pages to be
+/// upright, in 10^-5 of a point.
+pub fn steps(room: &Room, grid: Grid) -> (u64, u64)
+    ensures across { result.0 ≡ step_across room.now grid }
+    ensures down { result.1 ≡ step_down room.now grid }
+    ensures some { (0 < grid.rows) × (0 < grid.columns) }
+{
+    let (width, height) = (side(room.paper.width()), side(room.paper.height()));
+    if grid.turned {
+        (
+            step(room, height, grid.columns),
+            step(room, width, grid.rows),
+        )
+    } else {
+        (
+            step(room, width, grid.columns),
+            step(room, height, grid.rows),
+        )
+    }
+}
+
+/// The width and the height of a cell, in 10^-5 of a point; 0 if a gap takes it.
+pub fn cells(room: &Room, grid: Grid) -> (u64, u64)
+    ensures width { result.0 ≡ wide room.now grid }
+    ensures height { result.1 ≡ high room.now grid }
+{
+    let (across, down) = steps(room, grid);
+    let gap = kept(room, room.gap);
+    (across.saturating_sub(gap), down.saturating_sub(gap))
+}
+
+/// What counts of a page's side, in grains.
+pub fn counted(room: &Room, length: Grains) -> u64
+    requires { IsTrue (is_side length) }
+    ensures value { result ≡ counted_of room.now length }
+    ensures in_range { result ≤ longest_side }
+{
+    side(length).saturating_sub(2_540_000 * room.trim)
 }
 
 /// The largest scale, in 10^-9, that brings a side into a cell.
@@ -33,28 +95,13 @@ fn fitting(cell: u64, side: u64) -> u128
     1_270_000_000_000_000 * u128::from(cell) / u128::from(side)
 }
 
-/// The width and the height of a cell, as one holds the sheet, in 10^-5 of a point.
-pub fn cells(sheet_paper: &Paper, grid: Grid) -> (u64, u64)
-    ensures width { result.0 ≡ cell_width sheet_paper.now grid }
-    ensures height { result.1 ≡ cell_height sheet_paper.now grid }
-    ensures some { (0 < grid.rows) × (0 < grid.columns) }
-{
-    let (width, height) = (side(sheet_paper.width()), side(sheet_paper.height()));
-    if grid.turned {
-        (part(height, grid.columns), part(width, grid.rows))
-    } else {
-        (part(width, grid.columns), part(height, grid.rows))
-    }
-}
-
 /// The largest scale, in 10^-9, that brings a page into a cell of the grid.
-pub fn scale_in(page_paper: &Paper, sheet_paper: &Paper, grid: Grid) -> u128
-    ensures value { result ≡ scale_of page_paper.now sheet_paper.now grid }
-    ensures across { result * nat_abs page_paper.now.width ≤ 1_270_000_000_000_000 * cell_width sheet_paper.now grid }
-    ensures up { result * nat_abs page_paper.now.height ≤ 1_270_000_000_000_000 * cell_height sheet_paper.now grid }
+pub fn scale_in(page: &Paper, room: &Room, grid: Grid) -> u128
+    requires { IsTrue (is_shown page.now room.now) }
+    ensures { result ≡ scale_of page.now room.now grid }
 {
-    let (width, height) = cells(sheet_paper, grid);
-    fitting(width, side(page_paper.width())).min(fitting(height, side(page_paper.height())))
+    let (width, height) = cells(room, grid);
+    fitting(width, counted(room, page.width())).min(fitting(height, counted(room, page.height())))
 }
 
 /// Whether pages can be written with this scale, in 10^-9.

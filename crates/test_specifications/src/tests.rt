@@ -1,4 +1,5 @@
 //! Worked examples, and each public call once.
+mod filled_sheets;
 mod known_layouts;
 mod matrices;
 mod measures;

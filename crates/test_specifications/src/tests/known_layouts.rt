@@ -1,6 +1,9 @@
 //! Known layouts, the laws on printed matrices by the tests' own arithmetic, and each public call once.
-use layouts::{LayoutError, Which, booklet, laws, nup, selection};
-use lengths::{Grains, Paper, paper_by_name};
+use layouts::{
+    Arrangement, ArrangementError, Binding, Cells, LayoutError, Order, Papers, Run, Turned, Which,
+    arrange, bind, booklet, laws, nup, selection,
+};
+use lengths::{Grains, Number, Paper, paper_by_name};
 use pagespec::{Item, Spec, write_spec};
 use placement::{matrix_of, matrix_text};
 use std::alloc::{AllocError, Global};
@@ -28,12 +31,12 @@ struct Area {
 }
 
 impl Area {
-    /// Whether a line along a side parts them.
-    fn is_apart_from(self, other: Area) -> bool {
-        self.right <= other.left
-            || other.right <= self.left
-            || self.top <= other.bottom
-            || other.top <= self.bottom
+    /// Whether a strip along a side, as wide as the gap, parts them.
+    fn is_apart_from(self, other: Area, gap: i64) -> bool {
+        self.right.saturating_add(gap) <= other.left
+            || other.right.saturating_add(gap) <= self.left
+            || self.top.saturating_add(gap) <= other.bottom
+            || other.top.saturating_add(gap) <= self.bottom
     }
 }
 
@@ -158,14 +161,14 @@ fn pages_of(
     Ok(pages)
 }
 
-/// Whether all pages lie on a sheet with these sides, in points.
-fn are_inside(pages: &[Placed], sides: (i64, i64)) -> bool {
+/// Whether all pages lie on a sheet with these sides, in points, and keep the margin, in 10^-9 of a point.
+fn are_inside(pages: &[Placed], sides: (i64, i64), margin: i64) -> bool {
     for page in pages {
         let area = page.on_sheet;
-        if area.left < 0
-            || area.bottom < 0
-            || sides.0.saturating_mul(1_000_000_000) < area.right
-            || sides.1.saturating_mul(1_000_000_000) < area.top
+        if area.left < margin
+            || area.bottom < margin
+            || sides.0.saturating_mul(1_000_000_000) < area.right.saturating_add(margin)
+            || sides.1.saturating_mul(1_000_000_000) < area.top.saturating_add(margin)
         {
             return false;
         }
@@ -173,11 +176,11 @@ fn are_inside(pages: &[Placed], sides: (i64, i64)) -> bool {
     true
 }
 
-/// Whether each two pages are apart.
-fn are_apart(pages: &[Placed]) -> bool {
+/// Whether each two pages are apart by the gap, in 10^-9 of a point.
+fn are_apart(pages: &[Placed], gap: i64) -> bool {
     for (k, page) in pages.iter().enumerate() {
         for (l, other) in pages.iter().enumerate() {
-            if k < l && !page.on_sheet.is_apart_from(other.on_sheet) {
+            if k < l && !page.on_sheet.is_apart_from(other.on_sheet, gap) {
                 return false;
             }
         }
@@ -226,24 +229,41 @@ fn are_like(pages: &[Placed], quarters: u32, scale: i64) -> bool {
     true
 }
 
-/// The largest scale, in 10^-9, with which pages fit the exact cells of a grid of so many, upright or turned.
-fn largest(n: i64, page: (i64, i64), sheet: (i64, i64)) -> i64 {
+/// What is kept free along the edges and between cells, in 10^-5 of a point.
+#[derive(Clone, Copy)]
+struct Kept {
+    margin: i64,
+    gap: i64,
+}
+
+/// The largest scale, in 10^-9, with which pages fit the exact cells of a grid of so many or more, upright or turned.
+fn largest(n: i64, page: (i64, i64), sheet: (i64, i64), kept: Kept) -> i64 {
     let mut best = 0i64;
     for rows in 1..n.saturating_add(1) {
-        let columns = n.checked_div(rows).unwrap_or(0);
-        if columns.saturating_mul(rows) == n {
-            for (width, height) in [sheet, (sheet.1, sheet.0)] {
-                best = best.max(room(width, columns, page.0).min(room(height, rows, page.1)));
-            }
+        // as few columns as are enough
+        let columns = n
+            .saturating_add(rows)
+            .saturating_sub(1)
+            .checked_div(rows)
+            .unwrap_or(0);
+        for (width, height) in [sheet, (sheet.1, sheet.0)] {
+            best = best.max(room(width, columns, page.0, kept).min(room(
+                height, rows, page.1, kept,
+            )));
         }
     }
     best
 }
 
-/// The largest scale, in 10^-9, with which so many sides fit a side.
-fn room(whole: i64, parts: i64, side: i64) -> i64 {
+/// The largest scale, in 10^-9, with which so many sides fit a side of which something is kept free.
+fn room(whole: i64, parts: i64, side: i64, kept: Kept) -> i64 {
+    let margins = kept.margin.saturating_mul(2);
+    let gaps = kept.gap.saturating_mul(parts.saturating_sub(1));
     whole
-        .saturating_mul(1_000_000_000)
+        .saturating_mul(100_000)
+        .saturating_sub(margins)
+        .saturating_sub(gaps)
+        .saturating_mul(10_000)
         .checked_div(parts.saturating_mul(side))
         .unwrap_or(0)
 }
@@ -291,16 +311,21 @@ fn fault_of(
     if !are_like(pages, first.quarters, first.scale) || 1 < first.quarters {
         return Ok("not alike");
     }
-    if !are_inside(pages, sheet_sides) {
+    if !are_inside(pages, sheet_sides, 0) {
         return Ok("not inside");
     }
-    if !are_apart(pages) {
+    if !are_apart(pages, 0) {
         return Ok("not apart");
     }
     if !are_in_order(pages, columns) {
         return Ok("not in order");
     }
-    let best = largest(i64::from(n), page_sides, sheet_sides);
+    let best = largest(
+        i64::from(n),
+        page_sides,
+        sheet_sides,
+        Kept { margin: 0, gap: 0 },
+    );
     if best < first.scale || first.scale.saturating_add(1_000) <= best {
         return Ok("not large");
     }
@@ -365,7 +390,7 @@ fn booklet_fault(
         if !are_like(pages, quarters, first.scale) {
             return Ok("not alike");
         }
-        if !are_inside(pages, sheet_sides) || !are_apart(pages) {
+        if !are_inside(pages, sheet_sides, 0) || !are_apart(pages, 0) {
             return Ok("not inside, or not apart");
         }
         if !are_in_order(pages, 2) {
@@ -531,6 +556,380 @@ fn booklets_that_are_refused(rt: HostRuntime) {
     }
 }
 
+/// A length of so many 10^-5 of a point.
+fn length(n: i128) -> Option<Grains> {
+    Grains::new(n.checked_mul(1_270_000)?)
+}
+
+/// Nothing is asked for but cells.
+fn plain(cells: Cells) -> Option<Arrangement> {
+    Some(Arrangement {
+        cells,
+        margin: length(0)?,
+        gap: length(0)?,
+        order: Order {
+            run: Run::Rows,
+            right_to_left: false,
+            turned: Turned::Upright,
+        },
+        scale: None,
+        trim: length(0)?,
+    })
+}
+
+/// The text of a sheet of A4 pages on A4 paper.
+fn arranged_text(alloc: Global, arrangement: &Arrangement) -> Result<String, Fail> {
+    let Some(a4) = paper_by_name("a4") else {
+        return Ok(format!(in alloc; "no paper")?);
+    };
+    let papers = Papers {
+        page: a4,
+        sheet: a4,
+    };
+    match arrange(alloc, &papers, arrangement) {
+        Ok(spec) => Ok(write_spec(alloc, &spec)?),
+        Err(error) => Ok(format!(in alloc; "{error}")?),
+    }
+}
+
+#[test]
+fn orders_of_four_pages(rt: HostRuntime) -> Result<(), Fail> {
+    for (run, right_to_left, turned, wanted) in [
+        (
+            Run::Rows,
+            false,
+            Turned::Upright,
+            "4:0@.5(0,421)+1@.5(297.5,421)+2@.5+3@.5(297.5,0)",
+        ),
+        (
+            Run::Rows,
+            true,
+            Turned::Upright,
+            "4:0@.5(297.5,421)+1@.5(0,421)+2@.5(297.5,0)+3@.5",
+        ),
+        (
+            Run::Columns,
+            false,
+            Turned::Upright,
+            "4:0@.5(0,421)+1@.5+2@.5(297.5,421)+3@.5(297.5,0)",
+        ),
+        (
+            Run::Columns,
+            true,
+            Turned::Upright,
+            "4:0@.5(297.5,421)+1@.5(297.5,0)+2@.5(0,421)+3@.5",
+        ),
+        (
+            Run::Rows,
+            false,
+            Turned::Left,
+            "4:0@.5(297.5,421)+1@.5(297.5,0)+2@.5(0,421)+3@.5",
+        ),
+        (
+            Run::Rows,
+            true,
+            Turned::Left,
+            "4:0@.5(297.5,0)+1@.5(297.5,421)+2@.5+3@.5(0,421)",
+        ),
+        (
+            Run::Rows,
+            false,
+            Turned::Right,
+            "4:0@.5+1@.5(0,421)+2@.5(297.5,0)+3@.5(297.5,421)",
+        ),
+    ] {
+        let mut four = plain(Cells::AtLeast(4)).expect(&rt, "an arrangement");
+        four.order = Order {
+            run,
+            right_to_left,
+            turned,
+        };
+        assert_eq!(rt; arranged_text(rt.alloc(), &four)?.as_str(), wanted);
+    }
+    Ok(())
+}
+
+#[test]
+fn cells_margins_scales_and_trims(rt: HostRuntime) -> Result<(), Fail> {
+    for (cells, margin, gap, scale, trim, wanted) in [
+        // five pages have as much room as six
+        (
+            Cells::AtLeast(5),
+            0,
+            0,
+            None,
+            0,
+            "5:0L@.353325415(297.5,35.21901)+1L@.353325415(297.5,315.88567)+2L@.353325415(297.5,596.55233)\
+             +3L@.353325415(595,35.21901)+4L@.353325415(595,315.88567)",
+        ),
+        (
+            Cells::Exactly {
+                columns: 5,
+                rows: 1,
+            },
+            0,
+            0,
+            None,
+            0,
+            "5:0L@.28302521(416.65362,0)+1L@.28302521(416.65362,168.4)+2L@.28302521(416.65362,336.8)\
+             +3L@.28302521(416.65362,505.2)+4L@.28302521(416.65362,673.6)",
+        ),
+        // 10 mm along the edges, and 5 mm between cells
+        (
+            Cells::Exactly {
+                columns: 2,
+                rows: 4,
+            },
+            2_834_646,
+            1_417_323,
+            None,
+            0,
+            "8:0@.220542565(93.7685,627.95667)+1@.220542565(370.00865,627.95667)+2@.220542565(93.7685,428.0866)\
+             +3@.220542565(370.00865,428.0866)+4@.220542565(93.7685,228.21653)+5@.220542565(370.00865,228.21653)\
+             +6@.220542565(93.7685,28.34646)+7@.220542565(370.00865,28.34646)",
+        ),
+        (
+            Cells::AtLeast(4),
+            0,
+            0,
+            Number::new(400_000_000),
+            0,
+            "4:0@.4(29.75,463.1)+1@.4(327.25,463.1)+2@.4(29.75,42.1)+3@.4(327.25,42.1)",
+        ),
+        (
+            Cells::AtLeast(4),
+            0,
+            0,
+            None,
+            1_000_000,
+            "4:0@.512165425(-3.61921,415.87835)+1@.512165425(293.88078,415.87835)\
+             +2@.512165425(-3.61921,-5.12164)+3@.512165425(293.88078,-5.12164)",
+        ),
+        (
+            Cells::AtLeast(2),
+            0,
+            0,
+            None,
+            1_000_000,
+            "2:0L@.723844257(602.23843,-4.84367)+1L@.723844257(602.23843,416.15632)",
+        ),
+    ] {
+        let mut sheet = plain(cells).expect(&rt, "an arrangement");
+        sheet.margin = length(margin).expect(&rt, "a length");
+        sheet.gap = length(gap).expect(&rt, "a length");
+        sheet.scale = scale;
+        sheet.trim = length(trim).expect(&rt, "a length");
+        assert_eq!(rt; arranged_text(rt.alloc(), &sheet)?.as_str(), wanted);
+    }
+    Ok(())
+}
+
+#[test]
+fn arrangements_that_are_refused(rt: HostRuntime) -> Result<(), Fail> {
+    for (cells, margin, gap, scale, trim, wanted) in [
+        (
+            Cells::AtLeast(0),
+            0,
+            0,
+            None,
+            0,
+            Some(ArrangementError::CellsOutOfRange),
+        ),
+        (
+            Cells::AtLeast(1_025),
+            0,
+            0,
+            None,
+            0,
+            Some(ArrangementError::CellsOutOfRange),
+        ),
+        (
+            Cells::Exactly {
+                columns: 0,
+                rows: 7,
+            },
+            0,
+            0,
+            None,
+            0,
+            Some(ArrangementError::CellsOutOfRange),
+        ),
+        (
+            Cells::Exactly {
+                columns: 65_536,
+                rows: 65_536,
+            },
+            0,
+            0,
+            None,
+            0,
+            Some(ArrangementError::CellsOutOfRange),
+        ),
+        (
+            Cells::AtLeast(4),
+            -1,
+            0,
+            None,
+            0,
+            Some(ArrangementError::LengthOutOfRange),
+        ),
+        (
+            Cells::AtLeast(4),
+            0,
+            10_000_000_000,
+            None,
+            0,
+            Some(ArrangementError::LengthOutOfRange),
+        ),
+        (
+            Cells::AtLeast(4),
+            0,
+            0,
+            None,
+            29_750_000,
+            Some(ArrangementError::NothingLeftOfPage),
+        ),
+        (
+            Cells::AtLeast(4),
+            29_750_000,
+            0,
+            None,
+            0,
+            Some(ArrangementError::NoRoom),
+        ),
+        (
+            Cells::AtLeast(4),
+            0,
+            59_500_000,
+            None,
+            0,
+            Some(ArrangementError::NoRoom),
+        ),
+        (Cells::AtLeast(4), 0, 0, Number::new(500_000_000), 0, None),
+        (
+            Cells::AtLeast(4),
+            0,
+            0,
+            Number::new(500_000_001),
+            0,
+            Some(ArrangementError::ScaleTooLarge),
+        ),
+        (
+            Cells::AtLeast(4),
+            0,
+            0,
+            Number::new(-500_000_000),
+            0,
+            Some(ArrangementError::ScaleOutOfRange),
+        ),
+        (Cells::AtLeast(4), 0, 0, None, 29_749_999, None),
+    ] {
+        let a4 = paper_by_name("a4").expect(&rt, "a paper");
+        let papers = Papers {
+            page: a4,
+            sheet: a4,
+        };
+        let mut sheet = plain(cells).expect(&rt, "an arrangement");
+        sheet.margin = length(margin).expect(&rt, "a length");
+        sheet.gap = length(gap).expect(&rt, "a length");
+        sheet.scale = scale;
+        sheet.trim = length(trim).expect(&rt, "a length");
+        assert_eq!(rt; arrange(rt.alloc(), &papers, &sheet).err(), wanted);
+    }
+    Ok(())
+}
+
+/// What is wrong with n pages on sheets of their own paper, with 10 mm along the edges and 5 mm between cells.
+fn kept_fault(alloc: Global, n: u32, paper: (&str, i64, i64)) -> Result<&'static str, Fail> {
+    let kept = Kept {
+        margin: 2_834_646,
+        gap: 1_417_323,
+    };
+    let (Some(page), Some(mut sheet), Some(margin), Some(gap)) = (
+        paper_by_name(paper.0),
+        plain(Cells::AtLeast(n)),
+        Grains::new(3_600_000_000_000),
+        Grains::new(1_800_000_000_000),
+    ) else {
+        return Ok("no arrangement");
+    };
+    sheet.margin = margin;
+    sheet.gap = gap;
+    let papers = Papers { page, sheet: page };
+    let Ok(spec) = arrange(alloc, &papers, &sheet) else {
+        return Ok("refused");
+    };
+    let sides = (paper.1, paper.2);
+    let (front, _) = sides_of(alloc, &spec, &page, sides)?;
+    let pages = front.as_slice();
+    let Some(first) = pages.first() else {
+        return Ok("no page");
+    };
+    if pages.len() != n as usize || spec.modulo() != n {
+        return Ok("not so many pages");
+    }
+    if !are_like(pages, first.quarters, first.scale) || 1 < first.quarters {
+        return Ok("not alike");
+    }
+    if !are_inside(pages, sides, kept.margin.saturating_mul(10_000)) {
+        return Ok("not inside");
+    }
+    if !are_apart(pages, kept.gap.saturating_mul(10_000)) {
+        return Ok("not apart");
+    }
+    if !are_in_order(pages, columns_of(pages)) {
+        return Ok("not in order");
+    }
+    let best = largest(i64::from(n), sides, sides, kept);
+    if best < first.scale || first.scale.saturating_add(1_000) <= best {
+        return Ok("not large");
+    }
+    Ok("")
+}
+
+#[test]
+fn margins_and_gaps_on_all_papers(rt: HostRuntime) -> Result<(), Fail> {
+    for paper in PAPERS {
+        for n in 1..65u32 {
+            let fault = kept_fault(rt.alloc(), n, paper)?;
+            assert_eq!(rt; fault, "", "{n} on {}", paper.0);
+        }
+    }
+    Ok(())
+}
+
+#[test]
+fn leaves_from_the_right_and_with_a_gap(rt: HostRuntime) -> Result<(), Fail> {
+    for (right_to_left, gap, wanted) in [
+        (
+            true,
+            0,
+            "2:0L@.706650831(595,421.27137)+1L@.706650831(595,.27137)",
+        ),
+        (
+            false,
+            2_000_000,
+            "2:0L@.690756302(588.30841,0)+1L@.690756302(588.30841,431)",
+        ),
+    ] {
+        let a4 = paper_by_name("a4").expect(&rt, "a paper");
+        let papers = Papers {
+            page: a4,
+            sheet: a4,
+        };
+        let leaf = Binding {
+            margin: length(0).expect(&rt, "a length"),
+            gap: length(gap).expect(&rt, "a length"),
+            right_to_left,
+            trim: length(0).expect(&rt, "a length"),
+            long_edge: false,
+        };
+        let spec = bind(rt.alloc(), &papers, &leaf).expect(&rt, "leaves");
+        assert_eq!(rt; write_spec(rt.alloc(), &spec)?.as_str(), wanted);
+    }
+    Ok(())
+}
+
 #[test]
 fn refusals_are_told(rt: HostRuntime) -> Result<(), Fail> {
     for (error, line) in [
@@ -580,11 +979,14 @@ fn laws_are_calls(_rt: HostRuntime) {
     laws::pages_are_inside();
     laws::pages_are_apart();
     laws::pages_are_in_order();
+    laws::pages_are_in_middle();
     laws::best_has_cells();
+    laws::best_is_best();
     laws::best_is_large();
     laws::back_is_inside();
-    laws::back_is_in_order();
     laws::back_is_half_turn();
+    laws::leaf_keeps_fold();
+    laws::right_to_left_is_mirror();
     laws::printed_as_it_is();
     laws::sheets_are_row();
 }

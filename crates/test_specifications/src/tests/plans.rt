@@ -6,7 +6,7 @@ use std::process::Abort;
 use std::test::Fail;
 
 /// The pages of each sheet, as `4, 2, -`.
-fn sheets_text(alloc: Global, plan: &Plan) -> Result<String, AllocError> {
+pub fn sheets_text(alloc: Global, plan: &Plan) -> Result<String, AllocError> {
     let mut text = String::new(alloc);
     for sheet in 0..plan.sheets() {
         if sheet > 0 {

@@ -1,0 +1,8 @@
+mod Runs
+mod Behind
+mod Inside
+mod Leaves
+mod Tiles
+mod Examples
+mod Filling
+mod Offsets

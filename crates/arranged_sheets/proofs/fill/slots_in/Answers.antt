@@ -1,0 +1,14 @@
+use Rattle.sheet_plan.specs.OfSheets.{slot_of}
+use Rattle.arranged_sheets.specs.Filled.{slot_in}
+use Rattle.arranged_sheets.specs.Shapes.{filling, place, entry_in}
+use Rattle.arranged_sheets.proofs.Filling.{pushed, slot_is}
+use Rattle.arranged_sheets.proofs.fill.slots_in.Goals as goal
+
+pub loop-c-preserved : goal.loop-c-preserved
+loop-c-preserved c =
+    let t = c.args.setting.now in
+    let f = filling t c.args.papers.now in
+    let row = c.args.row.now in
+    let k = c.loop-c.c in
+    let here = slot_is f row k c.place.result (place c.args.shape t c.args.s k) c.entry_at-entry.result (slot_of c.in-Ok.slot) c.in-Ok.ensures.made c.entry_at-entry.ensures c.place.ensures in
+    pushed slot_of (λ n. slot_in f n (entry_in c.args.shape t row c.args.s n)) c.loop-c.slots.items c.push.new.self.items c.in-Ok.slot k c.loop-c.invariant here c.in-Ok-push.ensures.items

@@ -1,0 +1,78 @@
+-- Leaves that creep: in a folded signature the inner leaves stick out, so what stands on them is moved towards the fold.
+-- All here is this project's own rules.
+use Rattle.std.specs.Prelude.{◌≡◌, ℕ, ◌+◌, ◌-◌, ◌*◌, ◌/◌, ◌<◌, ◌≤◌, ℤ, pos, ◌+ℤ◌, ◌-ℤ◌, ◌*ℤ◌, ◌≤ℤ◌, Bool, true}
+use Rattle.std.specs.Prelude.{◌==◌, if◌then◌else◌, nat_le, nat_abs}
+use Rattle.rules.specs.Papers.{Paper, Pt}
+use Rattle.rules.specs.Specification.{Item}
+use Rattle.rules.specs.Placement.{Point}
+use Rattle.layouts.specs.Placed.{Room, fine, stands, IsOfPage}
+use Rattle.layouts.specs.Cells.{item_in, slack_x, whole}
+use Rattle.layouts.specs.Grids.{beside, leaf_order}
+use Rattle.layouts.specs.Laws.{IsPaper, HasPlace}
+
+-- how far leaf i of m is moved, in 10^-5 of a point; leaf 0 is the outermost, and one leaf alone doesn't creep
+abbrev pub creep_of : (creep leaves i : ℕ) → ℕ
+creep_of creep leaves i = if nat_le leaves 1 then 0 else i * creep / (leaves - 1)
+
+-- a page that is moved up by so many 10^-5 of a point; its offset is in points
+abbrev pub moved_up : ℤ → Item → Item
+moved_up by item = record item {
+  y = record { number = item.y.number +ℤ (pos 10_000 *ℤ by); unit = Pt };
+}
+
+-- page k of a side stands before the fold, or behind it
+abbrev pub is_before_fold : (right_to_left : Bool) → (k : ℕ) → Bool
+is_before_fold right_to_left k = if right_to_left then k == 1 else k == 0
+
+-- towards the fold
+abbrev pub to_fold : (right_to_left : Bool) → (k creep : ℕ) → ℤ
+to_fold right_to_left k creep = if is_before_fold right_to_left k then pos creep else pos 0 -ℤ pos creep
+
+-- page k of a side of a leaf that creeps so far
+abbrev pub leaf_item : (page : Paper) → Room → (right_to_left : Bool) → (scale creep k : ℕ) → Item
+leaf_item page room right_to_left s creep k =
+    moved_up (to_fold right_to_left k creep) (item_in page room (beside true) (leaf_order right_to_left) s k)
+
+-- it is the page of a leaf that doesn't creep, moved towards the fold: a law
+abbrev pub CreepMoves : Type 0
+CreepMoves = (page : Paper) (room : Room) (right_to_left : Bool) (s creep k : ℕ) (p : Point)
+    → ((stands page (leaf_item page room right_to_left s creep k) p).x
+    ≡ (stands page (item_in page room (beside true) (leaf_order right_to_left) s k) p).x)
+    × ((stands page (leaf_item page room right_to_left s creep k) p).y
+    ≡ (stands page (item_in page room (beside true) (leaf_order right_to_left) s k) p).y
+    +ℤ (pos 1_270_000_000_000_000 *ℤ to_fold right_to_left k creep))
+
+-- the outermost leaf stays, the innermost is moved by the whole creep, and none is moved farther than the next one in
+abbrev pub CreepGrows : Type 0
+CreepGrows = (creep leaves i : ℕ) → 1 < leaves → i + 1 < leaves
+    → (creep_of creep leaves 0 ≡ 0) × (creep_of creep leaves (leaves - 1) ≡ creep)
+    × (creep_of creep leaves i ≤ creep_of creep leaves (i + 1)) × (creep_of creep leaves i ≤ creep)
+
+-- there is room at the fold for a leaf to creep so far: at the side of the fold a page leaves free its share of the cell,
+-- and half of the gap
+abbrev pub may_creep : (page : Paper) → Room → (scale creep : ℕ) → Bool
+may_creep page room s creep = nat_le (2 * creep) (2 * slack_x page room (beside true) s + room.gap)
+
+-- nothing of the page crosses a line across the sheet; the line is twice as far up as said
+abbrev pub StaysBefore : Room → (twice : ℕ) → (page : Paper) → Item → Type 0
+StaysBefore room twice page item = (p : Point) → IsOfPage room.trim page p
+    → (pos 2 *ℤ (stands page item p).y) ≤ℤ fine twice
+
+abbrev pub StaysBehind : Room → (twice : ℕ) → (page : Paper) → Item → Type 0
+StaysBehind room twice page item = (p : Point) → IsOfPage room.trim page p
+    → fine twice ≤ℤ (pos 2 *ℤ (stands page item p).y)
+
+-- nothing crosses the fold, which is the middle of the sheet to 10^-5 of a point
+pub record KeepsSides (page : Paper) (room : Room) (one other : Item) : Type 0 where
+  pub twice : ℕ
+  pub no_farther : twice ≤ whole (nat_abs room.paper.height) + 1
+  pub no_nearer : whole (nat_abs room.paper.height) ≤ twice + 1
+  pub before : StaysBefore room twice page one
+  pub behind : StaysBehind room twice page other
+
+-- as long as there is room, no leaf crosses its fold: a law
+abbrev pub CreepKeepsSides : Type 0
+CreepKeepsSides = (page : Paper) (room : Room) (right_to_left : Bool) (s creep : ℕ) → IsPaper page
+    → HasPlace page room (beside true) s → may_creep page room s creep ≡ true
+    → KeepsSides page room (leaf_item page room right_to_left s creep (if right_to_left then 1 else 0))
+    (leaf_item page room right_to_left s creep (if right_to_left then 0 else 1))

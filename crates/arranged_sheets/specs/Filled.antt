@@ -1,0 +1,134 @@
+-- Sheets whose cells are filled from a row: grids, cards, stacks. Each page is fitted into its cell by its own paper. All
+-- here is this project's own rules.
+use Rattle.std.specs.Prelude.{◌≡◌, ◌≢◌, ℕ, ◌+◌, ◌-◌, ◌*◌, ◌/◌, ◌%◌, ◌<◌, Bool, ◌==◌, if◌then◌else◌, List, [], ◌∷◌}
+use Rattle.std.specs.Prelude.{map, flat_map, length, Option, Some, None, ⊤}
+use Rattle.std.specs.List.{range_with_len}
+use Rattle.rules.specs.Papers.{Paper}
+use Rattle.rules.specs.Sheets.{blocks}
+use Rattle.rules.specs.Signatures.{entry_of}
+use Rattle.made_sheets.specs.Made.{MadeSlot, Blank, Placed, MadeSheet}
+use Rattle.made_sheets.specs.Rows.{Row}
+use Rattle.layouts.specs.declared.arrangement.Run.{Run}
+use Rattle.layouts.specs.declared.arrangement.Run.TheVariants.{Rows, Columns}
+use Rattle.layouts.specs.declared.arrangement.Turned.{Turned}
+use Rattle.layouts.specs.declared.setting.Setting.{Setting}
+use Rattle.layouts.specs.Placed.{Room, IsInside, AreApart}
+use Rattle.layouts.specs.Cells.{Grid, size, read_columns, read_rows, read_row, read_column}
+use Rattle.layouts.specs.Fitted.{fitted, why_not_fitted}
+use Rattle.layouts.specs.Laws.{IsPaper}
+
+-- what the cells are filled with: the cells of a sheet, and the paper of each page
+pub record Filling : Type 0 where
+  pub setting : Setting
+  pub paper_of : (page : ℕ) → Paper
+
+-- an entry of a row in cell c
+abbrev pub slot_in : Filling → (c : ℕ) → Option ℕ → MadeSlot
+slot_in f c None = Blank
+slot_in f c (Some page) = let paper = f.paper_of page in Placed page (fitted f.setting paper c) paper
+
+-- so many sheets with so many cells each, of which cell c of sheet s has this entry
+abbrev pub filled : Filling → (sheets cells : ℕ) → (entry : (s c : ℕ) → Option ℕ) → List MadeSheet
+filled f sheets cells entry = map (λ s. record {
+  paper = f.setting.room.paper;
+  slots = map (λ c. slot_in f c (entry s c)) (range_with_len 0 cells);
+}) (range_with_len 0 sheets)
+
+-- ---- what stands where
+
+-- a grid: the row goes on from cell to cell, and from sheet to sheet
+abbrev pub grid_entry : (cells : ℕ) → Row → (s c : ℕ) → Option ℕ
+grid_entry cells row s c = entry_of row (s * cells + c)
+
+-- cards: all cells of a sheet have the same entry
+abbrev pub card_entry : Row → (s c : ℕ) → Option ℕ
+card_entry row s c = entry_of row s
+
+-- a stack: the row goes on from sheet to sheet, and from cell to cell
+abbrev pub stack_entry : (sheets : ℕ) → Row → (s c : ℕ) → Option ℕ
+stack_entry sheets row s c = entry_of row (c * sheets + s)
+
+-- the cell that stands behind cell c, if a sheet is turned over like the page of a book, as one reads it: it is as far
+-- from the other side
+abbrev pub cell_behind : Run → (rows columns : ℕ) → (c : ℕ) → ℕ
+cell_behind Rows rows columns c = c / columns * columns + (columns - (c % columns + 1))
+cell_behind Columns rows columns c = (columns - (c / rows + 1)) * rows + c % rows
+
+-- a stack on both sides of leaves: sheet 2 l is the front of leaf l, and sheet 2 l + 1 its back
+abbrev pub duplex_entry : (leaves : ℕ) → (behind : ℕ → ℕ) → Row → (s c : ℕ) → Option ℕ
+duplex_entry leaves behind row s c = entry_of row ((if s % 2 == 0 then c else behind c) * (2 * leaves) + s)
+
+abbrev pub grid_sheets : Filling → (cells : ℕ) → Row → List MadeSheet
+grid_sheets f cells row = filled f (blocks cells (length row)) cells (grid_entry cells row)
+
+abbrev pub card_sheets : Filling → (cells : ℕ) → Row → List MadeSheet
+card_sheets f cells row = filled f (length row) cells (card_entry row)
+
+abbrev pub stack_sheets : Filling → (cells : ℕ) → Row → List MadeSheet
+stack_sheets f cells row = let sheets = blocks cells (length row) in filled f sheets cells (stack_entry sheets row)
+
+abbrev pub behind_in : Setting → ℕ → ℕ
+behind_in t = cell_behind t.order.run (read_rows t.order.turned t.grid) (read_columns t.order.turned t.grid)
+
+abbrev pub duplex_sheets : Filling → Row → List MadeSheet
+duplex_sheets f row = let leaves = blocks (2 * size f.setting.grid) (length row) in
+    filled f (2 * leaves) (size f.setting.grid) (duplex_entry leaves (behind_in f.setting) row)
+
+-- ---- laws
+
+-- so many cells of each sheet in turn are the row, and behind its end blanks
+abbrev pub GridRunsOn : Type 0
+GridRunsOn = (cells sheets : ℕ) (row : Row)
+    → flat_map (λ s. map (grid_entry cells row s) (range_with_len 0 cells)) (range_with_len 0 sheets)
+    ≡ map (entry_of row) (range_with_len 0 (sheets * cells))
+
+-- sheets that are cut, and of which the parts of each cell, from the first sheet to the last, are laid on one another: the
+-- parts are the row, and behind its end blanks
+abbrev pub StackRunsOn : Type 0
+StackRunsOn = (cells sheets : ℕ) (row : Row)
+    → flat_map (λ c. map (λ s. stack_entry sheets row s c) (range_with_len 0 sheets)) (range_with_len 0 cells)
+    ≡ map (entry_of row) (range_with_len 0 (cells * sheets))
+
+-- the front of a part of leaf l, and what stands behind it
+abbrev pub part_of_leaf : (leaves : ℕ) → (behind : ℕ → ℕ) → Row → (c l : ℕ) → List (Option ℕ)
+part_of_leaf leaves behind row c l = duplex_entry leaves behind row (2 * l) c
+    ∷ duplex_entry leaves behind row (2 * l + 1) (behind c) ∷ []
+
+-- leaves that are cut, laid on one another, and read leaf by leaf, front and back: the row. So each page stands behind its
+-- predecessor, or on the next leaf
+abbrev pub DuplexRunsOn : Type 0
+DuplexRunsOn = (t : Setting) (leaves : ℕ) (row : Row)
+    → flat_map (λ c. flat_map (part_of_leaf leaves (behind_in t) row c) (range_with_len 0 leaves)) (range_with_len 0 (size t.grid))
+    ≡ map (entry_of row) (range_with_len 0 (size t.grid * (2 * leaves)))
+
+-- the cell behind a cell is in its row, and as far from the right as this one is from the left
+abbrev pub BehindIsMirror : Type 0
+BehindIsMirror = (run : Run) (right_to_left : Bool) (t : Turned) (g : Grid) (c : ℕ) → c < size g
+    → (let b = cell_behind run (read_rows t g) (read_columns t g) c in
+    (b < size g) × (read_row run t g b ≡ read_row run t g c)
+    × (read_column run right_to_left t g b + read_column run right_to_left t g c + 1 ≡ read_columns t g))
+
+-- all pages have a place in the cells
+abbrev pub HavePlaces : Filling → Type 0
+HavePlaces f = (page : ℕ) → IsPaper (f.paper_of page) × (why_not_fitted f.setting (f.paper_of page) ≡ None)
+
+-- a placed slot lies on what the margin leaves of the sheet; a blank one shows nothing
+abbrev pub SlotIsInside : Room → MadeSlot → Type 0
+SlotIsInside room Blank = ⊤
+SlotIsInside room (Placed page item paper) = IsInside room paper item
+
+-- two placed slots are apart by the gap
+abbrev pub SlotsAreApart : Room → (one other : MadeSlot) → Type 0
+SlotsAreApart room Blank other = ⊤
+SlotsAreApart room (Placed page item paper) Blank = ⊤
+SlotsAreApart room (Placed page item paper) (Placed page' item' paper') = AreApart room paper item paper' item'
+
+-- whatever the entries are, and whatever their papers
+abbrev pub FilledIsInside : Type 0
+FilledIsInside = (f : Filling) (c : ℕ) (entry : Option ℕ) → IsPaper f.setting.room.paper → HavePlaces f
+    → c < size f.setting.grid → SlotIsInside f.setting.room (slot_in f c entry)
+
+abbrev pub FilledIsApart : Type 0
+FilledIsApart = (f : Filling) (c d : ℕ) (one other : Option ℕ) → IsPaper f.setting.room.paper → HavePlaces f
+    → c < size f.setting.grid → d < size f.setting.grid → c ≢ d
+    → SlotsAreApart f.setting.room (slot_in f c one) (slot_in f d other)

@@ -1,0 +1,5 @@
+-- Read in this order: sheets whose cells are filled from a row, and how; leaves that creep; posters.
+pub mod Filled
+pub mod Shapes
+pub mod Creep
+pub mod Posters

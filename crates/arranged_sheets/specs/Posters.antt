@@ -1,0 +1,136 @@
+-- Posters: one page over several sheets, which are its tiles. All here is this project's own rules.
+use Rattle.std.specs.Prelude.{◌≡◌, ◌⊎◌, ℕ, ◌+◌, ◌-◌, ◌*◌, ◌/◌, ◌%◌, ◌<◌, min, pos, ◌+ℤ◌, ◌-ℤ◌, ◌≤ℤ◌, nat_abs, nat_le, nat_lt, ◌&&◌}
+use Rattle.std.specs.Prelude.{false, if◌then◌else◌, List, [], ◌∷◌, map, Option, Some, None}
+use Rattle.std.specs.List.{range_with_len}
+use Rattle.rules.specs.Papers.{Paper}
+use Rattle.rules.specs.Specification.{Item, Upright}
+use Rattle.rules.specs.Placement.{Point}
+use Rattle.layouts.specs.Placed.{fine, stands, IsOfPage}
+use Rattle.layouts.specs.Cells.{fitting, slack, in_points, whole}
+use Rattle.layouts.specs.Refusals.{are_reached, is_scale}
+use Rattle.layouts.specs.Laws.{IsPaper}
+use Rattle.made_sheets.specs.Made.{MadeSheet, Placed}
+use Rattle.arranged_sheets.specs.declared.poster.Poster.{Poster}
+use Rattle.arranged_sheets.specs.declared.poster.Laid.{Laid}
+use Rattle.arranged_sheets.specs.declared.poster.PosterError.{PosterError}
+use Rattle.arranged_sheets.specs.declared.poster.PosterError.TheVariants as why
+
+-- what the margins leave of a side
+abbrev pub tile : (side edge : ℕ) → ℕ
+tile side edge = whole side - 2 * edge
+
+-- from where a tile begins to where the next one begins
+abbrev pub stride : (side edge overlap : ℕ) → ℕ
+stride side edge overlap = tile side edge - overlap
+
+-- how long so many tiles are
+abbrev pub length_of : (side edge overlap tiles : ℕ) → ℕ
+length_of side edge overlap tiles = (tiles - 1) * stride side edge overlap + tile side edge
+
+abbrev pub poster_width : Poster → ℕ
+poster_width p = length_of (nat_abs p.sheet.width) p.edge p.overlap p.columns
+
+abbrev pub poster_height : Poster → ℕ
+poster_height p = length_of (nat_abs p.sheet.height) p.edge p.overlap p.rows
+
+-- the largest scale with which the page fits its tiles, in 10^-9
+abbrev pub poster_scale : (page : Paper) → Poster → ℕ
+poster_scale page p =
+    min (fitting (poster_width p) (nat_abs page.width)) (fitting (poster_height p) (nat_abs page.height))
+
+-- where the page begins on the poster: it stands in its middle
+abbrev pub begins_at : (length side scale : ℕ) → ℕ
+begins_at length side scale = slack length side scale
+
+-- the page on the tile in this column, and in this row from the foot
+abbrev pub tile_item : (page : Paper) → Poster → (page_number column row : ℕ) → Item
+tile_item page p k column row = let s = poster_scale page p in record {
+  page = k;
+  from_end = false;
+  turn = Upright;
+  scale = pos s;
+  x = in_points (pos (p.edge + begins_at (poster_width p) (nat_abs page.width) s)
+      -ℤ pos (column * stride (nat_abs p.sheet.width) p.edge p.overlap));
+  y = in_points (pos (p.edge + begins_at (poster_height p) (nat_abs page.height) s)
+      -ℤ pos (row * stride (nat_abs p.sheet.height) p.edge p.overlap));
+}
+
+-- the sheets of a page: row by row from the head, and each from the left
+abbrev pub poster_sheets : (page : Paper) → Poster → (page_number : ℕ) → List MadeSheet
+poster_sheets page p k = map (λ n. record {
+  paper = p.sheet;
+  slots = Placed k (tile_item page p k (n % p.columns) (p.rows - (n / p.columns + 1))) page ∷ [];
+}) (range_with_len 0 (p.rows * p.columns))
+
+-- the first reason why there is no such poster, if there is one
+abbrev pub why_no_poster : (page : Paper) → Poster → Option PosterError
+why_no_poster page p =
+    if nat_le 1 (p.rows * p.columns) && nat_le (p.rows * p.columns) 1_024
+    then (if are_reached p.sheet
+    then (if nat_lt p.overlap (tile (nat_abs p.sheet.width) p.edge) && nat_lt p.overlap (tile (nat_abs p.sheet.height) p.edge)
+    then (if nat_lt (poster_width p) 10_000_000_000 && nat_lt (poster_height p) 10_000_000_000
+    then (if is_scale (poster_scale page p) then None else Some why.ScaleOutOfRange)
+    else Some why.SideTooLong)
+    else Some why.NothingButOverlap)
+    else Some why.SideTooLong)
+    else Some why.TilesOutOfRange
+
+-- the error is that one, or out of memory
+abbrev pub IsNoPoster : Option PosterError → PosterError → Type 0
+IsNoPoster found e = (e ≡ why.NoMemory) ⊎ (found ≡ Some e)
+
+-- the page on the tiles: its scale, where it begins on the first one, and how far the next ones are
+abbrev pub laid_of : (page : Paper) → Poster → Laid
+laid_of page p = let s = poster_scale page p in record {
+  scale = s;
+  left = p.edge + begins_at (poster_width p) (nat_abs page.width) s;
+  bottom = p.edge + begins_at (poster_height p) (nat_abs page.height) s;
+  across = stride (nat_abs p.sheet.width) p.edge p.overlap;
+  down = stride (nat_abs p.sheet.height) p.edge p.overlap;
+}
+
+abbrev pub laid_item : Laid → (page_number column row : ℕ) → Item
+laid_item l k column row = record {
+  page = k;
+  from_end = false;
+  turn = Upright;
+  scale = pos l.scale;
+  x = in_points (pos l.left -ℤ pos (column * l.across));
+  y = in_points (pos l.bottom -ℤ pos (row * l.down));
+}
+
+-- its offsets can be written
+abbrev pub IsNear : Laid → (column row : ℕ) → Type 0
+IsNear l column row =
+    (l.left < 10_000_000_000) × (column * l.across < 10_000_000_000) × (l.bottom < 10_000_000_000)
+    × (row * l.down < 10_000_000_000)
+
+-- a tile shows what stands between its margins
+pub record IsShown (p : Poster) (at : Point) : Type 0 where
+  pub left : fine p.edge ≤ℤ at.x
+  pub right : at.x ≤ℤ fine (p.edge + tile (nat_abs p.sheet.width) p.edge)
+  pub bottom : fine p.edge ≤ℤ at.y
+  pub top : at.y ≤ℤ fine (p.edge + tile (nat_abs p.sheet.height) p.edge)
+
+-- there are tiles, and they are longer than they overlap
+pub record HasTiles (p : Poster) : Type 0 where
+  pub some_columns : 0 < p.columns
+  pub some_rows : 0 < p.rows
+  pub wide : p.overlap < tile (nat_abs p.sheet.width) p.edge
+  pub high : p.overlap < tile (nat_abs p.sheet.height) p.edge
+
+-- each point of the page is shown on a tile: a law
+abbrev pub PosterCovers : Type 0
+PosterCovers = (page : Paper) (p : Poster) (k : ℕ) (at : Point) → IsPaper page → HasTiles p → IsOfPage 0 page at
+    → (column row : ℕ) × (column < p.columns) × (row < p.rows) × IsShown p (stands page (tile_item page p k column row) at)
+
+-- what stands on one tile stands on the next one to the right too, farther to the left by a tile less the overlap: so
+-- neighbours share exactly the overlap. And likewise upward: a law
+abbrev pub TilesOverlap : Type 0
+TilesOverlap = (page : Paper) (p : Poster) (k column row : ℕ) (at : Point) → HasTiles p
+    → ((stands page (tile_item page p k column row) at).x
+    ≡ (stands page (tile_item page p k (column + 1) row) at).x
+    +ℤ (fine (tile (nat_abs p.sheet.width) p.edge) -ℤ fine p.overlap))
+    × ((stands page (tile_item page p k column row) at).y
+    ≡ (stands page (tile_item page p k column (row + 1)) at).y
+    +ℤ (fine (tile (nat_abs p.sheet.height) p.edge) -ℤ fine p.overlap))

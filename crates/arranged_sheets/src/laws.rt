@@ -1,0 +1,60 @@
+//! Laws of the definitions. The functions do nothing.
+ghost use Rattle.arranged_sheets.specs.Filled.{GridRunsOn, StackRunsOn, DuplexRunsOn, BehindIsMirror};
+ghost use Rattle.arranged_sheets.specs.Filled.{FilledIsInside, FilledIsApart};
+ghost use Rattle.arranged_sheets.specs.Creep.{CreepMoves, CreepGrows, CreepKeepsSides};
+ghost use Rattle.arranged_sheets.specs.Posters.{PosterCovers, TilesOverlap};
+
+/// The cells of the sheets of a grid, sheet by sheet, are the row.
+pub fn grid_runs_on()
+    ensures { GridRunsOn }
+{}
+
+/// The sheets of a stack, cut and laid, are the row.
+pub fn stack_runs_on()
+    ensures { StackRunsOn }
+{}
+
+/// The leaves of a stack that is printed on both sides, cut and laid, and read front and back, are the row.
+pub fn duplex_runs_on()
+    ensures { DuplexRunsOn }
+{}
+
+/// What stands behind a cell is in its row, and as far from the other side.
+pub fn behind_is_mirror()
+    ensures { BehindIsMirror }
+{}
+
+/// Each placed page lies on what the margin leaves of its sheet, whatever its paper.
+pub fn filled_is_inside()
+    ensures { FilledIsInside }
+{}
+
+/// Two placed pages of a sheet are apart by the gap, whatever their papers.
+pub fn filled_is_apart()
+    ensures { FilledIsApart }
+{}
+
+/// A page of a leaf that creeps stands where it would, moved towards the fold.
+pub fn creep_moves()
+    ensures { CreepMoves }
+{}
+
+/// The outermost leaf stays, the innermost is moved by the whole creep, and each one no farther than the next one in.
+pub fn creep_grows()
+    ensures { CreepGrows }
+{}
+
+/// As long as there is room for it, no leaf that creeps crosses its fold.
+pub fn creep_keeps_sides()
+    ensures { CreepKeepsSides }
+{}
+
+/// Each point of a poster's page is shown on a tile.
+pub fn poster_covers()
+    ensures { PosterCovers }
+{}
+
+/// Neighbouring tiles of a poster share exactly the overlap.
+pub fn tiles_overlap()
+    ensures { TilesOverlap }
+{}

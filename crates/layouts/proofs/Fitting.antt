@@ -1,0 +1,275 @@
+-- Pages of several papers, each fitted into its cell.
+use Rattle.std.proofs.Common.{arith, rules, ◌≡◌, ◌≢◌, ℕ, suc, zero, ◌*◌, ◌/◌, ◌%◌, ◌<◌, ◌≤◌, Bool, true, false, Option, None, refl, sym, ap, subst, ◌∙◌, [], ◌∷◌}
+use Rattle.std.specs.Prelude.{◌&&◌, ◌==◌, nat_le, if◌then◌else◌, is_none, map}
+use Rattle.std.specs.List.{range_with_len}
+use Rattle.lengths.proofs.Numbers.{same_byte}
+use Rattle.rules.specs.Papers.{Paper}
+use Rattle.rules.specs.Specification.{Item, Spec}
+use Rattle.layouts.specs.declared.arrangement.Arrangement.{Arrangement}
+use Rattle.layouts.specs.declared.arrangement.Cells.{Cells}
+use Rattle.layouts.specs.declared.arrangement.Cells.TheVariants.{AtLeast, Exactly}
+use Rattle.layouts.specs.declared.arrangement.Turned.{Turned}
+use Rattle.layouts.specs.declared.arrangement.Order.{Order}
+use Rattle.layouts.specs.declared.error.ArrangementError.{ArrangementError}
+use Rattle.layouts.specs.declared.error.ArrangementError.TheVariants as why
+use Rattle.layouts.specs.declared.setting.Setting.{Setting}
+use Rattle.layouts.specs.Placed.{Room, IsInside, AreApart}
+use Rattle.layouts.specs.Cells.{Grid, size, scale_in, item_in, run_in, read_rows, row_of, column_of}
+use Rattle.layouts.specs.Grids.{alone, is_same, is_itself, room_of, grid, grid_of, best_grid, best_of, best_formed, scale_for, count_of, rounded_up, rounded_down, arranged}
+use Rattle.layouts.specs.Refusals.{first_of, is_count, are_reached, is_length, is_shown, why_no_scale, why_not_arranged}
+use Rattle.layouts.specs.Laws.{IsPaper, HasPlace, IsExact, IsInMiddle, cell_at, ComesInRun, ComesInRunBefore, IsNotTiny, Allows, IsChosen}
+use Rattle.layouts.specs.Fitted.{is_whole, scale_on, fitted, setting_of, why_no_scale_on, why_not_fitted, IsFitted, FittedStands, FittedIsApart, FittedIsInOrder, ArrangedIsFitted}
+use Rattle.layouts.proofs.InGrid.{cells, room_in, both_true}
+use Rattle.layouts.proofs.InOrder.{grid_inside, grid_in_order}
+use Rattle.layouts.proofs.Apart.{grid_apart}
+use Rattle.layouts.proofs.Middle.{grid_in_middle}
+use Rattle.layouts.proofs.BestGrid.{allowed, best_has_cells}
+use Rattle.layouts.proofs.Printing.{printed_as_it_is}
+use Rattle.layouts.proofs.LaidOut.{SameSides, same_sides, itself_in, itself_exact, itself_large_at, some_each, read_best, read_square, is_chosen, enough}
+use Rattle.layouts.proofs.Possible.{passed, one_way, either_way, no_scale, good_scale, place, cells_made, itself_made, is_alone}
+
+-- ---- a page on a sheet of its own paper
+
+record IsWholePage (t : Setting) (page : Paper) : Type 0 where
+  pub one : size t.grid ≡ 1
+  pub same : SameSides page t.room.paper
+  pub edge : t.room.edge ≡ 0
+  pub trim : t.room.trim ≡ 0
+  pub scale : t.scale ≡ None
+
+whole_page : (t : Setting) (page : Paper) → is_whole t page ≡ true → IsWholePage t page
+whole_page t page h =
+    let four = both_true ((size t.grid == 1) && is_same page t.room.paper && (t.room.edge == 0) && (t.room.trim == 0)) (is_none t.scale) h in
+    let three = both_true ((size t.grid == 1) && is_same page t.room.paper && (t.room.edge == 0)) (t.room.trim == 0) four.0 in
+    let two = both_true ((size t.grid == 1) && is_same page t.room.paper) (t.room.edge == 0) three.0 in
+    let one = both_true (size t.grid == 1) (is_same page t.room.paper) two.0 in
+    record {
+      one = same_byte (size t.grid) 1 one.0;
+      same = same_sides page t.room.paper one.1;
+      edge = same_byte t.room.edge 0 two.1;
+      trim = same_byte t.room.trim 0 three.1;
+      scale = no_scale t.scale four.1;
+    }
+
+-- what holds of it
+record StandsWhole (page : Paper) (room : Room) (g : Grid) (o : Order) (k : ℕ) : Type 0 where
+  pub inside : IsInside room page (alone k)
+  pub middle : IsInMiddle page (cell_at room g (row_of o g k) (column_of o g k)) (alone k)
+  pub exact : IsExact page (alone k)
+  pub large : (s : ℕ) → IsNotTiny page room → Allows page room g s → s < 1_000_001_000
+
+stands_whole : (page sheet : Paper) (e d l r c : ℕ) (b : Bool) (o : Order) (k : ℕ) → IsPaper page → IsPaper sheet → SameSides page sheet → e ≡ 0 → l ≡ 0 → r * c ≡ 1 → k < r * c
+    → StandsWhole page (room_in sheet e d l) (cells r c b) o k
+stands_whole page sheet (suc e) d l r c b o k is on same edge trim one within = absurd (omega (arith, edge))
+stands_whole page sheet zero d (suc l) r c b o k is on same edge trim one within = absurd (omega (arith, trim))
+stands_whole page sheet zero d zero zero c b o k is on same edge trim one within = absurd (omega (arith, one))
+stands_whole page sheet zero d zero (suc zero) zero b o k is on same edge trim one within = absurd (omega (arith, one))
+stands_whole page sheet zero d zero (suc zero) (suc zero) b o zero is on same edge trim one within =
+    let at = itself_in page sheet d b o is on same in
+    record {
+      inside = at.0;
+      middle = at.1;
+      exact = itself_exact page;
+      large = λ s sides allows. itself_large_at page sheet d 1 1 b s same sides (omega arith) (omega arith) allows;
+    }
+stands_whole page sheet zero d zero (suc zero) (suc zero) b o (suc k) is on same edge trim one within = absurd (omega (arith, within))
+stands_whole page sheet zero d zero (suc zero) (suc (suc c)) b o k is on same edge trim one within = absurd (omega (arith, one))
+stands_whole page sheet zero d zero (suc (suc r)) zero b o k is on same edge trim one within = absurd (omega (arith, one))
+stands_whole page sheet zero d zero (suc (suc r)) (suc zero) b o k is on same edge trim one within = absurd (omega (arith, one))
+stands_whole page sheet zero d zero (suc (suc r)) (suc (suc c)) b o k is on same edge trim one within = absurd (omega (arith, one))
+
+pub whole_fitted : (t : Setting) (page : Paper) (k : ℕ) → IsPaper page → IsPaper t.room.paper → k < size t.grid → is_whole t page ≡ true → IsFitted t page k (alone k)
+whole_fitted t page k is on within h =
+    let whole = whole_page t page h in
+    let stands = stands_whole page t.room.paper t.room.edge t.room.gap t.room.trim t.grid.rows t.grid.columns t.grid.turned t.order k is on whole.same whole.edge whole.trim whole.one within in
+    record {
+      inside = stands.inside;
+      middle = stands.middle;
+      exact = stands.exact;
+      scale = 1_000_000_000;
+      scale_is = refl;
+      large = λ s none sides allows. stands.large s sides allows;
+    }
+
+-- ---- a page in a cell
+
+pub record HasScale (t : Setting) (page : Paper) : Type 0 where
+  pub place : HasPlace page t.room t.grid (scale_on t page)
+  pub reasons : why_no_scale t.room (scale_on t page) (scale_in page t.room t.grid) ≡ None
+
+pub has_scale : (t : Setting) (page : Paper) → why_no_scale_on t page ≡ None → HasScale t page
+has_scale t page h =
+    let one = passed (are_reached page && are_reached t.room.paper) why.SideTooLong (first_of (is_shown page t.room) why.NothingLeftOfPage (why_no_scale t.room (scale_on t page) (scale_in page t.room t.grid))) h in
+    let two = passed (is_shown page t.room) why.NothingLeftOfPage (why_no_scale t.room (scale_on t page) (scale_in page t.room t.grid)) one.1 in
+    record {
+      place = place page t.room t.grid (scale_on t page) two.0 (good_scale t.room (scale_on t page) (scale_in page t.room t.grid) two.1);
+      reasons = two.1;
+    }
+
+pub cell_fitted : (t : Setting) (page : Paper) (k : ℕ) → IsPaper page → IsPaper t.room.paper → k < size t.grid → why_no_scale_on t page ≡ None
+    → IsFitted t page k (item_in page t.room t.grid t.order (scale_on t page) k)
+cell_fitted t page k is on within h =
+    let has = (has_scale t page h).place in
+    let some = some_each t.grid.rows t.grid.columns (omega (arith, within)) in
+    record {
+      inside = grid_inside page t.room t.grid t.order (scale_on t page) k is on has within;
+      middle = grid_in_middle page t.room t.grid t.order (scale_on t page) k is has;
+      exact = (printed_as_it_is page t.room t.grid t.order (scale_on t page) 0 k).0;
+      scale = scale_on t page;
+      scale_is = refl;
+      large = λ s none sides allows.
+          let less = allowed page t.room t.grid s sides some.0 some.1 allows in
+          let asked : scale_on t page ≡ scale_in page t.room t.grid = ap (λ a. scale_for a (scale_in page t.room t.grid)) none in
+          omega (arith, less, asked);
+    }
+
+by_test : {P : Type 0} (b : Bool) → (b ≡ true → P) → (b ≡ false → P) → P
+by_test true f g = f refl
+by_test false f g = g refl
+
+pub fitted_stands : FittedStands
+fitted_stands t page k is on within h =
+    by_test (is_whole t page)
+    (λ e. subst (IsFitted t page k) (sym (one_way (is_whole t page) (alone k) (item_in page t.room t.grid t.order (scale_on t page) k) e)) (whole_fitted t page k is on within e))
+    (λ e. subst (IsFitted t page k) (sym (either_way (is_whole t page) (alone k) (item_in page t.room t.grid t.order (scale_on t page) k) e))
+    (cell_fitted t page k is on within (sym (either_way (is_whole t page) None (why_no_scale_on t page) e) ∙ h)))
+
+-- ---- two pages
+
+is_false : (b : Bool) → (b ≡ true → ⊥) → b ≡ false
+is_false true h = absurd (h refl)
+is_false false h = refl
+
+not_whole : (t : Setting) (page : Paper) (k l : ℕ) → k < size t.grid → l < size t.grid → k ≢ l → is_whole t page ≡ false
+not_whole t page k l in_k in_l differ =
+    is_false (is_whole t page) (λ h. let one = (whole_page t page h).one in differ (omega (arith, one, in_k, in_l)))
+
+-- so each stands in its cell
+pub in_cell : (t : Setting) (page : Paper) (k l : ℕ) → is_whole t page ≡ false → why_not_fitted t page ≡ None
+    → (fitted t page k ≡ item_in page t.room t.grid t.order (scale_on t page) k) × HasPlace page t.room t.grid (scale_on t page)
+in_cell t page k l not h = (
+  either_way (is_whole t page) (alone k) (item_in page t.room t.grid t.order (scale_on t page) k) not,
+  (has_scale t page (sym (either_way (is_whole t page) None (why_no_scale_on t page) not) ∙ h)).place,
+)
+
+pub fitted_is_apart : FittedIsApart
+fitted_is_apart t page page' k l is is' on h h' in_k in_l differ =
+    let one = in_cell t page k l (not_whole t page k l in_k in_l differ) h in
+    let other = in_cell t page' l k (not_whole t page' k l in_k in_l differ) h' in
+    subst (λ i. AreApart t.room page i page' (fitted t page' l)) (sym one.0)
+    (subst (λ i. AreApart t.room page (item_in page t.room t.grid t.order (scale_on t page) k) page' i) (sym other.0)
+    (grid_apart page page' t.room t.grid t.order (scale_on t page) (scale_on t page') k l is is' on one.1 other.1 in_k in_l differ))
+
+pub fitted_is_in_order : FittedIsInOrder
+fitted_is_in_order t page page' k l is is' on h h' in_k in_l =
+    let o = t.order in
+    let run = run_in o.run o.turned t.grid in (
+      λ less.
+          let differ : k ≢ l = λ e. let same : k % run ≡ l % run = ap (λ m. m % run) e in omega (arith, less, same) in
+          let one = in_cell t page k l (not_whole t page k l in_k in_l differ) h in
+          let other = in_cell t page' l k (not_whole t page' k l in_k in_l differ) h' in
+          subst (λ i. ComesInRun o.run t.room o.turned o.right_to_left page i page' (fitted t page' l)) (sym one.0)
+          (subst (λ i. ComesInRun o.run t.room o.turned o.right_to_left page (item_in page t.room t.grid o (scale_on t page) k) page' i) (sym other.0)
+          ((grid_in_order page page' t.room t.grid o (scale_on t page) (scale_on t page') k l is is' on one.1 other.1 in_k in_l).0 less)),
+      λ less.
+          let differ : k ≢ l = λ e. let same : k / run ≡ l / run = ap (λ m. m / run) e in omega (arith, less, same) in
+          let one = in_cell t page k l (not_whole t page k l in_k in_l differ) h in
+          let other = in_cell t page' l k (not_whole t page' k l in_k in_l differ) h' in
+          subst (λ i. ComesInRunBefore o.run t.room o.turned o.right_to_left page i page' (fitted t page' l)) (sym one.0)
+          (subst (λ i. ComesInRunBefore o.run t.room o.turned o.right_to_left page (item_in page t.room t.grid o (scale_on t page) k) page' i) (sym other.0)
+          ((grid_in_order page page' t.room t.grid o (scale_on t page) (scale_on t page') k l is is' on one.1 other.1 in_k in_l).1 less)),
+    )
+
+-- ---- the grid
+
+pub chosen_as : (page : Paper) (room : Room) (t : Turned) (c : Cells) (g : Grid) → 0 < count_of c → g ≡ grid_of page room t c → IsChosen page room t c (scale_in page room g) g
+chosen_as page room t c g some e = subst (λ x. IsChosen page room t c (scale_in page room x) x) (sym e) (is_chosen page room t c some)
+
+pub enough_in : (page : Paper) (room : Room) (t : Turned) (c : Cells) (g : Grid) → 0 < count_of c → g ≡ grid_of page room t c → count_of c ≤ size g
+enough_in page room t c g some e = subst (λ x. count_of c ≤ size x) (sym e) (enough page room t c some)
+
+-- ---- pages of one paper
+
+either_size : (b : Bool) (x y : Grid) → size x ≡ 1 → size y ≡ 1 → size (if b then y else x) ≡ 1
+either_size true x y e f = f
+either_size false x y e f = e
+
+one_best : (page : Paper) (room : Room) → size (best_grid page room 1) ≡ 1
+one_best page room =
+    either_size _ (best_of page room false 1 1) (best_of page room true 1 1)
+    (either_size _ (grid false 1 1) (grid false 1 1) refl refl) (either_size _ (grid true 1 1) (grid true 1 1) refl refl)
+
+not_one : (n : ℕ) → 2 ≤ n → (n == 1) ≡ false
+not_one n h = search (rules, h)
+
+same_test : (page : Paper) (room : Room) (t : Turned) (c : Cells) → 1 ≤ count_of c → (size (grid_of page room t c) == 1) ≡ (count_of c == 1)
+same_test page room t (AtLeast zero) some = absurd (omega (arith, some))
+same_test page room t (AtLeast (suc zero)) some = ap (λ n. n == 1) (one_best page room)
+same_test page room t (AtLeast (suc (suc n))) some =
+    let many = best_has_cells page room (suc (suc n)) (omega arith) in
+    not_one (size (best_grid page room (suc (suc n)))) (omega (arith, many)) ∙ sym (not_one (suc (suc n)) (omega arith))
+same_test page room t (Exactly columns rows) some =
+    let read = read_best page room t columns rows in
+    let g = best_formed page room t columns rows in
+    ap (λ n. n == 1) (sym (read_square t g) ∙ (ap (λ m. m * read_rows t g) read.0 ∙ ap (λ m. columns * m) read.1))
+
+abbrev one_group : (n : ℕ) → (ℕ → Item) → Spec
+one_group n f = record { modulo = n; groups = map f (range_with_len 0 n) ∷ [] }
+
+abbrev single : Item → Spec
+single i = record { modulo = 1; groups = (i ∷ []) ∷ [] }
+
+at_least_one : (n : ℕ) → is_count n ≡ true → 1 ≤ n
+at_least_one n h = search (rules, both_true (nat_le 1 n) (nat_le n 1_024) h)
+
+-- what holds where nothing refuses
+record NothingRefuses (page sheet : Paper) (a : Arrangement) : Type 0 where
+  pub some : 1 ≤ count_of a.cells
+  pub reached : are_reached page && are_reached sheet ≡ true
+  pub shown : is_shown page (room_of sheet a.margin a.gap a.trim) ≡ true
+  pub behind : (let room = room_of sheet a.margin a.gap a.trim in
+      let largest = scale_in page room (grid_of page room a.order.turned a.cells) in
+      (if is_itself page sheet a then None else why_no_scale room (scale_for a.scale largest) largest) ≡ None)
+
+nothing_refuses : (page sheet : Paper) (a : Arrangement) → why_not_arranged page sheet a ≡ None → NothingRefuses page sheet a
+nothing_refuses page sheet a h =
+    let room = room_of sheet a.margin a.gap a.trim in
+    let largest = scale_in page room (grid_of page room a.order.turned a.cells) in
+    let last : Option ArrangementError = if is_itself page sheet a then None else why_no_scale room (scale_for a.scale largest) largest in
+    let third = first_of (is_shown page room) why.NothingLeftOfPage last in
+    let second = first_of (is_length a.margin && is_length a.gap && is_length a.trim) why.LengthOutOfRange third in
+    let first = first_of (are_reached page && are_reached sheet) why.SideTooLong second in
+    let one = passed (is_count (count_of a.cells)) why.CellsOutOfRange first h in
+    let two = passed (are_reached page && are_reached sheet) why.SideTooLong second one.1 in
+    let three = passed (is_length a.margin && is_length a.gap && is_length a.trim) why.LengthOutOfRange third two.1 in
+    let four = passed (is_shown page room) why.NothingLeftOfPage last three.1 in
+    record { some = at_least_one (count_of a.cells) one.0; reached = two.0; shown = four.0; behind = four.1 }
+
+abbrev ArrangedSo : (page sheet : Paper) → Arrangement → Type 0
+ArrangedSo page sheet a = (why_not_fitted (setting_of page sheet a) page ≡ None) × (arranged page sheet a ≡ one_group (count_of a.cells) (fitted (setting_of page sheet a) page))
+
+whole_so : (page sheet : Paper) (a : Arrangement) → is_itself page sheet a ≡ true → is_whole (setting_of page sheet a) page ≡ true → ArrangedSo page sheet a
+whole_so page sheet a e whole =
+    let t = setting_of page sheet a in
+    let alone_is : fitted t page 0 ≡ alone 0 = one_way (is_whole t page) (alone 0) _ whole in (
+      one_way (is_whole t page) None _ whole,
+      itself_made page sheet a e ∙ (ap single (sym alone_is) ∙ ap (λ n. one_group n (fitted t page)) (sym (is_alone page sheet a e).one)),
+    )
+
+cells_so : (page sheet : Paper) (a : Arrangement) → NothingRefuses page sheet a → is_itself page sheet a ≡ false → is_whole (setting_of page sheet a) page ≡ false → ArrangedSo page sheet a
+cells_so page sheet a holds e not =
+    let t = setting_of page sheet a in
+    let scaled : why_no_scale t.room (scale_on t page) (scale_in page t.room t.grid) ≡ None = sym (either_way (is_itself page sheet a) None _ e) ∙ holds.behind in
+    let reasons : why_no_scale_on t page ≡ None = one_way (are_reached page && are_reached sheet) _ _ holds.reached ∙ (one_way (is_shown page t.room) _ _ holds.shown ∙ scaled) in (
+      either_way (is_whole t page) None _ not ∙ reasons,
+      cells_made page sheet a e
+          ∙ ap (λ b. one_group (count_of a.cells) (λ k. if b then alone k else item_in page t.room t.grid t.order (scale_on t page) k)) (sym not),
+    )
+
+pub arranged_is_fitted : ArrangedIsFitted
+arranged_is_fitted page sheet a h =
+    let holds = nothing_refuses page sheet a h in
+    let room = room_of sheet a.margin a.gap a.trim in
+    let same : is_whole (setting_of page sheet a) page ≡ is_itself page sheet a =
+    ap (λ b. b && is_same page sheet && (rounded_up a.margin == 0) && (rounded_down a.trim == 0) && is_none a.scale) (same_test page room a.order.turned a.cells holds.some) in
+    by_test (is_itself page sheet a) (λ e. whole_so page sheet a e (same ∙ e)) (λ e. cells_so page sheet a holds e (same ∙ e))

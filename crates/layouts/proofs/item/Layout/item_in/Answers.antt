@@ -1,0 +1,17 @@
+use Rattle.std.proofs.Common.{rules, ◌≡◌, ap, ◌∙◌}
+use Rattle.std.specs.Prelude.{pos}
+use Rattle.pagespec.specs.Items.{turn_of, measure_of}
+use Rattle.layouts.specs.Cells.{in_points, turn_in, row_of, column_of}
+use Rattle.layouts.proofs.Reach.{item_is}
+use Rattle.layouts.proofs.item.Layout.item_in.Goals.{then-self, else-self}
+use Rattle.layouts.proofs.item.Layout.item_in.Goals as goal
+
+pub returns : goal.returns
+returns c =
+    let l = c.args.self.now in
+    let turn : turn_of c.if-self.result ≡ turn_in l.grid = elim c.if-self.branch [ then-self w ↦ search rules | else-self w ↦ search rules ] in
+    let is : c.number.result ≡ pos l.scale = search rules in
+    let across : measure_of c.points.result ≡ in_points c.shift-x.result.0 = search rules in
+    let up : measure_of c.points-2.result ≡ in_points c.shift-x.result.1 = search rules in
+    item_is l.page l.room l.grid l.scale c.args.k (row_of l.order l.grid c.args.k) (column_of l.order l.grid c.args.k) _ _ _ _ turn is
+    (across ∙ ap in_points c.shift-x.ensures.right) (up ∙ ap in_points c.shift-x.ensures.top)

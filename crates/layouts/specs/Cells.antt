@@ -1,0 +1,214 @@
+-- Pages in cells, each in the middle of its cell, with a margin round the sheet and a gap between cells.
+-- Sides of cells and offsets are whole numbers of 10^-5 of a point, which are 1,270,000 grains: with these a shift is
+-- printed exactly. Both are rounded down, and so is the scale, in 10^-9; so a page is never larger than its cell, nor
+-- the grid than what the margin leaves of the sheet.
+-- The gap is no part of the pages, so it isn't scaled: it is added to the side once, as if one more gap came behind the
+-- last cell, the side is cut into equal parts, and each part gives up one gap.
+use Rattle.std.specs.Prelude.{ℕ, ◌+◌, ◌-◌, ◌*◌, ◌/◌, ◌%◌, min, ℤ, pos, ◌+ℤ◌, ◌-ℤ◌, ◌*ℤ◌, nat_abs, Bool, true}
+use Rattle.std.specs.Prelude.{false, ◌==◌, if◌then◌else◌, [], ◌∷◌, map}
+use Rattle.std.specs.List.{range_with_len}
+use Rattle.rules.specs.Papers.{Paper, Pt}
+use Rattle.rules.specs.Specification.{Item, Spec, Measure, Turn, Upright, Left, Half, Right}
+use Rattle.layouts.specs.Placed.{Room}
+use Rattle.layouts.specs.declared.arrangement.Run.{Run}
+use Rattle.layouts.specs.declared.arrangement.Run.TheVariants.{Rows, Columns}
+use Rattle.layouts.specs.declared.arrangement.Turned.{Turned}
+use Rattle.layouts.specs.declared.arrangement.Turned.TheVariants as sideways
+use Rattle.layouts.specs.declared.arrangement.Order.{Order}
+
+-- rows and columns, as one holds the sheet for its pages to be upright; the pages are turned to the left, or not
+pub record Grid : Type 0 where
+  pub rows : ℕ
+  pub columns : ℕ
+  pub turned : Bool
+
+-- how many cells it has
+abbrev pub size : Grid → ℕ
+size g = g.rows * g.columns
+
+-- how wide and how high the sheet is as one holds it, in grains
+abbrev pub held_width : Bool → (sheet : Paper) → ℕ
+held_width false sheet = nat_abs sheet.width
+held_width true sheet = nat_abs sheet.height
+
+abbrev pub held_height : Bool → (sheet : Paper) → ℕ
+held_height false sheet = nat_abs sheet.height
+held_height true sheet = nat_abs sheet.width
+
+-- ---- cells
+
+-- what is kept of a length: if pages are trimmed, 10^-5 of a point more, since how far they are moved back is rounded
+abbrev pub kept : Room → (length : ℕ) → ℕ
+kept room length = if room.trim == 0 then length else length + 1
+
+-- what the margins leave of a side, in grains
+abbrev pub left_free : Room → (side : ℕ) → ℕ
+left_free room side = side - 2_540_000 * kept room room.edge
+
+-- one of so many equal parts of a side of so many grains, in 10^-5 of a point
+abbrev pub part : (side parts : ℕ) → ℕ
+part side parts = side / (1_270_000 * parts)
+
+-- from where a cell begins to where the next one begins
+abbrev pub step : Room → (side parts : ℕ) → ℕ
+step room side parts = part (left_free room side + 1_270_000 * kept room room.gap) parts
+
+abbrev pub step_across : Room → Grid → ℕ
+step_across room g = step room (held_width g.turned room.paper) g.columns
+
+abbrev pub step_down : Room → Grid → ℕ
+step_down room g = step room (held_height g.turned room.paper) g.rows
+
+-- how wide and how high a cell is; none has room if a gap takes it all
+abbrev pub wide : Room → Grid → ℕ
+wide room g = step_across room g - kept room room.gap
+
+abbrev pub high : Room → Grid → ℕ
+high room g = step_down room g - kept room room.gap
+
+-- ---- pages in cells
+
+-- what counts of a page's side, in grains
+abbrev pub counted : Room → (side : ℤ) → ℕ
+counted room side = nat_abs side - 2_540_000 * room.trim
+
+-- the largest scale, in 10^-9, that brings a side of so many grains into a cell of so many 10^-5 of a point
+abbrev pub fitting : (cell side : ℕ) → ℕ
+fitting cell side = 1_270_000_000_000_000 * cell / side
+
+-- the largest scale that brings a page into a cell; 0 if nothing is left for cells
+abbrev pub scale_in : (page : Paper) → Room → Grid → ℕ
+scale_in page room g =
+    min (fitting (wide room g) (counted room page.width)) (fitting (high room g) (counted room page.height))
+
+-- half of what a scaled side leaves of its cell, in 10^-5 of a point
+abbrev pub slack : (cell side scale : ℕ) → ℕ
+slack cell side scale = (1_270_000_000_000_000 * cell - scale * side) / 2_540_000_000_000_000
+
+abbrev pub slack_x : (page : Paper) → Room → Grid → (scale : ℕ) → ℕ
+slack_x page room g s = slack (wide room g) (counted room page.width) s
+
+abbrev pub slack_y : (page : Paper) → Room → Grid → (scale : ℕ) → ℕ
+slack_y page room g s = slack (high room g) (counted room page.height) s
+
+-- how long what is trimmed along a side is on the sheet, in 10^-5 of a point, rounded down
+abbrev pub trimmed : Room → (scale : ℕ) → ℕ
+trimmed room s = s * room.trim / 1_000_000_000
+
+-- where the corner of what counts of the page comes to stand, about which it is turned, if it is in this row and column
+abbrev pub corner_x : (page : Paper) → Room → Grid → (scale row column : ℕ) → ℕ
+corner_x page room g s row column =
+    if g.turned then kept room room.edge + row * step_down room g + (high room g - slack_y page room g s)
+    else kept room room.edge + column * step_across room g + slack_x page room g s
+
+abbrev pub corner_y : (page : Paper) → Room → Grid → (scale row column : ℕ) → ℕ
+corner_y page room g s row column =
+    if g.turned then kept room room.edge + column * step_across room g + slack_x page room g s
+    else kept room room.edge + (g.rows - (row + 1)) * step_down room g + slack_y page room g s
+
+-- how far to the right, and how far up, the page is moved, in 10^-5 of a point
+abbrev pub to_right : (page : Paper) → Room → Grid → (scale row column : ℕ) → ℤ
+to_right page room g s row column =
+    if g.turned then pos (corner_x page room g s row column) +ℤ pos (trimmed room s)
+    else pos (corner_x page room g s row column) -ℤ pos (trimmed room s)
+
+abbrev pub to_top : (page : Paper) → Room → Grid → (scale row column : ℕ) → ℤ
+to_top page room g s row column = pos (corner_y page room g s row column) -ℤ pos (trimmed room s)
+
+-- so many 10^-5 of a point
+abbrev pub in_points : ℤ → Measure
+in_points z = record { number = pos 10_000 *ℤ z; unit = Pt }
+
+abbrev pub turn_in : Grid → Turn
+turn_in g = if g.turned then Left else Upright
+
+-- page k in this row and column, at this scale
+abbrev pub item_at : (page : Paper) → Room → Grid → (scale k row column : ℕ) → Item
+item_at page room g s k row column = record {
+  page = k;
+  from_end = false;
+  turn = turn_in g;
+  scale = pos s;
+  x = in_points (to_right page room g s row column);
+  y = in_points (to_top page room g s row column);
+}
+
+-- ---- the order of cells
+
+-- the columns and the rows as one reads the sheet
+abbrev pub read_columns : Turned → Grid → ℕ
+read_columns sideways.Upright g = g.columns
+read_columns sideways.Left g = g.rows
+read_columns sideways.Right g = g.rows
+
+abbrev pub read_rows : Turned → Grid → ℕ
+read_rows sideways.Upright g = g.rows
+read_rows sideways.Left g = g.columns
+read_rows sideways.Right g = g.columns
+
+-- how many cells are passed before the next row, or the next column, begins
+abbrev pub run_in : Run → Turned → Grid → ℕ
+run_in Rows t g = read_columns t g
+run_in Columns t g = read_rows t g
+
+-- the row and the column of page k as one reads the sheet
+abbrev pub read_row : Run → Turned → Grid → ℕ → ℕ
+read_row Rows t g k = k / read_columns t g
+read_row Columns t g k = k % read_rows t g
+
+abbrev pub nth_column : Run → Turned → Grid → ℕ → ℕ
+nth_column Rows t g k = k % read_columns t g
+nth_column Columns t g k = k / read_rows t g
+
+abbrev pub read_column : Run → (right_to_left : Bool) → Turned → Grid → ℕ → ℕ
+read_column run right_to_left t g k =
+    if right_to_left then read_columns t g - (nth_column run t g k + 1) else nth_column run t g k
+
+-- and as one holds it for its pages to be upright: one that is read when it is turned to the left has its first row in
+-- its last column, and its first column in its first row
+abbrev pub held_row : Turned → Grid → (row column : ℕ) → ℕ
+held_row sideways.Upright g row column = row
+held_row sideways.Left g row column = column
+held_row sideways.Right g row column = g.rows - (column + 1)
+
+abbrev pub held_column : Turned → Grid → (row column : ℕ) → ℕ
+held_column sideways.Upright g row column = column
+held_column sideways.Left g row column = g.columns - (row + 1)
+held_column sideways.Right g row column = row
+
+abbrev pub row_of : Order → Grid → ℕ → ℕ
+row_of o g k = held_row o.turned g (read_row o.run o.turned g k) (read_column o.run o.right_to_left o.turned g k)
+
+abbrev pub column_of : Order → Grid → ℕ → ℕ
+column_of o g k = held_column o.turned g (read_row o.run o.turned g k) (read_column o.run o.right_to_left o.turned g k)
+
+-- page k in its cell
+abbrev pub item_in : (page : Paper) → Room → Grid → Order → (scale : ℕ) → ℕ → Item
+item_in page room g o s k = item_at page room g s k (row_of o g k) (column_of o g k)
+
+-- n pages on each sheet, in this grid: the cells that stay empty come last
+abbrev pub in_grid : (page : Paper) → Room → Grid → Order → (scale n : ℕ) → Spec
+in_grid page room g o s n = record { modulo = n; groups = map (item_in page room g o s) (range_with_len 0 n) ∷ [] }
+
+-- ---- sheets that are turned by half
+
+-- so many whole 10^-5 of a point a side has
+abbrev pub whole : ℕ → ℕ
+whole side = side / 1_270_000
+
+abbrev pub half_turned : Turn → Turn
+half_turned Upright = Half
+half_turned Left = Right
+half_turned Half = Upright
+half_turned Right = Left
+
+-- page n + k of a block, where page k stands if the whole sheet is turned by half
+abbrev pub back_in : (page : Paper) → Room → Grid → Order → (scale n k : ℕ) → Item
+back_in page room g o s n k = record {
+  page = n + k;
+  from_end = false;
+  turn = half_turned (turn_in g);
+  scale = pos s;
+  x = in_points (pos (whole (nat_abs room.paper.width)) -ℤ to_right page room g s (row_of o g k) (column_of o g k));
+  y = in_points (pos (whole (nat_abs room.paper.height)) -ℤ to_top page room g s (row_of o g k) (column_of o g k));
+}

@@ -1,0 +1,89 @@
+//! What a sheet looks like: cells, margin, gap, order, scale.
+ghost use Rattle.std.specs.Prelude.{◌≡◌};
+ghost use Rattle.layouts.specs.Grids.{count_of};
+
+use lengths::{Grains, Number, Paper};
+
+/// The paper of the pages, and that of the sheets.
+#[derive(Clone, Copy, Debug, PartialEq, Eq)]
+pub struct Papers {
+    pub page: Paper,
+    pub sheet: Paper,
+}
+
+/// How many cells a sheet has.
+#[derive(Clone, Copy, Debug, PartialEq, Eq)]
+pub enum Cells {
+    /// So many or more: the grid that takes the largest pages; of these the one with the fewest cells; then upright
+    /// pages; then the fewest columns. A sheet has so many pages, and the cells that stay empty come last.
+    AtLeast(u32),
+    /// So many columns and rows, as one reads the sheet, with upright pages unless turned ones are larger.
+    Exactly { columns: u32, rows: u32 },
+}
+
+impl Cells {
+    /// How many pages a sheet has.
+    pub fn count(self) -> u64
+        ensures { result ≡ count_of self }
+    {
+        match self {
+            Cells::AtLeast(n) => u64::from(n),
+            Cells::Exactly { columns, rows } => u64::from(columns) * u64::from(rows),
+        }
+    }
+}
+
+/// Along what the pages run, until the next row or the next column begins.
+#[derive(Clone, Copy, Debug, PartialEq, Eq)]
+pub enum Run {
+    Rows,
+    Columns,
+}
+
+/// What stands on the pages is upright, or lies on its side: to read it one turns them to the left, or to the right.
+#[derive(Clone, Copy, Debug, PartialEq, Eq)]
+pub enum Turned {
+    Upright,
+    Left,
+    Right,
+}
+
+/// In which order pages stand in the cells, as one reads the sheet: from the top down, and from the left to the right or
+/// the other way.
+#[derive(Clone, Copy, Debug, PartialEq, Eq)]
+pub struct Order {
+    pub run: Run,
+    pub right_to_left: bool,
+    pub turned: Turned,
+}
+
+/// What a sheet looks like. Margin and gap are kept exactly, but for parts of 10^-5 of a point, which are kept whole.
+#[derive(Clone, Copy, Debug, PartialEq, Eq)]
+pub struct Arrangement {
+    pub cells: Cells,
+    /// Kept free along each edge of the sheet.
+    pub margin: Grains,
+    /// Kept free between cells.
+    pub gap: Grains,
+    pub order: Order,
+    /// The scale of the pages; without it they are as large as they can be.
+    pub scale: Option<Number>,
+    /// A page counts as smaller by this along each of its sides; what is there may reach over its neighbours.
+    pub trim: Grains,
+}
+
+/// What a booklet's leaves look like. Margin and gap are kept exactly, but for parts of 10^-5 of a point, which are kept
+/// whole.
+#[derive(Clone, Copy, Debug, PartialEq, Eq)]
+pub struct Binding {
+    /// Kept free along each edge of the sheet.
+    pub margin: Grains,
+    /// Kept free at the fold, half of it on each side.
+    pub gap: Grains,
+    /// The booklet is bound at the right.
+    pub right_to_left: bool,
+    /// A page counts as smaller by this along each of its sides; what is there may reach over its neighbour.
+    pub trim: Grains,
+    /// For printers that flip a sheet about its longer edge the backs are turned by half.
+    pub long_edge: bool,
+}

@@ -1,0 +1,263 @@
+//! Pages in cells and on leaves, as they are asked for.
+ghost use Rattle.std.specs.Prelude.{◌≡◌, IfOk, IfErr, OnOk, Some, None, IsTrue};
+ghost use Rattle.rules.specs.Papers.{is_paper};
+ghost use Rattle.layouts.specs.Laws.{IsPaper, IsArranged, IsBound};
+ghost use Rattle.layouts.specs.Grids.{arranged, bound, is_same, is_itself as is_page_itself, count_of};
+ghost use Rattle.layouts.specs.Grids.{room_of, rounded_up as rounded_up_of, rounded_down as rounded_down_of};
+ghost use Rattle.layouts.specs.Grids.{scale_for, above_zero, leaf_order as leaf_order_of};
+ghost use Rattle.layouts.specs.Refusals.{why_not_arranged, why_not_bound, IsFault};
+ghost use Rattle.layouts.specs.Refusals.{are_reached, folds_short, why_no_sheet, why_no_scale, is_shown as are_shown};
+
+use super::arrangement::{Arrangement, Binding, Order, Papers, Run, Turned};
+use super::best::grid_of;
+use super::error::ArrangementError;
+use super::grid::Grid;
+use super::item::{Layout, alone, is_near};
+use super::room::{Room, is_length};
+use super::scale::{is_scale, scale_in, side};
+use lengths::{Grains, Number, Paper};
+use pagespec::Spec;
+use std::alloc::Global;
+
+/// How many pages a sheet takes at most.
+pub const MOST_ON_SHEET: u64 = 1_024;
+
+/// Pages on each sheet as they are asked for, each in the middle of its cell: as many as there are cells, or as many as
+/// are asked for in a grid of at least as many cells. They keep the margin and the gap, are as large as they can be
+/// unless a scale is asked for, and stand in the order that is asked for. One page on a sheet of its own paper is left
+/// as it is if nothing else is asked for.
+pub fn arrange(
+    alloc: Global,
+    papers: &Papers,
+    arrangement: &Arrangement,
+) -> Result<Spec, ArrangementError>
+    ensures page { IsPaper papers.now.page }
+    ensures sheet { IsPaper papers.now.sheet }
+    ensures made { IfOk result (λ spec. spec ≡ arranged papers.now.page papers.now.sheet arrangement.now) }
+    ensures laid_out { IfOk result (IsArranged papers.now.page papers.now.sheet arrangement.now) }
+    ensures possible { OnOk result (why_not_arranged papers.now.page papers.now.sheet arrangement.now ≡ None) }
+    ensures refused { IfErr result (IsFault (why_not_arranged papers.now.page papers.now.sheet arrangement.now)) }
+{
+    let found = sheet_in(
+        papers,
+        arrangement.margin,
+        arrangement.gap,
+        arrangement.trim,
+    );
+    let count = arrangement.cells.count();
+    if count < 1 || MOST_ON_SHEET < count {
+        return Err(ArrangementError::CellsOutOfRange);
+    }
+    let room = match found {
+        Ok(room) => room,
+        Err(error) => return Err(error),
+    };
+    if is_itself(papers, &room, arrangement) {
+        return match alone(alloc) {
+            Ok(groups) => Ok(Spec::of_groups(1, groups)),
+            Err(_) => Err(ArrangementError::NoMemory),
+        };
+    }
+    let grid = grid_of(
+        &papers.page,
+        &room,
+        arrangement.order.turned,
+        arrangement.cells,
+    );
+    let largest = scale_in(&papers.page, &room, grid);
+    let scale = match scale_found(&room, arrangement.scale, largest) {
+        Ok(scale) => scale,
+        Err(error) => return Err(error),
+    };
+    let layout = Layout {
+        page: papers.page,
+        room,
+        grid,
+        order: arrangement.order,
+        scale,
+    };
+    match layout.groups_in(alloc, count as u32) {
+        Ok(groups) => Ok(Spec::of_groups(count as u32, groups)),
+        Err(_) => Err(ArrangementError::NoMemory),
+    }
+}
+
+/// Two pages side by side on each side of a sheet, with the fold parallel to its shorter edge, for a row of pages that
+/// stands in signature order. Half of the gap is kept free on each side of the fold. For printers that flip a sheet
+/// about its longer edge the backs are turned by half.
+pub fn bind(alloc: Global, papers: &Papers, binding: &Binding) -> Result<Spec, ArrangementError>
+    ensures page { IsPaper papers.now.page }
+    ensures sheet { IsPaper papers.now.sheet }
+    ensures made { IfOk result (λ spec. spec ≡ bound papers.now.page papers.now.sheet binding.now) }
+    ensures laid_out { IfOk result (IsBound papers.now.page papers.now.sheet binding.now) }
+    ensures possible { OnOk result (why_not_bound papers.now.page papers.now.sheet binding.now ≡ None) }
+    ensures refused { IfErr result (IsFault (why_not_bound papers.now.page papers.now.sheet binding.now)) }
+{
+    let room = match sheet_in(papers, binding.margin, binding.gap, binding.trim) {
+        Ok(room) => room,
+        Err(error) => return Err(error),
+    };
+    if !is_fold_short(&papers.page, &room) {
+        return Err(ArrangementError::FoldOnLongEdge);
+    }
+    let grid = Grid::beside(true);
+    let largest = scale_in(&papers.page, &room, grid);
+    let scale = match scale_found(&room, None, largest) {
+        Ok(scale) => scale,
+        Err(error) => return Err(error),
+    };
+    let layout = Layout {
+        page: papers.page,
+        room,
+        grid,
+        order: leaf_order(binding.right_to_left),
+        scale,
+    };
+    if binding.long_edge {
+        match layout.sides_in(alloc) {
+            Ok(groups) => Ok(Spec::of_groups(4, groups)),
+            Err(_) => Err(ArrangementError::NoMemory),
+        }
+    } else {
+        match layout.groups_in(alloc, 2) {
+            Ok(groups) => Ok(Spec::of_groups(2, groups)),
+            Err(_) => Err(ArrangementError::NoMemory),
+        }
+    }
+}
+
+/// From the left, or from the right if the booklet is bound there.
+pub fn leaf_order(right_to_left: bool) -> Order
+    ensures { result ≡ leaf_order_of right_to_left }
+{
+    Order {
+        run: Run::Rows,
+        right_to_left,
+        turned: Turned::Upright,
+    }
+}
+
+/// The sheet with what is kept free on it, if lengths and papers can be kept to.
+pub fn sheet_in(
+    papers: &Papers,
+    margin: Grains,
+    gap: Grains,
+    trim: Grains,
+) -> Result<Room, ArrangementError>
+    ensures page { IsTrue (is_paper papers.now.page.width papers.now.page.height) }
+    ensures sheet { IsTrue (is_paper papers.now.sheet.width papers.now.sheet.height) }
+    ensures room { IfOk result (λ room. room ≡ room_of papers.now.sheet margin gap trim) }
+    ensures shown { IfOk result (λ room. IsTrue (are_shown papers.now.page room)) }
+    ensures possible { OnOk result (why_no_sheet papers.now.page papers.now.sheet margin gap trim None ≡ None) }
+    ensures refused { IfErr result (λ error.
+        why_no_sheet papers.now.page papers.now.sheet margin gap trim None ≡ Some error) }
+{
+    let page = is_reached_across(&papers.page);
+    let sheet = is_reached_across(&papers.sheet);
+    if !(page && sheet) {
+        return Err(ArrangementError::SideTooLong);
+    }
+    if !(is_length(margin) && is_length(gap) && is_length(trim)) {
+        return Err(ArrangementError::LengthOutOfRange);
+    }
+    let room = Room::of(papers.sheet, margin, gap, trim);
+    if !is_shown(&papers.page, &room) {
+        return Err(ArrangementError::NothingLeftOfPage);
+    }
+    Ok(room)
+}
+
+/// The scale of pages in cells that take so large ones at most, if they can have it.
+pub fn scale_found(
+    room: &Room,
+    asked: Option<Number>,
+    largest: u128,
+) -> Result<u64, ArrangementError>
+    ensures value { IfOk result (λ scale. scale ≡ scale_for asked largest) }
+    ensures possible { OnOk result (why_no_scale room.now (scale_for asked largest) largest ≡ None) }
+    ensures refused { IfErr result (λ error. why_no_scale room.now (scale_for asked largest) largest ≡ Some error) }
+{
+    let scale = scale_asked(asked, largest);
+    if largest < 1 {
+        return Err(ArrangementError::NoRoom);
+    }
+    if !is_scale(scale) {
+        return Err(ArrangementError::ScaleOutOfRange);
+    }
+    if largest < scale {
+        return Err(ArrangementError::ScaleTooLarge);
+    }
+    if !is_near(room, scale) {
+        return Err(ArrangementError::ScaleOutOfRange);
+    }
+    Ok(scale as u64)
+}
+
+/// The scale that is asked for, in 10^-9, or else the largest.
+fn scale_asked(asked: Option<Number>, largest: u128) -> u128
+    ensures { result ≡ scale_for asked largest }
+{
+    match asked {
+        None => largest,
+        Some(scale) => positive(scale.billionths()),
+    }
+}
+
+/// A number, or 0 in place of one below it.
+fn positive(n: i64) -> u128
+    ensures { result ≡ above_zero n }
+{
+    if n < 0 { 0 } else { n as u128 }
+}
+
+/// Whether something is left of the page.
+pub fn is_shown(page: &Paper, room: &Room) -> bool
+    ensures { result ≡ are_shown page.now room.now }
+{
+    let trimmed = 2_540_000 * room.trim;
+    trimmed < side(page.width()) && trimmed < side(page.height())
+}
+
+/// Whether one page of the sheet's own paper is asked for, and nothing else.
+pub fn is_itself(papers: &Papers, room: &Room, arrangement: &Arrangement) -> bool
+    requires edge { room.now.edge ≡ rounded_up_of arrangement.now.margin }
+    requires trim { room.now.trim ≡ rounded_down_of arrangement.now.trim }
+    ensures { result ≡ is_page_itself papers.now.page papers.now.sheet arrangement.now }
+{
+    arrangement.cells.count() == 1
+        && is_of_size(&papers.page, &papers.sheet)
+        && room.edge == 0
+        && room.trim == 0
+        && arrangement.scale.is_none()
+}
+
+/// Whether offsets in points reach across the paper.
+pub fn is_reached_across(paper: &Paper) -> bool
+    ensures value { result ≡ are_reached paper.now }
+    ensures in_range { IsTrue (is_paper paper.now.width paper.now.height) }
+{
+    let (width, height) = (side(paper.width()), side(paper.height()));
+    width < 12_700_000_000_000_000 && height < 12_700_000_000_000_000
+}
+
+/// Whether the papers have the same sides.
+pub fn is_of_size(page: &Paper, sheet: &Paper) -> bool
+    ensures value { result ≡ is_same page.now sheet.now }
+    ensures page { IsPaper page.now }
+    ensures sheet { IsPaper sheet.now }
+{
+    let (width, height) = (side(page.width()), side(page.height()));
+    let (sheet_width, sheet_height) = (side(sheet.width()), side(sheet.height()));
+    width == sheet_width && height == sheet_height
+}
+
+/// Whether the fold between two pages is parallel to the shorter edge of the sheet.
+fn is_fold_short(page: &Paper, room: &Room) -> bool
+    requires { IsTrue (are_shown page.now room.now) }
+    ensures { result ≡ folds_short page.now room.now }
+{
+    let (width, height) = (side(room.paper.width()), side(room.paper.height()));
+    let upright = scale_in(page, room, Grid::beside(false));
+    let turned = scale_in(page, room, Grid::beside(true));
+    width <= height && upright <= turned
+}

@@ -1,0 +1,153 @@
+//! Pages of several papers in the cells of one grid.
+ghost use Rattle.std.specs.Prelude.{◌≡◌, ◌<◌, ◌≤◌, pos, IfOk, IfErr, OnOk, Some, None};
+ghost use Rattle.pagespec.specs.Items.{item_of};
+ghost use Rattle.layouts.specs.Cells.{size, scale_in as scale_of};
+ghost use Rattle.layouts.specs.Grids.{count_of};
+ghost use Rattle.layouts.specs.Refusals.{why_not_arranged};
+ghost use Rattle.layouts.specs.Fitted.{is_whole as is_whole_on, scale_on, fitted, setting_of, why_no_scale_on, why_not_fitted, IsFitted};
+ghost use Rattle.layouts.specs.Laws.{IsPaper, IsChosen};
+
+use super::arrangement::{Arrangement, Order, Papers};
+use super::arranging::{
+    MOST_ON_SHEET, is_itself, is_of_size, is_reached_across, is_shown, scale_found, sheet_in,
+};
+use super::best::grid_of;
+use super::error::ArrangementError;
+use super::grid::Grid;
+use super::item::{Layout, number, whole_page};
+use super::room::Room;
+use super::scale::scale_in;
+use lengths::{Number, Paper};
+use pagespec::Item;
+
+/// A sheet with its cells, into each of which a page is fitted by its own sides: what is kept free, rows and columns, the
+/// order of the cells, and the scale if one is asked for.
+#[derive(Clone, Copy, Debug, PartialEq, Eq)]
+pub struct Setting {
+    pub room: Room,
+    pub grid: Grid,
+    pub order: Order,
+    pub scale: Option<Number>,
+}
+
+impl Setting {
+    /// The cells that an arrangement comes to, with the grid that is chosen for pages of the one paper.
+    pub fn of(papers: &Papers, arrangement: &Arrangement) -> Result<Setting, ArrangementError>
+        ensures page { IsPaper papers.now.page }
+        ensures sheet { IsPaper papers.now.sheet }
+        ensures made { IfOk result (λ t. t ≡ setting_of papers.now.page papers.now.sheet arrangement.now) }
+        ensures cells { IfOk result (λ t. count_of arrangement.now.cells ≤ size t.grid) }
+        ensures chosen { IfOk result (λ t. IsChosen papers.now.page t.room arrangement.now.order.turned
+            arrangement.now.cells (scale_of papers.now.page t.room t.grid) t.grid) }
+        ensures possible { OnOk result (why_not_arranged papers.now.page papers.now.sheet arrangement.now ≡ None) }
+        ensures refused { IfErr result (λ error.
+            why_not_arranged papers.now.page papers.now.sheet arrangement.now ≡ Some error) }
+    {
+        let found = sheet_in(
+            papers,
+            arrangement.margin,
+            arrangement.gap,
+            arrangement.trim,
+        );
+        let count = arrangement.cells.count();
+        if count < 1 || MOST_ON_SHEET < count {
+            return Err(ArrangementError::CellsOutOfRange);
+        }
+        let room = match found {
+            Ok(room) => room,
+            Err(error) => return Err(error),
+        };
+        let grid = grid_of(
+            &papers.page,
+            &room,
+            arrangement.order.turned,
+            arrangement.cells,
+        );
+        let setting = Setting {
+            room,
+            grid,
+            order: arrangement.order,
+            scale: arrangement.scale,
+        };
+        if is_itself(papers, &room, arrangement) {
+            return Ok(setting);
+        }
+        let largest = scale_in(&papers.page, &room, grid);
+        match scale_found(&room, arrangement.scale, largest) {
+            Ok(_) => Ok(setting),
+            Err(error) => Err(error),
+        }
+    }
+
+    /// The scale of pages of this paper, if they can have it: the one that is asked for, or else the largest.
+    pub fn scale(&self, page_paper: &Paper) -> Result<Number, ArrangementError>
+        ensures value { IfOk result (λ scale. scale ≡ pos (scale_on self.now page_paper.now)) }
+        ensures possible { OnOk result (why_no_scale_on self.now page_paper.now ≡ None) }
+        ensures refused { IfErr result (λ error. why_no_scale_on self.now page_paper.now ≡ Some error) }
+    {
+        match self.scale_found(page_paper) {
+            Ok(scale) => Ok(number(scale)),
+            Err(error) => Err(error),
+        }
+    }
+
+    /// A page of this paper in a cell, counted from 0. One page on a sheet of its own paper is left as it is if nothing else
+    /// is asked for.
+    pub fn item(&self, page_paper: &Paper, cell: u32) -> Result<Item, ArrangementError>
+        requires { cell < size self.now.grid }
+        ensures page { IsPaper page_paper.now }
+        ensures sheet { IsPaper self.now.room.paper }
+        ensures made { IfOk result (λ item. item_of item ≡ fitted self.now page_paper.now cell) }
+        ensures fitted { IfOk result (λ item. IsFitted self.now page_paper.now cell (item_of item)) }
+        ensures possible { OnOk result (why_not_fitted self.now page_paper.now ≡ None) }
+        ensures refused { IfErr result (λ error. why_not_fitted self.now page_paper.now ≡ Some error) }
+    {
+        if self.is_whole(page_paper) {
+            return Ok(whole_page(cell));
+        }
+        let scale = match self.scale_found(page_paper) {
+            Ok(scale) => scale,
+            Err(error) => return Err(error),
+        };
+        let layout = Layout {
+            page: *page_paper,
+            room: self.room,
+            grid: self.grid,
+            order: self.order,
+            scale,
+        };
+        Ok(layout.item_in(cell))
+    }
+
+    /// Whether pages of this paper are left as they are.
+    fn is_whole(&self, page_paper: &Paper) -> bool
+        ensures value { result ≡ is_whole_on self.now page_paper.now }
+        ensures page { IsPaper page_paper.now }
+        ensures sheet { IsPaper self.now.room.paper }
+    {
+        let same = is_of_size(page_paper, &self.room.paper);
+        self.grid.size() == 1
+            && same
+            && self.room.edge == 0
+            && self.room.trim == 0
+            && self.scale.is_none()
+    }
+
+    /// The scale of pages of this paper, in 10^-9.
+    fn scale_found(&self, page_paper: &Paper) -> Result<u64, ArrangementError>
+        ensures value { IfOk result (λ scale. scale ≡ scale_on self.now page_paper.now) }
+        ensures possible { OnOk result (why_no_scale_on self.now page_paper.now ≡ None) }
+        ensures refused { IfErr result (λ error. why_no_scale_on self.now page_paper.now ≡ Some error) }
+    {
+        let page = is_reached_across(page_paper);
+        let sheet = is_reached_across(&self.room.paper);
+        if !(page && sheet) {
+            return Err(ArrangementError::SideTooLong);
+        }
+        if !is_shown(page_paper, &self.room) {
+            return Err(ArrangementError::NothingLeftOfPage);
+        }
+        let largest = scale_in(page_paper, &self.room, self.grid);
+        scale_found(&self.room, self.scale, largest)
+    }
+}
