@@ -27,21 +27,21 @@ use Rattle.guarded_pictures.proofs.Sheets.{guarded_sheets_are_printed}
 
 -- what is kept of a page paints this by itself
 abbrev BodyPaints : Frame → List NestedUnit → State → ℕ → List Painting → Type 0
-BodyPaints frame us s p picture = IsComplete (body_of_page us p) × PaintsSheltered s (outline_of frame) (tokens (body_of_page us p)) picture
+BodyPaints frame us s p picture = IsComplete (body_of_page us p) × PaintsSheltered [] s (outline_of frame) (tokens (body_of_page us p)) picture
 
 body_paints : (frame : Frame) (us : List NestedUnit) (s : State) (p : ℕ) (picture : List Painting) → GuardedPagePaints frame us s p picture → BodyPaints frame us s p picture
 body_paints frame us s p picture (complete, apart, h) =
     let alike = kept_runs_alike (page_of us p) apart complete in
-    (alike.1, subst (λ ts. PaintsSheltered s (outline_of frame) ts picture) (sym alike.0) h)
+    (alike.1, subst (λ ts. PaintsSheltered [] s (outline_of frame) ts picture) (sym alike.0) h)
 
 -- what is said of slots, said of what they show
 
-slot_paints : (frame : Frame) (us : List NestedUnit) (picture : ℕ → List Painting) (s : State) (page : Option ℕ) (item : Item) (xs : List Shown) → OnSlot (λ p. BodyPaints frame us s p (picture p)) page → AllSheltered s xs
-    → AllSheltered s (shown_slot frame us picture page item ++ xs)
+slot_paints : (frame : Frame) (us : List NestedUnit) (picture : ℕ → List Painting) (s : State) (page : Option ℕ) (item : Item) (xs : List Shown) → OnSlot (λ p. BodyPaints frame us s p (picture p)) page → AllSheltered [] s xs
+    → AllSheltered [] s (shown_slot frame us picture page item ++ xs)
 slot_paints frame us picture s None item xs h k = k
 slot_paints frame us picture s (Some p) item xs h k = (h.1, k)
 
-slots_paint : (frame : Frame) (us : List NestedUnit) (picture : ℕ → List Painting) (s : State) (slots : List Slot) → OnSlots (λ p. BodyPaints frame us s p (picture p)) slots → AllSheltered s (shown_sheet frame us picture slots)
+slots_paint : (frame : Frame) (us : List NestedUnit) (picture : ℕ → List Painting) (s : State) (slots : List Slot) → OnSlots (λ p. BodyPaints frame us s p (picture p)) slots → AllSheltered [] s (shown_sheet frame us picture slots)
 slots_paint frame us picture s [] h = tt
 slots_paint frame us picture s (slot ∷ slots) h = slot_paints frame us picture s slot.page slot.item (shown_sheet frame us picture slots) h.0 (slots_paint frame us picture s slots h.1)
 
@@ -74,6 +74,6 @@ pub guarded_document_is_shown : GuardedDocumentIsShown
 guarded_document_is_shown sheet frame sides spec text us picture s d few apart run h =
     let stays = guard_stays sheet text us d few in
     let sheets : List (List ℕ) → Type 0 = λ ps. OnSheets (λ p. IsComplete (slice_index_or ps p []) × (page_comments_apart (slice_index_or ps p []) ≡ true)
-    × PaintsSheltered s (outline_of frame) (tokens (slice_index_or ps p [])) (picture p)) (sheets_in sides spec (length ps)) in
+    × PaintsSheltered [] s (outline_of frame) (tokens (slice_index_or ps p [])) (picture p)) (sheets_in sides spec (length ps)) in
     guarded_sheets_show_the_pages frame sides spec (guarded sheet text) (units_of (guarded sheet text)) picture s stays.0 apart run
     (subst sheets (sym stays.1.same_pages) h)

@@ -5,7 +5,7 @@ ghost use Rattle.guarded_pictures.specs.Pages.{GuardedSheetsArePrinted, GuardedS
 ghost use Rattle.guarded_pictures.specs.Pages.{ShelterCommutes, StaysGuarded};
 ghost use Rattle.guarded_pictures.specs.Lines.{AskingShows, AsksUserdict, ClipIsThePages, DefaultIsThePages};
 ghost use Rattle.guarded_pictures.specs.Lines.{DeviceIsLeft, GraphicsAreThePages, GuardedTwice, LoadedShowpage};
-ghost use Rattle.guarded_pictures.specs.Lines.{MatrixIsThePages, PageIsLeft, SaveSaves, ShowpageStaysAName};
+ghost use Rattle.guarded_pictures.specs.Lines.{MatrixIsThePages, OuterIsKept, PageIsLeft, SaveSaves, ShowpageStaysAName};
 
 /// Behind the guard's text each of its names means what is said of it, and all else is as it was.
 pub fn guard_defines()
@@ -47,12 +47,17 @@ pub fn default_is_the_pages()
     ensures { DefaultIsThePages }
 {}
 
-/// `initclip` clips to the page's own outline.
+/// ImposeClip clips to the outlines of the page and of all pages round it.
+pub fn outer_is_kept()
+    ensures { OuterIsKept }
+{}
+
+/// `initclip` clips to the page's own outline, and to those of the pages round it.
 pub fn clip_is_the_pages()
     ensures { ClipIsThePages }
 {}
 
-/// `initgraphics` sets the page's own transformation, and clips to its outline.
+/// `initgraphics` sets the page's own transformation, and clips to these outlines.
 pub fn graphics_are_the_pages()
     ensures { GraphicsAreThePages }
 {}

@@ -43,7 +43,7 @@ guarded_behind = stays_guarded (behind_guard paper []) (in_userdict (codes "e") 
 
 preamble_runs : GuardedPreambleRuns (bytes_of (preamble (units_of (guarded paper text)))) behind
 unfolding digits
-preamble_runs = (refl, (258, refl), refl, refl, refl, guarded_behind)
+preamble_runs = (refl, (264, refl), refl, refl, refl, guarded_behind)
 
 abbrev end_of : State → Option State → State
 end_of s None = s
@@ -51,11 +51,11 @@ end_of s (Some t) = t
 
 abbrev at_most : ℕ → State → State
 at_most zero s = s
-at_most (suc n) s = end_of s (and_then (λ r. Some (at_most n r)) (step_on (outline_of frame) s.left s))
+at_most (suc n) s = end_of s (and_then (λ r. Some (at_most n r)) (step_on [] (outline_of frame) s.left s))
 
 abbrev end : ℕ → State
-end zero = at_most 12 (sheltered behind (outline_of frame) (tokens (page_of us 0)))
-end (suc p) = at_most 9 (sheltered behind (outline_of frame) (tokens (page_of us 1)))
+end zero = at_most 12 (sheltered [] behind (outline_of frame) (tokens (page_of us 0)))
+end (suc p) = at_most 9 (sheltered [] behind (outline_of frame) (tokens (page_of us 1)))
 
 abbrev picture : ℕ → List Painting
 picture p = (end p).painted

@@ -4,7 +4,7 @@ use Rattle.std.specs.Prelude.{codes, Ok}
 use Rattle.std.specs.Fmt.{digits}
 use Rattle.pictures.proofs.Examples.TwoUp.{lines}
 use Rattle.pictures.proofs.Examples.Premises.{document_with, stroke, placed, not_placed}
-use Rattle.guarded_pictures.proofs.Examples.Guarded.{imposed, imposed_twice, sheets_with_guard}
+use Rattle.guarded_pictures.proofs.Examples.Guarded.{imposed, sheets_with_guard}
 
 -- the operator itself, by systemdict: a sheet more, and what is painted behind it isn't placed
 takes_the_operator : imposed (codes "/x 1 def") ((stroke ++ codes " systemdict /showpage get exec " ++ stroke) ∷ [])
@@ -51,9 +51,3 @@ leaves_a_dictionary : imposed (codes "/d 1 dict def d /showpage {} put") ((strok
     ≡ Ok (Some ((placed ∷ placed ∷ []) ∷ []))
 unfolding digits
 leaves_a_dictionary = refl
-
--- imposed twice, a page that resets: it comes back to its inner place, and within that to the outer one, but the edge of the
--- outer paper clips it no more
-resets_within : imposed_twice (codes "initgraphics " ++ stroke) ≡ Ok (Some (((codes "concat" ∷ codes "concat" ∷ [], codes "clip" ∷ []) ∷ []) ∷ []))
-unfolding digits
-resets_within = refl
