@@ -98,7 +98,7 @@ page_saves outers s l h =
 
 -- The outline.
 
-same_text : (a : List ℕ) → bytes_eq a a ≡ true
+pub same_text : (a : List ℕ) → bytes_eq a a ≡ true
 same_text a = (bytes_eq-Decides a a).1 refl
 
 same_numbers : (n : Numbers) → are_same_operands (matrix_of n).operands (matrix_of n).operands ≡ true
@@ -237,7 +237,7 @@ abbrev round_entries : List Outer → State → List Entry
 round_entries outers s = outer_entries outers ++ put_entries s
 
 abbrev begun : List Outer → State → Numbers → State
-begun outers s n = begun_over s n (round_entries outers s) (outer_made outers s)
+begun outers s n = begun_over s n (round_entries outers s) (outer_made outers s.work.made)
 
 -- behind the clip
 abbrev noting : List Token → List Token
@@ -381,7 +381,7 @@ keeps_it s o os l g user first_is matrix_is outline_is outer new =
 -- in the page's own clip, for each kind of state
 clips_round : (outers : List Outer) (s : State) (n : Numbers) (l : List Token) (g : Graphics) → TakesPages outers s
     → Runs false (run_of (Name (codes "PStoPSenablepage") ∷ if_within l) (within s s.work.operands s.work.dictionaries (put_entries s) s.work.made g))
-    (run_of (noting l) (within s s.work.operands s.work.dictionaries (round_entries outers s) (outer_made outers s) g))
+    (run_of (noting l) (within s s.work.operands s.work.dictionaries (round_entries outers s) (outer_made outers s.work.made) g))
 clips_round [] s n l g h =
     let ds : List ℕ = s.work.dictionaries in
     let start : State = within s s.work.operands ds (put_entries s) s.work.made g in
@@ -417,7 +417,7 @@ page_clips outers s n l h =
     let before_end : State = within s os (h.number ∷ ds) (put_entries s) made bare in
     let s1 : State = within s os ds (put_entries s) made bare in
     let s2 : State = within s os ds (put_entries s) made g in
-    let round : State = within s os ds es (outer_made outers s) g in
+    let round : State = within s os ds es (outer_made outers s.work.made) g in
     let below : Known looked_up (record s.work { entries = es }) =
     known_through looked_up ds (outer_entries outers) (put_entries s) (differ (outer_entries outers) looked_up (outer_apart outers))
     (known_through looked_up ds (puts s) s.work.entries (differ (puts s) looked_up refl) (known_below looked_up 0 ds s.work.entries h.names)) in
@@ -428,7 +428,7 @@ page_clips outers s n l h =
     (some 1 (run_of l1 s1) (run_of (Name (codes "PStoPSenablepage") ∷ if_within l) s2) end refl
     (runs_join false (run_of (Name (codes "PStoPSenablepage") ∷ if_within l) s2) (run_of (noting l) round) end
     (clips_round outers s n l g h)
-    (page_noted s n l es (outer_made outers s) below here (outer_path outers (put_entries s) ∙ h.path_is) h.userdict_first (same_place n s.graphics.chain h.numbers))))
+    (page_noted s n l es (outer_made outers s.work.made) below here (outer_path outers (put_entries s) ∙ h.path_is) h.userdict_first (same_place n s.graphics.chain h.numbers))))
 
 -- From the sheet's text to the page's own tokens.
 
@@ -502,7 +502,7 @@ page_begins outers s n body l h =
     let here : Known looked_up (record s.work { entries = put_entries s }) =
     known_through looked_up ds (puts s) s.work.entries (differ (puts s) looked_up refl) (known_below looked_up 0 ds s.work.entries h.names) in
     let names : Known looked_up (begun outers s n).work =
-    known_through looked_up ds (all_put (outer_made outers s) n ++ outer_entries outers) (put_entries s) (differ (all_put (outer_made outers s) n ++ outer_entries outers) looked_up (all_put_apart outers (outer_made outers s) n)) here in
+    known_through looked_up ds (all_put (outer_made outers s.work.made) n ++ outer_entries outers) (put_entries s) (differ (all_put (outer_made outers s.work.made) n ++ outer_entries outers) looked_up (all_put_apart outers (outer_made outers s.work.made) n)) here in
     runs_join false (run_of (saving_tokens ++ (placing_tokens n ++ more)) s) (run_of (placing_tokens n ++ more) s1) end (saving outers s (placing_tokens n ++ more) h)
     (runs_join false (run_of (up_to_clip n ++ clip) s1) (run_of clip s2) end (straight_runs looked_up_first (up_to_clip n) clip s1 s2 first_known refl)
     (by_name (codes "clip") (behind_clip n n.border ++ more) s2 (run_of (clip_tokens ++ (behind_clip n n.border ++ more)) s2) end (Some (Procedure clip_tokens)) (ap (λ x. or x (meaning ds (put_entries s) (codes "clip"))) h.clip_is) refl

@@ -63,7 +63,7 @@ differs key name (other ∷ others) a h = by_test (bytes_eq name other)
     (λ same. subst (λ z. bytes_eq key z ≡ false) (sym ((bytes_eq-Decides name other).0 same)) (neither (bytes_eq key other) (among key others) a))
     (λ differ. differs key name others (nor (bytes_eq key other) (among key others) a) (subst (λ b. (b || among name others) ≡ true) differ h))
 
-entry_other : (d : ℕ) (e : Entry) (es : List Entry) (name : List ℕ) → bytes_eq e.key name ≡ false → entry_of d name (e ∷ es) ≡ entry_of d name es
+pub entry_other : (d : ℕ) (e : Entry) (es : List Entry) (name : List ℕ) → bytes_eq e.key name ≡ false → entry_of d name (e ∷ es) ≡ entry_of d name es
 entry_other d e es name other = ap (λ b. if b && (e.dictionary == d) then Some e.value else entry_of d name es) other
 
 absent_other : (ds : List ℕ) (e : Entry) (es : List Entry) (name : List ℕ) → bytes_eq e.key name ≡ false → absent ds (e ∷ es) name ≡ absent ds es name
@@ -71,17 +71,17 @@ absent_other [] e es name other = refl
 absent_other (d ∷ ds) e es name other =
     ap₂ (λ x b. not (has x) && b) (entry_other d e es name other) (absent_other ds e es name other)
 
-holder_other : (ds : List ℕ) (e : Entry) (es : List Entry) (name : List ℕ) → bytes_eq e.key name ≡ false → holder ds (e ∷ es) name ≡ holder ds es name
+pub holder_other : (ds : List ℕ) (e : Entry) (es : List Entry) (name : List ℕ) → bytes_eq e.key name ≡ false → holder ds (e ∷ es) name ≡ holder ds es name
 holder_other [] e es name other = refl
 holder_other (d ∷ ds) e es name other =
     ap₂ (λ x y. if has x then Some d else y) (entry_other d e es name other) (holder_other ds e es name other)
 
 -- the names all differ from the entry's key
-abbrev AllDiffer : Entry → List (List ℕ) → Type 0
+abbrev pub AllDiffer : Entry → List (List ℕ) → Type 0
 AllDiffer e [] = Unit {0}
 AllDiffer e (name ∷ names) = (bytes_eq e.key name ≡ false) × AllDiffer e names
 
-all_absent_other : (names : List (List ℕ)) (ds : List ℕ) (e : Entry) (es : List Entry) → AllDiffer e names → all_absent names ds (e ∷ es) ≡ all_absent names ds es
+pub all_absent_other : (names : List (List ℕ)) (ds : List ℕ) (e : Entry) (es : List Entry) → AllDiffer e names → all_absent names ds (e ∷ es) ≡ all_absent names ds es
 all_absent_other [] ds e es h = refl
 all_absent_other (name ∷ names) ds e es h = ap₂ (λ a b. a && b) (absent_other ds e es name h.0) (all_absent_other names ds e es h.1)
 

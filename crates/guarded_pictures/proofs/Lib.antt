@@ -11,5 +11,7 @@ pub mod Begins
 pub mod Placed
 pub mod Ground
 pub mod Sheets
+pub mod PutThere
+pub mod SheetsOfSheets
 pub mod Documents
 pub mod Examples

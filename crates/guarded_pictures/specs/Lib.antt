@@ -1,6 +1,7 @@
 -- Read in this order: the guard's procedures, and what its names mean; its lines, one by one; a page by itself; pages
--- on sheets.
+-- on sheets; sheets of sheets.
 pub mod Behind
 pub mod Lines
 pub mod Shelter
 pub mod Pages
+pub mod SheetsOfSheets

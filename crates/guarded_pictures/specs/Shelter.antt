@@ -51,14 +51,14 @@ outer_entries (o ∷ os) =
     ∷ record { dictionary = o.dictionary; key = codes "PStoPSclip"; value = Procedure (outline_tokens o.numbers) }
     ∷ record { dictionary = o.dictionary; key = codes "PStoPSmatrix"; value = Matrix o.matrix } ∷ []
 
--- how many dictionaries and matrices have been made then
-abbrev pub outer_made : List Outer → State → ℕ
-outer_made [] s = s.work.made
-outer_made (o ∷ os) s = s.work.made + 1
+-- how many dictionaries and matrices have been made then, if there were so many before
+abbrev pub outer_made : List Outer → ℕ → ℕ
+outer_made [] made = made
+outer_made (o ∷ os) made = made + 1
 
 -- the matrix in which the guard keeps the page's place
 abbrev pub page_matrix : List Outer → State → ℕ
-page_matrix outers s = outer_made outers s + 1
+page_matrix outers s = outer_made outers s.work.made + 1
 
 -- what the sheet's text has put before a page, the latest first
 abbrev pub entries_put : State → List Entry

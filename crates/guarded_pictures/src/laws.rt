@@ -3,6 +3,7 @@ ghost use Rattle.guarded_pictures.specs.Behind.{GuardDefines};
 ghost use Rattle.guarded_pictures.specs.Pages.{GuardIsEnough, GuardedDocumentIsShown, GuardedPageIsPlaced};
 ghost use Rattle.guarded_pictures.specs.Pages.{GuardedSheetsArePrinted, GuardedSheetsShowThePages, PageBegins};
 ghost use Rattle.guarded_pictures.specs.Pages.{ShelterCommutes, StaysGuarded};
+ghost use Rattle.guarded_pictures.specs.SheetsOfSheets.{SheetIsComposed, SheetIsPlaced, SheetsOfSheetsArePrinted};
 ghost use Rattle.guarded_pictures.specs.Lines.{AskingShows, AsksUserdict, ClipIsThePages, DefaultIsThePages};
 ghost use Rattle.guarded_pictures.specs.Lines.{DeviceIsLeft, GraphicsAreThePages, GuardedTwice, LoadedShowpage};
 ghost use Rattle.guarded_pictures.specs.Lines.{MatrixIsThePages, OuterIsKept, PageIsLeft, SaveSaves, ShowpageStaysAName};
@@ -116,4 +117,19 @@ pub fn stays_guarded()
 /// placed.
 pub fn guarded_document_is_shown()
     ensures { GuardedDocumentIsShown }
+{}
+
+/// A sheet of another document, placed as a page, paints its own picture, placed.
+pub fn sheet_is_placed()
+    ensures { SheetIsPlaced }
+{}
+
+/// And that is the picture of its pages, each in the one place within the other.
+pub fn sheet_is_composed()
+    ensures { SheetIsComposed }
+{}
+
+/// Sheets of sheets are printed, each with the pictures of its sheets, placed.
+pub fn sheets_of_sheets_are_printed()
+    ensures { SheetsOfSheetsArePrinted }
 {}
