@@ -34,8 +34,7 @@ BodyPlaces frame us s p picture =
 
 body_places : (frame : Frame) (us : List NestedUnit) (s : State) (g : IsGuarded s) (p : ℕ) (picture : List Painting) → GuardedPagePaints frame us s p picture → BodyPlaces frame us s p picture
 body_places frame us s g p picture (complete, apart, h) =
-    let alike = kept_runs_alike (page_of us p) apart complete in
-    (
+    let alike = kept_runs_alike (page_of us p) apart complete in (
       alike.1,
       λ item. page_places [] s (record { placed = record { numbers = numbers_of frame item; body = tokens (body_of_page us p) }; picture = picture }) (takes_pages s g)
           (subst (λ ts. PaintsSheltered [] s (outline_of frame) ts picture) (sym alike.0) h),

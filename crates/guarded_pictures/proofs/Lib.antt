@@ -14,4 +14,5 @@ pub mod Sheets
 pub mod PutThere
 pub mod SheetsOfSheets
 pub mod Documents
+pub mod TwoRuns
 pub mod Examples

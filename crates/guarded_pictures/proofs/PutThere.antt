@@ -2,7 +2,7 @@
 use Rattle.std.specs.Prelude.{Option, Some, None, codes, bytes_eq, if◌then◌else◌}
 use Rattle.std.proofs.Common.{◌≡◌, ℕ, ◌+◌, refl, ap, ap₂, ◌∙◌, subst, Bool, true, false, not, true≢false, ◌&&◌, ◌||◌, ◌==◌, List, [], ◌∷◌, ◌++◌, sym, arith}
 use Rattle.std.proofs.lemmas.Bool.{eqb-true, ltb-true, ne_eqb}
-use Rattle.pictures.specs.Objects.{Object, Truth, Procedure, Matrix, Saved}
+use Rattle.pictures.specs.Objects.{Object, Procedure, Matrix}
 use Rattle.pictures.specs.Dictionaries.{Entry, meaning, entry_of, has, or}
 use Rattle.pictures.specs.Operators.{holder, all_old}
 use Rattle.pictures.specs.Sheets.{in_userdict}

@@ -1,14 +1,14 @@
 -- Sheets of another document, placed as pages.
-use Rattle.std.specs.Prelude.{Option, Some, None, codes, bytes_eq, nat_lt, flat_map, if◌then◌else◌}
-use Rattle.std.proofs.Common.{◌≡◌, ℕ, ◌+◌, ◌<◌, ◌≤◌, refl, ap, ap₂, ◌∙◌, sym, subst, Bool, true, false, not, true≢false, ◌&&◌, ◌||◌, ◌==◌, List, [], ◌∷◌, ◌++◌, map, append_assoc, append-nil, eq-eqb, arith}
+use Rattle.std.specs.Prelude.{Option, Some, None, codes, bytes_eq, nat_lt, if◌then◌else◌}
+use Rattle.std.proofs.Common.{◌≡◌, ℕ, ◌+◌, ◌<◌, ◌≤◌, refl, ap, ap₂, ◌∙◌, sym, subst, true, false, not, true≢false, ◌||◌, ◌==◌, List, [], ◌∷◌, ◌++◌, map, append_assoc, eq-eqb, arith}
 use Rattle.std.proofs.lemmas.Bool.{ne_eqb, lt-ltb, ltb-true}
 use Rattle.std.proofs.lemmas.Slice.Eq.{bytes_eq-Decides}
 use Rattle.std.proofs.lemmas.List.{map-append}
-use Rattle.pictures.specs.Objects.{Token, Name, Object, Plain, Truth, Array, Procedure, Dictionary, Matrix, Saved, Call, Number, Literal, Text, Hexadecimal, Font}
-use Rattle.pictures.specs.Dictionaries.{Entry, meaning, entry_of, system}
+use Rattle.pictures.specs.Objects.{Token, Name, Object, Plain, Truth, Array, Procedure, Dictionary, Matrix, Saved, Call, Text, Hexadecimal, Font}
+use Rattle.pictures.specs.Dictionaries.{Entry, meaning, entry_of}
 use Rattle.pictures.specs.Operators.{holder, is_old, all_old, all_are_old}
-use Rattle.pictures.specs.Machine.{State, Graphics, Painting, Kept, Runs, save_of, chain_of}
-use Rattle.pictures.specs.Placing.{Place, within, graphics_at, painting_at, picture_at}
+use Rattle.pictures.specs.Machine.{State, Graphics, Painting, Kept, Runs, chain_of}
+use Rattle.pictures.specs.Placing.{Place, graphics_at, painting_at, picture_at}
 use Rattle.pictures.specs.Sheets.{run_of, among, Numbers, Shown, in_userdict, saving_tokens, placing_tokens, closing_tokens, placed_tokens, sheet_tokens, LeavesAsItWas, page_picture, sheet_picture, place_in, border_in}
 use Rattle.pictures.proofs.Runs.{runs_join}
 use Rattle.pictures.proofs.Tests.{by_test, first, second}
@@ -16,8 +16,8 @@ use Rattle.pictures.proofs.Opening.{apart}
 use Rattle.pictures.proofs.Placed.{both_true}
 use Rattle.pictures.proofs.Twice.{places_compose}
 use Rattle.guarded_pictures.specs.Shelter.{Outer, outer_is, outer_entries, outer_made, page_matrix, beginning, sheltered, outline_tokens, page_save, all_absent}
-use Rattle.guarded_pictures.specs.Lines.{clip_to, clips_to}
-use Rattle.guarded_pictures.specs.Pages.{IsGuarded, TakesPages, Encloses, AllHeld, AllSheltered, has_nothing, looked_up, looked_up_first, Around, around, placed_at}
+use Rattle.guarded_pictures.specs.Lines.{clip_to}
+use Rattle.guarded_pictures.specs.Pages.{TakesPages, Encloses, AllHeld, AllSheltered, has_nothing, looked_up, looked_up_first, Around, around}
 use Rattle.guarded_pictures.specs.SheetsOfSheets.{page_round, page_begun, sheet_as_page, none_above, none_above_of, put_there, AllOlder, TakesSheets, SheetIsPlaced, SheetIsComposed, Inner, as_pages, AllWithin, AllSheetsWithin, SheetsOfSheetsArePrinted}
 use Rattle.guarded_pictures.proofs.Lines.{page_is_left}
 use Rattle.guarded_pictures.proofs.Begins.{all_apart, page_begins, same_place}
@@ -283,7 +283,7 @@ takes_there outers s n t =
 abbrev sheet_end : List Outer → State → Numbers → List Shown → State
 sheet_end outers s n xs = record (sheltered outers s (outline_tokens n) []) { painted = sheet_picture (beginning s) xs [] }
 
-sheet_leaves : (outers : List Outer) (s : State) (n : Numbers) (xs : List Shown) (ps : List Painting) (sheets : List (List Painting)) → TakesSheets outers s
+pub sheet_leaves : (outers : List Outer) (s : State) (n : Numbers) (xs : List Shown) (ps : List Painting) (sheets : List (List Painting)) → TakesSheets outers s
     → LeavesAsItWas (record s { painted = ps; sheets = sheets }) (sheet_end outers s n xs)
 sheet_leaves outers s n xs ps sheets t = record {
   nothing_left = refl;

@@ -1,14 +1,15 @@
 -- Sheets of sheets: the sheets of one document are the pages of another one, which is imposed with the guard too. Each
 -- page stands in its inner place, and with that in the outer one.
 use Rattle.std.specs.Prelude.{◌≡◌, ℕ, ◌+◌, ◌<◌, ◌≤◌, List, [], ◌∷◌, ◌++◌, map, length, Bool, true, false, not, ◌&&◌, ◌||◌, ◌==◌}
-use Rattle.std.specs.Prelude.{Option, Some, None, Ok, codes, ℕ}
+use Rattle.std.specs.Prelude.{Option, Some, Ok, codes, slice_index_or}
 use Rattle.rules.specs.Specification.{Item, Spec}
 use Rattle.rules.specs.Sheets.{Slot}
 use Rattle.rules.specs.Papers.{Paper}
-use Rattle.rules.specs.Parts.{NestedUnit, preamble, pages, bytes_of}
-use Rattle.rules.specs.Run.{document_of, most_input_bytes}
+use Rattle.rules.specs.Parts.{NestedUnit, preamble, page_run, bytes_of}
+use Rattle.rules.specs.Run.{document_of, most_input_bytes, most_pages}
 use Rattle.rules.specs.Output.{Frame, output}
 use Rattle.dsc.specs.Units.{units_of}
+use Rattle.imposed_again.specs.Again.{depth_behind}
 use Rattle.guard.specs.Guard.{guarded}
 use Rattle.pictures.specs.Objects.{Token}
 use Rattle.pictures.specs.Dictionaries.{Entry, userdict, system, entry_of, has}
@@ -125,3 +126,42 @@ SheetsOfSheetsArePrinted =
     → AllSheetsWithin s xs
     → Runs false (run_of (sheets_tokens (map (as_pages s) xs) ++ rest) s)
     (record s { left = rest; sheets = printed s.graphics (map (as_pages s) xs) s.sheets })
+
+-- Two runs: impose puts the guard into what a run wrote, and imposes it.
+
+-- the sheets of the run before, each with its own picture; there is no other one
+abbrev pub run_picture : Frame → List NestedUnit → (ℕ → List Painting) → State → List (List Slot) → ℕ → List Painting
+run_picture frame us picture s all p =
+    sheet_picture (beginning s) (shown_sheet frame us picture (slice_index_or all p [])) []
+
+-- the page, as the first document has it, paints this by itself within whatever place on the outer paper; its text ends
+-- between tokens, and so does what stands before each of its lines that is dropped
+abbrev pub PagePaintsWithin : (inner : Frame) → List NestedUnit → (outer : Frame) → State → ℕ → List Painting → Type 0
+PagePaintsWithin inner us outer s p picture =
+    IsComplete (page_of us p) × (page_comments_apart (page_of us p) ≡ true)
+    × ((item : Item)
+    → PaintsSheltered (page_round [] s (numbers_of outer item) ∷ []) (page_begun [] s (numbers_of outer item))
+    (outline_of inner) (tokens (page_of us p)) picture)
+
+-- the units of what a run wrote, with the guard put in
+abbrev pub units_again : Option Paper → Frame → Option ℕ → Spec → List NestedUnit → List NestedUnit
+units_again sheet frame sides spec us = units_of (guarded sheet (output frame sides spec us))
+
+-- Of an accepted document whose last page leaves no embedded document open: what is written of its output, with the guard
+-- put in, shows the sheets of the first run, each as the picture of its pages, placed, if each page that stands on one
+-- paints its picture by itself there. A law
+abbrev pub TwoRunsAreShown : Type 0
+TwoRunsAreShown =
+    (sheet : Option Paper) (inner outer : Frame) (sides outer_sides : Option ℕ) (spec outer_spec : Spec) (text : List ℕ)
+    (us : List NestedUnit) (picture : ℕ → List Painting) (s : State)
+    → document_of text ≡ Ok us → depth_behind (page_run us) ≡ 0
+    → 0 < length (all_sheets sides spec us) → length (all_sheets sides spec us) ≤ most_pages
+    → length (output inner sides spec us) ≤ most_input_bytes
+    → length (guarded sheet (output inner sides spec us)) ≤ most_input_bytes
+    → preamble_comments_apart (units_again sheet inner sides spec us) ≡ true
+    → GuardedPreambleRuns (bytes_of (preamble (units_again sheet inner sides spec us))) s → TakesSheets [] s
+    → OnSheets (λ p. PagePaintsWithin inner us outer s p (picture p)) (all_sheets sides spec us)
+    → OnSheets (λ p. page_comments_apart (page_of (units_again sheet inner sides spec us) p) ≡ true)
+    (all_sheets outer_sides outer_spec (units_again sheet inner sides spec us))
+    → IsPrinted outer outer_sides outer_spec (units_again sheet inner sides spec us)
+    (run_picture inner us picture s (all_sheets sides spec us)) s

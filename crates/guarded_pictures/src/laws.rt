@@ -4,6 +4,7 @@ ghost use Rattle.guarded_pictures.specs.Pages.{GuardIsEnough, GuardedDocumentIsS
 ghost use Rattle.guarded_pictures.specs.Pages.{GuardedSheetsArePrinted, GuardedSheetsShowThePages, PageBegins};
 ghost use Rattle.guarded_pictures.specs.Pages.{ShelterCommutes, StaysGuarded};
 ghost use Rattle.guarded_pictures.specs.SheetsOfSheets.{SheetIsComposed, SheetIsPlaced, SheetsOfSheetsArePrinted};
+ghost use Rattle.guarded_pictures.specs.SheetsOfSheets.{TwoRunsAreShown};
 ghost use Rattle.guarded_pictures.specs.Lines.{AskingShows, AsksUserdict, ClipIsThePages, DefaultIsThePages};
 ghost use Rattle.guarded_pictures.specs.Lines.{DeviceIsLeft, GraphicsAreThePages, GuardedTwice, LoadedShowpage};
 ghost use Rattle.guarded_pictures.specs.Lines.{MatrixIsThePages, OuterIsKept, PageIsLeft, SaveSaves, ShowpageStaysAName};
@@ -132,4 +133,9 @@ pub fn sheet_is_composed()
 /// Sheets of sheets are printed, each with the pictures of its sheets, placed.
 pub fn sheets_of_sheets_are_printed()
     ensures { SheetsOfSheetsArePrinted }
+{}
+
+/// A machine prints of what impose makes of a run's output the sheets of that run, placed.
+pub fn two_runs_are_shown()
+    ensures { TwoRunsAreShown }
 {}
