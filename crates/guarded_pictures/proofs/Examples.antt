@@ -2,3 +2,4 @@
 pub mod Guarded
 pub mod NotCured
 pub mod Applied
+pub mod AppliedTwice
