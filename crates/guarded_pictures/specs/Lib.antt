@@ -1,7 +1,8 @@
--- Read in this order: the guard's procedures, and what its names mean; its lines, one by one; a page by itself; pages
--- on sheets; sheets of sheets.
+-- Read in this order: the guard's procedures, and what its names mean; its lines, one by one; a page by itself; the papers'
+-- names; pages on sheets; sheets of sheets.
 pub mod Behind
 pub mod Lines
 pub mod Shelter
+pub mod NamedPapers
 pub mod Pages
 pub mod SheetsOfSheets

@@ -1,10 +1,10 @@
 -- What single lines of the guard do, in any state in which their names mean what the guard has them mean.
 use Rattle.std.specs.Prelude.{◌≡◌, ℕ, ◌+◌, ◌^◌, ◌<◌, List, [], ◌∷◌, ◌++◌, ◌==◌, codes, true, false}
-use Rattle.std.specs.Prelude.{Option, Some, length}
+use Rattle.std.specs.Prelude.{Option, Some, None, length}
 use Rattle.rules.specs.Papers.{Paper}
 use Rattle.pictures.specs.Objects.{Token, Name, Literal, Bound, Dictionary, Object, Plain, Truth, Procedure}
 use Rattle.pictures.specs.Objects.{Matrix, Call, Equal}
-use Rattle.pictures.specs.Dictionaries.{Entry, userdict, system, entry_of, has, meaning}
+use Rattle.pictures.specs.Dictionaries.{Entry, userdict, system, entry_of, has, meaning, read_only}
 use Rattle.pictures.specs.Operators.{Work, bound, holder, objects_compared}
 use Rattle.pictures.specs.Machine.{State, Clip, Kept, Runs, push, saved, shipped, chain_of, filled_with, fonts}
 use Rattle.pictures.specs.Scanner.{tokens}
@@ -165,8 +165,8 @@ SaveSaves =
     → means s (codes "systemdict") ≡ system (codes "systemdict") → IsAnother s.work.operands
     → length s.work.operands < 10 ^ 64 → Runs false (run_of (Name (codes "save") ∷ rest) s) (saved (run_of rest s))
 
--- A dictionary on the stack with a showpage of its own: where a page begins, the guard puts one in its place that asks
--- userdict, and marks the page as ever: a law
+-- A dictionary on the stack with a showpage of its own, which can be written: where a page begins, the guard puts one in
+-- its place that asks userdict, and marks the page as ever: a law
 
 -- `{userdict /showpage get exec}`
 abbrev pub asks_userdict : Object
@@ -191,6 +191,7 @@ abbrev pub AsksUserdict : Type 0
 AsksUserdict =
     (s : State) (number d : ℕ) (rest : List Token)
     → holder s.work.dictionaries s.work.entries (codes "showpage") ≡ Some d → (d == userdict) ≡ false
+    → entry_of d read_only s.work.entries ≡ None
     → means s (codes "ImposeGuard") ≡ Some (Dictionary number)
     → all_absent (codes "userdict" ∷ codes "systemdict" ∷ []) (number ∷ s.work.dictionaries) s.work.entries ≡ true
     → length s.work.operands + 2 < 10 ^ 64

@@ -1,5 +1,6 @@
 //! Laws of the guard, run by a machine. The functions do nothing.
 ghost use Rattle.guarded_pictures.specs.Behind.{GuardDefines};
+ghost use Rattle.guarded_pictures.specs.NamedPapers.{PaperIsNothing, PapersAreLeft};
 ghost use Rattle.guarded_pictures.specs.Pages.{GuardIsEnough, GuardedDocumentIsShown, GuardedPageIsPlaced};
 ghost use Rattle.guarded_pictures.specs.Pages.{GuardedSheetsArePrinted, GuardedSheetsShowThePages, PageBegins};
 ghost use Rattle.guarded_pictures.specs.Pages.{ShelterCommutes, StaysGuarded};
@@ -27,6 +28,16 @@ pub fn page_is_left()
 /// `setpagedevice` takes its operand, and does nothing.
 pub fn device_is_left()
     ensures { DeviceIsLeft }
+{}
+
+/// The papers' names that are there are made to do nothing, and no others are.
+pub fn papers_are_left()
+    ensures { PapersAreLeft }
+{}
+
+/// A page that names a paper does nothing by that, by itself and in its place.
+pub fn paper_is_nothing()
+    ensures { PaperIsNothing }
 {}
 
 /// `bind` doesn't bind `showpage`.

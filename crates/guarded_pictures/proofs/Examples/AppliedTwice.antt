@@ -1,6 +1,6 @@
 -- The law over two runs at a document whose one page resets, its clip again while there is a path: its premises hold.
-use Rattle.std.proofs.Common.{ℕ, zero, suc, List, [], ◌∷◌, ◌++◌, refl, Some, None, arith}
-use Rattle.std.specs.Prelude.{codes, Option}
+use Rattle.std.proofs.Common.{ℕ, zero, suc, List, [], ◌∷◌, refl, Some, None, arith}
+use Rattle.std.specs.Prelude.{codes}
 use Rattle.std.specs.Fmt.{digits}
 use Rattle.rules.specs.Specification.{Item}
 use Rattle.rules.specs.Parts.{NestedUnit, preamble, bytes_of}

@@ -33,6 +33,11 @@ matrix_of_setup : imposed (codes "/m matrix currentmatrix def") ((codes "m setma
 unfolding digits
 matrix_of_setup = refl
 
+-- a showpage of the document's own in a dictionary that can't be written: it hides the sheet's, and no sheet is printed
+keeps_its_own_showpage : imposed (codes "/d 1 dict def d /showpage {} put d readonly begin") (stroke ∷ []) ≡ Ok (Some [])
+unfolding digits
+keeps_its_own_showpage = refl
+
 -- showpage in the trailer: a blank sheet more
 shows_in_trailer : sheets_with_guard (document_with (codes "/x 1 def") (stroke ∷ []) ++ lines (codes "%%Trailer" ∷ codes "showpage" ∷ []))
     ≡ Ok (Some ([] ∷ (placed ∷ []) ∷ []))
