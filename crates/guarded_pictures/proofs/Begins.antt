@@ -16,16 +16,41 @@ use Rattle.pictures.proofs.Tests.{first, second}
 use Rattle.pictures.proofs.Placed.{both_true}
 use Rattle.guarded_pictures.specs.Behind.{save_tokens, clip_tokens, outer_tokens}
 use Rattle.guarded_pictures.specs.Behind.{path_tokens as tracing_tokens}
-use Rattle.guarded_pictures.specs.Shelter.{Outer, outer_is, outer_entries, outer_made, outline_tokens}
-use Rattle.guarded_pictures.specs.Pages.{TakesPages, has_nothing, looked_up, looked_up_first, PageBegins}
+use Rattle.guarded_pictures.specs.Shelter.{Outer, outer_is, means, all_absent, outer_entries, outer_made, sheltered, outline_tokens}
+use Rattle.guarded_pictures.specs.Pages.{TakesPages, Encloses, around, placed_at, has_nothing, looked_up, looked_up_first, PageBegins}
 use Rattle.guarded_pictures.proofs.Absent.{known, known_below, keys_differ, through}
 use Rattle.guarded_pictures.proofs.Counting.{counted}
 use Rattle.guarded_pictures.proofs.Steps.{some, by_name}
 use Rattle.guarded_pictures.proofs.Redrawn.{traced_one, element, traces}
 use Rattle.guarded_pictures.proofs.Lines.{really, really_saves, asked_name}
 
+-- What is asked behind the sheet's save: some dictionary on the stack has a showpage.
+pub record Bears (outers : List Outer) (s : State) : Type 0 where
+  pub number : ℕ
+  pub clip_is : entry_of number (codes "clip") s.work.entries ≡ Some (Procedure clip_tokens)
+  pub clip_alone : all_absent looked_up_first (number ∷ s.work.dictionaries) s.work.entries ≡ true
+  pub path_is : entry_of 0 (codes "ImposePath") s.work.entries ≡ Some (Procedure tracing_tokens)
+  pub names : all_absent looked_up (0 ∷ s.work.dictionaries) s.work.entries ≡ true
+  pub found : ℕ
+  pub found_is : holder s.work.dictionaries s.work.entries (codes "showpage") ≡ Some found
+  pub encloses : Encloses outers s
+  pub numbers : is_same_chain s.graphics.chain s.graphics.chain ≡ true
+
+bears : (outers : List Outer) (s : State) → TakesPages outers s → Bears outers s
+bears outers s h = record {
+  number = h.number;
+  clip_is = h.clip_is;
+  clip_alone = h.clip_alone;
+  path_is = h.path_is;
+  names = h.names;
+  found = 0;
+  found_is = h.userdict_first;
+  encloses = h.encloses;
+  numbers = h.numbers;
+}
+
 -- within the sheet's save, where so many dictionaries and matrices have been made
-abbrev within : State → List Object → List ℕ → List Entry → ℕ → Graphics → State
+abbrev pub within : State → List Object → List ℕ → List Entry → ℕ → Graphics → State
 within s os ds es made g = record s {
   work = record { operands = os; dictionaries = ds; entries = es; made = made };
   level = s.level + 1;
@@ -41,10 +66,10 @@ noted_within s os ds es made g chain = record (within s os ds es (made + 1) g) {
 }
 
 -- the operands of the sheet's save, and the state at it
-abbrev for_save : State → List Object
+abbrev pub for_save : State → List Object
 for_save s = Plain (Literal (codes "ImposeSave")) ∷ Dictionary 0 ∷ s.work.operands
 
-abbrev before : State → List Object → State
+abbrev pub before : State → List Object → State
 before s os = record s { work = with_operands s.work os }
 
 -- behind the test for a dictionary's own showpage
@@ -250,11 +275,11 @@ noting l =
 page_noted : (s : State) (n : Numbers) (l : List Token) (es : List Entry) (made : ℕ)
     → Known looked_up (record s.work { entries = es }) → Known looked_up (record s.work { dictionaries = 0 ∷ s.work.dictionaries; entries = es })
     → entry_of 0 (codes "ImposePath") es ≡ Some (Procedure tracing_tokens)
-    → holder s.work.dictionaries s.work.entries (codes "showpage") ≡ Some 0
+    → (found : ℕ) → holder s.work.dictionaries s.work.entries (codes "showpage") ≡ Some found
     → is_same_chain (place_in s.graphics n).chain (place_in s.graphics n).chain ≡ true
     → Runs false (run_of (noting l) (within s s.work.operands s.work.dictionaries es made (on_paper s n (edge n (place_in s.graphics n).chain))))
     (run_of l (begun_over s n es made))
-page_noted s n l es made below here path_is first_is same =
+page_noted s n l es made below here path_is found first_is same =
     let ds : List ℕ = s.work.dictionaries in
     let os : List Object = s.work.operands in
     let chain : List Call = (place_in s.graphics n).chain in
@@ -292,7 +317,7 @@ page_noted s n l es made below here path_is first_is same =
     (some 2 (run_of l4 s6) (run_of (Name (codes "false") ∷ l6) s7) end refl
     (by_name (codes "false") l6 s7 (run_of l6 (push (Truth false) s7)) end (system (codes "false")) (still (0 ∷ ds) (outline_put made n) es (codes "false") refl (here (codes "false") refl)) refl
     (some 1 (run_of l6 (push (Truth false) s7)) (run_of l7 s8) end refl
-    (runs_one false (run_of l7 s8) (run_of l8 s9) end (ap (λ x. worked x (run_of l8 s8)) (ended_at 0 ds s.work.entries (codes "showpage") 0 s8.work first_is))
+    (runs_one false (run_of l7 s8) (run_of l8 s9) end (ap (λ x. worked x (run_of l8 s8)) (ended_at 0 ds s.work.entries (codes "showpage") found s8.work first_is))
     (some 1 (run_of l8 s9) (run_of (Name (codes "systemdict") ∷ l9) s10) end refl
     (by_name (codes "systemdict") l9 s10 (run_of l9 (push SystemDictionary s10)) end (system (codes "systemdict")) (still ds (all_put made n) es (codes "systemdict") refl (below (codes "systemdict") refl)) refl
     (some 5 (run_of l9 (push SystemDictionary s10)) end end refl (runs_none false end)))))))))))))
@@ -332,14 +357,14 @@ abbrev outer_put : ℕ → Outer → List Outer → List Entry → List Entry
 outer_put d o os es = entry (codes "ImposeOuter") (Dictionary d) ∷ outer_kept d o os es
 
 keeps_it : (s : State) (o : Outer) (os : List Outer) (l : List Token) (g : Graphics) → meaning s.work.dictionaries (put_entries s) (codes "userdict") ≡ system (codes "userdict")
-    → holder s.work.dictionaries s.work.entries (codes "showpage") ≡ Some 0
+    → (found : ℕ) → holder s.work.dictionaries s.work.entries (codes "showpage") ≡ Some found
     → meaning s.work.dictionaries s.work.entries (codes "PStoPSmatrix") ≡ Some (Matrix o.matrix)
     → meaning s.work.dictionaries s.work.entries (codes "PStoPSclip") ≡ Some (Procedure (outline_tokens o.numbers))
     → meaning s.work.dictionaries s.work.entries (codes "ImposeOuter") ≡ Some (outer_is os)
     → has_nothing (s.work.made + 1) s.work.entries ≡ true
     → Runs false (run_of (outer_tokens ++ l) (within s s.work.operands s.work.dictionaries (put_entries s) s.work.made g))
     (run_of l (within s s.work.operands s.work.dictionaries (outer_put (s.work.made + 1) o os (put_entries s)) (s.work.made + 1) g))
-keeps_it s o os l g user first_is matrix_is outline_is outer new =
+keeps_it s o os l g user found first_is matrix_is outline_is outer new =
     let ds : List ℕ = s.work.dictionaries in
     let all : List Object = s.work.operands in
     let d : ℕ = s.work.made + 1 in
@@ -375,11 +400,11 @@ keeps_it s o os l g user first_is matrix_is outline_is outer new =
     (runs_one false (run_of (Bound (codes "load") ∷ l5) (asks (codes "ImposeOuter") (outline_kept d o es))) (run_of l5 (told (codes "ImposeOuter") (outer_is os) (outline_kept d o es))) end
     (ap (λ x. worked (loaded x (named (codes "ImposeOuter") (outline_kept d o es)).work) (run_of l5 (asks (codes "ImposeOuter") (outline_kept d o es)))) (through (d ∷ ds) (outline_kept d o (puts s)) own (codes "ImposeOuter") refl ∙ new_means d ds own (codes "ImposeOuter") (outer_is os) new outer))
     (some 1 (run_of l5 (told (codes "ImposeOuter") (outer_is os) (outline_kept d o es))) (run_of l6 s4) end refl
-    (runs_one false (run_of l6 s4) (run_of l7 s5) end (ap (λ x. worked x (run_of l7 s4)) (ended_at d ds own (codes "showpage") 0 s4.work first_is))
+    (runs_one false (run_of l6 s4) (run_of l7 s5) end (ap (λ x. worked x (run_of l7 s4)) (ended_at d ds own (codes "showpage") found s4.work first_is))
     (some 1 (run_of l7 s5) end end refl (runs_none false end))))))))))
 
 -- in the page's own clip, for each kind of state
-clips_round : (outers : List Outer) (s : State) (n : Numbers) (l : List Token) (g : Graphics) → TakesPages outers s
+clips_round : (outers : List Outer) (s : State) (n : Numbers) (l : List Token) (g : Graphics) → Bears outers s
     → Runs false (run_of (Name (codes "PStoPSenablepage") ∷ if_within l) (within s s.work.operands s.work.dictionaries (put_entries s) s.work.made g))
     (run_of (noting l) (within s s.work.operands s.work.dictionaries (round_entries outers s) (outer_made outers s.work.made) g))
 clips_round [] s n l g h =
@@ -396,11 +421,11 @@ clips_round (o ∷ os) s n l g h =
     let user = still ds (puts s) s.work.entries (codes "userdict") refl (known_below looked_up 0 ds s.work.entries h.names (codes "userdict") refl) in
     let runs : (d : ℕ) → s.work.made + 1 ≡ d → Runs false (run_of (outer_tokens ++ noting l) start) (end d) =
     λ d same. subst (λ x. Runs false (run_of (outer_tokens ++ noting l) start) (end x)) same
-    (keeps_it s o os (noting l) g user h.userdict_first e.1 e.2 e.3 (subst (λ x. has_nothing x s.work.entries ≡ true) e.4 e.5)) in
+    (keeps_it s o os (noting l) g user h.found h.found_is e.1 e.2 e.3 (subst (λ x. has_nothing x s.work.entries ≡ true) e.4 e.5)) in
     by_name (codes "PStoPSenablepage") (if_within l) start (run_of (if_within l) (push (Truth false) start)) (end o.dictionary) (Some (Truth false)) (through ds (puts s) s.work.entries (codes "PStoPSenablepage") refl ∙ e.0) refl
     (some 3 (run_of (if_within l) (push (Truth false) start)) (run_of (outer_tokens ++ noting l) start) (end o.dictionary) refl (runs o.dictionary (sym e.4)))
 
-page_clips : (outers : List Outer) (s : State) (n : Numbers) (l : List Token) (h : TakesPages outers s)
+page_clips : (outers : List Outer) (s : State) (n : Numbers) (l : List Token) (h : Bears outers s)
     → Runs false (run_of (clip_tokens ++ l) (within s s.work.operands (h.number ∷ s.work.dictionaries) (put_entries s) s.work.made (record { chain = (place_in s.graphics n).chain; path = edge n (place_in s.graphics n).chain; clip = s.graphics.clip; settings = s.graphics.settings })))
     (run_of l (begun outers s n))
 page_clips outers s n l h =
@@ -424,46 +449,58 @@ page_clips outers s n l h =
     let here : Known looked_up (record s.work { dictionaries = 0 ∷ ds; entries = es }) =
     known_through looked_up (0 ∷ ds) (outer_entries outers) (put_entries s) (differ (outer_entries outers) looked_up (outer_apart outers))
     (known_through looked_up (0 ∷ ds) (puts s) s.work.entries (differ (puts s) looked_up refl) (known looked_up (0 ∷ ds) s.work.entries h.names)) in
-    runs_one false (run_of (clip_tokens ++ l) before_end) (run_of l1 s1) end (ap (λ x. worked x (run_of l1 before_end)) (ended_at h.number ds s.work.entries (codes "showpage") 0 before_end.work h.userdict_first))
+    runs_one false (run_of (clip_tokens ++ l) before_end) (run_of l1 s1) end (ap (λ x. worked x (run_of l1 before_end)) (ended_at h.number ds s.work.entries (codes "showpage") h.found before_end.work h.found_is))
     (some 1 (run_of l1 s1) (run_of (Name (codes "PStoPSenablepage") ∷ if_within l) s2) end refl
     (runs_join false (run_of (Name (codes "PStoPSenablepage") ∷ if_within l) s2) (run_of (noting l) round) end
     (clips_round outers s n l g h)
-    (page_noted s n l es (outer_made outers s.work.made) below here (outer_path outers (put_entries s) ∙ h.path_is) h.userdict_first (same_place n s.graphics.chain h.numbers))))
+    (page_noted s n l es (outer_made outers s.work.made) below here (outer_path outers (put_entries s) ∙ h.path_is) h.found h.found_is (same_place n s.graphics.chain h.numbers))))
 
 -- From the sheet's text to the page's own tokens.
 
 -- behind the sheet's save
-abbrev saved_state : State → (number : ℕ) → State
+abbrev pub saved_state : State → (number : ℕ) → State
 saved_state s number = within s (Saved s.level ∷ for_save s) (number ∷ s.work.dictionaries) s.work.entries s.work.made s.graphics
 
 abbrev putting : List Token → List Token
 putting l = Name (codes "put") ∷ Name (codes "userdict") ∷ Literal (codes "showpage") ∷ Opens ∷ Closes ∷ Name (codes "put") ∷ l
 
-saving : (outers : List Outer) (s : State) (l : List Token) (h : TakesPages outers s)
-    → Runs false (run_of (saving_tokens ++ l) s) (run_of l (within s s.work.operands (h.number ∷ s.work.dictionaries) (put_entries s) s.work.made s.graphics))
-saving outers s l h =
+after_save : (outers : List Outer) (s : State) (l : List Token) (h : Bears outers s)
+    → Runs false (run_of (putting l) (saved_state s h.number)) (run_of l (within s s.work.operands (h.number ∷ s.work.dictionaries) (put_entries s) s.work.made s.graphics))
+after_save outers s l h =
     let ds : List ℕ = h.number ∷ s.work.dictionaries in
     let es : List Entry = s.work.entries in
     let os : List Object = s.work.operands in
     let first_names = known looked_up_first ds es h.clip_alone in
-    let names = known_below looked_up 0 s.work.dictionaries es h.names in
     let end : State = run_of l (within s os ds (put_entries s) s.work.made s.graphics) in
     let one : List Entry = entry (codes "ImposeSave") (Saved s.level) ∷ [] in
-    let l1 : List Token = Literal (codes "ImposeSave") ∷ Name (codes "save") ∷ putting l in
     let l2 : List Token = Name (codes "userdict") ∷ Literal (codes "showpage") ∷ Opens ∷ Closes ∷ Name (codes "put") ∷ l in
     let l3 : List Token = Literal (codes "showpage") ∷ Opens ∷ Closes ∷ Name (codes "put") ∷ l in
-    let s1 : State = before s (for_save s) in
     let s2 : State = saved_state s h.number in
     let s3 : State = within s os ds (one ++ es) s.work.made s.graphics in
     let s4 : State = within s (Procedure [] ∷ Plain (Literal (codes "showpage")) ∷ Dictionary 0 ∷ os) ds (one ++ es) s.work.made s.graphics in
-    by_name (codes "userdict") l1 s (run_of l1 (push (Dictionary 0) s)) end (system (codes "userdict")) (names (codes "userdict") refl) refl
-    (some 1 (run_of l1 (push (Dictionary 0) s)) (run_of (Name (codes "save") ∷ putting l) s1) end refl
-    (by_name (codes "save") (putting l) s1 (run_of (save_tokens ++ putting l) s1) end (Some (Procedure save_tokens)) h.save_is refl
-    (runs_join false (run_of (save_tokens ++ putting l) s1) (run_of (putting l) s2) end (page_saves outers s (putting l) h)
-    (by_name (codes "put") l2 s2 (run_of l2 s3) end (system (codes "put")) (first_names (codes "put") refl) refl
+    by_name (codes "put") l2 s2 (run_of l2 s3) end (system (codes "put")) (first_names (codes "put") refl) refl
     (by_name (codes "userdict") l3 s3 (run_of l3 (push (Dictionary 0) s3)) end (system (codes "userdict")) (still ds one es (codes "userdict") refl (first_names (codes "userdict") refl)) refl
     (some 2 (run_of l3 (push (Dictionary 0) s3)) (run_of (Name (codes "put") ∷ l) s4) end refl
-    (by_name (codes "put") l s4 end end (system (codes "put")) (still ds one es (codes "put") refl (first_names (codes "put") refl)) refl (runs_none false end))))))))
+    (by_name (codes "put") l s4 end end (system (codes "put")) (still ds one es (codes "put") refl (first_names (codes "put") refl)) refl (runs_none false end))))
+
+-- from the sheet's text to its save
+up_to_save : (s u : State) (l : List Token) → meaning s.work.dictionaries s.work.entries (codes "userdict") ≡ system (codes "userdict") → means s (codes "save") ≡ Some (Procedure save_tokens)
+    → Runs false (run_of (save_tokens ++ putting l) (before s (for_save s))) u → Runs false (run_of (saving_tokens ++ l) s) u
+up_to_save s u l user save r =
+    let l1 : List Token = Literal (codes "ImposeSave") ∷ Name (codes "save") ∷ putting l in
+    let s1 : State = before s (for_save s) in
+    by_name (codes "userdict") l1 s (run_of l1 (push (Dictionary 0) s)) u (system (codes "userdict")) user refl
+    (some 1 (run_of l1 (push (Dictionary 0) s)) (run_of (Name (codes "save") ∷ putting l) s1) u refl
+    (by_name (codes "save") (putting l) s1 (run_of (save_tokens ++ putting l) s1) u (Some (Procedure save_tokens)) save refl r))
+
+saving : (outers : List Outer) (s : State) (l : List Token) (h : TakesPages outers s)
+    → Runs false (run_of (saving_tokens ++ l) s) (run_of l (within s s.work.operands (h.number ∷ s.work.dictionaries) (put_entries s) s.work.made s.graphics))
+unfolding bears
+saving outers s l h =
+    let end : State = run_of l (within s s.work.operands (h.number ∷ s.work.dictionaries) (put_entries s) s.work.made s.graphics) in
+    up_to_save s end l (known_below looked_up 0 s.work.dictionaries s.work.entries h.names (codes "userdict") refl) h.save_is
+    (runs_join false (run_of (save_tokens ++ putting l) (before s (for_save s))) (run_of (putting l) (saved_state s h.number)) end (page_saves outers s (putting l) h)
+    (after_save outers s l (bears outers s h)))
 
 -- the matrix and the paper's edge, up to the clip
 abbrev up_to_clip : Numbers → List Token
@@ -486,12 +523,13 @@ all_put_apart : (outers : List Outer) (made : ℕ) (n : Numbers) → all_apart (
 all_put_apart [] made n = refl
 all_put_apart (o ∷ os) made n = refl
 
-pub page_begins : PageBegins
-page_begins outers s n body l h =
+-- behind the sheet's save, in any such state
+behind_save : (outers : List Outer) (s : State) (n : Numbers) (more : List Token) (h : Bears outers s)
+    → Runs false (run_of (placing_tokens n ++ more) (within s s.work.operands (h.number ∷ s.work.dictionaries) (put_entries s) s.work.made s.graphics)) (run_of more (bordered outers s n n.border))
+behind_save outers s n more h =
     let ds : List ℕ = s.work.dictionaries in
     let os : List Object = s.work.operands in
     let made : ℕ = s.work.made in
-    let more : List Token = body ++ l in
     let chain : List Call = (place_in s.graphics n).chain in
     let end : State = run_of more (bordered outers s n n.border) in
     let clip : List Token = Name (codes "clip") ∷ (behind_clip n n.border ++ more) in
@@ -503,8 +541,32 @@ page_begins outers s n body l h =
     known_through looked_up ds (puts s) s.work.entries (differ (puts s) looked_up refl) (known_below looked_up 0 ds s.work.entries h.names) in
     let names : Known looked_up (begun outers s n).work =
     known_through looked_up ds (all_put (outer_made outers s.work.made) n ++ outer_entries outers) (put_entries s) (differ (all_put (outer_made outers s.work.made) n ++ outer_entries outers) looked_up (all_put_apart outers (outer_made outers s.work.made) n)) here in
-    runs_join false (run_of (saving_tokens ++ (placing_tokens n ++ more)) s) (run_of (placing_tokens n ++ more) s1) end (saving outers s (placing_tokens n ++ more) h)
-    (runs_join false (run_of (up_to_clip n ++ clip) s1) (run_of clip s2) end (straight_runs looked_up_first (up_to_clip n) clip s1 s2 first_known refl)
+    runs_join false (run_of (up_to_clip n ++ clip) s1) (run_of clip s2) end (straight_runs looked_up_first (up_to_clip n) clip s1 s2 first_known refl)
     (by_name (codes "clip") (behind_clip n n.border ++ more) s2 (run_of (clip_tokens ++ (behind_clip n n.border ++ more)) s2) end (Some (Procedure clip_tokens)) (ap (λ x. or x (meaning ds (put_entries s) (codes "clip"))) h.clip_is) refl
     (runs_join false (run_of (clip_tokens ++ (behind_clip n n.border ++ more)) s2) (run_of (behind_clip n n.border ++ more) (begun outers s n)) end (page_clips outers s n (behind_clip n n.border ++ more) h)
-    (straight_runs looked_up (behind_clip n n.border) more (begun outers s n) (bordered outers s n n.border) names (border_is outers n s n.border)))))
+    (straight_runs looked_up (behind_clip n n.border) more (begun outers s n) (bordered outers s n n.border) names (border_is outers n s n.border))))
+
+pub page_begins : PageBegins
+unfolding bears
+page_begins outers s n body l h =
+    let more : List Token = body ++ l in
+    let end : State = run_of more (bordered outers s n n.border) in
+    runs_join false (run_of (saving_tokens ++ (placing_tokens n ++ more)) s) (run_of (placing_tokens n ++ more) (within s s.work.operands (h.number ∷ s.work.dictionaries) (put_entries s) s.work.made s.graphics)) end
+    (saving outers s (placing_tokens n ++ more) h)
+    (behind_save outers s n more (bears outers s h))
+
+-- where a dictionary has a showpage of its own: behind the sheet's save that asks userdict
+pub begins_within : (outers : List Outer) (s t : State) (n : Numbers) (body l : List Token) (h : Bears outers t) → meaning s.work.dictionaries s.work.entries (codes "userdict") ≡ system (codes "userdict")
+    → means s (codes "save") ≡ Some (Procedure save_tokens)
+    → ((rest : List Token) → Runs false (run_of (save_tokens ++ rest) (before s (for_save s))) (run_of rest (saved_state t h.number)))
+    → Runs false (run_of (saving_tokens ++ (placing_tokens n ++ (body ++ l))) s) (placed_at (around l n t) (sheltered outers t (outline_tokens n) body))
+begins_within outers s t n body l h user save saves =
+    let more : List Token = body ++ l in
+    let middle : State = within t t.work.operands (h.number ∷ t.work.dictionaries) (put_entries t) t.work.made t.graphics in
+    let end : State = run_of more (bordered outers t n n.border) in
+    runs_join false (run_of (saving_tokens ++ (placing_tokens n ++ more)) s) (run_of (placing_tokens n ++ more) middle) end
+    (up_to_save s (run_of (placing_tokens n ++ more) middle) (placing_tokens n ++ more) user save
+    (runs_join false (run_of (save_tokens ++ putting (placing_tokens n ++ more)) (before s (for_save s))) (run_of (putting (placing_tokens n ++ more)) (saved_state t h.number)) (run_of (placing_tokens n ++ more) middle)
+    (saves (putting (placing_tokens n ++ more)))
+    (after_save outers t (placing_tokens n ++ more) h)))
+    (behind_save outers t n more h)

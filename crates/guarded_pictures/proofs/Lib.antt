@@ -15,5 +15,6 @@ pub mod Sheets
 pub mod PutThere
 pub mod SheetsOfSheets
 pub mod Documents
+pub mod OwnShowpage
 pub mod TwoRuns
 pub mod Examples

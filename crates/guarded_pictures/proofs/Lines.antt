@@ -43,15 +43,20 @@ not_printed s name rest e f =
     (by_name (codes "PStoPSenablepage") (asked rest) s (run_of (asked rest) (push (Truth false) s)) t (Some (Truth false)) f refl
     (some 2 (run_of (asked rest) (push (Truth false) s)) t t refl (runs_none false t)))
 
+-- outside placed pages
+pub prints : (s : State) (rest : List Token) → means s (codes "PStoPSenablepage") ≡ Some (Truth true) → means s (codes "ImposeShow") ≡ system (codes "showpage")
+    → Runs false (run_of (showpage_tokens ++ rest) s) (shipped (run_of rest s))
+prints s rest f g =
+    let t : State = shipped (run_of rest s) in
+    by_name (codes "PStoPSenablepage") (asked rest) s (run_of (asked rest) (push (Truth true) s)) t (Some (Truth true)) f refl
+    (some 2 (run_of (asked rest) (push (Truth true) s)) (run_of (Name (codes "ImposeShow") ∷ rest) s) t refl
+    (by_name (codes "ImposeShow") rest s t t (system (codes "showpage")) g refl (runs_none false t)))
+
 printed : (s : State) (name : List ℕ) (rest : List Token) → means s name ≡ Some (Procedure showpage_tokens)
     → means s (codes "PStoPSenablepage") ≡ Some (Truth true) → means s (codes "ImposeShow") ≡ system (codes "showpage")
     → Runs false (run_of (Name name ∷ rest) s) (shipped (run_of rest s))
 printed s name rest e f g =
-    let t : State = shipped (run_of rest s) in
-    by_name name rest s (run_of (showpage_tokens ++ rest) s) t (Some (Procedure showpage_tokens)) e refl
-    (by_name (codes "PStoPSenablepage") (asked rest) s (run_of (asked rest) (push (Truth true) s)) t (Some (Truth true)) f refl
-    (some 2 (run_of (asked rest) (push (Truth true) s)) (run_of (Name (codes "ImposeShow") ∷ rest) s) t refl
-    (by_name (codes "ImposeShow") rest s t t (system (codes "showpage")) g refl (runs_none false t))))
+    by_name name rest s (run_of (showpage_tokens ++ rest) s) (shipped (run_of rest s)) (Some (Procedure showpage_tokens)) e refl (prints s rest f g)
 
 pub loaded_showpage : LoadedShowpage
 loaded_showpage s name rest e = (λ f. not_printed s name rest e f, λ f g. printed s name rest e f g)

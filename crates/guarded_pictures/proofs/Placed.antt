@@ -36,21 +36,21 @@ passed_over a level (shot ∷ shots) more e =
     past (shot.level == level) (snapshot_at a shot, map (snapshot_at a) shots ++ more) (shot, shots) (save_of level shots) (save_of level (map (snapshot_at a) shots ++ more)) (save_of level more)
     (passed_over a level shots more) e
 
-restoring : (outers : List Outer) (s t : State) (n : Numbers) (rest more : List Token) → TakesPages outers s → LeavesAsItWas s t
+restoring : (s t : State) (n : Numbers) (rest more : List Token) → all_are_old s.work.made s.level s.work.operands ≡ true → all_old s.work.made s.work.dictionaries ≡ true → LeavesAsItWas s t
     → back t.work.operands (save_of s.level (placed_at (around more n s) t).saves) (run_of rest (push (Saved s.level) (placed_at (around more n s) t)))
     ≡ Some (behind rest n s t.painted)
-restoring outers s t n rest more g l =
+restoring s t n rest more old_operands old_dictionaries l =
     let x : State = run_of rest (push (Saved s.level) (placed_at (around more n s) t)) in
     let may : (all_are_old s.work.made s.level t.work.operands && all_old s.work.made t.work.dictionaries) ≡ true =
-    ap₂ (λ os ds. all_are_old s.work.made s.level os && all_old s.work.made ds) l.operands l.dictionaries ∙ both_true _ _ g.operands g.dictionaries in
+    ap₂ (λ os ds. all_are_old s.work.made s.level os && all_old s.work.made ds) l.operands l.dictionaries ∙ both_true _ _ old_operands old_dictionaries in
     ap (λ found. back t.work.operands found x) (passed_over (around more n s) s.level t.saves (snapshot_of s ∷ s.saves) l.saves)
     ∙ ap (λ b. back t.work.operands (if b then Some (snapshot_of s, s.saves) else save_of s.level s.saves) x) (eq-eqb s.level s.level refl)
     ∙ ap (λ b. if b then Some (gone_back rest n s t.painted t.work.operands t.work.dictionaries) else None) may
     ∙ ap₂ (λ os ds. Some (gone_back rest n s t.painted os ds)) l.operands l.dictionaries
 
-pub closing : (outers : List Outer) (s t : State) (n : Numbers) (rest : List Token) → TakesPages outers s → LeavesAsItWas s t
+pub closing : (s t : State) (n : Numbers) (rest : List Token) → all_are_old s.work.made s.level s.work.operands ≡ true → all_old s.work.made s.work.dictionaries ≡ true → LeavesAsItWas s t
     → Runs false (placed_at (around (closing_tokens ++ rest) n s) t) (behind rest n s t.painted)
-closing outers s t n rest g l =
+closing s t n rest old_operands old_dictionaries l =
     let a : Around = around (closing_tokens ++ rest) n s in
     let p : State = placed_at a t in
     let q : State = record p { left = Name (codes "restore") ∷ rest } in
@@ -58,7 +58,7 @@ closing outers s t n rest g l =
     runs_one false (run_of (closing_tokens ++ rest) p) (push (Saved s.level) q) (behind rest n s t.painted)
     (name_step false (codes "ImposeSave") (Name (codes "restore") ∷ rest) p (Some (Saved s.level)) l.save_name)
     (runs_one false (push (Saved s.level) q) (behind rest n s t.painted) (behind rest n s t.painted)
-    (name_step false (codes "restore") rest (push (Saved s.level) p) (system (codes "restore")) l.restore_name ∙ restoring outers s t n rest (closing_tokens ++ rest) g l)
+    (name_step false (codes "restore") rest (push (Saved s.level) p) (system (codes "restore")) l.restore_name ∙ restoring s t n rest (closing_tokens ++ rest) old_operands old_dictionaries l)
     (runs_none false (behind rest n s t.painted))) in
     subst (λ x. Runs false (record p { left = x ++ (closing_tokens ++ rest) }) (behind rest n s t.painted)) (sym l.nothing_left) start
 
@@ -109,4 +109,4 @@ guarded_page_is_placed outers s x rest g h =
     (runs_join false (run_of middle s) (placed_at a (sheltered outers s (outline_tokens n) body)) (behind rest n s h.end.painted) (page_begins outers s n body more g)
     (runs_join false (placed_at a (sheltered outers s (outline_tokens n) body)) (placed_at a h.end) (behind rest n s h.end.painted)
     (shelter_commutes n outers a (sheltered outers s (outline_tokens n) body) h.end (on_paper outers s n more g) h.run)
-    (closing outers s h.end n rest g h.leaves))))
+    (closing s h.end n rest g.operands g.dictionaries h.leaves))))

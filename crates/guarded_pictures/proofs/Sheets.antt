@@ -45,7 +45,7 @@ still_leaves s t ps sheets l = record {
   restore_name = l.restore_name;
 }
 
-still_paints : (outers : List Outer) (s : State) (ps : List Painting) (sheets : List (List Painting)) (outline body : List Token) (picture : List Painting)
+pub still_paints : (outers : List Outer) (s : State) (ps : List Painting) (sheets : List (List Painting)) (outline body : List Token) (picture : List Painting)
     → PaintsSheltered outers s outline body picture → PaintsSheltered outers (record s { painted = ps; sheets = sheets }) outline body picture
 still_paints [] s ps sheets outline body picture h = record { end = h.end; run = h.run; leaves = still_leaves s h.end ps sheets h.leaves; picture_is = h.picture_is }
 still_paints (o ∷ os) s ps sheets outline body picture h = record { end = h.end; run = h.run; leaves = still_leaves s h.end ps sheets h.leaves; picture_is = h.picture_is }

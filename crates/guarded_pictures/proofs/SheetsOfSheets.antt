@@ -328,7 +328,7 @@ sheet_places outers s n xs t h ps sheets rest =
     (runs_join false (at last full) (at more full) end
     (page_is_left (at more full) (codes "showpage") more (showpage_there outers s n t))
     (subst (λ painted. Runs false (at more painted) end) (sym (sheet_upon place (beginning s) xs border))
-    (closing outers u (sheet_end outers s n xs) n rest takes (sheet_leaves outers s n xs ps sheets t))))))))
+    (closing u (sheet_end outers s n xs) n rest takes.operands takes.dictionaries (sheet_leaves outers s n xs ps sheets t))))))))
 
 pub sheet_is_placed : SheetIsPlaced
 sheet_is_placed outers s n xs rest t h = sheet_places outers s n xs t h s.painted s.sheets rest

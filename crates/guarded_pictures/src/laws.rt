@@ -1,6 +1,7 @@
 //! Laws of the guard, run by a machine. The functions do nothing.
 ghost use Rattle.guarded_pictures.specs.Behind.{GuardDefines};
 ghost use Rattle.guarded_pictures.specs.NamedPapers.{PaperIsNothing, PapersAreLeft};
+ghost use Rattle.guarded_pictures.specs.OwnShowpage.{OwnPageIsPlaced, OwnSheetsArePrinted, OwnShowpageIsShown};
 ghost use Rattle.guarded_pictures.specs.Pages.{GuardIsEnough, GuardedDocumentIsShown, GuardedPageIsPlaced};
 ghost use Rattle.guarded_pictures.specs.Pages.{GuardedSheetsArePrinted, GuardedSheetsShowThePages, PageBegins};
 ghost use Rattle.guarded_pictures.specs.Pages.{ShelterCommutes, StaysGuarded};
@@ -129,6 +130,21 @@ pub fn stays_guarded()
 /// placed.
 pub fn guarded_document_is_shown()
     ensures { GuardedDocumentIsShown }
+{}
+
+/// A placed page of a document with a showpage of its own paints on the sheet what it paints by itself, placed.
+pub fn own_page_is_placed()
+    ensures { OwnPageIsPlaced }
+{}
+
+/// Each sheet of such a document is printed with the pictures of its pages, placed, if the first one has a page.
+pub fn own_sheets_are_printed()
+    ensures { OwnSheetsArePrinted }
+{}
+
+/// A machine prints of what impose makes of such a document, sheet by sheet, what its pages paint by themselves, placed.
+pub fn own_showpage_is_shown()
+    ensures { OwnShowpageIsShown }
 {}
 
 /// A sheet of another document, placed as a page, paints its own picture, placed.
