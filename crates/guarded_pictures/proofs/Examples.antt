@@ -3,3 +3,4 @@ pub mod Guarded
 pub mod NotCured
 pub mod Applied
 pub mod AppliedTwice
+pub mod AppliedOwn
