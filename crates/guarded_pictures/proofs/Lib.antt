@@ -10,6 +10,7 @@ pub mod Sheltering
 pub mod Begins
 pub mod Placed
 pub mod Ground
+pub mod ByItself
 pub mod NamedPapers
 pub mod Sheets
 pub mod PutThere

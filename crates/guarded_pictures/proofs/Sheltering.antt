@@ -171,10 +171,10 @@ no_chain (Some []) e = refl
 no_chain x e = absurd (true≢false (sym e))
 
 -- the matrix that holds the page's place
-abbrev ThePlace : Option Object → ℕ → List Kept → Type 0
+abbrev pub ThePlace : Option Object → ℕ → List Kept → Type 0
 ThePlace x made ks = (number : ℕ) × (x ≡ Some (Matrix number)) × (number < made + 1) × (chain_of number ks ≡ Some [])
 
-the_place : (x : Option Object) (made : ℕ) (ks : List Kept) → holds_the_place x made ks ≡ true → ThePlace x made ks
+pub the_place : (x : Option Object) (made : ℕ) (ks : List Kept) → holds_the_place x made ks ≡ true → ThePlace x made ks
 the_place (Some (Matrix number)) made ks e = (
   number,
   refl,

@@ -1,5 +1,6 @@
 //! Laws of the guard, run by a machine. The functions do nothing.
 ghost use Rattle.guarded_pictures.specs.Behind.{GuardDefines};
+ghost use Rattle.guarded_pictures.specs.ByItself.{ByItselfAsTheOperators};
 ghost use Rattle.guarded_pictures.specs.NamedPapers.{PaperIsNothing, PapersAreLeft};
 ghost use Rattle.guarded_pictures.specs.OwnShowpage.{OwnPageIsPlaced, OwnSheetsArePrinted, OwnShowpageIsShown};
 ghost use Rattle.guarded_pictures.specs.Pages.{GuardIsEnough, GuardedDocumentIsShown, GuardedPageIsPlaced};
@@ -99,6 +100,11 @@ pub fn page_begins()
 /// What a page does by itself, the free machine does, with the guard's procedures, in the page's place.
 pub fn shelter_commutes()
     ensures { ShelterCommutes }
+{}
+
+/// What the guard's names do to a page by itself is what the operators do where nothing is round it.
+pub fn by_itself_as_the_operators()
+    ensures { ByItselfAsTheOperators }
 {}
 
 /// A placed page paints on the sheet what it paints by itself, placed.

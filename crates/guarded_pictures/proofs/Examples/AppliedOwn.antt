@@ -1,7 +1,7 @@
 -- The law at a document of two pages that has a showpage of its own, which does nothing, in a dictionary on the stack: its
 -- premises hold.
 use Rattle.std.proofs.Common.{ℕ, zero, suc, List, [], ◌∷◌, ◌++◌, refl, Some, None, arith, false}
-use Rattle.std.specs.Prelude.{codes, Option}
+use Rattle.std.specs.Prelude.{codes}
 use Rattle.std.specs.Fmt.{digits}
 use Rattle.rules.specs.Parts.{NestedUnit, preamble, bytes_of}
 use Rattle.rules.specs.Run.{document_of}
