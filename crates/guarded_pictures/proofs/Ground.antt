@@ -53,11 +53,11 @@ neither : (a b : Bool) → (a || b) ≡ false → a ≡ false
 neither true b e = e
 neither false b e = refl
 
-nor : (a b : Bool) → (a || b) ≡ false → b ≡ false
+pub nor : (a b : Bool) → (a || b) ≡ false → b ≡ false
 nor true b e = absurd (true≢false e)
 nor false b e = e
 
-differs : (key name : List ℕ) (names : List (List ℕ)) → among key names ≡ false → among name names ≡ true → bytes_eq key name ≡ false
+pub differs : (key name : List ℕ) (names : List (List ℕ)) → among key names ≡ false → among name names ≡ true → bytes_eq key name ≡ false
 differs key name [] a h = absurd (true≢false (sym h))
 differs key name (other ∷ others) a h = by_test (bytes_eq name other)
     (λ same. subst (λ z. bytes_eq key z ≡ false) (sym ((bytes_eq-Decides name other).0 same)) (neither (bytes_eq key other) (among key others) a))
@@ -85,11 +85,11 @@ pub all_absent_other : (names : List (List ℕ)) (ds : List ℕ) (e : Entry) (es
 all_absent_other [] ds e es h = refl
 all_absent_other (name ∷ names) ds e es h = ap₂ (λ a b. a && b) (absent_other ds e es name h.0) (all_absent_other names ds e es h.1)
 
-abbrev all_among : List (List ℕ) → List (List ℕ) → Bool
+abbrev pub all_among : List (List ℕ) → List (List ℕ) → Bool
 all_among [] others = true
 all_among (name ∷ names) others = among name others && all_among names others
 
-all_differ : (e : Entry) (names : List (List ℕ)) → among e.key guarded_names ≡ false → all_among names guarded_names ≡ true → AllDiffer e names
+pub all_differ : (e : Entry) (names : List (List ℕ)) → among e.key guarded_names ≡ false → all_among names guarded_names ≡ true → AllDiffer e names
 all_differ e [] a h = tt
 all_differ e (name ∷ names) a h = (
   differs e.key name guarded_names a (first (among name guarded_names) (all_among names guarded_names) h),

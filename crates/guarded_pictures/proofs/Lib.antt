@@ -15,6 +15,7 @@ pub mod NamedPapers
 pub mod Sheets
 pub mod PutThere
 pub mod SheetsOfSheets
+pub mod Taking
 pub mod Documents
 pub mod OwnShowpage
 pub mod TwoRuns

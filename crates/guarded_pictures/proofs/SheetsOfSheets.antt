@@ -210,7 +210,7 @@ more_made (o ∷ os) made = omega arith
 
 -- The dictionary that is made next is new.
 
-still_new : (d : ℕ) (e : Entry) (es : List Entry) → e.dictionary < d → has_nothing d es ≡ true → has_nothing d (e ∷ es) ≡ true
+pub still_new : (d : ℕ) (e : Entry) (es : List Entry) → e.dictionary < d → has_nothing d es ≡ true → has_nothing d (e ∷ es) ≡ true
 still_new d e es less h =
     both_true (not (e.dictionary == d)) (has_nothing d es) (ap not (ne_eqb e.dictionary d (λ k. omega (arith, less, k)))) h
 

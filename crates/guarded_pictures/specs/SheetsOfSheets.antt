@@ -16,14 +16,15 @@ use Rattle.pictures.specs.Dictionaries.{Entry, userdict, system, entry_of, has}
 use Rattle.pictures.specs.Machine.{State, Painting, Graphics, Runs}
 use Rattle.pictures.specs.Placing.{Place, graphics_at, picture_at}
 use Rattle.pictures.specs.Scanner.{tokens, IsComplete}
-use Rattle.pictures.specs.Sheets.{Numbers, Shown, run_of, placed_tokens, place_in, page_picture, sheet_picture, sheet_tokens}
+use Rattle.pictures.specs.Sheets.{Numbers, among, Shown, run_of, placed_tokens, place_in, page_picture, sheet_picture, sheet_tokens}
 use Rattle.pictures.specs.Pictures.{printed, sheets_tokens}
 use Rattle.pictures.specs.Documents.{numbers_of, page_of, shown_sheet, OnSheets, all_sheets, IsPrinted}
 use Rattle.pictures.specs.Kept.{page_comments_apart, preamble_comments_apart}
 use Rattle.guarded_pictures.specs.Shelter.{Outer, outer_is, means, outline_tokens, page_matrix, beginning, sheltered}
 use Rattle.guarded_pictures.specs.Shelter.{PaintsSheltered}
+use Rattle.guarded_pictures.specs.Behind.{behind_guard}
 use Rattle.guarded_pictures.specs.Pages.{IsGuarded, TakesPages, AllSheltered, has_nothing, placed_at, around, outline_of}
-use Rattle.guarded_pictures.specs.Pages.{GuardedPreambleRuns}
+use Rattle.guarded_pictures.specs.Pages.{GuardedPreambleRuns, guarded_names, defined}
 
 -- A page that a sheet of another document is.
 
@@ -83,6 +84,23 @@ pub record TakesSheets (outers : List Outer) (s : State) : Type 0 where
   pub restore_is : means s (codes "restore") ≡ system (codes "restore")
   pub new : has_nothing (page_matrix outers s + 1) s.work.entries ≡ true
   pub older : AllOlder outers s.work.made
+
+-- What such a state is come to by.
+
+-- behind the guard's text sheets of sheets can be placed: a law
+abbrev pub GuardTakesSheets : Type 0
+GuardTakesSheets = (sheet : Option Paper) (rest : List Token) → TakesSheets [] (behind_guard sheet rest)
+
+-- the names that it rests on
+abbrev pub taken_names : List (List ℕ)
+taken_names =
+    codes "restore" ∷ codes "ImposeSave" ∷ codes "ImposeOuter" ∷ codes "PStoPSmatrix" ∷ codes "PStoPSclip" ∷ guarded_names
+
+-- where any other name is defined, in any dictionary that has been made, it stays so: a law
+abbrev pub StaysTakingSheets : Type 0
+StaysTakingSheets =
+    (s : State) (e : Entry) → TakesSheets [] s → among e.key taken_names ≡ false → e.dictionary < s.work.made + 1
+    → TakesSheets [] (defined e s)
 
 -- The laws.
 

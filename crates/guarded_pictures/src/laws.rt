@@ -7,7 +7,7 @@ ghost use Rattle.guarded_pictures.specs.Pages.{GuardIsEnough, GuardedDocumentIsS
 ghost use Rattle.guarded_pictures.specs.Pages.{GuardedSheetsArePrinted, GuardedSheetsShowThePages, PageBegins};
 ghost use Rattle.guarded_pictures.specs.Pages.{ShelterCommutes, StaysGuarded};
 ghost use Rattle.guarded_pictures.specs.SheetsOfSheets.{SheetIsComposed, SheetIsPlaced, SheetsOfSheetsArePrinted};
-ghost use Rattle.guarded_pictures.specs.SheetsOfSheets.{TwoRunsAreShown};
+ghost use Rattle.guarded_pictures.specs.SheetsOfSheets.{GuardTakesSheets, StaysTakingSheets, TwoRunsAreShown};
 ghost use Rattle.guarded_pictures.specs.Lines.{AskingShows, AsksUserdict, ClipIsThePages, DefaultIsThePages};
 ghost use Rattle.guarded_pictures.specs.Lines.{DeviceIsLeft, GraphicsAreThePages, GuardedTwice, LoadedShowpage};
 ghost use Rattle.guarded_pictures.specs.Lines.{MatrixIsThePages, OuterIsKept, PageIsLeft, SaveSaves, ShowpageStaysAName};
@@ -151,6 +151,16 @@ pub fn own_sheets_are_printed()
 /// A machine prints of what impose makes of such a document, sheet by sheet, what its pages paint by themselves, placed.
 pub fn own_showpage_is_shown()
     ensures { OwnShowpageIsShown }
+{}
+
+/// Behind the guard's text the state is one in which sheets of sheets can be placed.
+pub fn guard_takes_sheets()
+    ensures { GuardTakesSheets }
+{}
+
+/// It stays so where other names are defined.
+pub fn stays_taking_sheets()
+    ensures { StaysTakingSheets }
 {}
 
 /// A sheet of another document, placed as a page, paints its own picture, placed.
