@@ -6,7 +6,7 @@ machine, since it can't be said that there is none. An error of PostScript stops
 """
 import math
 from boxes import IDENTITY, Path, at, inverse, point_of, product, times
-from machine import (ALWAYS, DRAWS, ERRORDICT, FONTDIRECTORY, GLOBALDICT, PROVED, SYSTEMDICT, USERDICT, Array, Bound, Call, Dictionary, File, Font,
+from machine import (ALWAYS, DRAWS, ERRORDICT, FONTDIRECTORY, GLOBALDICT, PROVED, READ_ONLY, SYSTEMDICT, USERDICT, Array, Bound, Call, Dictionary, File, Font,
                      Frame, Literal, Mark, Name, Null, Number, Operands, Operator, Painting, Procedure, String, Stopped, Truth, anything,
                      are_numbers, number, unescaped)
 from machine import from_hexadecimal
@@ -579,7 +579,14 @@ def is_run(m, o):
     return is_executable(o)
 
 
-for _name in ("readonly", "noaccess", "executeonly"):
+@operator("readonly", anything)
+def read_only(m, o):
+    if isinstance(o, Dictionary):
+        m.put(o.number, READ_ONLY, Truth(True))
+    return o
+
+
+for _name in ("noaccess", "executeonly"):
     operator(_name, anything)(lambda m, o: o)
 
 # What has no effect on pictures: memory, packing, telling.
@@ -893,7 +900,7 @@ OVER.update({b"findfont": find_font, b"scalefont": scale_font, b"makefont": make
 OVER.update({name: FURTHER[name] for name in (b"where", b"known", b"get", b"put", b"for", b"forall", b"exec", b"cvx")})
 # A matrix is an array of numbers.
 OVER.update({name: FURTHER[name] for name in (b"matrix", b"currentmatrix", b"setmatrix", b"defaultmatrix")})
-OVER.update({name: FURTHER[name] for name in (b"grestoreall", b"setpagedevice", b"copypage")})
+OVER.update({name: FURTHER[name] for name in (b"grestoreall", b"setpagedevice", b"copypage", b"readonly")})
 
 
 @operator("definefont", Dictionary, is_key)

@@ -841,7 +841,7 @@ LACKED = frozenset(b"""
 clear counttomark idiv mod abs ceiling floor round truncate sqrt atan cos sin exp ln log rand srand rrand array
 getinterval putinterval astore packedarray setpacking currentpacking maxlength store undef currentdict errordict $error
 globaldict statusdict countdictstack cleardictstack dictstack string anchorsearch search token xor bitshift loop exit
-stop stopped countexecstack execstack quit start type cvlit xcheck executeonly noaccess readonly rcheck cvi cvn cvr cvrs
+stop stopped countexecstack execstack quit start type cvlit xcheck executeonly noaccess rcheck cvi cvn cvr cvrs
 cvs file filter closefile read write readhexstring writehexstring readstring writestring readline bytesavailable flush
 flushfile resetfile status run currentfile deletefile renamefile filenameforall setfileposition fileposition print = ==
 stack pstack printobject writeobject setobjectformat currentobjectformat defineresource undefineresource findresource
@@ -1062,7 +1062,17 @@ def make_executable(m):
 
 def is_writable(m):
     (o,) = m.taken(lambda o: type(o) in (Dictionary, SystemDictionary))
-    m.operands.append(Truth(isinstance(o, Dictionary)))
+    m.operands.append(Truth(isinstance(o, Dictionary) and READ_ONLY not in m.entries.get(o.number, {})))
+
+
+# No name, since it isn't bytes.
+READ_ONLY = object()
+
+
+def make_read_only(m):
+    (d,) = m.taken(Dictionary)
+    m.put(d.number, READ_ONLY, Truth(True))
+    m.operands.append(d)
 
 
 def make_matrix(m):
@@ -1262,7 +1272,7 @@ PROVED = {
     b"if": if_true, b"ifelse": if_else, b"repeat": repeat, b"for": for_each_number, b"forall": for_all,
     **{name: calculates(name) for name in VALUES}, **{name: compares(name) for name in COMPARED},
     b"and": both, b"or": either, b"not": opposite, b"where": where, b"get": get, b"length": length, b"aload": load_array, b"<<": mark,
-    b"count": count, b"cvx": make_executable, b"wcheck": is_writable, b"matrix": make_matrix, b"grestoreall": grestoreall,
+    b"count": count, b"cvx": make_executable, b"wcheck": is_writable, b"readonly": make_read_only, b"matrix": make_matrix, b"grestoreall": grestoreall,
     b"currentmatrix": take_matrix, b"setmatrix": set_matrix, b"defaultmatrix": default_matrix, b"initmatrix": initial_matrix,
     b"initclip": initial_clip, b"clippath": clip_outline, b"pathforall": path_elements, b"setpagedevice": set_device,
     b"erasepage": erase_page, b"copypage": copy_page,

@@ -26,14 +26,18 @@ const OTHER_LINES: &[u8] = b"\
     {dup where {pop {} def} {pop} ifelse} forall\n\
     /PStoPSmatrix matrix currentmatrix def\n\
     /PStoPSclip {clippath} def\n\
+    /ImposeOuter 0 def\n\
+    /ImposeClip {ImposeOuter 0 ne {ImposeOuter begin ImposeClip end} if\n\
+    PStoPSmatrix setmatrix newpath PStoPSclip clip newpath} def\n\
     /ImposePath {[{/moveto cvx} {/lineto cvx} {/curveto cvx} {/closepath cvx} pathforall] cvx} def\n\
     /defaultmatrix {PStoPSmatrix exch copy} def\n\
     /initmatrix {PStoPSmatrix setmatrix} def\n\
     /initclip {ImposePath matrix currentmatrix systemdict /initclip get exec\n\
-    PStoPSmatrix setmatrix newpath PStoPSclip clip newpath setmatrix exec} def\n\
-    /initgraphics {systemdict /initgraphics get exec PStoPSmatrix setmatrix /initclip load exec} def\n\
+    ImposeClip setmatrix exec} def\n\
+    /initgraphics {systemdict /initgraphics get exec ImposeClip} def\n\
     /ImposeGuard 1 dict def\n\
-    ImposeGuard /clip {end clip userdict begin\n\
+    ImposeGuard /clip {end clip PStoPSenablepage not {userdict /ImposeOuter 3 dict dup begin\n\
+    [/PStoPSmatrix /PStoPSclip /ImposeOuter] {dup load def} forall end put} if userdict begin\n\
     /PStoPSmatrix matrix currentmatrix def /PStoPSclip ImposePath def /PStoPSenablepage false def\n\
     end newpath systemdict /save get exec pop} put\n\
     /save {count 0 ne {dup /ImposeSave eq {\n\

@@ -1,8 +1,8 @@
 -- A dictionary on the stack with a showpage of its own.
 use Rattle.std.specs.Prelude.{Some, codes, decimal}
-use Rattle.std.proofs.Common.{ℕ, refl, ap, ◌∙◌, true, false, List, [], ◌∷◌, ◌++◌, length, arith}
+use Rattle.std.proofs.Common.{ℕ, refl, ap, ◌∙◌, true, false, not, List, [], ◌∷◌, ◌++◌, length, arith}
 use Rattle.pictures.specs.Objects.{Token, Number, Name, Literal, Bound, Opens, Closes, Object, Plain, Truth, Procedure, Dictionary, NotEqual}
-use Rattle.pictures.specs.Dictionaries.{Entry, system}
+use Rattle.pictures.specs.Dictionaries.{Entry, system, has}
 use Rattle.pictures.specs.Operators.{with_operands, judged, located, loaded, sameness}
 use Rattle.pictures.specs.Machine.{State, push, saved, worked}
 use Rattle.pictures.specs.Sheets.{run_of}
@@ -37,7 +37,7 @@ deciding l =
     ∷ Bound (codes "index") ∷ Bound (codes "wcheck") ∷ Bound (codes "and") ∷ putting (Closes ∷ Bound (codes "if") ∷ finding l)
 
 pub asks_userdict_there : AsksUserdict
-asks_userdict_there s number d rest found other guard absent few =
+asks_userdict_there s number d rest found other writable guard absent few =
     let ds : List ℕ = s.work.dictionaries in
     let es : List Entry = s.work.entries in
     let names = known_below asked_names number ds es absent in
@@ -58,6 +58,8 @@ asks_userdict_there s number d rest found other guard absent few =
     let s4 : State = with s0 (Dictionary d ∷ Dictionary d ∷ os) in
     let s5 : State = with s0 (Truth true ∷ Dictionary d ∷ os) in
     let s6 : State = with_asking d s0 in
+    let s7 : State = with s0 (Dictionary d ∷ s5.work.operands) in
+    let s8 : State = with s0 (Truth true ∷ s5.work.operands) in
     let guarded_number : State = push (Dictionary number) s6 in
     some 2 (run_of (save_tokens ++ rest) s0) (run_of l1 s1) end refl
     (runs_one false (run_of l1 s1) (run_of (asked_name rest) (with s0 (Truth true ∷ os))) end (ap (λ x. worked (judged x (with_operands s0.work os)) (run_of (asked_name rest) s1)) (counted (length os) (omega arith) (omega (arith, few))))
@@ -67,10 +69,13 @@ asks_userdict_there s number d rest found other guard absent few =
     (by_name (codes "userdict") (comparing more) s4 (run_of (comparing more) (push (Dictionary 0) s4)) end (system (codes "userdict")) (names (codes "userdict") refl) refl
     (runs_one false (run_of (comparing more) (push (Dictionary 0) s4)) (run_of (Number (codes "1") ∷ Bound (codes "index") ∷ Bound (codes "wcheck") ∷ Bound (codes "and") ∷ putting more) s5) end
     (ap (λ b. worked (judged (sameness NotEqual (Some b)) (with_operands s0.work (Dictionary d ∷ os))) (run_of (Number (codes "1") ∷ Bound (codes "index") ∷ Bound (codes "wcheck") ∷ Bound (codes "and") ∷ putting more) s4)) other)
-    (some 10 (run_of (Number (codes "1") ∷ Bound (codes "index") ∷ Bound (codes "wcheck") ∷ Bound (codes "and") ∷ putting more) s5) (run_of more s6) end refl
+    (some 2 (run_of (Number (codes "1") ∷ Bound (codes "index") ∷ Bound (codes "wcheck") ∷ Bound (codes "and") ∷ putting more) s5) (run_of (Bound (codes "wcheck") ∷ Bound (codes "and") ∷ putting more) s7) end refl
+    (runs_one false (run_of (Bound (codes "wcheck") ∷ Bound (codes "and") ∷ putting more) s7) (run_of (Bound (codes "and") ∷ putting more) s8) end
+    (ap (λ x. Some (run_of (Bound (codes "and") ∷ putting more) (with s7 (Truth (not (has x)) ∷ s5.work.operands)))) writable)
+    (some 7 (run_of (Bound (codes "and") ∷ putting more) s8) (run_of more s6) end refl
     (by_name (codes "ImposeGuard") beginning s6 (run_of beginning guarded_number) end (Some (Dictionary number)) (through ds put es (codes "ImposeGuard") refl ∙ guard) refl
     (some 1 (run_of beginning guarded_number) (run_of (Name (codes "systemdict") ∷ really rest) (marked number s6)) end refl
-    (really_saves (marked number s6) rest (through (number ∷ ds) put es (codes "systemdict") refl ∙ first_names (codes "systemdict") refl)))))))))))
+    (really_saves (marked number s6) rest (through (number ∷ ds) put es (codes "systemdict") refl ∙ first_names (codes "systemdict") refl)))))))))))))
 
 pub asking_shows : AskingShows
 asking_shows s ts rest e f g =

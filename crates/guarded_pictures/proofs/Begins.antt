@@ -1,10 +1,10 @@
 -- What the sheet's text and the guard do where a page begins.
-use Rattle.std.specs.Prelude.{Option, Some, None, codes, bytes_eq, decimal}
+use Rattle.std.specs.Prelude.{Option, Some, None, codes, bytes_eq, decimal, if◌then◌else◌}
 use Rattle.std.proofs.lemmas.Slice.Eq.{bytes_eq-Decides}
-use Rattle.std.proofs.Common.{◌≡◌, ℕ, ◌+◌, refl, ap, ◌∙◌, sym, subst, Bool, true, false, not, true≢false, ◌&&◌, List, [], ◌∷◌, ◌++◌, length, arith}
+use Rattle.std.proofs.Common.{◌≡◌, ℕ, ◌+◌, refl, ap, ◌∙◌, sym, subst, Bool, true, false, not, true≢false, ◌&&◌, ◌==◌, List, [], ◌∷◌, ◌++◌, length, arith}
 use Rattle.pictures.specs.Objects.{Token, Number, Name, Literal, Bound, Opens, Closes, Object, Plain, Truth, Procedure, Mark, Dictionary, SystemDictionary, Matrix, Saved, Call}
-use Rattle.pictures.specs.Dictionaries.{Entry, meaning, system, or}
-use Rattle.pictures.specs.Operators.{Work, with_operands, judged, located, ended, holder}
+use Rattle.pictures.specs.Dictionaries.{Entry, meaning, system, or, entry_of}
+use Rattle.pictures.specs.Operators.{Work, with_operands, judged, located, loaded, ended, holder}
 use Rattle.pictures.specs.Chains.{is_same_chain, are_same_operands}
 use Rattle.pictures.specs.Machine.{State, Graphics, Segment, Runs, push, worked, traced, may_precede, procedure_for, numbers_before}
 use Rattle.pictures.specs.Sheets.{run_of, among, Numbers, zero_text, edge, point, edge_tokens, border_tokens, saving_tokens, placing_tokens, place_in, border_in, in_userdict}
@@ -14,20 +14,45 @@ use Rattle.pictures.proofs.Straight.{Known, straight, straight_runs}
 use Rattle.pictures.proofs.Opening.{snapshot_of, apart, is_apart}
 use Rattle.pictures.proofs.Tests.{first, second}
 use Rattle.pictures.proofs.Placed.{both_true}
-use Rattle.guarded_pictures.specs.Behind.{save_tokens, clip_tokens}
+use Rattle.guarded_pictures.specs.Behind.{save_tokens, clip_tokens, outer_tokens}
 use Rattle.guarded_pictures.specs.Behind.{path_tokens as tracing_tokens}
-use Rattle.guarded_pictures.specs.Shelter.{outline_tokens, page_entries, page_matrix}
-use Rattle.guarded_pictures.specs.Pages.{IsGuarded, looked_up, looked_up_first, PageBegins}
+use Rattle.guarded_pictures.specs.Shelter.{Outer, outer_is, means, all_absent, outer_entries, outer_made, sheltered, outline_tokens}
+use Rattle.guarded_pictures.specs.Pages.{TakesPages, Encloses, around, placed_at, has_nothing, looked_up, looked_up_first, PageBegins}
 use Rattle.guarded_pictures.proofs.Absent.{known, known_below, keys_differ, through}
 use Rattle.guarded_pictures.proofs.Counting.{counted}
 use Rattle.guarded_pictures.proofs.Steps.{some, by_name}
 use Rattle.guarded_pictures.proofs.Redrawn.{traced_one, element, traces}
 use Rattle.guarded_pictures.proofs.Lines.{really, really_saves, asked_name}
 
--- within the sheet's save
-abbrev within : State → List Object → List ℕ → List Entry → Graphics → State
-within s os ds es g = record s {
-  work = record { operands = os; dictionaries = ds; entries = es; made = s.work.made };
+-- What is asked behind the sheet's save: some dictionary on the stack has a showpage.
+pub record Bears (outers : List Outer) (s : State) : Type 0 where
+  pub number : ℕ
+  pub clip_is : entry_of number (codes "clip") s.work.entries ≡ Some (Procedure clip_tokens)
+  pub clip_alone : all_absent looked_up_first (number ∷ s.work.dictionaries) s.work.entries ≡ true
+  pub path_is : entry_of 0 (codes "ImposePath") s.work.entries ≡ Some (Procedure tracing_tokens)
+  pub names : all_absent looked_up (0 ∷ s.work.dictionaries) s.work.entries ≡ true
+  pub found : ℕ
+  pub found_is : holder s.work.dictionaries s.work.entries (codes "showpage") ≡ Some found
+  pub encloses : Encloses outers s
+  pub numbers : is_same_chain s.graphics.chain s.graphics.chain ≡ true
+
+bears : (outers : List Outer) (s : State) → TakesPages outers s → Bears outers s
+bears outers s h = record {
+  number = h.number;
+  clip_is = h.clip_is;
+  clip_alone = h.clip_alone;
+  path_is = h.path_is;
+  names = h.names;
+  found = 0;
+  found_is = h.userdict_first;
+  encloses = h.encloses;
+  numbers = h.numbers;
+}
+
+-- within the sheet's save, where so many dictionaries and matrices have been made
+abbrev pub within : State → List Object → List ℕ → List Entry → ℕ → Graphics → State
+within s os ds es made g = record s {
+  work = record { operands = os; dictionaries = ds; entries = es; made = made };
   level = s.level + 1;
   graphics = g;
   stacked = [];
@@ -35,17 +60,16 @@ within s os ds es g = record s {
 }
 
 -- and the page's transformation is noted
-abbrev noted_within : State → List Object → List ℕ → List Entry → Graphics → List Call → State
-noted_within s os ds es g chain = record (within s os ds es g) {
-  work = record { operands = os; dictionaries = ds; entries = es; made = s.work.made + 1 };
-  kept = record { number = s.work.made + 1; chain = chain } ∷ s.kept;
+abbrev noted_within : State → List Object → List ℕ → List Entry → ℕ → Graphics → List Call → State
+noted_within s os ds es made g chain = record (within s os ds es (made + 1) g) {
+  kept = record { number = made + 1; chain = chain } ∷ s.kept;
 }
 
 -- the operands of the sheet's save, and the state at it
-abbrev for_save : State → List Object
+abbrev pub for_save : State → List Object
 for_save s = Plain (Literal (codes "ImposeSave")) ∷ Dictionary 0 ∷ s.work.operands
 
-abbrev before : State → List Object → State
+abbrev pub before : State → List Object → State
 before s os = record s { work = with_operands s.work os }
 
 -- behind the test for a dictionary's own showpage
@@ -54,16 +78,16 @@ begins_page l =
     Closes ∷ Bound (codes "if") ∷ Closes ∷ Bound (codes "if") ∷ Name (codes "systemdict") ∷ really l
 
 -- the sheet's save puts the dictionary that marks a page on the stack, and saves
-page_saves : (s : State) (l : List Token) (h : IsGuarded s)
+page_saves : (outers : List Outer) (s : State) (l : List Token) (h : TakesPages outers s)
     → Runs false (run_of (save_tokens ++ l) (before s (for_save s)))
-    (run_of l (within s (Saved s.level ∷ for_save s) (h.number ∷ s.work.dictionaries) s.work.entries s.graphics))
-page_saves s l h =
+    (run_of l (within s (Saved s.level ∷ for_save s) (h.number ∷ s.work.dictionaries) s.work.entries s.work.made s.graphics))
+page_saves outers s l h =
     let ds : List ℕ = s.work.dictionaries in
     let es : List Entry = s.work.entries in
     let names = known_below looked_up 0 ds es h.names in
     let first_names = known looked_up_first (h.number ∷ ds) es h.clip_alone in
     let os : List Object = for_save s in
-    let end : State = run_of l (within s (Saved s.level ∷ os) (h.number ∷ ds) es s.graphics) in
+    let end : State = run_of l (within s (Saved s.level ∷ os) (h.number ∷ ds) es s.work.made s.graphics) in
     let count : Object = Plain (Number (decimal (length os))) in
     let later : List Token = Closes ∷ Bound (codes "if") ∷ Name (codes "systemdict") ∷ really l in
     let l1 : List Token = Bound (codes "ne") ∷ asked_name l in
@@ -99,7 +123,7 @@ page_saves s l h =
 
 -- The outline.
 
-same_text : (a : List ℕ) → bytes_eq a a ≡ true
+pub same_text : (a : List ℕ) → bytes_eq a a ≡ true
 same_text a = (bytes_eq-Decides a a).1 refl
 
 same_numbers : (n : Numbers) → are_same_operands (matrix_of n).operands (matrix_of n).operands ≡ true
@@ -109,10 +133,8 @@ same_numbers n =
     (both_true (bytes_eq n.d n.d) _ (same_text n.d) (both_true (bytes_eq n.x n.x) _ (same_text n.x) (both_true (bytes_eq n.y n.y) true (same_text n.y) refl))))))
     refl
 
-pub same_place : (n : Numbers) (cs : List Call) → cs ≡ [] → is_same_chain (matrix_of n ∷ cs) (matrix_of n ∷ cs) ≡ true
-same_place n cs e =
-    subst (λ l. is_same_chain (matrix_of n ∷ l) (matrix_of n ∷ l) ≡ true) (sym e)
-    (both_true (are_same_operands (matrix_of n).operands (matrix_of n).operands) true (same_numbers n) refl)
+pub same_place : (n : Numbers) (cs : List Call) → is_same_chain cs cs ≡ true → is_same_chain (matrix_of n ∷ cs) (matrix_of n ∷ cs) ≡ true
+same_place n cs e = both_true (are_same_operands (matrix_of n).operands (matrix_of n).operands) (is_same_chain cs cs) (same_numbers n) e
 
 -- the elements of the paper's edge, each with its procedure
 abbrev edge_elements : Numbers → List Token
@@ -170,134 +192,18 @@ abbrev put_entries : State → List Entry
 put_entries s = puts s ++ s.work.entries
 
 -- and by it
-abbrev matrix_put : State → List Entry
-matrix_put s = entry (codes "PStoPSmatrix") (Matrix (page_matrix s)) ∷ puts s
+abbrev matrix_put : ℕ → List Entry
+matrix_put made = entry (codes "PStoPSmatrix") (Matrix (made + 1)) ∷ []
 
-abbrev with_matrix : State → List Entry
-with_matrix s = matrix_put s ++ s.work.entries
+abbrev outline_put : ℕ → Numbers → List Entry
+outline_put made n = entry (codes "PStoPSclip") (Procedure (outline_tokens n)) ∷ matrix_put made
 
-abbrev outline_put : State → Numbers → List Entry
-outline_put s n = entry (codes "PStoPSclip") (Procedure (outline_tokens n)) ∷ matrix_put s
-
-abbrev with_outline : State → Numbers → List Entry
-with_outline s n = outline_put s n ++ s.work.entries
-
-abbrev all_put : State → Numbers → List Entry
-all_put s n = entry (codes "PStoPSenablepage") (Truth false) ∷ outline_put s n
+abbrev all_put : ℕ → Numbers → List Entry
+all_put made n = entry (codes "PStoPSenablepage") (Truth false) ∷ outline_put made n
 
 -- a name that means the operator still does
 still : (ds : List ℕ) (more es : List Entry) (name : List ℕ) → keys_differ more name ≡ true → meaning ds es name ≡ system name → meaning ds (more ++ es) name ≡ system name
 still ds more es name h e = through ds more es name h ∙ e
-
--- the graphics state with the page's place
-abbrev on_paper : State → Numbers → List Segment → Graphics
-on_paper s n path = record { chain = (place_in s.graphics n).chain; path = path; clip = (place_in s.graphics n).clip; settings = s.graphics.settings }
-
--- where the page begins, but for its border
-abbrev begun : State → Numbers → State
-begun s n = record s {
-  work = record s.work { entries = page_entries s (outline_tokens n); made = page_matrix s };
-  kept = record { number = page_matrix s; chain = (place_in s.graphics n).chain } ∷ s.kept;
-  level = s.level + 1 + 1;
-  graphics = on_paper s n [];
-  stacked = [];
-  saves = record {
-    level = s.level + 1;
-    entries = page_entries s (outline_tokens n);
-    made = page_matrix s;
-    kept = record { number = page_matrix s; chain = (place_in s.graphics n).chain } ∷ s.kept;
-    graphics = on_paper s n [];
-    stacked = [];
-  } ∷ snapshot_of s ∷ s.saves;
-}
-
-page_clips : (s : State) (n : Numbers) (l : List Token) (h : IsGuarded s)
-    → Runs false (run_of (clip_tokens ++ l) (within s s.work.operands (h.number ∷ s.work.dictionaries) (put_entries s) (record { chain = (place_in s.graphics n).chain; path = edge n (place_in s.graphics n).chain; clip = s.graphics.clip; settings = s.graphics.settings })))
-    (run_of l (begun s n))
-page_clips s n l h =
-    let ds : List ℕ = s.work.dictionaries in
-    let os : List Object = s.work.operands in
-    let chain : List Call = (place_in s.graphics n).chain in
-    let path : List Segment = edge n chain in
-    let end : State = run_of l (begun s n) in
-    let bare : Graphics = record { chain = chain; path = path; clip = s.graphics.clip; settings = s.graphics.settings } in
-    let g : Graphics = on_paper s n path in
-    let below = known_below looked_up 0 ds s.work.entries h.names in
-    let here = known looked_up (0 ∷ ds) s.work.entries h.names in
-    let same : is_same_chain chain chain ≡ true = same_place n s.graphics.chain (sym (ap (λ z. z.chain) h.graphics)) in
-    let l9 : List Token = Literal (codes "save") ∷ Bound (codes "get") ∷ Bound (codes "exec") ∷ Bound (codes "pop") ∷ l in
-    let l8 : List Token = Bound (codes "newpath") ∷ Name (codes "systemdict") ∷ l9 in
-    let l7 : List Token = Bound (codes "end") ∷ l8 in
-    let l6 : List Token = Bound (codes "def") ∷ l7 in
-    let l5 : List Token = Literal (codes "PStoPSenablepage") ∷ Name (codes "false") ∷ l6 in
-    let l4 : List Token = Bound (codes "def") ∷ l5 in
-    let l3 : List Token = Literal (codes "PStoPSclip") ∷ Name (codes "ImposePath") ∷ l4 in
-    let l2 : List Token = Bound (codes "begin") ∷ Literal (codes "PStoPSmatrix") ∷ Bound (codes "matrix") ∷ Bound (codes "currentmatrix") ∷ Bound (codes "def") ∷ l3 in
-    let l1 : List Token = Bound (codes "clip") ∷ Name (codes "userdict") ∷ l2 in
-    let closing : List Token = Bound (codes "]") ∷ Bound (codes "cvx") ∷ l4 in
-    let tracing : List Token = Bound (codes "pathforall") ∷ closing in
-    let before_end : State = within s os (h.number ∷ ds) (put_entries s) bare in
-    let s1 : State = within s os ds (put_entries s) bare in
-    let s2 : State = within s os ds (put_entries s) g in
-    let s3 : State = noted_within s (Plain (Literal (codes "PStoPSclip")) ∷ os) (0 ∷ ds) (with_matrix s) g chain in
-    let four : List Object = Procedure (element (codes "closepath")) ∷ Procedure (element (codes "curveto")) ∷ Procedure (element (codes "lineto")) ∷ Procedure (element (codes "moveto")) ∷ Mark ∷ Plain (Literal (codes "PStoPSclip")) ∷ os in
-    let s4 : State = noted_within s four (0 ∷ ds) (with_matrix s) g chain in
-    let s5 : State = noted_within s (Mark ∷ Plain (Literal (codes "PStoPSclip")) ∷ os) (0 ∷ ds) (with_matrix s) g chain in
-    let s6 : State = noted_within s (Procedure (outline_tokens n) ∷ Plain (Literal (codes "PStoPSclip")) ∷ os) (0 ∷ ds) (with_matrix s) g chain in
-    let s7 : State = noted_within s (Plain (Literal (codes "PStoPSenablepage")) ∷ os) (0 ∷ ds) (with_outline s n) g chain in
-    let s8 : State = noted_within s os (0 ∷ ds) (page_entries s (outline_tokens n)) g chain in
-    let s9 : State = noted_within s os ds (page_entries s (outline_tokens n)) g chain in
-    let s10 : State = noted_within s os ds (page_entries s (outline_tokens n)) (on_paper s n []) chain in
-    runs_one false (run_of (clip_tokens ++ l) before_end) (run_of l1 s1) end (ap (λ x. worked x (run_of l1 before_end)) (ended_at h.number ds s.work.entries (codes "showpage") 0 before_end.work h.userdict_first))
-    (some 1 (run_of l1 s1) (run_of (Name (codes "userdict") ∷ l2) s2) end refl
-    (by_name (codes "userdict") l2 s2 (run_of l2 (push (Dictionary 0) s2)) end (system (codes "userdict")) (still ds (puts s) s.work.entries (codes "userdict") refl (below (codes "userdict") refl)) refl
-    (some 6 (run_of l2 (push (Dictionary 0) s2)) (run_of (Name (codes "ImposePath") ∷ l4) s3) end refl
-    (by_name (codes "ImposePath") l4 s3 (run_of (tracing_tokens ++ l4) s3) end (Some (Procedure tracing_tokens)) (ap (λ x. or x (meaning ds (with_matrix s) (codes "ImposePath"))) h.path_is) refl
-    (some 5 (run_of (tracing_tokens ++ l4) s3) (run_of tracing s4) end refl
-    (runs_one false (run_of tracing s4) (run_of (edge_elements n ++ closing) s5) end (ap (λ x. traced x s5.work.operands (run_of closing s4)) (edge_traced n chain same))
-    (some 20 (run_of (edge_elements n ++ closing) s5) (run_of l4 s6) end refl
-    (some 2 (run_of l4 s6) (run_of (Name (codes "false") ∷ l6) s7) end refl
-    (by_name (codes "false") l6 s7 (run_of l6 (push (Truth false) s7)) end (system (codes "false")) (still (0 ∷ ds) (outline_put s n) s.work.entries (codes "false") refl (here (codes "false") refl)) refl
-    (some 1 (run_of l6 (push (Truth false) s7)) (run_of l7 s8) end refl
-    (runs_one false (run_of l7 s8) (run_of l8 s9) end (ap (λ x. worked x (run_of l8 s8)) (ended_at 0 ds s.work.entries (codes "showpage") 0 s8.work h.userdict_first))
-    (some 1 (run_of l8 s9) (run_of (Name (codes "systemdict") ∷ l9) s10) end refl
-    (by_name (codes "systemdict") l9 s10 (run_of l9 (push SystemDictionary s10)) end (system (codes "systemdict")) (still ds (all_put s n) s.work.entries (codes "systemdict") refl (below (codes "systemdict") refl)) refl
-    (some 5 (run_of l9 (push SystemDictionary s10)) end end refl (runs_none false end)))))))))))))))
-
--- From the sheet's text to the page's own tokens.
-
--- behind the sheet's save
-abbrev saved_state : State → (number : ℕ) → State
-saved_state s number = within s (Saved s.level ∷ for_save s) (number ∷ s.work.dictionaries) s.work.entries s.graphics
-
-abbrev putting : List Token → List Token
-putting l = Name (codes "put") ∷ Name (codes "userdict") ∷ Literal (codes "showpage") ∷ Opens ∷ Closes ∷ Name (codes "put") ∷ l
-
-saving : (s : State) (l : List Token) (h : IsGuarded s)
-    → Runs false (run_of (saving_tokens ++ l) s) (run_of l (within s s.work.operands (h.number ∷ s.work.dictionaries) (put_entries s) s.graphics))
-saving s l h =
-    let ds : List ℕ = h.number ∷ s.work.dictionaries in
-    let es : List Entry = s.work.entries in
-    let os : List Object = s.work.operands in
-    let first_names = known looked_up_first ds es h.clip_alone in
-    let names = known_below looked_up 0 s.work.dictionaries es h.names in
-    let end : State = run_of l (within s os ds (put_entries s) s.graphics) in
-    let one : List Entry = entry (codes "ImposeSave") (Saved s.level) ∷ [] in
-    let l1 : List Token = Literal (codes "ImposeSave") ∷ Name (codes "save") ∷ putting l in
-    let l2 : List Token = Name (codes "userdict") ∷ Literal (codes "showpage") ∷ Opens ∷ Closes ∷ Name (codes "put") ∷ l in
-    let l3 : List Token = Literal (codes "showpage") ∷ Opens ∷ Closes ∷ Name (codes "put") ∷ l in
-    let s1 : State = before s (for_save s) in
-    let s2 : State = saved_state s h.number in
-    let s3 : State = within s os ds (one ++ es) s.graphics in
-    let s4 : State = within s (Procedure [] ∷ Plain (Literal (codes "showpage")) ∷ Dictionary 0 ∷ os) ds (one ++ es) s.graphics in
-    by_name (codes "userdict") l1 s (run_of l1 (push (Dictionary 0) s)) end (system (codes "userdict")) (names (codes "userdict") refl) refl
-    (some 1 (run_of l1 (push (Dictionary 0) s)) (run_of (Name (codes "save") ∷ putting l) s1) end refl
-    (by_name (codes "save") (putting l) s1 (run_of (save_tokens ++ putting l) s1) end (Some (Procedure save_tokens)) h.save_is refl
-    (runs_join false (run_of (save_tokens ++ putting l) s1) (run_of (putting l) s2) end (page_saves s (putting l) h)
-    (by_name (codes "put") l2 s2 (run_of l2 s3) end (system (codes "put")) (first_names (codes "put") refl) refl
-    (by_name (codes "userdict") l3 s3 (run_of l3 (push (Dictionary 0) s3)) end (system (codes "userdict")) (still ds one es (codes "userdict") refl (first_names (codes "userdict") refl)) refl
-    (some 2 (run_of l3 (push (Dictionary 0) s3)) (run_of (Name (codes "put") ∷ l) s4) end refl
-    (by_name (codes "put") l s4 end end (system (codes "put")) (still ds one es (codes "put") refl (first_names (codes "put") refl)) refl (runs_none false end))))))))
 
 -- these names are known still behind entries for others
 known_through : (names : List (List ℕ)) (ds : List ℕ) (more es : List Entry) → ((name : List ℕ) → among name names ≡ true → keys_differ more name ≡ true)
@@ -306,7 +212,7 @@ known_through : (names : List (List ℕ)) (ds : List ℕ) (more es : List Entry)
 known_through names ds more es d k name h = through ds more es name (d name h) ∙ k name h
 
 -- the entries' keys are none of these names
-abbrev all_apart : List Entry → List (List ℕ) → Bool
+abbrev pub all_apart : List Entry → List (List ℕ) → Bool
 all_apart [] names = true
 all_apart (e ∷ es) names = apart e.key names && all_apart es names
 
@@ -314,12 +220,287 @@ turned : (b : Bool) → b ≡ false → not b ≡ true
 turned true e = sym e
 turned false e = refl
 
-differ : (more : List Entry) (names : List (List ℕ)) → all_apart more names ≡ true → (name : List ℕ) → among name names ≡ true → keys_differ more name ≡ true
+pub differ : (more : List Entry) (names : List (List ℕ)) → all_apart more names ≡ true → (name : List ℕ) → among name names ≡ true → keys_differ more name ≡ true
 differ [] names a name h = refl
 differ (e ∷ more) names a name h =
     both_true (not (bytes_eq e.key name)) (keys_differ more name)
     (turned (bytes_eq e.key name) (is_apart e.key name names (first (apart e.key names) (all_apart more names) a) h))
     (differ more names (second (apart e.key names) (all_apart more names) a) name h)
+
+outer_apart : (outers : List Outer) → all_apart (outer_entries outers) looked_up ≡ true
+outer_apart [] = refl
+outer_apart (o ∷ os) = refl
+
+outer_path : (outers : List Outer) (es : List Entry) → entry_of 0 (codes "ImposePath") (outer_entries outers ++ es) ≡ entry_of 0 (codes "ImposePath") es
+outer_path [] es = refl
+outer_path (o ∷ os) es = refl
+
+-- the graphics state with the page's place
+abbrev on_paper : State → Numbers → List Segment → Graphics
+on_paper s n path = record { chain = (place_in s.graphics n).chain; path = path; clip = (place_in s.graphics n).clip; settings = s.graphics.settings }
+
+-- where the page begins, but for its border, if these entries were there, and so much was made
+abbrev begun_over : State → Numbers → List Entry → ℕ → State
+begun_over s n es made = record s {
+  work = record s.work { entries = all_put made n ++ es; made = made + 1 };
+  kept = record { number = made + 1; chain = (place_in s.graphics n).chain } ∷ s.kept;
+  level = s.level + 1 + 1;
+  graphics = on_paper s n [];
+  stacked = [];
+  saves = record {
+    level = s.level + 1;
+    entries = all_put made n ++ es;
+    made = made + 1;
+    kept = record { number = made + 1; chain = (place_in s.graphics n).chain } ∷ s.kept;
+    graphics = on_paper s n [];
+    stacked = [];
+  } ∷ snapshot_of s ∷ s.saves;
+}
+
+-- the entries that the sheet's text and the guard have put for the pages round it
+abbrev round_entries : List Outer → State → List Entry
+round_entries outers s = outer_entries outers ++ put_entries s
+
+abbrev begun : List Outer → State → Numbers → State
+begun outers s n = begun_over s n (round_entries outers s) (outer_made outers s.work.made)
+
+-- behind the clip
+abbrev noting : List Token → List Token
+noting l =
+    Name (codes "userdict") ∷ Bound (codes "begin") ∷ Literal (codes "PStoPSmatrix") ∷ Bound (codes "matrix") ∷ Bound (codes "currentmatrix") ∷ Bound (codes "def")
+    ∷ Literal (codes "PStoPSclip") ∷ Name (codes "ImposePath") ∷ Bound (codes "def") ∷ Literal (codes "PStoPSenablepage") ∷ Name (codes "false") ∷ Bound (codes "def")
+    ∷ Bound (codes "end") ∷ Bound (codes "newpath") ∷ Name (codes "systemdict") ∷ Literal (codes "save") ∷ Bound (codes "get") ∷ Bound (codes "exec") ∷ Bound (codes "pop") ∷ l
+
+-- the page is noted
+page_noted : (s : State) (n : Numbers) (l : List Token) (es : List Entry) (made : ℕ)
+    → Known looked_up (record s.work { entries = es }) → Known looked_up (record s.work { dictionaries = 0 ∷ s.work.dictionaries; entries = es })
+    → entry_of 0 (codes "ImposePath") es ≡ Some (Procedure tracing_tokens)
+    → (found : ℕ) → holder s.work.dictionaries s.work.entries (codes "showpage") ≡ Some found
+    → is_same_chain (place_in s.graphics n).chain (place_in s.graphics n).chain ≡ true
+    → Runs false (run_of (noting l) (within s s.work.operands s.work.dictionaries es made (on_paper s n (edge n (place_in s.graphics n).chain))))
+    (run_of l (begun_over s n es made))
+page_noted s n l es made below here path_is found first_is same =
+    let ds : List ℕ = s.work.dictionaries in
+    let os : List Object = s.work.operands in
+    let chain : List Call = (place_in s.graphics n).chain in
+    let end : State = run_of l (begun_over s n es made) in
+    let g : Graphics = on_paper s n (edge n chain) in
+    let with_matrix : List Entry = matrix_put made ++ es in
+    let with_outline : List Entry = outline_put made n ++ es in
+    let with_all : List Entry = all_put made n ++ es in
+    let l9 : List Token = Literal (codes "save") ∷ Bound (codes "get") ∷ Bound (codes "exec") ∷ Bound (codes "pop") ∷ l in
+    let l8 : List Token = Bound (codes "newpath") ∷ Name (codes "systemdict") ∷ l9 in
+    let l7 : List Token = Bound (codes "end") ∷ l8 in
+    let l6 : List Token = Bound (codes "def") ∷ l7 in
+    let l5 : List Token = Literal (codes "PStoPSenablepage") ∷ Name (codes "false") ∷ l6 in
+    let l4 : List Token = Bound (codes "def") ∷ l5 in
+    let l3 : List Token = Literal (codes "PStoPSclip") ∷ Name (codes "ImposePath") ∷ l4 in
+    let l2 : List Token = Bound (codes "begin") ∷ Literal (codes "PStoPSmatrix") ∷ Bound (codes "matrix") ∷ Bound (codes "currentmatrix") ∷ Bound (codes "def") ∷ l3 in
+    let closing : List Token = Bound (codes "]") ∷ Bound (codes "cvx") ∷ l4 in
+    let tracing : List Token = Bound (codes "pathforall") ∷ closing in
+    let s2 : State = within s os ds es made g in
+    let s3 : State = noted_within s (Plain (Literal (codes "PStoPSclip")) ∷ os) (0 ∷ ds) with_matrix made g chain in
+    let four : List Object = Procedure (element (codes "closepath")) ∷ Procedure (element (codes "curveto")) ∷ Procedure (element (codes "lineto")) ∷ Procedure (element (codes "moveto")) ∷ Mark ∷ Plain (Literal (codes "PStoPSclip")) ∷ os in
+    let s4 : State = noted_within s four (0 ∷ ds) with_matrix made g chain in
+    let s5 : State = noted_within s (Mark ∷ Plain (Literal (codes "PStoPSclip")) ∷ os) (0 ∷ ds) with_matrix made g chain in
+    let s6 : State = noted_within s (Procedure (outline_tokens n) ∷ Plain (Literal (codes "PStoPSclip")) ∷ os) (0 ∷ ds) with_matrix made g chain in
+    let s7 : State = noted_within s (Plain (Literal (codes "PStoPSenablepage")) ∷ os) (0 ∷ ds) with_outline made g chain in
+    let s8 : State = noted_within s os (0 ∷ ds) with_all made g chain in
+    let s9 : State = noted_within s os ds with_all made g chain in
+    let s10 : State = noted_within s os ds with_all made (on_paper s n []) chain in
+    by_name (codes "userdict") l2 s2 (run_of l2 (push (Dictionary 0) s2)) end (system (codes "userdict")) (below (codes "userdict") refl) refl
+    (some 6 (run_of l2 (push (Dictionary 0) s2)) (run_of (Name (codes "ImposePath") ∷ l4) s3) end refl
+    (by_name (codes "ImposePath") l4 s3 (run_of (tracing_tokens ++ l4) s3) end (Some (Procedure tracing_tokens)) (ap (λ x. or x (meaning ds with_matrix (codes "ImposePath"))) path_is) refl
+    (some 5 (run_of (tracing_tokens ++ l4) s3) (run_of tracing s4) end refl
+    (runs_one false (run_of tracing s4) (run_of (edge_elements n ++ closing) s5) end (ap (λ x. traced x s5.work.operands (run_of closing s4)) (edge_traced n chain same))
+    (some 20 (run_of (edge_elements n ++ closing) s5) (run_of l4 s6) end refl
+    (some 2 (run_of l4 s6) (run_of (Name (codes "false") ∷ l6) s7) end refl
+    (by_name (codes "false") l6 s7 (run_of l6 (push (Truth false) s7)) end (system (codes "false")) (still (0 ∷ ds) (outline_put made n) es (codes "false") refl (here (codes "false") refl)) refl
+    (some 1 (run_of l6 (push (Truth false) s7)) (run_of l7 s8) end refl
+    (runs_one false (run_of l7 s8) (run_of l8 s9) end (ap (λ x. worked x (run_of l8 s8)) (ended_at 0 ds s.work.entries (codes "showpage") found s8.work first_is))
+    (some 1 (run_of l8 s9) (run_of (Name (codes "systemdict") ∷ l9) s10) end refl
+    (by_name (codes "systemdict") l9 s10 (run_of l9 (push SystemDictionary s10)) end (system (codes "systemdict")) (still ds (all_put made n) es (codes "systemdict") refl (below (codes "systemdict") refl)) refl
+    (some 5 (run_of l9 (push SystemDictionary s10)) end end refl (runs_none false end)))))))))))))
+
+-- A page round it is kept.
+
+nothing_there : (d : ℕ) (name : List ℕ) (es : List Entry) → has_nothing d es ≡ true → entry_of d name es ≡ None
+nothing_there d name [] e = refl
+nothing_there d name (x ∷ es) e =
+    passed (bytes_eq x.key name) (x.dictionary == d) x.value (entry_of d name es) (first (not (x.dictionary == d)) (has_nothing d es) e)
+    ∙ nothing_there d name es (second (not (x.dictionary == d)) (has_nothing d es) e)
+  where
+    passed : (a b : Bool) (v : Object) (y : Option Object) → not b ≡ true → (if a && b then Some v else y) ≡ y
+    passed true false v y e = refl
+    passed false b v y e = refl
+    passed true true v y e = absurd (true≢false (sym e))
+
+-- a name that the new dictionary doesn't have means what it meant
+new_means : (d : ℕ) (ds : List ℕ) (es : List Entry) (name : List ℕ) (o : Object) → has_nothing d es ≡ true → meaning ds es name ≡ Some o → meaning (d ∷ ds) es name ≡ Some o
+new_means d ds es name o e f = ap (λ x. or x (meaning ds es name)) (nothing_there d name es e) ∙ f
+
+-- behind the flag
+abbrev if_within : List Token → List Token
+if_within l = Bound (codes "not") ∷ Opens ∷ (outer_tokens ++ (Closes ∷ Bound (codes "if") ∷ noting l))
+
+-- the entries, with the outer page's matrix, outline and so on in the new dictionary
+abbrev matrix_kept : ℕ → Outer → List Entry → List Entry
+matrix_kept d o es = record { dictionary = d; key = codes "PStoPSmatrix"; value = Matrix o.matrix } ∷ es
+
+abbrev outline_kept : ℕ → Outer → List Entry → List Entry
+outline_kept d o es = record { dictionary = d; key = codes "PStoPSclip"; value = Procedure (outline_tokens o.numbers) } ∷ matrix_kept d o es
+
+abbrev outer_kept : ℕ → Outer → List Outer → List Entry → List Entry
+outer_kept d o os es = record { dictionary = d; key = codes "ImposeOuter"; value = outer_is os } ∷ outline_kept d o es
+
+abbrev outer_put : ℕ → Outer → List Outer → List Entry → List Entry
+outer_put d o os es = entry (codes "ImposeOuter") (Dictionary d) ∷ outer_kept d o os es
+
+keeps_it : (s : State) (o : Outer) (os : List Outer) (l : List Token) (g : Graphics) → meaning s.work.dictionaries (put_entries s) (codes "userdict") ≡ system (codes "userdict")
+    → (found : ℕ) → holder s.work.dictionaries s.work.entries (codes "showpage") ≡ Some found
+    → meaning s.work.dictionaries s.work.entries (codes "PStoPSmatrix") ≡ Some (Matrix o.matrix)
+    → meaning s.work.dictionaries s.work.entries (codes "PStoPSclip") ≡ Some (Procedure (outline_tokens o.numbers))
+    → meaning s.work.dictionaries s.work.entries (codes "ImposeOuter") ≡ Some (outer_is os)
+    → has_nothing (s.work.made + 1) s.work.entries ≡ true
+    → Runs false (run_of (outer_tokens ++ l) (within s s.work.operands s.work.dictionaries (put_entries s) s.work.made g))
+    (run_of l (within s s.work.operands s.work.dictionaries (outer_put (s.work.made + 1) o os (put_entries s)) (s.work.made + 1) g))
+keeps_it s o os l g user found first_is matrix_is outline_is outer new =
+    let ds : List ℕ = s.work.dictionaries in
+    let all : List Object = s.work.operands in
+    let d : ℕ = s.work.made + 1 in
+    let es : List Entry = put_entries s in
+    let own : List Entry = s.work.entries in
+    let end : State = run_of l (within s all ds (outer_put d o os es) d g) in
+    let below : List Object = Dictionary d ∷ Plain (Literal (codes "ImposeOuter")) ∷ Dictionary 0 ∷ all in
+    let start : State = within s all ds es s.work.made g in
+    let l7 : List Token = Bound (codes "put") ∷ l in
+    let l6 : List Token = Bound (codes "end") ∷ l7 in
+    let l5 : List Token = Bound (codes "def") ∷ l6 in
+    let l4 : List Token = Literal (codes "ImposeOuter") ∷ Bound (codes "dup") ∷ Bound (codes "load") ∷ l5 in
+    let l3 : List Token = Bound (codes "def") ∷ l4 in
+    let l2 : List Token = Literal (codes "PStoPSclip") ∷ Bound (codes "dup") ∷ Bound (codes "load") ∷ l3 in
+    let l1 : List Token = Bound (codes "def") ∷ l2 in
+    let l0 : List Token =
+    Literal (codes "ImposeOuter") ∷ Number (codes "3") ∷ Bound (codes "dict") ∷ Bound (codes "dup") ∷ Bound (codes "begin")
+    ∷ Bound (codes "[") ∷ Literal (codes "PStoPSmatrix") ∷ Literal (codes "PStoPSclip") ∷ Literal (codes "ImposeOuter") ∷ Bound (codes "]")
+    ∷ Opens ∷ Bound (codes "dup") ∷ Bound (codes "load") ∷ Bound (codes "def") ∷ Closes ∷ Bound (codes "forall") ∷ l6 in
+    let asks : List ℕ → List Entry → State = λ name now. within s (Plain (Literal name) ∷ Plain (Literal name) ∷ below) (d ∷ ds) now d g in
+    let named : List ℕ → List Entry → State = λ name now. within s (Plain (Literal name) ∷ below) (d ∷ ds) now d g in
+    let told : List ℕ → Object → List Entry → State = λ name x now. within s (x ∷ Plain (Literal name) ∷ below) (d ∷ ds) now d g in
+    let s4 : State = within s below (d ∷ ds) (outer_kept d o os es) d g in
+    let s5 : State = within s below ds (outer_kept d o os es) d g in
+    by_name (codes "userdict") l0 start (run_of l0 (push (Dictionary 0) start)) end (system (codes "userdict")) user refl
+    (some 14 (run_of l0 (push (Dictionary 0) start)) (run_of (Bound (codes "load") ∷ l1) (asks (codes "PStoPSmatrix") es)) end refl
+    (runs_one false (run_of (Bound (codes "load") ∷ l1) (asks (codes "PStoPSmatrix") es)) (run_of l1 (told (codes "PStoPSmatrix") (Matrix o.matrix) es)) end
+    (ap (λ x. worked (loaded x (named (codes "PStoPSmatrix") es).work) (run_of l1 (asks (codes "PStoPSmatrix") es))) (through (d ∷ ds) (puts s) own (codes "PStoPSmatrix") refl ∙ new_means d ds own (codes "PStoPSmatrix") (Matrix o.matrix) new matrix_is))
+    (some 3 (run_of l1 (told (codes "PStoPSmatrix") (Matrix o.matrix) es)) (run_of (Bound (codes "load") ∷ l3) (asks (codes "PStoPSclip") (matrix_kept d o es))) end refl
+    (runs_one false (run_of (Bound (codes "load") ∷ l3) (asks (codes "PStoPSclip") (matrix_kept d o es))) (run_of l3 (told (codes "PStoPSclip") (Procedure (outline_tokens o.numbers)) (matrix_kept d o es))) end
+    (ap (λ x. worked (loaded x (named (codes "PStoPSclip") (matrix_kept d o es)).work) (run_of l3 (asks (codes "PStoPSclip") (matrix_kept d o es)))) (through (d ∷ ds) (matrix_kept d o (puts s)) own (codes "PStoPSclip") refl ∙ new_means d ds own (codes "PStoPSclip") (Procedure (outline_tokens o.numbers)) new outline_is))
+    (some 3 (run_of l3 (told (codes "PStoPSclip") (Procedure (outline_tokens o.numbers)) (matrix_kept d o es))) (run_of (Bound (codes "load") ∷ l5) (asks (codes "ImposeOuter") (outline_kept d o es))) end refl
+    (runs_one false (run_of (Bound (codes "load") ∷ l5) (asks (codes "ImposeOuter") (outline_kept d o es))) (run_of l5 (told (codes "ImposeOuter") (outer_is os) (outline_kept d o es))) end
+    (ap (λ x. worked (loaded x (named (codes "ImposeOuter") (outline_kept d o es)).work) (run_of l5 (asks (codes "ImposeOuter") (outline_kept d o es)))) (through (d ∷ ds) (outline_kept d o (puts s)) own (codes "ImposeOuter") refl ∙ new_means d ds own (codes "ImposeOuter") (outer_is os) new outer))
+    (some 1 (run_of l5 (told (codes "ImposeOuter") (outer_is os) (outline_kept d o es))) (run_of l6 s4) end refl
+    (runs_one false (run_of l6 s4) (run_of l7 s5) end (ap (λ x. worked x (run_of l7 s4)) (ended_at d ds own (codes "showpage") found s4.work first_is))
+    (some 1 (run_of l7 s5) end end refl (runs_none false end))))))))))
+
+-- in the page's own clip, for each kind of state
+clips_round : (outers : List Outer) (s : State) (n : Numbers) (l : List Token) (g : Graphics) → Bears outers s
+    → Runs false (run_of (Name (codes "PStoPSenablepage") ∷ if_within l) (within s s.work.operands s.work.dictionaries (put_entries s) s.work.made g))
+    (run_of (noting l) (within s s.work.operands s.work.dictionaries (round_entries outers s) (outer_made outers s.work.made) g))
+clips_round [] s n l g h =
+    let ds : List ℕ = s.work.dictionaries in
+    let start : State = within s s.work.operands ds (put_entries s) s.work.made g in
+    let end : State = run_of (noting l) start in
+    by_name (codes "PStoPSenablepage") (if_within l) start (run_of (if_within l) (push (Truth true) start)) end (Some (Truth true)) (through ds (puts s) s.work.entries (codes "PStoPSenablepage") refl ∙ h.encloses) refl
+    (some 3 (run_of (if_within l) (push (Truth true) start)) end end refl (runs_none false end))
+clips_round (o ∷ os) s n l g h =
+    let ds : List ℕ = s.work.dictionaries in
+    let start : State = within s s.work.operands ds (put_entries s) s.work.made g in
+    let end : ℕ → State = λ d. run_of (noting l) (within s s.work.operands ds (outer_put d o os (put_entries s)) (s.work.made + 1) g) in
+    let e = h.encloses in
+    let user = still ds (puts s) s.work.entries (codes "userdict") refl (known_below looked_up 0 ds s.work.entries h.names (codes "userdict") refl) in
+    let runs : (d : ℕ) → s.work.made + 1 ≡ d → Runs false (run_of (outer_tokens ++ noting l) start) (end d) =
+    λ d same. subst (λ x. Runs false (run_of (outer_tokens ++ noting l) start) (end x)) same
+    (keeps_it s o os (noting l) g user h.found h.found_is e.1 e.2 e.3 (subst (λ x. has_nothing x s.work.entries ≡ true) e.4 e.5)) in
+    by_name (codes "PStoPSenablepage") (if_within l) start (run_of (if_within l) (push (Truth false) start)) (end o.dictionary) (Some (Truth false)) (through ds (puts s) s.work.entries (codes "PStoPSenablepage") refl ∙ e.0) refl
+    (some 3 (run_of (if_within l) (push (Truth false) start)) (run_of (outer_tokens ++ noting l) start) (end o.dictionary) refl (runs o.dictionary (sym e.4)))
+
+page_clips : (outers : List Outer) (s : State) (n : Numbers) (l : List Token) (h : Bears outers s)
+    → Runs false (run_of (clip_tokens ++ l) (within s s.work.operands (h.number ∷ s.work.dictionaries) (put_entries s) s.work.made (record { chain = (place_in s.graphics n).chain; path = edge n (place_in s.graphics n).chain; clip = s.graphics.clip; settings = s.graphics.settings })))
+    (run_of l (begun outers s n))
+page_clips outers s n l h =
+    let ds : List ℕ = s.work.dictionaries in
+    let os : List Object = s.work.operands in
+    let made : ℕ = s.work.made in
+    let chain : List Call = (place_in s.graphics n).chain in
+    let path : List Segment = edge n chain in
+    let end : State = run_of l (begun outers s n) in
+    let bare : Graphics = record { chain = chain; path = path; clip = s.graphics.clip; settings = s.graphics.settings } in
+    let g : Graphics = on_paper s n path in
+    let es : List Entry = round_entries outers s in
+    let l1 : List Token = Bound (codes "clip") ∷ Name (codes "PStoPSenablepage") ∷ if_within l in
+    let before_end : State = within s os (h.number ∷ ds) (put_entries s) made bare in
+    let s1 : State = within s os ds (put_entries s) made bare in
+    let s2 : State = within s os ds (put_entries s) made g in
+    let round : State = within s os ds es (outer_made outers s.work.made) g in
+    let below : Known looked_up (record s.work { entries = es }) =
+    known_through looked_up ds (outer_entries outers) (put_entries s) (differ (outer_entries outers) looked_up (outer_apart outers))
+    (known_through looked_up ds (puts s) s.work.entries (differ (puts s) looked_up refl) (known_below looked_up 0 ds s.work.entries h.names)) in
+    let here : Known looked_up (record s.work { dictionaries = 0 ∷ ds; entries = es }) =
+    known_through looked_up (0 ∷ ds) (outer_entries outers) (put_entries s) (differ (outer_entries outers) looked_up (outer_apart outers))
+    (known_through looked_up (0 ∷ ds) (puts s) s.work.entries (differ (puts s) looked_up refl) (known looked_up (0 ∷ ds) s.work.entries h.names)) in
+    runs_one false (run_of (clip_tokens ++ l) before_end) (run_of l1 s1) end (ap (λ x. worked x (run_of l1 before_end)) (ended_at h.number ds s.work.entries (codes "showpage") h.found before_end.work h.found_is))
+    (some 1 (run_of l1 s1) (run_of (Name (codes "PStoPSenablepage") ∷ if_within l) s2) end refl
+    (runs_join false (run_of (Name (codes "PStoPSenablepage") ∷ if_within l) s2) (run_of (noting l) round) end
+    (clips_round outers s n l g h)
+    (page_noted s n l es (outer_made outers s.work.made) below here (outer_path outers (put_entries s) ∙ h.path_is) h.found h.found_is (same_place n s.graphics.chain h.numbers))))
+
+-- From the sheet's text to the page's own tokens.
+
+-- behind the sheet's save
+abbrev pub saved_state : State → (number : ℕ) → State
+saved_state s number = within s (Saved s.level ∷ for_save s) (number ∷ s.work.dictionaries) s.work.entries s.work.made s.graphics
+
+abbrev putting : List Token → List Token
+putting l = Name (codes "put") ∷ Name (codes "userdict") ∷ Literal (codes "showpage") ∷ Opens ∷ Closes ∷ Name (codes "put") ∷ l
+
+after_save : (outers : List Outer) (s : State) (l : List Token) (h : Bears outers s)
+    → Runs false (run_of (putting l) (saved_state s h.number)) (run_of l (within s s.work.operands (h.number ∷ s.work.dictionaries) (put_entries s) s.work.made s.graphics))
+after_save outers s l h =
+    let ds : List ℕ = h.number ∷ s.work.dictionaries in
+    let es : List Entry = s.work.entries in
+    let os : List Object = s.work.operands in
+    let first_names = known looked_up_first ds es h.clip_alone in
+    let end : State = run_of l (within s os ds (put_entries s) s.work.made s.graphics) in
+    let one : List Entry = entry (codes "ImposeSave") (Saved s.level) ∷ [] in
+    let l2 : List Token = Name (codes "userdict") ∷ Literal (codes "showpage") ∷ Opens ∷ Closes ∷ Name (codes "put") ∷ l in
+    let l3 : List Token = Literal (codes "showpage") ∷ Opens ∷ Closes ∷ Name (codes "put") ∷ l in
+    let s2 : State = saved_state s h.number in
+    let s3 : State = within s os ds (one ++ es) s.work.made s.graphics in
+    let s4 : State = within s (Procedure [] ∷ Plain (Literal (codes "showpage")) ∷ Dictionary 0 ∷ os) ds (one ++ es) s.work.made s.graphics in
+    by_name (codes "put") l2 s2 (run_of l2 s3) end (system (codes "put")) (first_names (codes "put") refl) refl
+    (by_name (codes "userdict") l3 s3 (run_of l3 (push (Dictionary 0) s3)) end (system (codes "userdict")) (still ds one es (codes "userdict") refl (first_names (codes "userdict") refl)) refl
+    (some 2 (run_of l3 (push (Dictionary 0) s3)) (run_of (Name (codes "put") ∷ l) s4) end refl
+    (by_name (codes "put") l s4 end end (system (codes "put")) (still ds one es (codes "put") refl (first_names (codes "put") refl)) refl (runs_none false end))))
+
+-- from the sheet's text to its save
+up_to_save : (s u : State) (l : List Token) → meaning s.work.dictionaries s.work.entries (codes "userdict") ≡ system (codes "userdict") → means s (codes "save") ≡ Some (Procedure save_tokens)
+    → Runs false (run_of (save_tokens ++ putting l) (before s (for_save s))) u → Runs false (run_of (saving_tokens ++ l) s) u
+up_to_save s u l user save r =
+    let l1 : List Token = Literal (codes "ImposeSave") ∷ Name (codes "save") ∷ putting l in
+    let s1 : State = before s (for_save s) in
+    by_name (codes "userdict") l1 s (run_of l1 (push (Dictionary 0) s)) u (system (codes "userdict")) user refl
+    (some 1 (run_of l1 (push (Dictionary 0) s)) (run_of (Name (codes "save") ∷ putting l) s1) u refl
+    (by_name (codes "save") (putting l) s1 (run_of (save_tokens ++ putting l) s1) u (Some (Procedure save_tokens)) save refl r))
+
+saving : (outers : List Outer) (s : State) (l : List Token) (h : TakesPages outers s)
+    → Runs false (run_of (saving_tokens ++ l) s) (run_of l (within s s.work.operands (h.number ∷ s.work.dictionaries) (put_entries s) s.work.made s.graphics))
+unfolding bears
+saving outers s l h =
+    let end : State = run_of l (within s s.work.operands (h.number ∷ s.work.dictionaries) (put_entries s) s.work.made s.graphics) in
+    up_to_save s end l (known_below looked_up 0 s.work.dictionaries s.work.entries h.names (codes "userdict") refl) h.save_is
+    (runs_join false (run_of (save_tokens ++ putting l) (before s (for_save s))) (run_of (putting l) (saved_state s h.number)) end (page_saves outers s (putting l) h)
+    (after_save outers s l (bears outers s h)))
 
 -- the matrix and the paper's edge, up to the clip
 abbrev up_to_clip : Numbers → List Token
@@ -331,29 +512,61 @@ abbrev behind_clip : Numbers → Option (List ℕ) → List Token
 behind_clip n border = Name (codes "newpath") ∷ border_tokens n border
 
 -- with the border painted
-abbrev bordered : State → Numbers → Option (List ℕ) → State
-bordered s n border = record (begun s n) { painted = border_in s.graphics n border ++ s.painted }
+abbrev pub bordered : List Outer → State → Numbers → Option (List ℕ) → State
+bordered outers s n border = record (begun outers s n) { painted = border_in s.graphics n border ++ s.painted }
 
-border_is : (n : Numbers) (s : State) (border : Option (List ℕ)) → straight looked_up (behind_clip n border) (begun s n) ≡ Some (run_of s.left (bordered s n border))
-border_is n s None = refl
-border_is n s (Some width) = refl
+border_is : (outers : List Outer) (n : Numbers) (s : State) (border : Option (List ℕ)) → straight looked_up (behind_clip n border) (begun outers s n) ≡ Some (run_of s.left (bordered outers s n border))
+border_is outers n s None = refl
+border_is outers n s (Some width) = refl
 
-pub page_begins : PageBegins
-page_begins s n body l h =
+all_put_apart : (outers : List Outer) (made : ℕ) (n : Numbers) → all_apart (all_put made n ++ outer_entries outers) looked_up ≡ true
+all_put_apart [] made n = refl
+all_put_apart (o ∷ os) made n = refl
+
+-- behind the sheet's save, in any such state
+behind_save : (outers : List Outer) (s : State) (n : Numbers) (more : List Token) (h : Bears outers s)
+    → Runs false (run_of (placing_tokens n ++ more) (within s s.work.operands (h.number ∷ s.work.dictionaries) (put_entries s) s.work.made s.graphics)) (run_of more (bordered outers s n n.border))
+behind_save outers s n more h =
     let ds : List ℕ = s.work.dictionaries in
     let os : List Object = s.work.operands in
-    let more : List Token = body ++ l in
+    let made : ℕ = s.work.made in
     let chain : List Call = (place_in s.graphics n).chain in
-    let end : State = run_of more (bordered s n n.border) in
+    let end : State = run_of more (bordered outers s n n.border) in
     let clip : List Token = Name (codes "clip") ∷ (behind_clip n n.border ++ more) in
-    let s1 : State = within s os (h.number ∷ ds) (put_entries s) s.graphics in
-    let s2 : State = within s os (h.number ∷ ds) (put_entries s) (record { chain = chain; path = edge n chain; clip = s.graphics.clip; settings = s.graphics.settings }) in
+    let s1 : State = within s os (h.number ∷ ds) (put_entries s) made s.graphics in
+    let s2 : State = within s os (h.number ∷ ds) (put_entries s) made (record { chain = chain; path = edge n chain; clip = s.graphics.clip; settings = s.graphics.settings }) in
     let first_known : Known looked_up_first s1.work =
     known_through looked_up_first (h.number ∷ ds) (puts s) s.work.entries (differ (puts s) looked_up_first refl) (known looked_up_first (h.number ∷ ds) s.work.entries h.clip_alone) in
-    let names : Known looked_up (begun s n).work =
-    known_through looked_up ds (all_put s n) s.work.entries (differ (all_put s n) looked_up refl) (known_below looked_up 0 ds s.work.entries h.names) in
-    runs_join false (run_of (saving_tokens ++ (placing_tokens n ++ more)) s) (run_of (placing_tokens n ++ more) s1) end (saving s (placing_tokens n ++ more) h)
-    (runs_join false (run_of (up_to_clip n ++ clip) s1) (run_of clip s2) end (straight_runs looked_up_first (up_to_clip n) clip s1 s2 first_known refl)
+    let here : Known looked_up (record s.work { entries = put_entries s }) =
+    known_through looked_up ds (puts s) s.work.entries (differ (puts s) looked_up refl) (known_below looked_up 0 ds s.work.entries h.names) in
+    let names : Known looked_up (begun outers s n).work =
+    known_through looked_up ds (all_put (outer_made outers s.work.made) n ++ outer_entries outers) (put_entries s) (differ (all_put (outer_made outers s.work.made) n ++ outer_entries outers) looked_up (all_put_apart outers (outer_made outers s.work.made) n)) here in
+    runs_join false (run_of (up_to_clip n ++ clip) s1) (run_of clip s2) end (straight_runs looked_up_first (up_to_clip n) clip s1 s2 first_known refl)
     (by_name (codes "clip") (behind_clip n n.border ++ more) s2 (run_of (clip_tokens ++ (behind_clip n n.border ++ more)) s2) end (Some (Procedure clip_tokens)) (ap (λ x. or x (meaning ds (put_entries s) (codes "clip"))) h.clip_is) refl
-    (runs_join false (run_of (clip_tokens ++ (behind_clip n n.border ++ more)) s2) (run_of (behind_clip n n.border ++ more) (begun s n)) end (page_clips s n (behind_clip n n.border ++ more) h)
-    (straight_runs looked_up (behind_clip n n.border) more (begun s n) (bordered s n n.border) names (border_is n s n.border)))))
+    (runs_join false (run_of (clip_tokens ++ (behind_clip n n.border ++ more)) s2) (run_of (behind_clip n n.border ++ more) (begun outers s n)) end (page_clips outers s n (behind_clip n n.border ++ more) h)
+    (straight_runs looked_up (behind_clip n n.border) more (begun outers s n) (bordered outers s n n.border) names (border_is outers n s n.border))))
+
+pub page_begins : PageBegins
+unfolding bears
+page_begins outers s n body l h =
+    let more : List Token = body ++ l in
+    let end : State = run_of more (bordered outers s n n.border) in
+    runs_join false (run_of (saving_tokens ++ (placing_tokens n ++ more)) s) (run_of (placing_tokens n ++ more) (within s s.work.operands (h.number ∷ s.work.dictionaries) (put_entries s) s.work.made s.graphics)) end
+    (saving outers s (placing_tokens n ++ more) h)
+    (behind_save outers s n more (bears outers s h))
+
+-- where a dictionary has a showpage of its own: behind the sheet's save that asks userdict
+pub begins_within : (outers : List Outer) (s t : State) (n : Numbers) (body l : List Token) (h : Bears outers t) → meaning s.work.dictionaries s.work.entries (codes "userdict") ≡ system (codes "userdict")
+    → means s (codes "save") ≡ Some (Procedure save_tokens)
+    → ((rest : List Token) → Runs false (run_of (save_tokens ++ rest) (before s (for_save s))) (run_of rest (saved_state t h.number)))
+    → Runs false (run_of (saving_tokens ++ (placing_tokens n ++ (body ++ l))) s) (placed_at (around l n t) (sheltered outers t (outline_tokens n) body))
+begins_within outers s t n body l h user save saves =
+    let more : List Token = body ++ l in
+    let middle : State = within t t.work.operands (h.number ∷ t.work.dictionaries) (put_entries t) t.work.made t.graphics in
+    let end : State = run_of more (bordered outers t n n.border) in
+    runs_join false (run_of (saving_tokens ++ (placing_tokens n ++ more)) s) (run_of (placing_tokens n ++ more) middle) end
+    (up_to_save s (run_of (placing_tokens n ++ more) middle) (placing_tokens n ++ more) user save
+    (runs_join false (run_of (save_tokens ++ putting (placing_tokens n ++ more)) (before s (for_save s))) (run_of (putting (placing_tokens n ++ more)) (saved_state t h.number)) (run_of (placing_tokens n ++ more) middle)
+    (saves (putting (placing_tokens n ++ more)))
+    (after_save outers t (placing_tokens n ++ more) h)))
+    (behind_save outers t n more h)

@@ -2,3 +2,5 @@
 pub mod Guarded
 pub mod NotCured
 pub mod Applied
+pub mod AppliedTwice
+pub mod AppliedOwn

@@ -53,17 +53,17 @@ neither : (a b : Bool) → (a || b) ≡ false → a ≡ false
 neither true b e = e
 neither false b e = refl
 
-nor : (a b : Bool) → (a || b) ≡ false → b ≡ false
+pub nor : (a b : Bool) → (a || b) ≡ false → b ≡ false
 nor true b e = absurd (true≢false e)
 nor false b e = e
 
-differs : (key name : List ℕ) (names : List (List ℕ)) → among key names ≡ false → among name names ≡ true → bytes_eq key name ≡ false
+pub differs : (key name : List ℕ) (names : List (List ℕ)) → among key names ≡ false → among name names ≡ true → bytes_eq key name ≡ false
 differs key name [] a h = absurd (true≢false (sym h))
 differs key name (other ∷ others) a h = by_test (bytes_eq name other)
     (λ same. subst (λ z. bytes_eq key z ≡ false) (sym ((bytes_eq-Decides name other).0 same)) (neither (bytes_eq key other) (among key others) a))
     (λ differ. differs key name others (nor (bytes_eq key other) (among key others) a) (subst (λ b. (b || among name others) ≡ true) differ h))
 
-entry_other : (d : ℕ) (e : Entry) (es : List Entry) (name : List ℕ) → bytes_eq e.key name ≡ false → entry_of d name (e ∷ es) ≡ entry_of d name es
+pub entry_other : (d : ℕ) (e : Entry) (es : List Entry) (name : List ℕ) → bytes_eq e.key name ≡ false → entry_of d name (e ∷ es) ≡ entry_of d name es
 entry_other d e es name other = ap (λ b. if b && (e.dictionary == d) then Some e.value else entry_of d name es) other
 
 absent_other : (ds : List ℕ) (e : Entry) (es : List Entry) (name : List ℕ) → bytes_eq e.key name ≡ false → absent ds (e ∷ es) name ≡ absent ds es name
@@ -71,25 +71,25 @@ absent_other [] e es name other = refl
 absent_other (d ∷ ds) e es name other =
     ap₂ (λ x b. not (has x) && b) (entry_other d e es name other) (absent_other ds e es name other)
 
-holder_other : (ds : List ℕ) (e : Entry) (es : List Entry) (name : List ℕ) → bytes_eq e.key name ≡ false → holder ds (e ∷ es) name ≡ holder ds es name
+pub holder_other : (ds : List ℕ) (e : Entry) (es : List Entry) (name : List ℕ) → bytes_eq e.key name ≡ false → holder ds (e ∷ es) name ≡ holder ds es name
 holder_other [] e es name other = refl
 holder_other (d ∷ ds) e es name other =
     ap₂ (λ x y. if has x then Some d else y) (entry_other d e es name other) (holder_other ds e es name other)
 
 -- the names all differ from the entry's key
-abbrev AllDiffer : Entry → List (List ℕ) → Type 0
+abbrev pub AllDiffer : Entry → List (List ℕ) → Type 0
 AllDiffer e [] = Unit {0}
 AllDiffer e (name ∷ names) = (bytes_eq e.key name ≡ false) × AllDiffer e names
 
-all_absent_other : (names : List (List ℕ)) (ds : List ℕ) (e : Entry) (es : List Entry) → AllDiffer e names → all_absent names ds (e ∷ es) ≡ all_absent names ds es
+pub all_absent_other : (names : List (List ℕ)) (ds : List ℕ) (e : Entry) (es : List Entry) → AllDiffer e names → all_absent names ds (e ∷ es) ≡ all_absent names ds es
 all_absent_other [] ds e es h = refl
 all_absent_other (name ∷ names) ds e es h = ap₂ (λ a b. a && b) (absent_other ds e es name h.0) (all_absent_other names ds e es h.1)
 
-abbrev all_among : List (List ℕ) → List (List ℕ) → Bool
+abbrev pub all_among : List (List ℕ) → List (List ℕ) → Bool
 all_among [] others = true
 all_among (name ∷ names) others = among name others && all_among names others
 
-all_differ : (e : Entry) (names : List (List ℕ)) → among e.key guarded_names ≡ false → all_among names guarded_names ≡ true → AllDiffer e names
+pub all_differ : (e : Entry) (names : List (List ℕ)) → among e.key guarded_names ≡ false → all_among names guarded_names ≡ true → AllDiffer e names
 all_differ e [] a h = tt
 all_differ e (name ∷ names) a h = (
   differs e.key name guarded_names a (first (among name guarded_names) (all_among names guarded_names) h),

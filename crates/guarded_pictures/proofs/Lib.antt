@@ -10,6 +10,13 @@ pub mod Sheltering
 pub mod Begins
 pub mod Placed
 pub mod Ground
+pub mod ByItself
+pub mod NamedPapers
 pub mod Sheets
+pub mod PutThere
+pub mod SheetsOfSheets
+pub mod Taking
 pub mod Documents
+pub mod OwnShowpage
+pub mod TwoRuns
 pub mod Examples

@@ -1,20 +1,20 @@
 -- Single lines of the guard, run.
-use Rattle.std.specs.Prelude.{Some, codes, if◌then◌else◌, decimal}
+use Rattle.std.specs.Prelude.{Option, Some, None, codes, if◌then◌else◌, decimal}
 use Rattle.std.specs.Fmt.{digits}
-use Rattle.std.proofs.Common.{◌≡◌, ℕ, ◌+◌, ◌<◌, ◌^◌, refl, ap, ◌∙◌, sym, subst, List, [], ◌∷◌, ◌++◌, true, false, length, arith, eq-eqb}
+use Rattle.std.proofs.Common.{◌≡◌, ℕ, ◌+◌, ◌<◌, ◌^◌, refl, ap, ◌∙◌, sym, subst, List, [], ◌∷◌, ◌++◌, Bool, true, false, true≢false, length, arith, eq-eqb}
 use Rattle.std.proofs.lemmas.Bool.{ne_eqb}
 use Rattle.pictures.specs.Objects.{Token, Name, Literal, Bound, Opens, Closes, Object, Plain, Truth, Procedure, Matrix, SystemDictionary, Number, NotEqual}
-use Rattle.pictures.specs.Objects.{Array, Call, Mark}
-use Rattle.pictures.specs.Dictionaries.{system}
-use Rattle.pictures.specs.Machine.{State, Graphics, Runs, traced, push, shipped, saved, set_to, chain_of, filled_with, filled_from, worked, reset, fonts}
-use Rattle.pictures.specs.Operators.{bound_to, loaded, judged, gathered, onto, with_operands}
-use Rattle.pictures.specs.Sheets.{run_of, edge}
+use Rattle.pictures.specs.Objects.{Array, Call, Dictionary, Mark}
+use Rattle.pictures.specs.Dictionaries.{Entry, system, meaning}
+use Rattle.pictures.specs.Machine.{State, Graphics, Clip, Kept, Runs, traced, push, shipped, saved, set_to, chain_of, filled_with, filled_from, worked, reset}
+use Rattle.pictures.specs.Operators.{Work, bound_to, judged, gathered, onto, ended, with_operands}
+use Rattle.pictures.specs.Sheets.{run_of, edge, Numbers}
 use Rattle.pictures.specs.Calculations.{compared}
 use Rattle.pictures.proofs.Runs.{runs_one, runs_none, runs_join}
 use Rattle.pictures.proofs.Straight.{straight_runs}
-use Rattle.guarded_pictures.specs.Behind.{showpage_tokens, path_tokens, initclip_tokens, save_tokens, page_begins_tokens}
-use Rattle.guarded_pictures.specs.Shelter.{means, outline_tokens, outline_names}
-use Rattle.guarded_pictures.specs.Lines.{PageIsLeft, DeviceIsLeft, ShowpageStaysAName, LoadedShowpage, MatrixIsThePages, DefaultIsThePages, back_on_paper, ClipIsThePages, GraphicsAreThePages, IsAnother, SaveSaves}
+use Rattle.guarded_pictures.specs.Behind.{showpage_tokens, path_tokens, own_clip_tokens, clips_tokens, save_tokens, page_begins_tokens}
+use Rattle.guarded_pictures.specs.Shelter.{Outer, outer_is, means, outline_tokens, outline_names}
+use Rattle.guarded_pictures.specs.Lines.{PageIsLeft, DeviceIsLeft, ShowpageStaysAName, LoadedShowpage, MatrixIsThePages, DefaultIsThePages, Noted, AreNoted, clip_to, clips_to, clipped, OuterIsKept, ClipIsThePages, GraphicsAreThePages, IsAnother, SaveSaves}
 use Rattle.guarded_pictures.proofs.Absent.{known}
 use Rattle.guarded_pictures.proofs.Redrawn.{element, told, told_append, path_traced, tells_path, drawings, all_collected, draws_path, with}
 use Rattle.guarded_pictures.proofs.Counting.{counted}
@@ -43,15 +43,20 @@ not_printed s name rest e f =
     (by_name (codes "PStoPSenablepage") (asked rest) s (run_of (asked rest) (push (Truth false) s)) t (Some (Truth false)) f refl
     (some 2 (run_of (asked rest) (push (Truth false) s)) t t refl (runs_none false t)))
 
+-- outside placed pages
+pub prints : (s : State) (rest : List Token) → means s (codes "PStoPSenablepage") ≡ Some (Truth true) → means s (codes "ImposeShow") ≡ system (codes "showpage")
+    → Runs false (run_of (showpage_tokens ++ rest) s) (shipped (run_of rest s))
+prints s rest f g =
+    let t : State = shipped (run_of rest s) in
+    by_name (codes "PStoPSenablepage") (asked rest) s (run_of (asked rest) (push (Truth true) s)) t (Some (Truth true)) f refl
+    (some 2 (run_of (asked rest) (push (Truth true) s)) (run_of (Name (codes "ImposeShow") ∷ rest) s) t refl
+    (by_name (codes "ImposeShow") rest s t t (system (codes "showpage")) g refl (runs_none false t)))
+
 printed : (s : State) (name : List ℕ) (rest : List Token) → means s name ≡ Some (Procedure showpage_tokens)
     → means s (codes "PStoPSenablepage") ≡ Some (Truth true) → means s (codes "ImposeShow") ≡ system (codes "showpage")
     → Runs false (run_of (Name name ∷ rest) s) (shipped (run_of rest s))
 printed s name rest e f g =
-    let t : State = shipped (run_of rest s) in
-    by_name name rest s (run_of (showpage_tokens ++ rest) s) t (Some (Procedure showpage_tokens)) e refl
-    (by_name (codes "PStoPSenablepage") (asked rest) s (run_of (asked rest) (push (Truth true) s)) t (Some (Truth true)) f refl
-    (some 2 (run_of (asked rest) (push (Truth true) s)) (run_of (Name (codes "ImposeShow") ∷ rest) s) t refl
-    (by_name (codes "ImposeShow") rest s t t (system (codes "showpage")) g refl (runs_none false t))))
+    by_name name rest s (run_of (showpage_tokens ++ rest) s) (shipped (run_of rest s)) (Some (Procedure showpage_tokens)) e refl (prints s rest f g)
 
 pub loaded_showpage : LoadedShowpage
 loaded_showpage s name rest e = (λ f. not_printed s name rest e f, λ f g. printed s name rest e f g)
@@ -74,10 +79,105 @@ default_is_the_pages s number given chain rest e f =
     (some 1 (run_of l (push (Matrix number) r)) (run_of m q) t refl
     (runs_one false (run_of m q) t t (ap (λ x. filled_from x given s.work.operands (run_of rest q)) f) (runs_none false t)))
 
+-- ImposeClip, step by step.
+
+-- the dictionary on top is taken off, since one below it has the name, or one below that
+ended_by : (d : ℕ) (ds : List ℕ) (es : List Entry) (name : List ℕ) (o : Object) (w : Work) → meaning ds es name ≡ Some o → system name ≡ None
+    → ended (d ∷ ds) w ≡ Some (record w { dictionaries = ds })
+ended_by d [] es name o w e f = absurd (not_both (system name) f e)
+  where
+    is_some : Option Object → Bool
+    is_some None = false
+    is_some (Some o) = true
+
+    not_both : (x : Option Object) → x ≡ None → x ≡ Some o → ⊥
+    not_both x f e = true≢false (ap is_some (sym e ∙ f))
+ended_by d (c ∷ ds) es name o w e f = refl
+
+-- the page's own outline
+own_clip : (s : State) (matrix : ℕ) (n : Numbers) (chain : List Call) (rest : List Token) → Noted s.work.dictionaries s.work.made s.work.entries s.kept matrix n chain
+    → Runs false (run_of (own_clip_tokens ++ rest) s) (clipped s n chain [] rest)
+own_clip s matrix n chain rest h =
+    let g : Graphics = s.graphics in
+    let names = known outline_names s.work.dictionaries s.work.entries h.names in
+    let end : State = clipped s n chain [] rest in
+    let l3 : List Token = Bound (codes "clip") ∷ Bound (codes "newpath") ∷ rest in
+    let l2 : List Token = Bound (codes "newpath") ∷ Name (codes "PStoPSclip") ∷ l3 in
+    let l1 : List Token = Bound (codes "setmatrix") ∷ l2 in
+    let s1 : State = record s { graphics = record g { chain = chain } } in
+    let s2 : State = record s { graphics = record { chain = chain; path = []; clip = g.clip; settings = g.settings } } in
+    let s3 : State = record s { graphics = record { chain = chain; path = edge n chain; clip = g.clip; settings = g.settings } } in
+    by_name (codes "PStoPSmatrix") l1 s (run_of l1 (push (Matrix matrix) s)) end (Some (Matrix matrix)) h.matrix_is refl
+    (runs_one false (run_of l1 (push (Matrix matrix) s)) (run_of l2 s1) end (ap (λ x. set_to x s.work.operands (run_of l2 (push (Matrix matrix) s))) h.holds)
+    (some 1 (run_of l2 s1) (run_of (Name (codes "PStoPSclip") ∷ l3) s2) end refl
+    (by_name (codes "PStoPSclip") l3 s2 (run_of (outline_tokens n ++ l3) s2) end (Some (Procedure (outline_tokens n))) h.outline_is refl
+    (runs_join false (run_of (outline_tokens n ++ l3) s2) (run_of l3 s3) end (straight_runs outline_names (outline_tokens n) l3 s2 s3 names refl)
+    (some 2 (run_of l3 s3) end end refl (runs_none false end))))))
+
+-- behind the name ImposeOuter
+abbrev any_outer : List Token → List Token
+any_outer rest =
+    Number (codes "0") ∷ Bound (codes "ne")
+    ∷ Opens ∷ Name (codes "ImposeOuter") ∷ Bound (codes "begin") ∷ Name (codes "ImposeClip") ∷ Bound (codes "end") ∷ Closes
+    ∷ Bound (codes "if") ∷ (own_clip_tokens ++ rest)
+
+all_clips : (outers : List Outer) (s : State) (matrix : ℕ) (n : Numbers) (chain : List Call) (rest : List Token)
+    → Noted s.work.dictionaries s.work.made s.work.entries s.kept matrix n chain → AreNoted s.work.dictionaries s.work.made s.work.entries s.kept outers
+    → Runs false (run_of (clips_tokens ++ rest) s) (clipped s n chain outers rest)
+all_clips [] s matrix n chain rest h a =
+    let end : State = clipped s n chain [] rest in
+    let l : List Token = any_outer rest in
+    by_name (codes "ImposeOuter") l s (run_of l (push (outer_is []) s)) end (Some (outer_is [])) a refl
+    (some 4 (run_of l (push (outer_is []) s)) (run_of (own_clip_tokens ++ rest) s) end refl (own_clip s matrix n chain rest h))
+all_clips (o ∷ os) s matrix n chain rest h a =
+    let ds : List ℕ = s.work.dictionaries in
+    let end : State = clipped s n chain (o ∷ os) rest in
+    let l : List Token = any_outer rest in
+    let own : List Token = own_clip_tokens ++ rest in
+    let l2 : List Token = Bound (codes "end") ∷ own in
+    let l1 : List Token = Bound (codes "begin") ∷ Name (codes "ImposeClip") ∷ l2 in
+    let there : State = push (Dictionary o.dictionary) s in
+    let within : State = record s { work = record s.work { dictionaries = o.dictionary ∷ ds } } in
+    let done : State = clipped within o.numbers o.chain os l2 in
+    let again : State = clipped s o.numbers o.chain os own in
+    by_name (codes "ImposeOuter") l s (run_of l there) end (Some (Dictionary o.dictionary)) a.0 refl
+    (some 4 (run_of l there) (run_of (Name (codes "ImposeOuter") ∷ l1) s) end refl
+    (by_name (codes "ImposeOuter") l1 s (run_of l1 there) end (Some (Dictionary o.dictionary)) a.0 refl
+    (some 1 (run_of l1 there) (run_of (Name (codes "ImposeClip") ∷ l2) within) end refl
+    (by_name (codes "ImposeClip") l2 within (run_of (clips_tokens ++ l2) within) end (Some (Procedure clips_tokens)) a.1.clip_is refl
+    (runs_join false (run_of (clips_tokens ++ l2) within) done end (all_clips os within o.matrix o.numbers o.chain l2 a.1 a.2)
+    (runs_one false done again end (ap (λ x. worked x (run_of own done)) (ended_by o.dictionary ds s.work.entries (codes "ImposeClip") (Procedure clips_tokens) done.work h.clip_is refl))
+    (own_clip again matrix n chain rest h)))))))
+
+pub outer_is_kept : OuterIsKept
+outer_is_kept s n chain outers rest h = all_clips outers s h.number n chain rest h.page h.round
+
+-- What is noted stays so where one matrix more is made and filled.
+
+noted_later : (ds : List ℕ) (made : ℕ) (es : List Entry) (ks : List Kept) (matrix : ℕ) (n : Numbers) (chain other : List Call) → Noted ds made es ks matrix n chain
+    → Noted ds (made + 1) es (record { number = made + 1; chain = other } ∷ ks) matrix n chain
+noted_later ds made es ks matrix n chain other h = record {
+  older = omega (arith, h.older);
+  matrix_is = h.matrix_is;
+  holds = ap (λ b. if b then Some other else chain_of matrix ks) (ne_eqb (made + 1) matrix (λ k. omega (arith, h.older, k))) ∙ h.holds;
+  outline_is = h.outline_is;
+  clip_is = h.clip_is;
+  names = h.names;
+}
+
+all_later : (outers : List Outer) (ds : List ℕ) (made : ℕ) (es : List Entry) (ks : List Kept) (other : List Call) → AreNoted ds made es ks outers
+    → AreNoted ds (made + 1) es (record { number = made + 1; chain = other } ∷ ks) outers
+all_later [] ds made es ks other a = a
+all_later (o ∷ os) ds made es ks other a = (
+  a.0,
+  noted_later (o.dictionary ∷ ds) made es ks o.matrix o.numbers o.chain other a.1,
+  all_later os (o.dictionary ∷ ds) made es ks other a.2,
+)
+
 -- `initclip`, step by step.
 
 abbrev from_systemdict : List Token → List Token
-from_systemdict rest = Literal (codes "initclip") ∷ Bound (codes "get") ∷ Bound (codes "exec") ∷ Name (codes "PStoPSmatrix") ∷ Bound (codes "setmatrix") ∷ Bound (codes "newpath") ∷ Name (codes "PStoPSclip") ∷ Bound (codes "clip") ∷ Bound (codes "newpath") ∷ Bound (codes "setmatrix") ∷ Bound (codes "exec") ∷ rest
+from_systemdict rest = Literal (codes "initclip") ∷ Bound (codes "get") ∷ Bound (codes "exec") ∷ Name (codes "ImposeClip") ∷ Bound (codes "setmatrix") ∷ Bound (codes "exec") ∷ rest
 
 -- with these operands, noted, and these graphics
 abbrev noted : State → List Call → List Object → Graphics → State
@@ -87,25 +187,17 @@ noted s chain os g = record s {
   graphics = g;
 }
 
-passed_by : (s : State) (number : ℕ) (chain other : List Call) → number < s.work.made + 1 → chain_of number s.kept ≡ Some chain
-    → chain_of number (record { number = s.work.made + 1; chain = other } ∷ s.kept) ≡ Some chain
-passed_by s number chain other h e =
-    ap (λ b. if b then Some other else chain_of number s.kept) (ne_eqb (s.work.made + 1) number (λ k. omega (arith, h, k))) ∙ e
-
 pub clip_is_the_pages : ClipIsThePages
-clip_is_the_pages s n chain rest h anew =
+clip_is_the_pages s n chain outers rest h anew =
     let g : Graphics = s.graphics in
-    let names = known outline_names s.work.dictionaries s.work.entries h.names in
-    let end : State = back_on_paper s chain g.chain rest n g.chain g.path in
+    let ds : List ℕ = s.work.dictionaries in
+    let es : List Entry = s.work.entries in
+    let names = known outline_names ds es h.page.names in
     let l0 : List Token = Bound (codes "matrix") ∷ Bound (codes "currentmatrix") ∷ Name (codes "systemdict") ∷ from_systemdict rest in
     let l1 : List Token = Name (codes "systemdict") ∷ from_systemdict rest in
-    let l2 : List Token = Name (codes "PStoPSmatrix") ∷ Bound (codes "setmatrix") ∷ Bound (codes "newpath") ∷ Name (codes "PStoPSclip") ∷ Bound (codes "clip") ∷ Bound (codes "newpath") ∷ Bound (codes "setmatrix") ∷ Bound (codes "exec") ∷ rest in
-    let l3 : List Token = Bound (codes "setmatrix") ∷ Bound (codes "newpath") ∷ Name (codes "PStoPSclip") ∷ Bound (codes "clip") ∷ Bound (codes "newpath") ∷ Bound (codes "setmatrix") ∷ Bound (codes "exec") ∷ rest in
-    let l4 : List Token = Bound (codes "newpath") ∷ Name (codes "PStoPSclip") ∷ Bound (codes "clip") ∷ Bound (codes "newpath") ∷ Bound (codes "setmatrix") ∷ Bound (codes "exec") ∷ rest in
-    let l5 : List Token = Name (codes "PStoPSclip") ∷ Bound (codes "clip") ∷ Bound (codes "newpath") ∷ Bound (codes "setmatrix") ∷ Bound (codes "exec") ∷ rest in
-    let l6 : List Token = Bound (codes "clip") ∷ Bound (codes "newpath") ∷ Bound (codes "setmatrix") ∷ Bound (codes "exec") ∷ rest in
-    let l7 : List Token = Bound (codes "setmatrix") ∷ Bound (codes "exec") ∷ rest in
     let l8 : List Token = Bound (codes "exec") ∷ rest in
+    let l7 : List Token = Bound (codes "setmatrix") ∷ l8 in
+    let l2 : List Token = Name (codes "ImposeClip") ∷ l7 in
     let os : List Object = s.work.operands in
     let drawn : List Token = drawings g.path in
     let kept_path : List Object = Procedure drawn ∷ os in
@@ -115,14 +207,13 @@ clip_is_the_pages s n chain rest h anew =
     let marked : List Object = Mark ∷ os in
     let four : List Object = Procedure (element (codes "closepath")) ∷ Procedure (element (codes "curveto")) ∷ Procedure (element (codes "lineto")) ∷ Procedure (element (codes "moveto")) ∷ marked in
     let traced_state : State = run_of (told g.path [] ++ closing) (with s marked) in
+    let clips : List Clip = clip_to n chain ∷ clips_to outers [] in
     let s0 : State = with s (onto drawn marked) in
     let s1 : State = noted s g.chain both g in
     let s2 : State = noted s g.chain both (record g { clip = [] }) in
-    let s3 : State = noted s g.chain both (record { chain = chain; path = g.path; clip = []; settings = g.settings }) in
-    let s4 : State = noted s g.chain both (record { chain = chain; path = []; clip = []; settings = g.settings }) in
-    let s5 : State = noted s g.chain both (record { chain = chain; path = edge n chain; clip = []; settings = g.settings }) in
-    let s6 : State = noted s g.chain both (record { chain = chain; path = []; clip = record { name = codes "clip"; path = edge n chain } ∷ []; settings = g.settings }) in
-    let s7 : State = noted s g.chain kept_path (record { chain = g.chain; path = []; clip = record { name = codes "clip"; path = edge n chain } ∷ []; settings = g.settings }) in
+    let s6 : State = noted s g.chain both (record { chain = chain; path = []; clip = clips; settings = g.settings }) in
+    let s7 : State = noted s g.chain kept_path (record { chain = g.chain; path = []; clip = clips; settings = g.settings }) in
+    let end : State = run_of rest (noted s g.chain os (record g { clip = clips })) in
     by_name (codes "ImposePath") l0 s (run_of (path_tokens ++ l0) s) end (Some (Procedure path_tokens)) h.path_is refl
     (some 5 (run_of (path_tokens ++ l0) s) (run_of tracing (with s four)) end refl
     (runs_one false (run_of tracing (with s four)) traced_state end (ap (λ x. traced x marked (run_of closing (with s four))) (path_traced g.chain g.path [] [] anew))
@@ -132,38 +223,23 @@ clip_is_the_pages s n chain rest h anew =
     (some 3 (run_of (Bound (codes "cvx") ∷ l0) (with s (Array drawn ∷ os))) (run_of l1 s1) end refl
     (by_name (codes "systemdict") (from_systemdict rest) s1 (run_of (from_systemdict rest) (push SystemDictionary s1)) end (system (codes "systemdict")) (names (codes "systemdict") refl) refl
     (some 4 (run_of (from_systemdict rest) (push SystemDictionary s1)) (run_of l2 s2) end refl
-    (by_name (codes "PStoPSmatrix") l3 s2 (run_of l3 (push (Matrix h.number) s2)) end (Some (Matrix h.number)) h.matrix_is refl
-    (runs_one false (run_of l3 (push (Matrix h.number) s2)) (run_of l4 s3) end (ap (λ x. set_to x both (run_of l4 (push (Matrix h.number) s2))) (passed_by s h.number chain g.chain h.made h.holds))
-    (some 1 (run_of l4 s3) (run_of l5 s4) end refl
-    (by_name (codes "PStoPSclip") l6 s4 (run_of (outline_tokens n ++ l6) s4) end (Some (Procedure (outline_tokens n))) h.outline_is refl
-    (runs_join false (run_of (outline_tokens n ++ l6) s4) (run_of l6 s5) end (straight_runs outline_names (outline_tokens n) l6 s4 s5 names refl)
-    (some 2 (run_of l6 s5) (run_of l7 s6) end refl
+    (by_name (codes "ImposeClip") l7 s2 (run_of (clips_tokens ++ l7) s2) end (Some (Procedure clips_tokens)) h.page.clip_is refl
+    (runs_join false (run_of (clips_tokens ++ l7) s2) (run_of l7 s6) end
+    (all_clips outers s2 h.number n chain l7 (noted_later ds s.work.made es s.kept h.number n chain g.chain h.page) (all_later outers ds s.work.made es s.kept g.chain h.round))
     (runs_one false (run_of l7 s6) (run_of l8 s7) end (ap (λ b. set_to (if b then Some g.chain else chain_of (s.work.made + 1) s.kept) kept_path (run_of l8 s6)) (eq-eqb (s.work.made + 1) (s.work.made + 1) refl))
     (some 1 (run_of l8 s7) (run_of (drawn ++ rest) (with s7 os)) end refl
-    (draws_path g.path [] (with s7 os) rest anew names)))))))))))))))))
+    (draws_path g.path [] (with s7 os) rest anew names)))))))))))))
 
 pub graphics_are_the_pages : GraphicsAreThePages
-graphics_are_the_pages s n chain rest h c =
-    let names = known outline_names s.work.dictionaries s.work.entries h.names in
-    let settings : List Call = fonts s.graphics.settings in
-    let end : State = back_on_paper (record s { graphics = record s.graphics { settings = settings } }) chain chain rest n chain [] in
-    let l0 : List Token = Literal (codes "initgraphics") ∷ Bound (codes "get") ∷ Bound (codes "exec") ∷ Name (codes "PStoPSmatrix") ∷ Bound (codes "setmatrix") ∷ Literal (codes "initclip") ∷ Bound (codes "load") ∷ Bound (codes "exec") ∷ rest in
-    let l1 : List Token = Name (codes "PStoPSmatrix") ∷ Bound (codes "setmatrix") ∷ Literal (codes "initclip") ∷ Bound (codes "load") ∷ Bound (codes "exec") ∷ rest in
-    let l2 : List Token = Bound (codes "setmatrix") ∷ Literal (codes "initclip") ∷ Bound (codes "load") ∷ Bound (codes "exec") ∷ rest in
-    let l3 : List Token = Literal (codes "initclip") ∷ Bound (codes "load") ∷ Bound (codes "exec") ∷ rest in
-    let l4 : List Token = Bound (codes "load") ∷ Bound (codes "exec") ∷ rest in
-    let l5 : List Token = Bound (codes "exec") ∷ rest in
-    let s1 : State = reset s in
-    let s2 : State = record s { graphics = record { chain = chain; path = []; clip = []; settings = settings } } in
-    let named : State = push (Plain (Literal (codes "initclip"))) s2 in
+graphics_are_the_pages s n chain outers rest h =
+    let names = known outline_names s.work.dictionaries s.work.entries h.page.names in
+    let end : State = clipped (reset s) n chain outers rest in
+    let l1 : List Token = Name (codes "ImposeClip") ∷ rest in
+    let l0 : List Token = Literal (codes "initgraphics") ∷ Bound (codes "get") ∷ Bound (codes "exec") ∷ l1 in
     by_name (codes "systemdict") l0 s (run_of l0 (push SystemDictionary s)) end (system (codes "systemdict")) (names (codes "systemdict") refl) refl
-    (some 4 (run_of l0 (push SystemDictionary s)) (run_of l1 s1) end refl
-    (by_name (codes "PStoPSmatrix") l2 s1 (run_of l2 (push (Matrix h.number) s1)) end (Some (Matrix h.number)) h.matrix_is refl
-    (runs_one false (run_of l2 (push (Matrix h.number) s1)) (run_of l3 s2) end (ap (λ x. set_to x s.work.operands (run_of l3 (push (Matrix h.number) s1))) h.holds)
-    (some 1 (run_of l3 s2) (run_of l4 named) end refl
-    (runs_one false (run_of l4 named) (run_of l5 (push (Procedure initclip_tokens) s2)) end (ap (λ x. worked (loaded x s.work) (run_of l5 named)) c)
-    (some 1 (run_of l5 (push (Procedure initclip_tokens) s2)) (run_of (initclip_tokens ++ rest) s2) end refl
-    (clip_is_the_pages s2 n chain rest (record { number = h.number; made = h.made; matrix_is = h.matrix_is; holds = h.holds; outline_is = h.outline_is; path_is = h.path_is; names = h.names }) refl)))))))
+    (some 4 (run_of l0 (push SystemDictionary s)) (run_of l1 (reset s)) end refl
+    (by_name (codes "ImposeClip") rest (reset s) (run_of (clips_tokens ++ rest) (reset s)) end (Some (Procedure clips_tokens)) h.page.clip_is refl
+    (all_clips outers (reset s) h.number n chain rest h.page h.round)))
 
 -- `save`, by the operands.
 

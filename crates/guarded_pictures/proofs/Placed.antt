@@ -2,21 +2,23 @@
 use Rattle.std.specs.Prelude.{Option, Some, None, if◌then◌else◌, codes}
 use Rattle.std.proofs.Common.{◌≡◌, ℕ, refl, ap, ap₂, ◌∙◌, sym, subst, Bool, true, false, ◌&&◌, ◌==◌, List, [], ◌∷◌, ◌++◌, map, append_assoc, eq-eqb, true≢false, is_none}
 use Rattle.pictures.specs.Objects.{Token, Name, Object, Saved}
+use Rattle.pictures.specs.Chains.{is_same_chain}
 use Rattle.pictures.specs.Dictionaries.{system}
 use Rattle.pictures.specs.Operators.{all_old, all_are_old}
 use Rattle.pictures.specs.Machine.{State, Painting, Snapshot, push, Runs, back, save_of}
 use Rattle.pictures.specs.Placing.{picture_at}
-use Rattle.pictures.specs.Sheets.{run_of, Numbers, saving_tokens, placing_tokens, closing_tokens, placed_tokens, LeavesAsItWas, page_picture, place_in, border_in, edge}
+use Rattle.pictures.specs.Sheets.{run_of, Numbers, saving_tokens, placing_tokens, closing_tokens, placed_tokens, LeavesAsItWas, page_picture, place_in, border_in}
 use Rattle.pictures.proofs.Runs.{runs_one, runs_join, runs_none, name_step}
 use Rattle.pictures.proofs.Opening.{snapshot_of}
 use Rattle.pictures.proofs.Placed.{both_true}
-use Rattle.guarded_pictures.specs.Shelter.{sheltered, outline_tokens}
-use Rattle.guarded_pictures.specs.Pages.{IsGuarded, Around, around, snapshot_at, placed_at, IsOnPaper, GuardedPageIsPlaced}
+use Rattle.guarded_pictures.specs.Shelter.{Outer, sheltered, outline_tokens}
+use Rattle.guarded_pictures.specs.Lines.{clip_to}
+use Rattle.guarded_pictures.specs.Pages.{IsGuarded, TakesPages, Around, around, snapshot_at, placed_at, IsOnPaper, GuardedPageIsPlaced}
 use Rattle.guarded_pictures.proofs.Sheltering.{shelter_commutes}
 use Rattle.guarded_pictures.proofs.Begins.{page_begins, same_place}
 
 -- the state behind a placed page, before what is left
-abbrev behind : List Token → Numbers → State → List Painting → State
+abbrev pub behind : List Token → Numbers → State → List Painting → State
 behind l n s picture = record s { left = l; painted = picture_at (place_in s.graphics n) picture ++ (border_in s.graphics n n.border ++ s.painted) }
 
 -- what restore makes, with these operands and dictionaries
@@ -34,21 +36,21 @@ passed_over a level (shot ∷ shots) more e =
     past (shot.level == level) (snapshot_at a shot, map (snapshot_at a) shots ++ more) (shot, shots) (save_of level shots) (save_of level (map (snapshot_at a) shots ++ more)) (save_of level more)
     (passed_over a level shots more) e
 
-restoring : (s t : State) (n : Numbers) (rest more : List Token) → IsGuarded s → LeavesAsItWas s t
+restoring : (s t : State) (n : Numbers) (rest more : List Token) → all_are_old s.work.made s.level s.work.operands ≡ true → all_old s.work.made s.work.dictionaries ≡ true → LeavesAsItWas s t
     → back t.work.operands (save_of s.level (placed_at (around more n s) t).saves) (run_of rest (push (Saved s.level) (placed_at (around more n s) t)))
     ≡ Some (behind rest n s t.painted)
-restoring s t n rest more g l =
+restoring s t n rest more old_operands old_dictionaries l =
     let x : State = run_of rest (push (Saved s.level) (placed_at (around more n s) t)) in
     let may : (all_are_old s.work.made s.level t.work.operands && all_old s.work.made t.work.dictionaries) ≡ true =
-    ap₂ (λ os ds. all_are_old s.work.made s.level os && all_old s.work.made ds) l.operands l.dictionaries ∙ both_true _ _ g.operands g.dictionaries in
+    ap₂ (λ os ds. all_are_old s.work.made s.level os && all_old s.work.made ds) l.operands l.dictionaries ∙ both_true _ _ old_operands old_dictionaries in
     ap (λ found. back t.work.operands found x) (passed_over (around more n s) s.level t.saves (snapshot_of s ∷ s.saves) l.saves)
     ∙ ap (λ b. back t.work.operands (if b then Some (snapshot_of s, s.saves) else save_of s.level s.saves) x) (eq-eqb s.level s.level refl)
     ∙ ap (λ b. if b then Some (gone_back rest n s t.painted t.work.operands t.work.dictionaries) else None) may
     ∙ ap₂ (λ os ds. Some (gone_back rest n s t.painted os ds)) l.operands l.dictionaries
 
-closing : (s t : State) (n : Numbers) (rest : List Token) → IsGuarded s → LeavesAsItWas s t
+pub closing : (s t : State) (n : Numbers) (rest : List Token) → all_are_old s.work.made s.level s.work.operands ≡ true → all_old s.work.made s.work.dictionaries ≡ true → LeavesAsItWas s t
     → Runs false (placed_at (around (closing_tokens ++ rest) n s) t) (behind rest n s t.painted)
-closing s t n rest g l =
+closing s t n rest old_operands old_dictionaries l =
     let a : Around = around (closing_tokens ++ rest) n s in
     let p : State = placed_at a t in
     let q : State = record p { left = Name (codes "restore") ∷ rest } in
@@ -56,19 +58,40 @@ closing s t n rest g l =
     runs_one false (run_of (closing_tokens ++ rest) p) (push (Saved s.level) q) (behind rest n s t.painted)
     (name_step false (codes "ImposeSave") (Name (codes "restore") ∷ rest) p (Some (Saved s.level)) l.save_name)
     (runs_one false (push (Saved s.level) q) (behind rest n s t.painted) (behind rest n s t.painted)
-    (name_step false (codes "restore") rest (push (Saved s.level) p) (system (codes "restore")) l.restore_name ∙ restoring s t n rest (closing_tokens ++ rest) g l)
+    (name_step false (codes "restore") rest (push (Saved s.level) p) (system (codes "restore")) l.restore_name ∙ restoring s t n rest (closing_tokens ++ rest) old_operands old_dictionaries l)
     (runs_none false (behind rest n s t.painted))) in
     subst (λ x. Runs false (record p { left = x ++ (closing_tokens ++ rest) }) (behind rest n s t.painted)) (sym l.nothing_left) start
 
--- the place has the paper's edge for its one clip
-on_paper : (s : State) (n : Numbers) (l : List Token) → IsGuarded s → IsOnPaper n (around l n s)
-on_paper s n l g = (
-  ap (λ clips. record { name = codes "clip"; path = edge n (place_in s.graphics n).chain } ∷ clips) (sym (ap (λ z. z.clip) g.graphics)),
-  same_place n s.graphics.chain (sym (ap (λ z. z.chain) g.graphics)),
+-- the place has the clips to the paper's edge and to those round it
+on_paper : (outers : List Outer) (s : State) (n : Numbers) (l : List Token) → TakesPages outers s → IsOnPaper n outers (around l n s)
+on_paper outers s n l g = (
+  ap (λ clips. clip_to n (place_in s.graphics n).chain ∷ clips) g.clips,
+  same_place n s.graphics.chain g.numbers,
+  g.held,
 )
 
+-- a guarded state is outside all pages
+pub takes_pages : (s : State) → IsGuarded s → TakesPages [] s
+takes_pages s g = record {
+  number = g.number;
+  save_is = g.save_is;
+  guard_is = g.guard_is;
+  clip_is = g.clip_is;
+  clip_alone = g.clip_alone;
+  path_is = g.path_is;
+  names = g.names;
+  userdict_first = g.userdict_first;
+  few_operands = g.few_operands;
+  operands = g.operands;
+  dictionaries = g.dictionaries;
+  encloses = g.flag_is;
+  clips = sym (ap (λ z. z.clip) g.graphics);
+  numbers = subst (λ l. is_same_chain l l ≡ true) (ap (λ z. z.chain) g.graphics) refl;
+  held = tt;
+}
+
 pub guarded_page_is_placed : GuardedPageIsPlaced
-guarded_page_is_placed s x rest g h =
+guarded_page_is_placed outers s x rest g h =
     let n : Numbers = x.placed.numbers in
     let body : List Token = x.placed.body in
     let more : List Token = closing_tokens ++ rest in
@@ -83,7 +106,7 @@ guarded_page_is_placed s x rest g h =
     ∙ sym (append_assoc (picture_at (place_in s.graphics n) x.picture) (border_in s.graphics n n.border) s.painted) in
     subst (λ l. Runs false (run_of l s) end) (sym tokens)
     (subst (λ ps. Runs false (run_of middle s) (record s { left = rest; painted = ps })) picture
-    (runs_join false (run_of middle s) (placed_at a (sheltered s (outline_tokens n) body)) (behind rest n s h.end.painted) (page_begins s n body more g)
-    (runs_join false (placed_at a (sheltered s (outline_tokens n) body)) (placed_at a h.end) (behind rest n s h.end.painted)
-    (shelter_commutes n a (sheltered s (outline_tokens n) body) h.end (on_paper s n more g) h.run)
-    (closing s h.end n rest g h.leaves))))
+    (runs_join false (run_of middle s) (placed_at a (sheltered outers s (outline_tokens n) body)) (behind rest n s h.end.painted) (page_begins outers s n body more g)
+    (runs_join false (placed_at a (sheltered outers s (outline_tokens n) body)) (placed_at a h.end) (behind rest n s h.end.painted)
+    (shelter_commutes n outers a (sheltered outers s (outline_tokens n) body) h.end (on_paper outers s n more g) h.run)
+    (closing s h.end n rest g.operands g.dictionaries h.leaves))))

@@ -1,23 +1,24 @@
 -- What a page does by itself, the free machine does in the page's place.
 use Rattle.std.specs.Prelude.{Option, Some, None, if◌then◌else◌, codes, nat_lt}
-use Rattle.std.proofs.Common.{◌≡◌, ℕ, zero, suc, ◌+◌, ◌<◌, refl, ap, sym, subst, ◌==◌, List, [], ◌∷◌, ◌++◌, map, append_assoc, Bool, true, false, ◌&&◌, true≢false}
-use Rattle.std.proofs.lemmas.Bool.{ltb-true}
-use Rattle.pictures.specs.Objects.{Token, Name, Opens, Closes, Bound, Unknown, Object, Procedure, Plain, Matrix, Call, TakesMatrix, SetsMatrix, CopyOperands}
+use Rattle.std.proofs.Common.{◌≡◌, ℕ, zero, suc, ◌+◌, ◌<◌, refl, ap, sym, subst, ◌==◌, ◌∙◌, List, [], ◌∷◌, ◌++◌, map, append_assoc, Bool, true, false, ◌&&◌, true≢false}
+use Rattle.std.proofs.lemmas.Bool.{ltb-true, eqb-true}
+use Rattle.std.proofs.lemmas.Slice.Eq.{bytes_eq-Decides}
+use Rattle.pictures.specs.Objects.{Token, Number, Name, Dictionary, Opens, Closes, Bound, Unknown, Object, Procedure, Plain, Matrix, Call, TakesMatrix, SetsMatrix, CopyOperands}
 use Rattle.pictures.specs.Objects.{Saved, Operator, Kind, Computes, Controls, Draws, PushesGraphics, PopsGraphics, PopsAllGraphics, Looks, Saves, Restores, Ships, Resets, Copies}
 use Rattle.pictures.specs.Objects.{Effect, Segments, Transforms, Sets, Paints, PaintsBeside, Shows, Clips, Forgets}
 use Rattle.pictures.specs.Operators.{Work, taken, computed, computed_on, controlled}
-use Rattle.pictures.specs.Dictionaries.{system}
+use Rattle.pictures.specs.Dictionaries.{Entry, system, meaning}
 use Rattle.pictures.specs.Machine.{State, Graphics, Snapshot, Kept, Runs, body_of, opened, drawn, worked, running, popped, popped_all, save_of, back, returned, restored, chain_of, set_to, viewed, filled_from, copied, perform, done, step, and_then, may_go_back}
 use Rattle.pictures.specs.Machine.{meant as free_meant, act as free_act}
-use Rattle.pictures.specs.Placing.{graphics_at}
-use Rattle.pictures.specs.Sheets.{run_of, Numbers}
+use Rattle.pictures.specs.Placing.{Place, graphics_at}
+use Rattle.pictures.specs.Sheets.{run_of, Numbers, zero_text}
 use Rattle.pictures.proofs.Runs.{nothing, runs_one, runs_none, runs_join}
 use Rattle.pictures.proofs.Tests.{first, second}
 use Rattle.pictures.proofs.Commutes.{Extends, body_goes_on}
-use Rattle.guarded_pictures.specs.Behind.{path_tokens, initclip_tokens, initgraphics_tokens}
-use Rattle.guarded_pictures.specs.Shelter.{are_same_tokens, is_procedure, is_no_chain, holds_the_place, all_absent, means, outline_names, outline_tokens, keeps_the_page, is_drawn_anew, unclipped, as_it_began, entered, performed, did, meant, act, step_on, steps}
-use Rattle.guarded_pictures.specs.Lines.{Notes}
-use Rattle.guarded_pictures.specs.Pages.{Around, kept_at, snapshot_at, placed_at, IsOnPaper, ShelterCommutes}
+use Rattle.guarded_pictures.specs.Behind.{path_tokens, clips_tokens, initclip_tokens, initgraphics_tokens}
+use Rattle.guarded_pictures.specs.Shelter.{Outer, outer_is, is_zero, is_dictionary, is_matrix, is_unknown, keeps_outer, keeps_outers, are_same_tokens, is_procedure, is_no_chain, holds_the_place, all_absent, means, outline_names, outline_tokens, keeps_the_page, is_drawn_anew, unclipped, as_it_began, entered, performed, did, meant, act, step_on, steps}
+use Rattle.guarded_pictures.specs.Lines.{Noted, AreNoted, Notes}
+use Rattle.guarded_pictures.specs.Pages.{Around, kept_at, snapshot_at, placed_at, AllHeld, IsOnPaper, ShelterCommutes}
 use Rattle.guarded_pictures.proofs.Tokens.{same_tokens}
 use Rattle.guarded_pictures.proofs.Redrawn.{anew_in_place}
 use Rattle.guarded_pictures.proofs.Lines.{clip_is_the_pages, graphics_are_the_pages}
@@ -170,10 +171,10 @@ no_chain (Some []) e = refl
 no_chain x e = absurd (true≢false (sym e))
 
 -- the matrix that holds the page's place
-abbrev Place : Option Object → ℕ → List Kept → Type 0
-Place x made ks = (number : ℕ) × (x ≡ Some (Matrix number)) × (number < made + 1) × (chain_of number ks ≡ Some [])
+abbrev pub ThePlace : Option Object → ℕ → List Kept → Type 0
+ThePlace x made ks = (number : ℕ) × (x ≡ Some (Matrix number)) × (number < made + 1) × (chain_of number ks ≡ Some [])
 
-the_place : (x : Option Object) (made : ℕ) (ks : List Kept) → holds_the_place x made ks ≡ true → Place x made ks
+pub the_place : (x : Option Object) (made : ℕ) (ks : List Kept) → holds_the_place x made ks ≡ true → ThePlace x made ks
 the_place (Some (Matrix number)) made ks e = (
   number,
   refl,
@@ -182,40 +183,111 @@ the_place (Some (Matrix number)) made ks e = (
 )
 the_place x made ks e = absurd (true≢false (sym e))
 
--- what the guard has noted of the page, in the place
-notes : (n : Numbers) (a : Around) (s : State) → keeps_the_page (outline_tokens n) s ≡ true → Notes (placed_at a s) n a.place.chain
-notes n a s e =
+-- A page round it.
+
+the_zero : (x : Option Object) → is_zero x ≡ true → x ≡ Some (outer_is [])
+the_zero (Some (Plain (Number text))) e = ap (λ t. Some (Plain (Number t))) ((bytes_eq-Decides text zero_text).0 e)
+the_zero x e = absurd (true≢false (sym e))
+
+the_dictionary : (d : ℕ) (x : Option Object) → is_dictionary d x ≡ true → x ≡ Some (Dictionary d)
+the_dictionary d (Some (Dictionary e)) h = ap (λ n. Some (Dictionary n)) (eqb-true e d h)
+the_dictionary d x h = absurd (true≢false (sym h))
+
+the_matrix : (m : ℕ) (x : Option Object) → is_matrix m x ≡ true → x ≡ Some (Matrix m)
+the_matrix m (Some (Matrix n)) h = ap (λ k. Some (Matrix k)) (eqb-true n m h)
+the_matrix m x h = absurd (true≢false (sym h))
+
+-- what the page hasn't filled holds in its place what it held before
+unfilled_if : (here : Bool) (chain other : List Call) (x y z : Option (List Call)) → (is_unknown x ≡ true → y ≡ z)
+    → is_unknown (if here then Some chain else x) ≡ true → (if here then Some other else y) ≡ z
+unfilled_if true chain other x y z f e = absurd (true≢false (sym e))
+unfilled_if false chain other x y z f e = f e
+
+unfilled : (p : Place) (number : ℕ) (ks more : List Kept) → is_unknown (chain_of number ks) ≡ true
+    → chain_of number (map (kept_at p) ks ++ more) ≡ chain_of number more
+unfilled p number [] more e = refl
+unfilled p number (k ∷ ks) more e =
+    unfilled_if (k.number == number) k.chain (k.chain ++ p.chain) (chain_of number ks) (chain_of number (map (kept_at p) ks ++ more)) (chain_of number more)
+    (unfilled p number ks more) e
+
+outer_noted : (o : Outer) (p : Place) (ds : List ℕ) (made : ℕ) (es : List Entry) (ks more : List Kept) → keeps_outer o ds made es ks ≡ true → chain_of o.matrix more ≡ Some o.chain
+    → Noted ds made es (map (kept_at p) ks ++ more) o.matrix o.numbers o.chain
+outer_noted o p ds made es ks more e h =
+    let matrix : Bool = is_matrix o.matrix (meaning ds es (codes "PStoPSmatrix")) in
+    let older : Bool = nat_lt o.matrix (made + 1) in
+    let unknown : Bool = is_unknown (chain_of o.matrix ks) in
+    let outline : Bool = is_procedure (meaning ds es (codes "PStoPSclip")) (outline_tokens o.numbers) in
+    let clip : Bool = is_procedure (meaning ds es (codes "ImposeClip")) clips_tokens in
+    let names : Bool = all_absent outline_names ds es in
+    let e1 = second matrix (older && (unknown && (outline && (clip && names)))) e in
+    let e2 = second older (unknown && (outline && (clip && names))) e1 in
+    let e3 = second unknown (outline && (clip && names)) e2 in
+    let e4 = second outline (clip && names) e3 in
+    record {
+      older = ltb-true o.matrix (made + 1) (first older (unknown && (outline && (clip && names))) e1);
+      matrix_is = the_matrix o.matrix (meaning ds es (codes "PStoPSmatrix")) (first matrix (older && (unknown && (outline && (clip && names)))) e);
+      holds = unfilled p o.matrix ks more (first unknown (outline && (clip && names)) e2) ∙ h;
+      outline_is = procedure_is (meaning ds es (codes "PStoPSclip")) (outline_tokens o.numbers) (first outline (clip && names) e3);
+      clip_is = procedure_is (meaning ds es (codes "ImposeClip")) clips_tokens (first clip names e4);
+      names = second clip names e4;
+    }
+
+outers_noted : (outers : List Outer) (p : Place) (ds : List ℕ) (made : ℕ) (es : List Entry) (ks more : List Kept) → keeps_outers outers ds made es ks ≡ true → AllHeld outers more
+    → AreNoted ds made es (map (kept_at p) ks ++ more) outers
+outers_noted [] p ds made es ks more e h = the_zero (meaning ds es (codes "ImposeOuter")) e
+outers_noted (o ∷ os) p ds made es ks more e h =
+    let here : Bool = is_dictionary o.dictionary (meaning ds es (codes "ImposeOuter")) in
+    let this : Bool = keeps_outer o (o.dictionary ∷ ds) made es ks in
+    let others : Bool = keeps_outers os (o.dictionary ∷ ds) made es ks in
+    let e1 = second here (this && others) e in (
+      the_dictionary o.dictionary (meaning ds es (codes "ImposeOuter")) (first here (this && others) e),
+      outer_noted o p (o.dictionary ∷ ds) made es ks more (first this others e1) h.0,
+      outers_noted os p (o.dictionary ∷ ds) made es ks more (second this others e1) h.1,
+    )
+
+-- what the guard has noted of the page and of those round it, in the place
+notes : (n : Numbers) (outers : List Outer) (a : Around) (s : State) → AllHeld outers a.kept → keeps_the_page outers (outline_tokens n) s ≡ true → Notes (placed_at a s) n a.place.chain outers
+notes n outers a s h e =
     let x = means s (codes "PStoPSmatrix") in
+    let place : Bool = holds_the_place x s.work.made s.kept in
     let outline : Bool = is_procedure (means s (codes "PStoPSclip")) (outline_tokens n) in
+    let clip : Bool = is_procedure (means s (codes "ImposeClip")) clips_tokens in
     let path : Bool = is_procedure (means s (codes "ImposePath")) path_tokens in
     let names : Bool = all_absent outline_names s.work.dictionaries s.work.entries in
-    let there = the_place x s.work.made s.kept (first (holds_the_place x s.work.made s.kept) (outline && (path && names)) e) in
-    let more = second (holds_the_place x s.work.made s.kept) (outline && (path && names)) e in
-    let most = second outline (path && names) more in
+    let others : Bool = keeps_outers outers s.work.dictionaries s.work.made s.work.entries s.kept in
+    let there = the_place x s.work.made s.kept (first place (outline && (clip && (path && (names && others)))) e) in
+    let e1 = second place (outline && (clip && (path && (names && others)))) e in
+    let e2 = second outline (clip && (path && (names && others))) e1 in
+    let e3 = second clip (path && (names && others)) e2 in
+    let e4 = second path (names && others) e3 in
     record {
       number = there.0;
-      made = there.2;
-      matrix_is = there.1;
-      holds = subst (λ z. Holds a z (chain_of there.0 (map (kept_at a.place) s.kept ++ a.kept))) there.3 (holds a there.0 s.kept);
-      outline_is = procedure_is (means s (codes "PStoPSclip")) (outline_tokens n) (first outline (path && names) more);
-      path_is = procedure_is (means s (codes "ImposePath")) path_tokens (first path names most);
-      names = second path names most;
+      page = record {
+        older = there.2;
+        matrix_is = there.1;
+        holds = subst (λ z. Holds a z (chain_of there.0 (map (kept_at a.place) s.kept ++ a.kept))) there.3 (holds a there.0 s.kept);
+        outline_is = procedure_is (means s (codes "PStoPSclip")) (outline_tokens n) (first outline (clip && (path && (names && others))) e1);
+        clip_is = procedure_is (means s (codes "ImposeClip")) clips_tokens (first clip (path && (names && others)) e2);
+        names = first names others e4;
+      };
+      round = outers_noted outers a.place s.work.dictionaries s.work.made s.work.entries s.kept a.kept (second names others e4) h;
+      path_is = procedure_is (means s (codes "ImposePath")) path_tokens (first path (names && others) e3);
     }
 
 -- back on the paper is back at the beginning, placed
-clips_again : (n : Numbers) (a : Around) (s : State) → IsOnPaper n a → keeps_the_page (outline_tokens n) s ≡ true → is_drawn_anew s.graphics.chain s.graphics.path [] ≡ true
+clips_again : (n : Numbers) (outers : List Outer) (a : Around) (s : State) → IsOnPaper n outers a → keeps_the_page outers (outline_tokens n) s ≡ true → is_drawn_anew s.graphics.chain s.graphics.path [] ≡ true
     → Runs false (run_of (initclip_tokens ++ (s.left ++ a.left)) (placed_at a s)) (placed_at a (unclipped s))
-clips_again n a s p e f =
+clips_again n outers a s p e f =
     let t : State = placed_at a (unclipped s) in
     subst (λ clip. Runs false (run_of (initclip_tokens ++ (s.left ++ a.left)) (placed_at a s)) (record t { graphics = record t.graphics { clip = clip } })) (sym p.0)
-    (clip_is_the_pages (placed_at a s) n a.place.chain (s.left ++ a.left) (notes n a s e) (anew_in_place a.place s.graphics.chain s.graphics.path [] p.1 f))
+    (clip_is_the_pages (placed_at a s) n a.place.chain outers (s.left ++ a.left) (notes n outers a s p.2 e) (anew_in_place a.place s.graphics.chain s.graphics.path [] p.1 f))
 
-begins_again : (n : Numbers) (a : Around) (s : State) → IsOnPaper n a → keeps_the_page (outline_tokens n) s ≡ true → is_procedure (means s (codes "initclip")) initclip_tokens ≡ true
+begins_again : (n : Numbers) (outers : List Outer) (a : Around) (s : State) → IsOnPaper n outers a → keeps_the_page outers (outline_tokens n) s ≡ true
     → Runs false (run_of (initgraphics_tokens ++ (s.left ++ a.left)) (placed_at a s)) (placed_at a (as_it_began s))
-begins_again n a s p e f =
+begins_again n outers a s p e =
     let t : State = placed_at a (as_it_began s) in
     subst (λ clip. Runs false (run_of (initgraphics_tokens ++ (s.left ++ a.left)) (placed_at a s)) (record t { graphics = record t.graphics { clip = clip } })) (sym p.0)
-    (graphics_are_the_pages (placed_at a s) n a.place.chain (s.left ++ a.left) (notes n a s e) (procedure_is (means s (codes "initclip")) initclip_tokens f))
+    (graphics_are_the_pages (placed_at a s) n a.place.chain outers (s.left ++ a.left) (notes n outers a s p.2 e))
 
 -- a procedure that is neither is run as it is
 enters_if : (a : Around) (b c d e : Bool) (x y z : State) (r : Option State) → (u : State) → r ≡ Some u
@@ -227,59 +299,58 @@ enters_if a false c true true x y z r u k f g h = (u, k, g refl refl)
 enters_if a false c true false x y z r u k f g h = tt
 enters_if a false c false e x y z r u k f g h = (u, k, h)
 
-enters : (n : Numbers) (a : Around) (ts : List Token) (s : State) → IsOnPaper n a → Reaches a (entered (outline_tokens n) ts s) (done false (Procedure ts) (placed_at a s))
-enters n a ts s p =
+enters : (n : Numbers) (outers : List Outer) (a : Around) (ts : List Token) (s : State) → IsOnPaper n outers a → Reaches a (entered outers (outline_tokens n) ts s) (done false (Procedure ts) (placed_at a s))
+enters n outers a ts s p =
     let u : State = run_of (ts ++ (s.left ++ a.left)) (placed_at a s) in
-    let keeps : Bool = keeps_the_page (outline_tokens n) s in
-    let clip : Bool = is_procedure (means s (codes "initclip")) initclip_tokens in
+    let keeps : Bool = keeps_the_page outers (outline_tokens n) s in
     let to : State → List Token → Type 0 = λ t l. Runs false (run_of (l ++ (s.left ++ a.left)) (placed_at a s)) (placed_at a t) in
-    enters_if a (are_same_tokens ts initclip_tokens) (keeps && is_drawn_anew s.graphics.chain s.graphics.path []) (are_same_tokens ts initgraphics_tokens) (keeps && clip)
+    enters_if a (are_same_tokens ts initclip_tokens) (keeps && is_drawn_anew s.graphics.chain s.graphics.path []) (are_same_tokens ts initgraphics_tokens) keeps
     (unclipped s) (as_it_began s) (record s { left = ts ++ s.left }) (Some u) u refl
-    (λ same k. subst (to (unclipped s)) (sym (same_tokens ts initclip_tokens same)) (clips_again n a s p (first keeps (is_drawn_anew s.graphics.chain s.graphics.path []) k) (second keeps (is_drawn_anew s.graphics.chain s.graphics.path []) k)))
-    (λ same k. subst (to (as_it_began s)) (sym (same_tokens ts initgraphics_tokens same)) (begins_again n a s p (first keeps clip k) (second keeps clip k)))
+    (λ same k. subst (to (unclipped s)) (sym (same_tokens ts initclip_tokens same)) (clips_again n outers a s p (first keeps (is_drawn_anew s.graphics.chain s.graphics.path []) k) (second keeps (is_drawn_anew s.graphics.chain s.graphics.path []) k)))
+    (λ same k. subst (to (as_it_began s)) (sym (same_tokens ts initgraphics_tokens same)) (begins_again n outers a s p k))
     (subst (λ l. Runs false u (record (placed_at a s) { left = l })) (sym (append_assoc ts s.left a.left)) (runs_none false u))
 
 -- Steps.
 
-does : (n : Numbers) (a : Around) (o : Object) (s : State) → IsOnPaper n a → Reaches a (did (outline_tokens n) o s) (done false o (placed_at a s))
-does n a (Procedure ts) s p = enters n a ts s p
-does n a (Plain (Name name)) s p = (placed_at a (record s { left = Name name ∷ s.left }), refl, runs_none false (placed_at a (record s { left = Name name ∷ s.left })))
-does n a (Operator name k) s p = at_once a (performed name k s) (perform false name k (placed_at a s)) (performs a name k s)
-does n a o s p = at_once a (did (outline_tokens n) o s) (done false o (placed_at a s)) refl
+does : (n : Numbers) (outers : List Outer) (a : Around) (o : Object) (s : State) → IsOnPaper n outers a → Reaches a (did outers (outline_tokens n) o s) (done false o (placed_at a s))
+does n outers a (Procedure ts) s p = enters n outers a ts s p
+does n outers a (Plain (Name name)) s p = (placed_at a (record s { left = Name name ∷ s.left }), refl, runs_none false (placed_at a (record s { left = Name name ∷ s.left })))
+does n outers a (Operator name k) s p = at_once a (performed name k s) (perform false name k (placed_at a s)) (performs a name k s)
+does n outers a o s p = at_once a (did outers (outline_tokens n) o s) (done false o (placed_at a s)) refl
 
-means_it : (n : Numbers) (a : Around) (x : Option Object) (s : State) → IsOnPaper n a → Reaches a (meant (outline_tokens n) x s) (free_meant false x (placed_at a s))
-means_it n a None s p = tt
-means_it n a (Some o) s p = does n a o s p
+means_it : (n : Numbers) (outers : List Outer) (a : Around) (x : Option Object) (s : State) → IsOnPaper n outers a → Reaches a (meant outers (outline_tokens n) x s) (free_meant false x (placed_at a s))
+means_it n outers a None s p = tt
+means_it n outers a (Some o) s p = does n outers a o s p
 
-acts : (n : Numbers) (a : Around) (t : Token) (s : State) → IsOnPaper n a → Reaches a (act (outline_tokens n) t s) (free_act false t (placed_at a s))
-acts n a (Name name) s p = means_it n a (means s name) s p
-acts n a (Bound name) s p = means_it n a (system name) s p
-acts n a Opens s p =
+acts : (n : Numbers) (outers : List Outer) (a : Around) (t : Token) (s : State) → IsOnPaper n outers a → Reaches a (act outers (outline_tokens n) t s) (free_act false t (placed_at a s))
+acts n outers a (Name name) s p = means_it n outers a (means s name) s p
+acts n outers a (Bound name) s p = means_it n outers a (system name) s p
+acts n outers a Opens s p =
     at_once a (opened (body_of s.left 0) s) (opened (body_of (s.left ++ a.left) 0) (placed_at a s))
     (opens a (body_of s.left 0) (body_of (s.left ++ a.left) 0) s (body_goes_on a.left s.left 0))
-acts n a Closes s p = tt
-acts n a Unknown s p = tt
-acts n a t s p = at_once a (act (outline_tokens n) t s) (free_act false t (placed_at a s)) refl
+acts n outers a Closes s p = tt
+acts n outers a Unknown s p = tt
+acts n outers a t s p = at_once a (act outers (outline_tokens n) t s) (free_act false t (placed_at a s)) refl
 
-steps_there : (n : Numbers) (a : Around) (ts : List Token) (s : State) → IsOnPaper n a
-    → Reaches a (step_on (outline_tokens n) ts s) (step false (record (placed_at a s) { left = ts ++ a.left }))
-steps_there n a [] s p = tt
-steps_there n a (t ∷ ts) s p = acts n a t (record s { left = ts }) p
+steps_there : (n : Numbers) (outers : List Outer) (a : Around) (ts : List Token) (s : State) → IsOnPaper n outers a
+    → Reaches a (step_on outers (outline_tokens n) ts s) (step false (record (placed_at a s) { left = ts ++ a.left }))
+steps_there n outers a [] s p = tt
+steps_there n outers a (t ∷ ts) s p = acts n outers a t (record s { left = ts }) p
 
-goes_on : (n : Numbers) (a : Around) (count : ℕ) (x : Option State) (s t : State) → Reaches a x (step false s)
-    → ((r : State) → steps (outline_tokens n) count r ≡ Some t → Runs false (placed_at a r) (placed_at a t))
-    → and_then (steps (outline_tokens n) count) x ≡ Some t → Runs false s (placed_at a t)
-goes_on n a count None s t f h e = absurd (nothing (and_then (steps (outline_tokens n) count) None) t refl e)
-goes_on n a count (Some r) s t f h e = runs_one false s f.0 (placed_at a t) f.1 (runs_join false f.0 (placed_at a r) (placed_at a t) f.2 (h r e))
+goes_on : (n : Numbers) (outers : List Outer) (a : Around) (count : ℕ) (x : Option State) (s t : State) → Reaches a x (step false s)
+    → ((r : State) → steps outers (outline_tokens n) count r ≡ Some t → Runs false (placed_at a r) (placed_at a t))
+    → and_then (steps outers (outline_tokens n) count) x ≡ Some t → Runs false s (placed_at a t)
+goes_on n outers a count None s t f h e = absurd (nothing (and_then (steps outers (outline_tokens n) count) None) t refl e)
+goes_on n outers a count (Some r) s t f h e = runs_one false s f.0 (placed_at a t) f.1 (runs_join false f.0 (placed_at a r) (placed_at a t) f.2 (h r e))
 
-all_steps : (n : Numbers) (a : Around) (count : ℕ) (s t : State) → IsOnPaper n a → steps (outline_tokens n) count s ≡ Some t → Runs false (placed_at a s) (placed_at a t)
-all_steps n a zero s t p e = (zero, ap (there a) e)
+all_steps : (n : Numbers) (outers : List Outer) (a : Around) (count : ℕ) (s t : State) → IsOnPaper n outers a → steps outers (outline_tokens n) count s ≡ Some t → Runs false (placed_at a s) (placed_at a t)
+all_steps n outers a zero s t p e = (zero, ap (there a) e)
   where
     there : Around → Option State → Option State
     there a None = None
     there a (Some s) = Some (placed_at a s)
-all_steps n a (suc count) s t p e =
-    goes_on n a count (step_on (outline_tokens n) s.left s) (placed_at a s) t (steps_there n a s.left s p) (λ r k. all_steps n a count r t p k) e
+all_steps n outers a (suc count) s t p e =
+    goes_on n outers a count (step_on outers (outline_tokens n) s.left s) (placed_at a s) t (steps_there n outers a s.left s p) (λ r k. all_steps n outers a count r t p k) e
 
 pub shelter_commutes : ShelterCommutes
-shelter_commutes n a s t p (count, e) = all_steps n a count s t p e
+shelter_commutes n outers a s t p (count, e) = all_steps n outers a count s t p e

@@ -4,7 +4,8 @@ use Rattle.rules.specs.Bytes.{line}
 use Rattle.rules.specs.Numbers.{points_text}
 use Rattle.rules.specs.Papers.{Paper}
 use Rattle.guard.specs.Guard.{guard_lines}
-use Rattle.pictures.specs.Objects.{Token, Number, Name, Literal, Bound, Opens, Closes, Object, Truth, Array, Procedure}
+use Rattle.pictures.specs.Objects.{Token, Number, Name, Literal, Bound, Opens, Closes, Object, Plain, Truth, Array}
+use Rattle.pictures.specs.Objects.{Procedure}
 use Rattle.pictures.specs.Objects.{Dictionary, Matrix}
 use Rattle.pictures.specs.Dictionaries.{Entry, userdict, system}
 use Rattle.pictures.specs.Machine.{State, Runs}
@@ -55,30 +56,48 @@ initmatrix_tokens = Name (codes "PStoPSmatrix") ∷ Bound (codes "setmatrix") �
 abbrev pub real : List ℕ → List Token
 real name = Name (codes "systemdict") ∷ Literal name ∷ Bound (codes "get") ∷ Bound (codes "exec") ∷ []
 
--- `{ImposePath matrix currentmatrix systemdict /initclip get exec
--- PStoPSmatrix setmatrix newpath PStoPSclip clip newpath setmatrix exec}`
+-- `PStoPSmatrix setmatrix newpath PStoPSclip clip newpath`
+abbrev pub own_clip_tokens : List Token
+own_clip_tokens =
+    initmatrix_tokens
+    ++ (Bound (codes "newpath") ∷ Name (codes "PStoPSclip") ∷ Bound (codes "clip") ∷ Bound (codes "newpath") ∷ [])
+
+-- `{ImposeOuter 0 ne {ImposeOuter begin ImposeClip end} if PStoPSmatrix setmatrix newpath PStoPSclip clip newpath}`
+abbrev pub clips_tokens : List Token
+clips_tokens =
+    Name (codes "ImposeOuter") ∷ Number (codes "0") ∷ Bound (codes "ne")
+    ∷ Opens ∷ Name (codes "ImposeOuter") ∷ Bound (codes "begin") ∷ Name (codes "ImposeClip") ∷ Bound (codes "end") ∷ Closes
+    ∷ Bound (codes "if") ∷ own_clip_tokens
+
+-- `{ImposePath matrix currentmatrix systemdict /initclip get exec ImposeClip setmatrix exec}`
 abbrev pub initclip_tokens : List Token
 initclip_tokens =
     Name (codes "ImposePath") ∷ Bound (codes "matrix") ∷ Bound (codes "currentmatrix")
-    ∷ (real (codes "initclip") ++ (initmatrix_tokens
-    ++ (Bound (codes "newpath") ∷ Name (codes "PStoPSclip") ∷ Bound (codes "clip") ∷ Bound (codes "newpath")
-    ∷ Bound (codes "setmatrix") ∷ Bound (codes "exec") ∷ [])))
+    ∷ (real (codes "initclip") ++ (Name (codes "ImposeClip") ∷ Bound (codes "setmatrix") ∷ Bound (codes "exec") ∷ []))
 
--- `{systemdict /initgraphics get exec PStoPSmatrix setmatrix /initclip load exec}`
+-- `{systemdict /initgraphics get exec ImposeClip}`
 abbrev pub initgraphics_tokens : List Token
-initgraphics_tokens =
-    real (codes "initgraphics")
-    ++ (initmatrix_tokens ++ (Literal (codes "initclip") ∷ Bound (codes "load") ∷ Bound (codes "exec") ∷ []))
+initgraphics_tokens = real (codes "initgraphics") ++ (Name (codes "ImposeClip") ∷ [])
 
--- `{end clip userdict begin /PStoPSmatrix matrix currentmatrix def /PStoPSclip ImposePath def
+-- `{userdict /ImposeOuter 3 dict dup begin [/PStoPSmatrix /PStoPSclip /ImposeOuter] {dup load def} forall end put}`
+abbrev pub outer_tokens : List Token
+outer_tokens =
+    Name (codes "userdict") ∷ Literal (codes "ImposeOuter") ∷ Number (codes "3") ∷ Bound (codes "dict")
+    ∷ Bound (codes "dup") ∷ Bound (codes "begin")
+    ∷ Bound (codes "[") ∷ Literal (codes "PStoPSmatrix") ∷ Literal (codes "PStoPSclip") ∷ Literal (codes "ImposeOuter")
+    ∷ Bound (codes "]") ∷ Opens ∷ Bound (codes "dup") ∷ Bound (codes "load") ∷ Bound (codes "def") ∷ Closes
+    ∷ Bound (codes "forall") ∷ Bound (codes "end") ∷ Bound (codes "put") ∷ []
+
+-- `{end clip PStoPSenablepage not {..} if userdict begin /PStoPSmatrix matrix currentmatrix def /PStoPSclip ImposePath def
 -- /PStoPSenablepage false def end newpath systemdict /save get exec pop}`
 abbrev pub clip_tokens : List Token
 clip_tokens =
-    Bound (codes "end") ∷ Bound (codes "clip") ∷ Name (codes "userdict") ∷ Bound (codes "begin")
+    Bound (codes "end") ∷ Bound (codes "clip") ∷ Name (codes "PStoPSenablepage") ∷ Bound (codes "not")
+    ∷ Opens ∷ (outer_tokens ++ (Closes ∷ Bound (codes "if") ∷ Name (codes "userdict") ∷ Bound (codes "begin")
     ∷ Literal (codes "PStoPSmatrix") ∷ Bound (codes "matrix") ∷ Bound (codes "currentmatrix") ∷ Bound (codes "def")
     ∷ Literal (codes "PStoPSclip") ∷ Name (codes "ImposePath") ∷ Bound (codes "def")
     ∷ Literal (codes "PStoPSenablepage") ∷ Name (codes "false") ∷ Bound (codes "def") ∷ Bound (codes "end")
-    ∷ Bound (codes "newpath") ∷ (real (codes "save") ++ (Bound (codes "pop") ∷ []))
+    ∷ Bound (codes "newpath") ∷ (real (codes "save") ++ (Bound (codes "pop") ∷ []))))
 
 -- `{/showpage {userdict /showpage get exec} put}`
 abbrev pub asking_tokens : List Token
@@ -143,6 +162,8 @@ guard_entries sheet =
     ∷ in_userdict (codes "initmatrix") (Procedure initmatrix_tokens)
     ∷ in_userdict (codes "defaultmatrix") (Procedure defaultmatrix_tokens)
     ∷ in_userdict (codes "ImposePath") (Procedure path_tokens)
+    ∷ in_userdict (codes "ImposeClip") (Procedure clips_tokens)
+    ∷ in_userdict (codes "ImposeOuter") (Plain (Number (codes "0")))
     ∷ in_userdict (codes "PStoPSclip") (Procedure sheet_outline_tokens)
     ∷ in_userdict (codes "PStoPSmatrix") (Matrix (sheet_matrix sheet))
     ∷ in_userdict (codes "setpagedevice") (Procedure setpagedevice_tokens)

@@ -1,18 +1,19 @@
 -- What single lines of the guard do, in any state in which their names mean what the guard has them mean.
 use Rattle.std.specs.Prelude.{◌≡◌, ℕ, ◌+◌, ◌^◌, ◌<◌, List, [], ◌∷◌, ◌++◌, ◌==◌, codes, true, false}
-use Rattle.std.specs.Prelude.{Option, Some, length}
+use Rattle.std.specs.Prelude.{Option, Some, None, length}
 use Rattle.rules.specs.Papers.{Paper}
 use Rattle.pictures.specs.Objects.{Token, Name, Literal, Bound, Dictionary, Object, Plain, Truth, Procedure}
 use Rattle.pictures.specs.Objects.{Matrix, Call, Equal}
-use Rattle.pictures.specs.Dictionaries.{userdict, system, entry_of, has, meaning}
+use Rattle.pictures.specs.Dictionaries.{Entry, userdict, system, entry_of, has, meaning, read_only}
 use Rattle.pictures.specs.Operators.{Work, bound, holder, objects_compared}
-use Rattle.pictures.specs.Machine.{State, Segment, Runs, push, saved, shipped, chain_of, filled_with, fonts}
+use Rattle.pictures.specs.Machine.{State, Clip, Kept, Runs, push, saved, shipped, chain_of, filled_with, fonts}
 use Rattle.pictures.specs.Scanner.{tokens}
 use Rattle.pictures.specs.Sheets.{run_of, Numbers, edge}
 use Rattle.guarded_pictures.specs.Behind.{guard_text, setpagedevice_tokens, showpage_tokens, path_tokens}
 use Rattle.guarded_pictures.specs.Behind.{defaultmatrix_tokens, initmatrix_tokens, initclip_tokens}
-use Rattle.guarded_pictures.specs.Behind.{initgraphics_tokens, save_tokens}
-use Rattle.guarded_pictures.specs.Shelter.{means, all_absent, outline_tokens, outline_names, is_drawn_anew}
+use Rattle.guarded_pictures.specs.Behind.{clips_tokens, initgraphics_tokens, save_tokens}
+use Rattle.guarded_pictures.specs.Shelter.{Outer, outer_is, means, all_absent, outline_tokens, outline_names}
+use Rattle.guarded_pictures.specs.Shelter.{is_drawn_anew}
 
 -- A guard in a document that has one does nothing: a law. Its first line asks for ImposeGuard
 abbrev pub guard_line_names : List (List ℕ)
@@ -55,15 +56,31 @@ LoadedShowpage =
     → means s (codes "ImposeShow") ≡ system (codes "showpage")
     → Runs false (run_of (Name name ∷ rest) s) (shipped (run_of rest s)))
 
--- what the guard has noted of a page: the matrix that holds its transformation, and its outline
-pub record Notes (s : State) (n : Numbers) (chain : List Call) : Type 0 where
+-- what the guard has noted of a page, under these dictionaries, where so many were made: the matrix that holds its
+-- transformation, and its outline
+pub record Noted
+    (ds : List ℕ) (made : ℕ) (es : List Entry) (ks : List Kept) (matrix : ℕ) (n : Numbers) (chain : List Call) : Type 0 where
+  pub older : matrix < made + 1
+  pub matrix_is : meaning ds es (codes "PStoPSmatrix") ≡ Some (Matrix matrix)
+  pub holds : chain_of matrix ks ≡ Some chain
+  pub outline_is : meaning ds es (codes "PStoPSclip") ≡ Some (Procedure (outline_tokens n))
+  pub clip_is : meaning ds es (codes "ImposeClip") ≡ Some (Procedure clips_tokens)
+  pub names : all_absent outline_names ds es ≡ true
+
+-- and of the pages round it, of which there may be any number, each in a dictionary of its own
+abbrev pub AreNoted : List ℕ → ℕ → List Entry → List Kept → List Outer → Type 0
+AreNoted ds made es ks [] = meaning ds es (codes "ImposeOuter") ≡ Some (outer_is [])
+AreNoted ds made es ks (o ∷ os) =
+    (meaning ds es (codes "ImposeOuter") ≡ Some (Dictionary o.dictionary))
+    × Noted (o.dictionary ∷ ds) made es ks o.matrix o.numbers o.chain
+    × AreNoted (o.dictionary ∷ ds) made es ks os
+
+-- of the page, and of those round it
+pub record Notes (s : State) (n : Numbers) (chain : List Call) (outers : List Outer) : Type 0 where
   pub number : ℕ
-  pub made : number < s.work.made + 1
-  pub matrix_is : means s (codes "PStoPSmatrix") ≡ Some (Matrix number)
-  pub holds : chain_of number s.kept ≡ Some chain
-  pub outline_is : means s (codes "PStoPSclip") ≡ Some (Procedure (outline_tokens n))
+  pub page : Noted s.work.dictionaries s.work.made s.work.entries s.kept number n chain
+  pub round : AreNoted s.work.dictionaries s.work.made s.work.entries s.kept outers
   pub path_is : means s (codes "ImposePath") ≡ Some (Procedure path_tokens)
-  pub names : all_absent outline_names s.work.dictionaries s.work.entries ≡ true
 
 -- `initmatrix`, and what psutils writes in its place, `PStoPSmatrix setmatrix`, set the page's own transformation: a
 -- law
@@ -82,38 +99,60 @@ DefaultIsThePages =
     → Runs false (run_of (defaultmatrix_tokens ++ rest) (push (Matrix given) s))
     (filled_with given chain (run_of rest (push (Matrix given) s)))
 
--- behind it the guard has made a matrix, in which it noted the transformation, and the one clip is the page's outline
-abbrev pub back_on_paper :
-    State → (place noted : List Call) → List Token → Numbers → (now : List Call) → List Segment → State
-back_on_paper s chain noted rest n now path = record s {
+-- the clip to a paper's edge, and those to the edges of the pages round it, the innermost first
+abbrev pub clip_to : Numbers → List Call → Clip
+clip_to n chain = record { name = codes "clip"; path = edge n chain }
+
+abbrev pub clips_to : List Outer → List Clip → List Clip
+clips_to [] before = before
+clips_to (o ∷ os) before = clip_to o.numbers o.chain ∷ clips_to os before
+
+-- what ImposeClip leaves: the page's transformation, no path, and besides the clips before it those to the page's edge
+-- and to the edges round it
+abbrev pub clipped : State → Numbers → List Call → List Outer → List Token → State
+clipped s n chain outers rest = record s {
   left = rest;
-  work = record s.work { made = s.work.made + 1 };
-  kept = record { number = s.work.made + 1; chain = noted } ∷ s.kept;
   graphics = record {
-    chain = now;
-    path = path;
-    clip = record { name = codes "clip"; path = edge n chain } ∷ [];
+    chain = chain;
+    path = [];
+    clip = clip_to n chain ∷ clips_to outers s.graphics.clip;
     settings = s.graphics.settings;
   };
 }
 
--- `initclip` clips to the page's outline, and keeps the transformation and the path, if that is drawn anew by its
--- elements: a law
+-- ImposeClip clips to the outlines of the page and of all pages round it, which it keeps: a law
+abbrev pub OuterIsKept : Type 0
+OuterIsKept =
+    (s : State) (n : Numbers) (chain : List Call) (outers : List Outer) (rest : List Token) → Notes s n chain outers
+    → Runs false (run_of (clips_tokens ++ rest) s) (clipped s n chain outers rest)
+
+-- `initclip` leaves the clips to the outlines of the page and of those round it, and no other, and keeps the
+-- transformation and the path, if that is drawn anew by its elements; the guard has made a matrix, in which it noted the
+-- transformation: a law
 abbrev pub ClipIsThePages : Type 0
 ClipIsThePages =
-    (s : State) (n : Numbers) (chain : List Call) (rest : List Token) → Notes s n chain
+    (s : State) (n : Numbers) (chain : List Call) (outers : List Outer) (rest : List Token) → Notes s n chain outers
     → is_drawn_anew s.graphics.chain s.graphics.path [] ≡ true
-    → Runs false (run_of (initclip_tokens ++ rest) s)
-    (back_on_paper s chain s.graphics.chain rest n s.graphics.chain s.graphics.path)
+    → Runs false (run_of (initclip_tokens ++ rest) s) (record s {
+      left = rest;
+      work = record s.work { made = s.work.made + 1 };
+      kept = record { number = s.work.made + 1; chain = s.graphics.chain } ∷ s.kept;
+      graphics = record s.graphics { clip = clip_to n chain ∷ clips_to outers [] };
+    })
 
--- `initgraphics` sets the page's transformation, clips to its outline, and leaves no setting but a font: a law
+-- `initgraphics` sets the page's transformation, leaves these clips alone, and no setting but a font: a law
 abbrev pub GraphicsAreThePages : Type 0
 GraphicsAreThePages =
-    (s : State) (n : Numbers) (chain : List Call) (rest : List Token) → Notes s n chain
-    → means s (codes "initclip") ≡ Some (Procedure initclip_tokens)
-    → Runs false (run_of (initgraphics_tokens ++ rest) s)
-    (back_on_paper (record s { graphics = record s.graphics { settings = fonts s.graphics.settings } })
-    chain chain rest n chain [])
+    (s : State) (n : Numbers) (chain : List Call) (outers : List Outer) (rest : List Token) → Notes s n chain outers
+    → Runs false (run_of (initgraphics_tokens ++ rest) s) (record s {
+      left = rest;
+      graphics = record {
+        chain = chain;
+        path = [];
+        clip = clip_to n chain ∷ clips_to outers [];
+        settings = fonts s.graphics.settings;
+      };
+    })
 
 -- a document's own `save` saves, on an empty stack, and above an operand that isn't the name ImposeSave: a law
 abbrev pub IsAnother : List Object → Type 0
@@ -126,8 +165,8 @@ SaveSaves =
     → means s (codes "systemdict") ≡ system (codes "systemdict") → IsAnother s.work.operands
     → length s.work.operands < 10 ^ 64 → Runs false (run_of (Name (codes "save") ∷ rest) s) (saved (run_of rest s))
 
--- A dictionary on the stack with a showpage of its own: where a page begins, the guard puts one in its place that asks
--- userdict, and marks the page as ever: a law
+-- A dictionary on the stack with a showpage of its own, which can be written: where a page begins, the guard puts one in
+-- its place that asks userdict, and marks the page as ever: a law
 
 -- `{userdict /showpage get exec}`
 abbrev pub asks_userdict : Object
@@ -152,6 +191,7 @@ abbrev pub AsksUserdict : Type 0
 AsksUserdict =
     (s : State) (number d : ℕ) (rest : List Token)
     → holder s.work.dictionaries s.work.entries (codes "showpage") ≡ Some d → (d == userdict) ≡ false
+    → entry_of d read_only s.work.entries ≡ None
     → means s (codes "ImposeGuard") ≡ Some (Dictionary number)
     → all_absent (codes "userdict" ∷ codes "systemdict" ∷ []) (number ∷ s.work.dictionaries) s.work.entries ≡ true
     → length s.work.operands + 2 < 10 ^ 64

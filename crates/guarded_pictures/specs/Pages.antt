@@ -1,5 +1,5 @@
 -- The sheets of a guarded document: each page is what it is by itself, placed.
-use Rattle.std.specs.Prelude.{◌≡◌, ℕ, ◌+◌, ◌^◌, ◌<◌, ◌≤◌, List, [], ◌∷◌, ◌++◌, map, true, false}
+use Rattle.std.specs.Prelude.{◌≡◌, ℕ, ◌+◌, ◌^◌, ◌<◌, ◌≤◌, List, [], ◌∷◌, ◌++◌, map, Bool, true, false, not, ◌&&◌, ◌==◌}
 use Rattle.std.specs.Prelude.{Option, Some, Ok, codes, length}
 use Rattle.rules.specs.Specification.{Spec}
 use Rattle.rules.specs.Numbers.{points_text}
@@ -9,21 +9,22 @@ use Rattle.rules.specs.Papers.{Paper}
 use Rattle.dsc.specs.Units.{units_of}
 use Rattle.guard.specs.Guard.{guarded}
 use Rattle.rules.specs.Output.{Frame}
-use Rattle.pictures.specs.Objects.{Token, Truth, Procedure, Dictionary}
+use Rattle.pictures.specs.Objects.{Token, Truth, Procedure, Dictionary, Matrix}
 use Rattle.pictures.specs.Dictionaries.{Entry, userdict, system, entry_of}
 use Rattle.pictures.specs.Chains.{is_same_chain}
 use Rattle.pictures.specs.Operators.{holder, all_old, all_are_old}
-use Rattle.pictures.specs.Machine.{State, Snapshot, Kept, Painting, initial, Runs}
+use Rattle.pictures.specs.Machine.{State, Snapshot, Kept, Painting, initial, chain_of, Runs}
 use Rattle.pictures.specs.Placing.{Place, graphics_at, picture_at}
 use Rattle.pictures.specs.Scanner.{tokens, IsComplete}
 use Rattle.pictures.specs.Sheets.{Numbers, among, Shown, run_of, saving_tokens, placing_tokens}
-use Rattle.pictures.specs.Sheets.{placed_tokens, place_in, border_in, page_picture, edge}
+use Rattle.pictures.specs.Sheets.{placed_tokens, place_in, border_in, page_picture}
 use Rattle.pictures.specs.Pictures.{printed, sheets_tokens}
 use Rattle.pictures.specs.Documents.{started, page_of, OnSheets, all_sheets, IsPrinted}
 use Rattle.pictures.specs.Kept.{page_comments_apart, preamble_comments_apart}
 use Rattle.guarded_pictures.specs.Behind.{behind_guard, save_tokens, clip_tokens, path_tokens, showpage_tokens}
-use Rattle.guarded_pictures.specs.Shelter.{means, all_absent, outline_by, outline_tokens, sheltered, RunsSheltered}
-use Rattle.guarded_pictures.specs.Shelter.{PaintsSheltered}
+use Rattle.guarded_pictures.specs.Shelter.{Outer, outer_is, means, all_absent, outline_by, outline_tokens, sheltered}
+use Rattle.guarded_pictures.specs.Shelter.{RunsSheltered, PaintsSheltered}
+use Rattle.guarded_pictures.specs.Lines.{clip_to, clips_to}
 
 -- The state behind a guarded preamble.
 
@@ -116,19 +117,63 @@ placed_at a s = record {
   sheets = a.sheets;
 }
 
--- the place has one clip: the paper's edge; and its transformation is made by numbers
-abbrev pub IsOnPaper : Numbers → Around → Type 0
-IsOnPaper n a =
-    (a.place.clip ≡ record { name = codes "clip"; path = edge n a.place.chain } ∷ [])
-    × (is_same_chain a.place.chain a.place.chain ≡ true)
+-- the matrices of the pages round it hold their transformations
+abbrev pub AllHeld : List Outer → List Kept → Type 0
+AllHeld [] ks = Unit {0}
+AllHeld (o ∷ os) ks = (chain_of o.matrix ks ≡ Some o.chain) × AllHeld os ks
+
+-- the place has the clips to the paper's edge and to those of the pages round it, and no other; and its transformation
+-- is made by numbers
+abbrev pub IsOnPaper : Numbers → List Outer → Around → Type 0
+IsOnPaper n outers a =
+    (a.place.clip ≡ clip_to n a.place.chain ∷ clips_to outers [])
+    × (is_same_chain a.place.chain a.place.chain ≡ true) × AllHeld outers a.kept
 
 -- The laws.
 
 -- what a page does by itself, the free machine does, with the guard's procedures, in the page's place: a law
 abbrev pub ShelterCommutes : Type 0
 ShelterCommutes =
-    (n : Numbers) (a : Around) (s t : State) → IsOnPaper n a → RunsSheltered (outline_tokens n) s t
+    (n : Numbers) (outers : List Outer) (a : Around) (s t : State)
+    → IsOnPaper n outers a → RunsSheltered outers (outline_tokens n) s t
     → Runs false (placed_at a s) (placed_at a t)
+
+-- A state in which pages can be placed: behind a guarded preamble, or within a placed page, where a sheet of another
+-- document is run.
+
+-- this dictionary has nothing
+abbrev pub has_nothing : ℕ → List Entry → Bool
+has_nothing d [] = true
+has_nothing d (e ∷ es) = not (e.dictionary == d) && has_nothing d es
+
+-- Outside all pages the flag is set. Within some it isn't; what the names mean is noted of the innermost one; and the
+-- dictionary that is made next is new
+abbrev pub Encloses : List Outer → State → Type 0
+Encloses [] s = means s (codes "PStoPSenablepage") ≡ Some (Truth true)
+Encloses (o ∷ os) s =
+    (means s (codes "PStoPSenablepage") ≡ Some (Truth false))
+    × (means s (codes "PStoPSmatrix") ≡ Some (Matrix o.matrix))
+    × (means s (codes "PStoPSclip") ≡ Some (Procedure (outline_tokens o.numbers)))
+    × (means s (codes "ImposeOuter") ≡ Some (outer_is os))
+    × (o.dictionary ≡ s.work.made + 1) × (has_nothing o.dictionary s.work.entries ≡ true)
+
+-- these pages are round those that are placed there
+pub record TakesPages (outers : List Outer) (s : State) : Type 0 where
+  pub number : ℕ
+  pub save_is : means s (codes "save") ≡ Some (Procedure save_tokens)
+  pub guard_is : means s (codes "ImposeGuard") ≡ Some (Dictionary number)
+  pub clip_is : entry_of number (codes "clip") s.work.entries ≡ Some (Procedure clip_tokens)
+  pub clip_alone : all_absent looked_up_first (number ∷ s.work.dictionaries) s.work.entries ≡ true
+  pub path_is : entry_of userdict (codes "ImposePath") s.work.entries ≡ Some (Procedure path_tokens)
+  pub names : all_absent looked_up (userdict ∷ s.work.dictionaries) s.work.entries ≡ true
+  pub userdict_first : holder s.work.dictionaries s.work.entries (codes "showpage") ≡ Some userdict
+  pub few_operands : length s.work.operands + 2 < 10 ^ 64
+  pub operands : all_are_old s.work.made s.level s.work.operands ≡ true
+  pub dictionaries : all_old s.work.made s.work.dictionaries ≡ true
+  pub encloses : Encloses outers s
+  pub clips : s.graphics.clip ≡ clips_to outers []
+  pub numbers : is_same_chain s.graphics.chain s.graphics.chain ≡ true
+  pub held : AllHeld outers s.kept
 
 -- the state at the sheet's save, and what is round a page that is placed by these numbers
 abbrev pub sheet_save : State → Snapshot
@@ -155,27 +200,27 @@ around left n s = record {
 -- law
 abbrev pub PageBegins : Type 0
 PageBegins =
-    (s : State) (n : Numbers) (body rest : List Token) → IsGuarded s
+    (outers : List Outer) (s : State) (n : Numbers) (body rest : List Token) → TakesPages outers s
     → Runs false (run_of (saving_tokens ++ (placing_tokens n ++ (body ++ rest))) s)
-    (placed_at (around rest n s) (sheltered s (outline_tokens n) body))
+    (placed_at (around rest n s) (sheltered outers s (outline_tokens n) body))
 
--- a placed page of a guarded document paints on the sheet what it paints by itself, placed, behind its border; and all
--- else is as it was: a law
+-- a placed page of a guarded document paints on the sheet what it paints by itself, placed, behind its border, whatever
+-- pages are round it; and all else is as it was: a law
 abbrev pub GuardedPageIsPlaced : Type 0
 GuardedPageIsPlaced =
-    (s : State) (x : Shown) (rest : List Token) → IsGuarded s
-    → PaintsSheltered s (outline_tokens x.placed.numbers) x.placed.body x.picture
+    (outers : List Outer) (s : State) (x : Shown) (rest : List Token) → TakesPages outers s
+    → PaintsSheltered outers s (outline_tokens x.placed.numbers) x.placed.body x.picture
     → Runs false (run_of (placed_tokens x.placed ++ rest) s)
     (record s { left = rest; painted = page_picture s.graphics x ++ s.painted })
 
-abbrev pub AllSheltered : State → List Shown → Type 0
-AllSheltered s [] = Unit {0}
-AllSheltered s (x ∷ xs) =
-    PaintsSheltered s (outline_tokens x.placed.numbers) x.placed.body x.picture × AllSheltered s xs
+abbrev pub AllSheltered : List Outer → State → List Shown → Type 0
+AllSheltered outers s [] = Unit {0}
+AllSheltered outers s (x ∷ xs) =
+    PaintsSheltered outers s (outline_tokens x.placed.numbers) x.placed.body x.picture × AllSheltered outers s xs
 
 abbrev pub AllSheetsSheltered : State → List (List Shown) → Type 0
 AllSheetsSheltered s [] = Unit {0}
-AllSheetsSheltered s (x ∷ xs) = AllSheltered s x × AllSheetsSheltered s xs
+AllSheetsSheltered s (x ∷ xs) = AllSheltered [] s x × AllSheetsSheltered s xs
 
 -- each sheet is printed with the pictures of its pages, placed, and the machine is where it was: a law
 abbrev pub GuardedSheetsArePrinted : Type 0
@@ -201,7 +246,7 @@ outline_of frame = outline_by (points_text frame.paper.width) (points_text frame
 abbrev pub GuardedPagePaints : Frame → List NestedUnit → State → ℕ → List Painting → Type 0
 GuardedPagePaints frame us s p picture =
     IsComplete (page_of us p) × (page_comments_apart (page_of us p) ≡ true)
-    × PaintsSheltered s (outline_of frame) (tokens (page_of us p)) picture
+    × PaintsSheltered [] s (outline_of frame) (tokens (page_of us p)) picture
 
 -- Of an accepted document in whose preamble the guard has run: if each page paints a picture by itself, then the
 -- machine prints of the output, sheet by sheet, those pictures, placed: a law

@@ -4,16 +4,16 @@
 -- `defaultmatrix` keep transformations of its own; `grestoreall`, and more `grestore` than `gsave`, fall back to the
 -- beginning.
 use Rattle.std.specs.Prelude.{◌≡◌, ℕ, zero, suc, ◌+◌, List, [], ◌∷◌, ◌++◌, Bool, true, false, ◌&&◌, if◌then◌else◌}
-use Rattle.std.specs.Prelude.{Option, Some, None, codes, bytes_eq, nat_lt}
+use Rattle.std.specs.Prelude.{Option, Some, None, codes, bytes_eq, nat_lt, ◌==◌}
 use Rattle.pictures.specs.Objects.{Token, Number, Name, Literal, Bound, Opens, Closes, Unknown, Object, Plain, Truth}
-use Rattle.pictures.specs.Objects.{Procedure, Matrix, Saved, Operator, Kind, Looks, TakesMatrix, SetsMatrix, Call}
+use Rattle.pictures.specs.Objects.{Procedure, Dictionary, Matrix, Saved, Operator, Kind, Looks, TakesMatrix, SetsMatrix, Call}
 use Rattle.pictures.specs.Dictionaries.{Entry, meaning, system}
 use Rattle.pictures.specs.Chains.{is_same_chain}
 use Rattle.pictures.specs.Machine.{State, Graphics, Segment, Snapshot, Kept, Painting, push, body_of, opened, chain_of}
 use Rattle.pictures.specs.Machine.{viewed, reset, perform, may_precede, and_then}
 use Rattle.pictures.specs.Sheets.{Numbers, zero_text, in_userdict, LeavesAsItWas}
 use Rattle.pictures.specs.Unaware.{absent}
-use Rattle.guarded_pictures.specs.Behind.{path_tokens, initclip_tokens, initgraphics_tokens}
+use Rattle.guarded_pictures.specs.Behind.{path_tokens, clips_tokens, initclip_tokens, initgraphics_tokens}
 
 -- What stands there.
 
@@ -28,48 +28,80 @@ outline_by width height =
 abbrev pub outline_tokens : Numbers → List Token
 outline_tokens n = outline_by n.width n.height
 
--- the matrix in which the guard keeps the page's place
-abbrev pub page_matrix : State → ℕ
-page_matrix s = s.work.made + 1
+-- A placed page round another one, as that one's sheet is a page of another document: the dictionary in which the guard
+-- has kept what it noted of it, the matrix that holds its transformation, the numbers by which it is placed, and its
+-- transformation
+pub record Outer : Type 0 where
+  pub dictionary : ℕ
+  pub matrix : ℕ
+  pub numbers : Numbers
+  pub chain : List Call
 
--- what the sheet's text and the guard have put before a page, the latest first
-abbrev pub page_entries : State → List Token → List Entry
-page_entries s outline =
+-- what ImposeOuter means within these pages, the innermost first
+abbrev pub outer_is : List Outer → Object
+outer_is [] = Plain (Number zero_text)
+outer_is (o ∷ os) = Dictionary o.dictionary
+
+-- what the guard puts to keep the page that another one begins in
+abbrev pub outer_entries : List Outer → List Entry
+outer_entries [] = []
+outer_entries (o ∷ os) =
+    in_userdict (codes "ImposeOuter") (Dictionary o.dictionary)
+    ∷ record { dictionary = o.dictionary; key = codes "ImposeOuter"; value = outer_is os }
+    ∷ record { dictionary = o.dictionary; key = codes "PStoPSclip"; value = Procedure (outline_tokens o.numbers) }
+    ∷ record { dictionary = o.dictionary; key = codes "PStoPSmatrix"; value = Matrix o.matrix } ∷ []
+
+-- how many dictionaries and matrices have been made then, if there were so many before
+abbrev pub outer_made : List Outer → ℕ → ℕ
+outer_made [] made = made
+outer_made (o ∷ os) made = made + 1
+
+-- the matrix in which the guard keeps the page's place
+abbrev pub page_matrix : List Outer → State → ℕ
+page_matrix outers s = outer_made outers s.work.made + 1
+
+-- what the sheet's text has put before a page, the latest first
+abbrev pub entries_put : State → List Entry
+entries_put s =
+    in_userdict (codes "showpage") (Procedure []) ∷ in_userdict (codes "ImposeSave") (Saved s.level) ∷ s.work.entries
+
+-- and the guard
+abbrev pub page_entries : List Outer → State → List Token → List Entry
+page_entries outers s outline =
     in_userdict (codes "PStoPSenablepage") (Truth false)
     ∷ in_userdict (codes "PStoPSclip") (Procedure outline)
-    ∷ in_userdict (codes "PStoPSmatrix") (Matrix (page_matrix s))
-    ∷ in_userdict (codes "showpage") (Procedure [])
-    ∷ in_userdict (codes "ImposeSave") (Saved s.level) ∷ s.work.entries
+    ∷ in_userdict (codes "PStoPSmatrix") (Matrix (page_matrix outers s))
+    ∷ (outer_entries outers ++ entries_put s)
 
 -- with no matrix and no clip
 abbrev pub beginning : State → Graphics
 beginning s = record { chain = []; path = []; clip = []; settings = s.graphics.settings }
 
-abbrev pub no_place : State → List Kept
-no_place s = record { number = page_matrix s; chain = [] } ∷ []
+abbrev pub no_place : List Outer → State → List Kept
+no_place outers s = record { number = page_matrix outers s; chain = [] } ∷ []
 
 -- the save that the guard makes within a page: to it `grestoreall` falls back
-abbrev pub page_save : State → List Token → Snapshot
-page_save s outline = record {
+abbrev pub page_save : List Outer → State → List Token → Snapshot
+page_save outers s outline = record {
   level = s.level + 1;
-  entries = page_entries s outline;
-  made = page_matrix s;
-  kept = no_place s;
+  entries = page_entries outers s outline;
+  made = page_matrix outers s;
+  kept = no_place outers s;
   graphics = beginning s;
   stacked = [];
 }
 
--- a page by itself, behind the state s, on a paper with this outline: nothing is known of the matrices that were filled
--- before it
-abbrev pub sheltered : State → (outline body : List Token) → State
-sheltered s outline body = record {
+-- a page by itself, behind the state s, on a paper with this outline, and in a document in which these pages are round
+-- it, or none: nothing is known of the matrices that were filled before it
+abbrev pub sheltered : List Outer → State → (outline body : List Token) → State
+sheltered outers s outline body = record {
   left = body;
-  work = record s.work { entries = page_entries s outline; made = page_matrix s };
-  kept = no_place s;
+  work = record s.work { entries = page_entries outers s outline; made = page_matrix outers s };
+  kept = no_place outers s;
   level = s.level + 1 + 1;
   graphics = beginning s;
   stacked = [];
-  saves = page_save s outline ∷ [];
+  saves = page_save outers s outline ∷ [];
   painted = [];
   sheets = [];
 }
@@ -115,13 +147,48 @@ abbrev pub outline_names : List (List ℕ)
 outline_names =
     codes "systemdict" ∷ codes "moveto" ∷ codes "lineto" ∷ codes "curveto" ∷ codes "closepath" ∷ []
 
+abbrev pub is_zero : Option Object → Bool
+is_zero (Some (Plain (Number text))) = bytes_eq text zero_text
+is_zero o = false
+
+abbrev pub is_dictionary : ℕ → Option Object → Bool
+is_dictionary d (Some (Dictionary e)) = e == d
+is_dictionary d o = false
+
+abbrev pub is_matrix : ℕ → Option Object → Bool
+is_matrix m (Some (Matrix number)) = number == m
+is_matrix m o = false
+
+-- the page has filled this matrix by nothing
+abbrev pub is_unknown : Option (List Call) → Bool
+is_unknown None = true
+is_unknown (Some chain) = false
+
+-- what the guard has kept of a page round this one is there, under these dictionaries
+abbrev pub keeps_outer : Outer → List ℕ → ℕ → List Entry → List Kept → Bool
+keeps_outer o ds made es ks =
+    is_matrix o.matrix (meaning ds es (codes "PStoPSmatrix"))
+    && (nat_lt o.matrix (made + 1)
+    && (is_unknown (chain_of o.matrix ks)
+    && (is_procedure (meaning ds es (codes "PStoPSclip")) (outline_tokens o.numbers)
+    && (is_procedure (meaning ds es (codes "ImposeClip")) clips_tokens && all_absent outline_names ds es))))
+
+-- and of all of them
+abbrev pub keeps_outers : List Outer → List ℕ → ℕ → List Entry → List Kept → Bool
+keeps_outers [] ds made es ks = is_zero (meaning ds es (codes "ImposeOuter"))
+keeps_outers (o ∷ os) ds made es ks =
+    is_dictionary o.dictionary (meaning ds es (codes "ImposeOuter"))
+    && (keeps_outer o (o.dictionary ∷ ds) made es ks && keeps_outers os (o.dictionary ∷ ds) made es ks)
+
 -- what the guard has kept of the page is there
-abbrev pub keeps_the_page : List Token → State → Bool
-keeps_the_page outline s =
+abbrev pub keeps_the_page : List Outer → List Token → State → Bool
+keeps_the_page outers outline s =
     holds_the_place (means s (codes "PStoPSmatrix")) s.work.made s.kept
     && (is_procedure (means s (codes "PStoPSclip")) outline
+    && (is_procedure (means s (codes "ImposeClip")) clips_tokens
     && (is_procedure (means s (codes "ImposePath")) path_tokens
-    && all_absent outline_names s.work.dictionaries s.work.entries))
+    && (all_absent outline_names s.work.dictionaries s.work.entries
+    && keeps_outers outers s.work.dictionaries s.work.made s.work.entries s.kept))))
 
 abbrev pub is_empty : {A : Type 0} → List A → Bool
 is_empty [] = true
@@ -163,18 +230,17 @@ unclipped s = noting (record s { graphics = record s.graphics { clip = [] } })
 
 -- `initgraphics`
 abbrev pub as_it_began : State → State
-as_it_began s = noting (reset s)
+as_it_began s = reset s
 
 -- a procedure is run: the guard's for `initclip` and `initgraphics` do what the operators do to a page that has no
 -- place; any other is the next to run
-abbrev pub entered : (outline ts : List Token) → State → Option State
-entered outline ts s =
+abbrev pub entered : List Outer → (outline ts : List Token) → State → Option State
+entered outers outline ts s =
     if are_same_tokens ts initclip_tokens
-    then (if keeps_the_page outline s && is_drawn_anew s.graphics.chain s.graphics.path []
+    then (if keeps_the_page outers outline s && is_drawn_anew s.graphics.chain s.graphics.path []
     then Some (unclipped s) else None)
     else if are_same_tokens ts initgraphics_tokens
-    then (if keeps_the_page outline s && is_procedure (means s (codes "initclip")) initclip_tokens
-    then Some (as_it_began s) else None)
+    then (if keeps_the_page outers outline s then Some (as_it_began s) else None)
     else Some (record s { left = ts ++ s.left })
 
 -- an operator: what a held machine does, and matrices of the page's own
@@ -183,38 +249,38 @@ performed name (Looks TakesMatrix) s = viewed TakesMatrix name s.work.operands s
 performed name (Looks SetsMatrix) s = viewed SetsMatrix name s.work.operands s
 performed name k s = perform true name k s
 
-abbrev pub did : List Token → Object → State → Option State
-did outline (Procedure ts) s = entered outline ts s
-did outline (Plain (Name name)) s = Some (record s { left = Name name ∷ s.left })
-did outline (Operator name k) s = performed name k s
-did outline o s = Some (push o s)
+abbrev pub did : List Outer → List Token → Object → State → Option State
+did outers outline (Procedure ts) s = entered outers outline ts s
+did outers outline (Plain (Name name)) s = Some (record s { left = Name name ∷ s.left })
+did outers outline (Operator name k) s = performed name k s
+did outers outline o s = Some (push o s)
 
-abbrev pub meant : List Token → Option Object → State → Option State
-meant outline None s = None
-meant outline (Some o) s = did outline o s
+abbrev pub meant : List Outer → List Token → Option Object → State → Option State
+meant outers outline None s = None
+meant outers outline (Some o) s = did outers outline o s
 
-abbrev pub act : List Token → Token → State → Option State
-act outline (Name name) s = meant outline (means s name) s
-act outline (Bound name) s = meant outline (system name) s
-act outline Opens s = opened (body_of s.left 0) s
-act outline Closes s = None
-act outline Unknown s = None
-act outline t s = Some (push (Plain t) s)
+abbrev pub act : List Outer → List Token → Token → State → Option State
+act outers outline (Name name) s = meant outers outline (means s name) s
+act outers outline (Bound name) s = meant outers outline (system name) s
+act outers outline Opens s = opened (body_of s.left 0) s
+act outers outline Closes s = None
+act outers outline Unknown s = None
+act outers outline t s = Some (push (Plain t) s)
 
-abbrev pub step_on : List Token → List Token → State → Option State
-step_on outline [] s = None
-step_on outline (t ∷ ts) s = act outline t (record s { left = ts })
+abbrev pub step_on : List Outer → List Token → List Token → State → Option State
+step_on outers outline [] s = None
+step_on outers outline (t ∷ ts) s = act outers outline t (record s { left = ts })
 
-abbrev pub steps : List Token → ℕ → State → Option State
-steps outline zero s = Some s
-steps outline (suc count) s = and_then (steps outline count) (step_on outline s.left s)
+abbrev pub steps : List Outer → List Token → ℕ → State → Option State
+steps outers outline zero s = Some s
+steps outers outline (suc count) s = and_then (steps outers outline count) (step_on outers outline s.left s)
 
-abbrev pub RunsSheltered : List Token → State → State → Type 0
-RunsSheltered outline s t = (count : ℕ) × (steps outline count s ≡ Some t)
+abbrev pub RunsSheltered : List Outer → List Token → State → State → Type 0
+RunsSheltered outers outline s t = (count : ℕ) × (steps outers outline count s ≡ Some t)
 
--- from a state behind the preamble the page paints this by itself
-pub record PaintsSheltered (s : State) (outline body : List Token) (picture : List Painting) : Type 0 where
+-- from a state behind the preamble, or where a page of the sheet begins within these, the page paints this by itself
+pub record PaintsSheltered (outers : List Outer) (s : State) (outline body : List Token) (picture : List Painting) : Type 0 where
   pub end : State
-  pub run : RunsSheltered outline (sheltered s outline body) end
+  pub run : RunsSheltered outers outline (sheltered outers s outline body) end
   pub leaves : LeavesAsItWas s end
   pub picture_is : end.painted ≡ picture

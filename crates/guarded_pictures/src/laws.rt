@@ -1,11 +1,16 @@
 //! Laws of the guard, run by a machine. The functions do nothing.
 ghost use Rattle.guarded_pictures.specs.Behind.{GuardDefines};
+ghost use Rattle.guarded_pictures.specs.ByItself.{ByItselfAsTheOperators};
+ghost use Rattle.guarded_pictures.specs.NamedPapers.{PaperIsNothing, PapersAreLeft};
+ghost use Rattle.guarded_pictures.specs.OwnShowpage.{OwnPageIsPlaced, OwnSheetsArePrinted, OwnShowpageIsShown};
 ghost use Rattle.guarded_pictures.specs.Pages.{GuardIsEnough, GuardedDocumentIsShown, GuardedPageIsPlaced};
 ghost use Rattle.guarded_pictures.specs.Pages.{GuardedSheetsArePrinted, GuardedSheetsShowThePages, PageBegins};
 ghost use Rattle.guarded_pictures.specs.Pages.{ShelterCommutes, StaysGuarded};
+ghost use Rattle.guarded_pictures.specs.SheetsOfSheets.{SheetIsComposed, SheetIsPlaced, SheetsOfSheetsArePrinted};
+ghost use Rattle.guarded_pictures.specs.SheetsOfSheets.{GuardTakesSheets, StaysTakingSheets, TwoRunsAreShown};
 ghost use Rattle.guarded_pictures.specs.Lines.{AskingShows, AsksUserdict, ClipIsThePages, DefaultIsThePages};
 ghost use Rattle.guarded_pictures.specs.Lines.{DeviceIsLeft, GraphicsAreThePages, GuardedTwice, LoadedShowpage};
-ghost use Rattle.guarded_pictures.specs.Lines.{MatrixIsThePages, PageIsLeft, SaveSaves, ShowpageStaysAName};
+ghost use Rattle.guarded_pictures.specs.Lines.{MatrixIsThePages, OuterIsKept, PageIsLeft, SaveSaves, ShowpageStaysAName};
 
 /// Behind the guard's text each of its names means what is said of it, and all else is as it was.
 pub fn guard_defines()
@@ -25,6 +30,16 @@ pub fn page_is_left()
 /// `setpagedevice` takes its operand, and does nothing.
 pub fn device_is_left()
     ensures { DeviceIsLeft }
+{}
+
+/// The papers' names that are there are made to do nothing, and no others are.
+pub fn papers_are_left()
+    ensures { PapersAreLeft }
+{}
+
+/// A page that names a paper does nothing by that, by itself and in its place.
+pub fn paper_is_nothing()
+    ensures { PaperIsNothing }
 {}
 
 /// `bind` doesn't bind `showpage`.
@@ -47,12 +62,17 @@ pub fn default_is_the_pages()
     ensures { DefaultIsThePages }
 {}
 
-/// `initclip` clips to the page's own outline.
+/// ImposeClip clips to the outlines of the page and of all pages round it.
+pub fn outer_is_kept()
+    ensures { OuterIsKept }
+{}
+
+/// `initclip` clips to the page's own outline, and to those of the pages round it.
 pub fn clip_is_the_pages()
     ensures { ClipIsThePages }
 {}
 
-/// `initgraphics` sets the page's own transformation, and clips to its outline.
+/// `initgraphics` sets the page's own transformation, and clips to these outlines.
 pub fn graphics_are_the_pages()
     ensures { GraphicsAreThePages }
 {}
@@ -80,6 +100,11 @@ pub fn page_begins()
 /// What a page does by itself, the free machine does, with the guard's procedures, in the page's place.
 pub fn shelter_commutes()
     ensures { ShelterCommutes }
+{}
+
+/// What the guard's names do to a page by itself is what the operators do where nothing is round it.
+pub fn by_itself_as_the_operators()
+    ensures { ByItselfAsTheOperators }
 {}
 
 /// A placed page paints on the sheet what it paints by itself, placed.
@@ -111,4 +136,49 @@ pub fn stays_guarded()
 /// placed.
 pub fn guarded_document_is_shown()
     ensures { GuardedDocumentIsShown }
+{}
+
+/// A placed page of a document with a showpage of its own paints on the sheet what it paints by itself, placed.
+pub fn own_page_is_placed()
+    ensures { OwnPageIsPlaced }
+{}
+
+/// Each sheet of such a document is printed with the pictures of its pages, placed, if the first one has a page.
+pub fn own_sheets_are_printed()
+    ensures { OwnSheetsArePrinted }
+{}
+
+/// A machine prints of what impose makes of such a document, sheet by sheet, what its pages paint by themselves, placed.
+pub fn own_showpage_is_shown()
+    ensures { OwnShowpageIsShown }
+{}
+
+/// Behind the guard's text the state is one in which sheets of sheets can be placed.
+pub fn guard_takes_sheets()
+    ensures { GuardTakesSheets }
+{}
+
+/// It stays so where other names are defined.
+pub fn stays_taking_sheets()
+    ensures { StaysTakingSheets }
+{}
+
+/// A sheet of another document, placed as a page, paints its own picture, placed.
+pub fn sheet_is_placed()
+    ensures { SheetIsPlaced }
+{}
+
+/// And that is the picture of its pages, each in the one place within the other.
+pub fn sheet_is_composed()
+    ensures { SheetIsComposed }
+{}
+
+/// Sheets of sheets are printed, each with the pictures of its sheets, placed.
+pub fn sheets_of_sheets_are_printed()
+    ensures { SheetsOfSheetsArePrinted }
+{}
+
+/// A machine prints of what impose makes of a run's output the sheets of that run, placed.
+pub fn two_runs_are_shown()
+    ensures { TwoRunsAreShown }
 {}

@@ -8,9 +8,9 @@ use Rattle.rules.specs.Numbers.{number_of}
 use Rattle.pictures.specs.Objects.{Token, Number, Name, Literal, Object, Plain, Truth, Procedure, Dictionary, SystemDictionary}
 use Rattle.pictures.specs.Objects.{Saved, Font, Operator, Computation, Computes, Control, Execute, If, IfElse, Repeat}
 use Rattle.pictures.specs.Objects.{Pop, Duplicate, Exchange, OpenArray, CloseArray, Put, Define, Begin, End, MakeDictionary, Load, Bind, Known, Index, ClearToMark, FindFont, ScaleFont}
-use Rattle.pictures.specs.Objects.{Calculate, Negate, Compare, And, Or, Not, Where, Get, Length, LoadArray, CloseDictionary, CopyOperands, Roll, Count, MakeExecutable, IsWritable, MakeMatrix, Comparison, For, ForAll, Array, Mark}
+use Rattle.pictures.specs.Objects.{Calculate, Negate, Compare, And, Or, Not, Where, Get, Length, LoadArray, CloseDictionary, CopyOperands, Roll, Count, MakeExecutable, IsWritable, MakeReadOnly, MakeMatrix, Comparison, For, ForAll, Array, Mark}
 use Rattle.pictures.specs.Calculations.{whole_of, turns}
-use Rattle.pictures.specs.Dictionaries.{Entry, meaning, system, entry_of, or, has, is_lacked}
+use Rattle.pictures.specs.Dictionaries.{Entry, meaning, system, entry_of, or, has, is_lacked, read_only}
 use Rattle.std.specs.Prelude.{nat_le, decimal, flat_map}
 use Rattle.std.specs.List.{take-map, drop-map}
 use Rattle.std.proofs.lemmas.List.{map-append, length-map}
@@ -257,8 +257,9 @@ works_on n name Count os w es a q = (es, ap (λ m. Some (with_operands (up_work 
 works_on n name MakeExecutable (Plain (Literal k) ∷ os) w es a q = (es, refl, a)
 works_on n name MakeExecutable (Array ts ∷ os) w es a q = (es, refl, a)
 works_on n name MakeExecutable (Procedure ts ∷ os) w es a q = (es, refl, a)
-works_on n name IsWritable (Dictionary d ∷ os) w es a q = (es, refl, a)
+works_on n name IsWritable (Dictionary d ∷ os) w es a q = (es, ap (λ b. Some (with_operands (up_work es w) (Truth (not b) ∷ ups os))) (known_goes n d read_only w es a refl), a)
 works_on n name IsWritable (SystemDictionary ∷ os) w es a q = (es, refl, a)
+works_on n name MakeReadOnly (Dictionary d ∷ os) w es a q = (record { dictionary = d; key = read_only; value = Truth true } ∷ es, refl, agrees_put n es w.entries d read_only (Truth true) a)
 works_on n name MakeMatrix os w es a q = (es, refl, a)
 works_on n name c os w es a q = tt
 

@@ -86,7 +86,7 @@ slots_read frame us picture (slot ∷ slots) h =
     (slot_read frame us picture slot.page slot.item h.0)
     (slots_read frame us picture slots h.1))
 
-sheet_read : (frame : Frame) (us : List NestedUnit) (picture : ℕ → List Painting) (k : ℕ) (slots : List Slot) → OnSlots (λ p. IsComplete (body_of_page us p)) slots
+pub sheet_read : (frame : Frame) (us : List NestedUnit) (picture : ℕ → List Painting) (k : ℕ) (slots : List Slot) → OnSlots (λ p. IsComplete (body_of_page us p)) slots
     → Reads Between (sheet_text frame (pages us) k slots) (sheet_tokens (map (λ x. x.placed) (shown_sheet frame us picture slots))) Between
 sheet_read frame us picture k slots h =
     let header : List ℕ = line (codes "%%Page: " ++ decimal (k + 1) ++ codes " " ++ decimal (k + 1)) in

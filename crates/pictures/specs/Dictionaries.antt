@@ -7,7 +7,8 @@ use Rattle.std.specs.List.{list_any}
 use Rattle.pictures.specs.Objects.{Object, Dictionary, SystemDictionary, Truth, Operator, Kind, Computes, Controls, Draws}
 use Rattle.pictures.specs.Objects.{PushesGraphics, PopsGraphics, PopsAllGraphics, Saves, Looks, TakesMatrix}
 use Rattle.pictures.specs.Objects.{SetsMatrix, DefaultMatrix, InitialMatrix, InitialClip, ClipOutline, PathElements}
-use Rattle.pictures.specs.Objects.{SetsDevice, ErasesPage, CopiesPage, Count, MakeExecutable, IsWritable, MakeMatrix}
+use Rattle.pictures.specs.Objects.{SetsDevice, ErasesPage, CopiesPage, Count, MakeExecutable, IsWritable, MakeReadOnly}
+use Rattle.pictures.specs.Objects.{MakeMatrix}
 use Rattle.pictures.specs.Objects.{Restores, Ships, Resets, Pop, Duplicate, Exchange, OpenArray, CloseArray, Put}
 use Rattle.pictures.specs.Objects.{Define, Begin, End}
 use Rattle.pictures.specs.Objects.{MakeDictionary, Load, Bind, Known, Index, ClearToMark, FindFont, ScaleFont, Execute}
@@ -67,7 +68,8 @@ systemdict =
     ∷ is (codes "aload") (Computes LoadArray)
     ∷ is (codes "<<") (Computes OpenArray) ∷ is (codes ">>") (Computes CloseDictionary)
     ∷ is (codes "count") (Computes Count) ∷ is (codes "cvx") (Computes MakeExecutable)
-    ∷ is (codes "wcheck") (Computes IsWritable) ∷ is (codes "matrix") (Computes MakeMatrix)
+    ∷ is (codes "wcheck") (Computes IsWritable) ∷ is (codes "readonly") (Computes MakeReadOnly)
+    ∷ is (codes "matrix") (Computes MakeMatrix)
     ∷ draws (codes "newpath") [] Forgets
     ∷ draws (codes "moveto") (ANumber ∷ ANumber ∷ []) Segments
     ∷ draws (codes "rmoveto") (ANumber ∷ ANumber ∷ []) Segments
@@ -123,6 +125,10 @@ abbrev pub or : Option Object → Option Object → Option Object
 or None next = next
 or (Some o) next = Some o
 
+-- a dictionary that is read-only has an entry for this, which is no name, since no byte is 256
+abbrev pub read_only : List ℕ
+read_only = 256 ∷ []
+
 -- what a name means (3.3.8), if these dictionaries are on the stack, the topmost first
 abbrev pub meaning : List ℕ → List Entry → List ℕ → Option Object
 meaning [] es key = system key
@@ -141,7 +147,7 @@ lacked =
     ∷ codes "string" ∷ codes "anchorsearch" ∷ codes "search" ∷ codes "token" ∷ codes "xor" ∷ codes "bitshift"
     ∷ codes "loop" ∷ codes "exit" ∷ codes "stop" ∷ codes "stopped" ∷ codes "countexecstack" ∷ codes "execstack"
     ∷ codes "quit" ∷ codes "start" ∷ codes "type" ∷ codes "cvlit" ∷ codes "xcheck" ∷ codes "executeonly"
-    ∷ codes "noaccess" ∷ codes "readonly" ∷ codes "rcheck" ∷ codes "cvi" ∷ codes "cvn" ∷ codes "cvr" ∷ codes "cvrs"
+    ∷ codes "noaccess" ∷ codes "rcheck" ∷ codes "cvi" ∷ codes "cvn" ∷ codes "cvr" ∷ codes "cvrs"
     ∷ codes "cvs" ∷ codes "file" ∷ codes "filter" ∷ codes "closefile" ∷ codes "read" ∷ codes "write"
     ∷ codes "readhexstring" ∷ codes "writehexstring" ∷ codes "readstring" ∷ codes "writestring" ∷ codes "readline"
     ∷ codes "bytesavailable" ∷ codes "flush" ∷ codes "flushfile" ∷ codes "resetfile" ∷ codes "status" ∷ codes "run"

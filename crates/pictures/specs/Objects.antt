@@ -68,6 +68,7 @@ pub data Computation : Type 0 where
   Count : Computation
   MakeExecutable : Computation
   IsWritable : Computation
+  MakeReadOnly : Computation
   MakeMatrix : Computation
 
 pub data Control : Type 0 where

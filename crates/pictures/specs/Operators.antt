@@ -13,12 +13,13 @@ use Rattle.pictures.specs.Objects.{Font, Operator, Computation, Pop, Duplicate, 
 use Rattle.pictures.specs.Objects.{Define, Begin, End}
 use Rattle.pictures.specs.Objects.{MakeDictionary, Load, Bind, Known, Index, ClearToMark, FindFont, ScaleFont, Control}
 use Rattle.pictures.specs.Objects.{Calculate, Negate, Compare, And, Or, Not, Where, Get, Length, LoadArray}
-use Rattle.pictures.specs.Objects.{CloseDictionary, CopyOperands, Roll, Count, MakeExecutable, IsWritable, MakeMatrix}
+use Rattle.pictures.specs.Objects.{CloseDictionary, CopyOperands, Roll, Count, MakeExecutable, IsWritable, MakeReadOnly}
+use Rattle.pictures.specs.Objects.{MakeMatrix}
 use Rattle.pictures.specs.Objects.{Comparison, Equal, NotEqual}
 use Rattle.pictures.specs.Objects.{Execute, If, IfElse, Repeat, For, ForAll, Want, ANumber, AText, AnArray}
 use Rattle.pictures.specs.Objects.{AMatrix, AFont, AName, ATruth}
 use Rattle.pictures.specs.Calculations.{whole_of, whole_text, calculated, negated, compared, names_compared, turns}
-use Rattle.pictures.specs.Dictionaries.{Entry, meaning, system, entry_of, has, is_lacked}
+use Rattle.pictures.specs.Dictionaries.{Entry, meaning, system, entry_of, has, is_lacked, read_only}
 
 -- the operands and the dictionaries on their stacks, the topmost first (3.4); all entries; how many dictionaries and
 -- matrices have been made
@@ -259,8 +260,11 @@ computed_on Count os w = Some (with_operands w (Plain (Number (decimal (length o
 computed_on MakeExecutable (Plain (Literal name) ∷ os) w = Some (with_operands w (Plain (Name name) ∷ os))
 computed_on MakeExecutable (Array ts ∷ os) w = Some (with_operands w (Procedure ts ∷ os))
 computed_on MakeExecutable (Procedure ts ∷ os) w = Some (with_operands w (Procedure ts ∷ os))
-computed_on IsWritable (Dictionary d ∷ os) w = Some (with_operands w (Truth true ∷ os))
+computed_on IsWritable (Dictionary d ∷ os) w =
+    Some (with_operands w (Truth (not (has (entry_of d read_only w.entries))) ∷ os))
 computed_on IsWritable (SystemDictionary ∷ os) w = Some (with_operands w (Truth false ∷ os))
+computed_on MakeReadOnly (Dictionary d ∷ os) w =
+    Some (put_entry d read_only (Truth true) (with_operands w (Dictionary d ∷ os)))
 computed_on MakeMatrix os w = Some (record w { operands = Matrix (w.made + 1) ∷ os; made = w.made + 1 })
 computed_on c os w = None
 

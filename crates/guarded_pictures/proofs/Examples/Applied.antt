@@ -19,7 +19,7 @@ use Rattle.guarded_pictures.specs.Pages.{IsGuarded, defined, GuardedPreambleRuns
 use Rattle.guarded_pictures.proofs.Ground.{guard_is_enough, stays_guarded}
 use Rattle.guarded_pictures.proofs.Documents.{guarded_document_is_shown}
 
-abbrev paper : Option Paper
+abbrev pub paper : Option Paper
 paper = Some (points 200 300)
 
 -- the first page resets, its clip again while there is a path, and prints by a procedure that was bound; the second takes back
@@ -27,7 +27,7 @@ paper = Some (points 200 300)
 abbrev text : List ℕ
 text = document_with (codes "/e {showpage} bind def") (codes "initgraphics 0 0 moveto 9 9 lineto initclip stroke e" ∷ (codes "grestore " ++ stroke) ∷ [])
 
-abbrev units_found : Result (List NestedUnit) DocumentFault → List NestedUnit
+abbrev pub units_found : Result (List NestedUnit) DocumentFault → List NestedUnit
 units_found (Ok us) = us
 units_found (Err e) = []
 
@@ -35,27 +35,27 @@ abbrev us : List NestedUnit
 us = units_found (document_of text)
 
 -- behind the preamble
-abbrev behind : State
+abbrev pub behind : State
 behind = defined (in_userdict (codes "e") (Procedure (Name (codes "showpage") ∷ []))) (behind_guard paper [])
 
-guarded_behind : IsGuarded behind
+pub guarded_behind : IsGuarded behind
 guarded_behind = stays_guarded (behind_guard paper []) (in_userdict (codes "e") (Procedure (Name (codes "showpage") ∷ []))) (guard_is_enough paper []) refl
 
 preamble_runs : GuardedPreambleRuns (bytes_of (preamble (units_of (guarded paper text)))) behind
 unfolding digits
-preamble_runs = (refl, (258, refl), refl, refl, refl, guarded_behind)
+preamble_runs = (refl, (264, refl), refl, refl, refl, guarded_behind)
 
-abbrev end_of : State → Option State → State
+abbrev pub end_of : State → Option State → State
 end_of s None = s
 end_of s (Some t) = t
 
 abbrev at_most : ℕ → State → State
 at_most zero s = s
-at_most (suc n) s = end_of s (and_then (λ r. Some (at_most n r)) (step_on (outline_of frame) s.left s))
+at_most (suc n) s = end_of s (and_then (λ r. Some (at_most n r)) (step_on [] (outline_of frame) s.left s))
 
 abbrev end : ℕ → State
-end zero = at_most 12 (sheltered behind (outline_of frame) (tokens (page_of us 0)))
-end (suc p) = at_most 9 (sheltered behind (outline_of frame) (tokens (page_of us 1)))
+end zero = at_most 12 (sheltered [] behind (outline_of frame) (tokens (page_of us 0)))
+end (suc p) = at_most 9 (sheltered [] behind (outline_of frame) (tokens (page_of us 1)))
 
 abbrev picture : ℕ → List Painting
 picture p = (end p).painted

@@ -133,6 +133,27 @@ takes_back_within : imposed_twice (codes "grestore grestore " ++ stroke) ≡ wit
 unfolding digits
 takes_back_within = refl
 
+-- what resets comes back to both places, and the edges of both papers clip it
+resets_within : imposed_twice (codes "initgraphics " ++ stroke) ≡ within_another
+unfolding digits
+resets_within = refl
+
+resets_clip_within : imposed_twice (codes "0 0 moveto 9 9 lineto initclip stroke") ≡ within_another
+unfolding digits
+resets_clip_within = refl
+
+-- imposed once more
+abbrev imposed_three_times : List ℕ → Result (Option (List (List (List (List ℕ) × List (List ℕ))))) DocumentFault
+imposed_three_times page =
+    document_of (guarded (Some (points 200 300)) (document_with (codes "/e {showpage} bind def") (page ∷ [])))
+    >>= λ us. document_of (guarded (Some (points 200 300)) (output frame None half us))
+    >>= λ vs. sheets_with_guard (output frame None half vs)
+
+resets_within_two : imposed_three_times (codes "initgraphics " ++ stroke)
+    ≡ Ok (Some (((codes "concat" ∷ codes "concat" ∷ codes "concat" ∷ [], codes "clip" ∷ codes "clip" ∷ codes "clip" ∷ []) ∷ []) ∷ []))
+unfolding digits
+resets_within_two = refl
+
 -- What stands before the guard, where another document includes this one.
 
 abbrev with_guard_in : List ℕ → List ℕ → Option (List (List (List (List ℕ) × List (List ℕ))))

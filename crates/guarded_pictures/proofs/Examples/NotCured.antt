@@ -1,10 +1,17 @@
 -- What the guard doesn't cure, each with the wrong picture that comes of it.
-use Rattle.std.proofs.Common.{◌≡◌, [], ◌∷◌, ◌++◌, refl, Some, None}
-use Rattle.std.specs.Prelude.{codes, Ok}
+use Rattle.std.proofs.Common.{◌≡◌, [], ◌∷◌, ◌++◌, refl, Some, None, false}
+use Rattle.std.specs.Prelude.{codes, Ok, option_map}
 use Rattle.std.specs.Fmt.{digits}
-use Rattle.pictures.proofs.Examples.TwoUp.{lines}
-use Rattle.pictures.proofs.Examples.Premises.{document_with, stroke, placed, not_placed}
-use Rattle.guarded_pictures.proofs.Examples.Guarded.{imposed, imposed_twice, sheets_with_guard}
+use Rattle.rules.specs.Papers.{points}
+use Rattle.rules.specs.Specification.{Spec, settled}
+use Rattle.rules.specs.Units.{◌>>=◌}
+use Rattle.rules.specs.Run.{document_of}
+use Rattle.rules.specs.Output.{output}
+use Rattle.rules.proofs.Examples.Written.{item, written}
+use Rattle.guard.specs.Guard.{guarded}
+use Rattle.pictures.proofs.Examples.TwoUp.{lines, sheets_of}
+use Rattle.pictures.proofs.Examples.Premises.{document_with, frame, outline, stroke, placed, not_placed}
+use Rattle.guarded_pictures.proofs.Examples.Guarded.{imposed, sheets_with_guard}
 
 -- the operator itself, by systemdict: a sheet more, and what is painted behind it isn't placed
 takes_the_operator : imposed (codes "/x 1 def") ((stroke ++ codes " systemdict /showpage get exec " ++ stroke) ∷ [])
@@ -33,6 +40,21 @@ matrix_of_setup : imposed (codes "/m matrix currentmatrix def") ((codes "m setma
 unfolding digits
 matrix_of_setup = refl
 
+-- a showpage of the document's own in a dictionary that can't be written: it hides the sheet's, and no sheet is printed
+keeps_its_own_showpage : imposed (codes "/d 1 dict def d /showpage {} put d readonly begin") (stroke ∷ []) ≡ Ok (Some [])
+unfolding digits
+keeps_its_own_showpage = refl
+
+-- and in one that can be written, where the first sheet has no page: the guard has changed nothing then, and that sheet isn't
+-- printed
+abbrev second_page_first : Spec
+second_page_first = settled (written 2 ((item false 1 [] ∷ []) ∷ (item false 0 [] ∷ []) ∷ []))
+
+blank_sheet_first : (document_of (guarded (Some (points 200 300)) (document_with (codes "/d 1 dict def d /showpage {} put d begin") (stroke ∷ [])))
+    >>= λ us. Ok (option_map outline (sheets_of (output frame None second_page_first us)))) ≡ Ok (Some ((placed ∷ []) ∷ []))
+unfolding digits
+blank_sheet_first = refl
+
 -- showpage in the trailer: a blank sheet more
 shows_in_trailer : sheets_with_guard (document_with (codes "/x 1 def") (stroke ∷ []) ++ lines (codes "%%Trailer" ∷ codes "showpage" ∷ []))
     ≡ Ok (Some ([] ∷ (placed ∷ []) ∷ []))
@@ -51,9 +73,3 @@ leaves_a_dictionary : imposed (codes "/d 1 dict def d /showpage {} put") ((strok
     ≡ Ok (Some ((placed ∷ placed ∷ []) ∷ []))
 unfolding digits
 leaves_a_dictionary = refl
-
--- imposed twice, a page that resets: it comes back to its inner place, and within that to the outer one, but the edge of the
--- outer paper clips it no more
-resets_within : imposed_twice (codes "initgraphics " ++ stroke) ≡ Ok (Some (((codes "concat" ∷ codes "concat" ∷ [], codes "clip" ∷ []) ∷ []) ∷ []))
-unfolding digits
-resets_within = refl

@@ -54,6 +54,13 @@ not_told_either = refl
 read_only : left_by (codes "systemdict wcheck userdict wcheck") ≡ Some (Truth true ∷ Truth false ∷ [])
 read_only = refl
 
+-- whoever has the dictionary, and until what is older is restored
+made_read_only : left_by (codes "/d 1 dict def d d readonly pop wcheck") ≡ only (Truth false)
+made_read_only = refl
+
+writable_again : left_by (codes "/d 1 dict def save d readonly pop restore d wcheck") ≡ only (Truth true)
+writable_again = refl
+
 real_one : left_by (codes "/pop {} def 1 2 systemdict /pop get exec") ≡ only (number (codes "1"))
 real_one = refl
 

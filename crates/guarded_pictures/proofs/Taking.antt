@@ -1,0 +1,70 @@
+-- Where sheets of sheets can be placed: behind the guard, and behind definitions of other names.
+use Rattle.std.specs.Prelude.{Some, None, codes, bytes_eq}
+use Rattle.std.proofs.Common.{◌≡◌, ℕ, ◌+◌, refl, ap, ap₂, ◌∙◌, true, false, not, ◌&&◌, ◌||◌, List, [], ◌∷◌, arith}
+use Rattle.pictures.specs.Dictionaries.{Entry}
+use Rattle.pictures.specs.Sheets.{among}
+use Rattle.pictures.proofs.Opening.{name_other, apart}
+use Rattle.pictures.proofs.Tests.{first, second}
+use Rattle.guarded_pictures.specs.Behind.{behind_guard}
+use Rattle.guarded_pictures.specs.Pages.{looked_up, looked_up_first, guarded_names}
+use Rattle.guarded_pictures.specs.SheetsOfSheets.{none_above_of, put_there, taken_names, GuardTakesSheets, StaysTakingSheets}
+use Rattle.guarded_pictures.proofs.Ground.{guard_is_enough, nor, differs, all_differ, all_among, entry_other, holder_other, all_absent_other}
+use Rattle.guarded_pictures.proofs.Placed.{takes_pages}
+use Rattle.guarded_pictures.proofs.PutThere.{above_other}
+use Rattle.guarded_pictures.proofs.SheetsOfSheets.{still_new}
+
+pub guard_takes_sheets : GuardTakesSheets
+guard_takes_sheets None rest = record { takes = takes_pages (behind_guard None rest) (guard_is_enough None rest); above = refl; outermost = refl; restore_is = refl; new = refl; older = tt }
+guard_takes_sheets (Some paper) rest =
+    record { takes = takes_pages (behind_guard (Some paper) rest) (guard_is_enough (Some paper) rest); above = refl; outermost = refl; restore_is = refl; new = refl; older = tt }
+
+-- none of these is the guard's either
+of_guard : (key : List ℕ) → among key taken_names ≡ false → among key guarded_names ≡ false
+of_guard key a =
+    nor (bytes_eq key (codes "PStoPSclip")) (among key guarded_names)
+    (nor (bytes_eq key (codes "PStoPSmatrix")) (bytes_eq key (codes "PStoPSclip") || among key guarded_names)
+    (nor (bytes_eq key (codes "ImposeOuter")) (bytes_eq key (codes "PStoPSmatrix") || (bytes_eq key (codes "PStoPSclip") || among key guarded_names))
+    (nor (bytes_eq key (codes "ImposeSave")) (bytes_eq key (codes "ImposeOuter") || (bytes_eq key (codes "PStoPSmatrix") || (bytes_eq key (codes "PStoPSclip") || among key guarded_names)))
+    (nor (bytes_eq key (codes "restore")) (bytes_eq key (codes "ImposeSave") || (bytes_eq key (codes "ImposeOuter") || (bytes_eq key (codes "PStoPSmatrix") || (bytes_eq key (codes "PStoPSclip") || among key guarded_names)))) a))))
+
+is_apart : (key name : List ℕ) → bytes_eq key name ≡ false → apart key (name ∷ []) ≡ true
+is_apart key name e = ap (λ b. not b && true) e
+
+all_above : (names : List (List ℕ)) (ds : List ℕ) (e : Entry) (es : List Entry) → among e.key taken_names ≡ false → all_among names taken_names ≡ true
+    → none_above_of names ds (e ∷ es) ≡ none_above_of names ds es
+all_above [] ds e es a h = refl
+all_above (name ∷ names) ds e es a h =
+    ap₂ (λ x y. x && y) (above_other ds name e es (is_apart e.key name (differs e.key name taken_names a (first (among name taken_names) (all_among names taken_names) h))))
+    (all_above names ds e es a (second (among name taken_names) (all_among names taken_names) h))
+
+pub stays_taking_sheets : StaysTakingSheets
+stays_taking_sheets s e t a made =
+    let ds : List ℕ = s.work.dictionaries in
+    let es : List Entry = s.work.entries in
+    let g = t.takes in
+    let b = of_guard e.key a in
+    let other : (name : List ℕ) → among name taken_names ≡ true → bytes_eq e.key name ≡ false = λ name h. differs e.key name taken_names a h in
+    record {
+      takes = record {
+        number = g.number;
+        save_is = name_other ds e es (codes "save") (other (codes "save") refl) ∙ g.save_is;
+        guard_is = name_other ds e es (codes "ImposeGuard") (other (codes "ImposeGuard") refl) ∙ g.guard_is;
+        clip_is = entry_other g.number e es (codes "clip") (other (codes "clip") refl) ∙ g.clip_is;
+        clip_alone = all_absent_other looked_up_first (g.number ∷ ds) e es (all_differ e looked_up_first b refl) ∙ g.clip_alone;
+        path_is = entry_other 0 e es (codes "ImposePath") (other (codes "ImposePath") refl) ∙ g.path_is;
+        names = all_absent_other looked_up (0 ∷ ds) e es (all_differ e looked_up b refl) ∙ g.names;
+        userdict_first = holder_other ds e es (codes "showpage") (other (codes "showpage") refl) ∙ g.userdict_first;
+        few_operands = g.few_operands;
+        operands = g.operands;
+        dictionaries = g.dictionaries;
+        encloses = name_other ds e es (codes "PStoPSenablepage") (other (codes "PStoPSenablepage") refl) ∙ g.encloses;
+        clips = g.clips;
+        numbers = g.numbers;
+        held = g.held;
+      };
+      above = all_above put_there ds e es a refl ∙ t.above;
+      outermost = name_other ds e es (codes "ImposeOuter") (other (codes "ImposeOuter") refl) ∙ t.outermost;
+      restore_is = name_other ds e es (codes "restore") (other (codes "restore") refl) ∙ t.restore_is;
+      new = still_new (s.work.made + 1 + 1) e es (omega (arith, made)) t.new;
+      older = t.older;
+    }

@@ -1,0 +1,185 @@
+-- Sheets of sheets: the sheets of one document are the pages of another one, which is imposed with the guard too. Each
+-- page stands in its inner place, and with that in the outer one.
+use Rattle.std.specs.Prelude.{◌≡◌, ℕ, ◌+◌, ◌<◌, ◌≤◌, List, [], ◌∷◌, ◌++◌, map, length, Bool, true, false, not, ◌&&◌, ◌||◌, ◌==◌}
+use Rattle.std.specs.Prelude.{Option, Some, Ok, codes, slice_index_or}
+use Rattle.rules.specs.Specification.{Item, Spec}
+use Rattle.rules.specs.Sheets.{Slot}
+use Rattle.rules.specs.Papers.{Paper}
+use Rattle.rules.specs.Parts.{NestedUnit, preamble, page_run, bytes_of}
+use Rattle.rules.specs.Run.{document_of, most_input_bytes, most_pages}
+use Rattle.rules.specs.Output.{Frame, output}
+use Rattle.dsc.specs.Units.{units_of}
+use Rattle.imposed_again.specs.Again.{depth_behind}
+use Rattle.guard.specs.Guard.{guarded}
+use Rattle.pictures.specs.Objects.{Token}
+use Rattle.pictures.specs.Dictionaries.{Entry, userdict, system, entry_of, has}
+use Rattle.pictures.specs.Machine.{State, Painting, Graphics, Runs}
+use Rattle.pictures.specs.Placing.{Place, graphics_at, picture_at}
+use Rattle.pictures.specs.Scanner.{tokens, IsComplete}
+use Rattle.pictures.specs.Sheets.{Numbers, among, Shown, run_of, placed_tokens, place_in, page_picture, sheet_picture, sheet_tokens}
+use Rattle.pictures.specs.Pictures.{printed, sheets_tokens}
+use Rattle.pictures.specs.Documents.{numbers_of, page_of, shown_sheet, OnSheets, all_sheets, IsPrinted}
+use Rattle.pictures.specs.Kept.{page_comments_apart, preamble_comments_apart}
+use Rattle.guarded_pictures.specs.Shelter.{Outer, outer_is, means, outline_tokens, page_matrix, beginning, sheltered}
+use Rattle.guarded_pictures.specs.Shelter.{PaintsSheltered}
+use Rattle.guarded_pictures.specs.Behind.{behind_guard}
+use Rattle.guarded_pictures.specs.Pages.{IsGuarded, TakesPages, AllSheltered, has_nothing, placed_at, around, outline_of}
+use Rattle.guarded_pictures.specs.Pages.{GuardedPreambleRuns, guarded_names, defined}
+
+-- A page that a sheet of another document is.
+
+-- the page that is placed by these numbers, as one round those of its sheet
+abbrev pub page_round : List Outer → State → Numbers → Outer
+page_round outers s n = record {
+  dictionary = page_matrix outers s + 1;
+  matrix = page_matrix outers s;
+  numbers = n;
+  chain = (place_in s.graphics n).chain;
+}
+
+-- where it begins, in its place
+abbrev pub page_begun : List Outer → State → Numbers → State
+page_begun outers s n = placed_at (around [] n s) (sheltered outers s (outline_tokens n) [])
+
+-- the sheet as the page's tokens, and as its picture: that of a sheet by itself
+abbrev pub sheet_as_page : State → Numbers → List Shown → Shown
+sheet_as_page s n xs = record {
+  placed = record { numbers = n; body = sheet_tokens (map (λ x. x.placed) xs) };
+  picture = sheet_picture (beginning s) xs [];
+}
+
+-- What is asked of the state in which it is placed.
+
+-- no dictionary above userdict on the stack has the name
+abbrev pub none_above : List ℕ → List ℕ → List Entry → Bool
+none_above name [] es = false
+none_above name (d ∷ ds) es = (userdict == d) || (not (has (entry_of d name es)) && none_above name ds es)
+
+abbrev pub none_above_of : List (List ℕ) → List ℕ → List Entry → Bool
+none_above_of [] ds es = true
+none_above_of (name ∷ names) ds es = none_above name ds es && none_above_of names ds es
+
+-- the names that the sheet's text and the guard put where a page begins
+abbrev pub put_there : List (List ℕ)
+put_there =
+    codes "PStoPSenablepage" ∷ codes "PStoPSmatrix" ∷ codes "PStoPSclip" ∷ codes "ImposeOuter" ∷ codes "showpage"
+    ∷ codes "ImposeSave" ∷ []
+
+-- outside all pages ImposeOuter means that there are none
+abbrev pub IsOutermost : List Outer → State → Type 0
+IsOutermost [] s = means s (codes "ImposeOuter") ≡ Some (outer_is [])
+IsOutermost (o ∷ os) s = Unit {0}
+
+-- the matrices of the pages round it have been made
+abbrev pub AllOlder : List Outer → ℕ → Type 0
+AllOlder [] made = Unit {0}
+AllOlder (o ∷ os) made = (o.matrix < made + 1) × AllOlder os made
+
+-- besides all that is asked where pages are placed: the names that are put there mean what is put; `restore` means the
+-- operator; and the dictionary in which the page is kept is new
+pub record TakesSheets (outers : List Outer) (s : State) : Type 0 where
+  pub takes : TakesPages outers s
+  pub above : none_above_of put_there s.work.dictionaries s.work.entries ≡ true
+  pub outermost : IsOutermost outers s
+  pub restore_is : means s (codes "restore") ≡ system (codes "restore")
+  pub new : has_nothing (page_matrix outers s + 1) s.work.entries ≡ true
+  pub older : AllOlder outers s.work.made
+
+-- What such a state is come to by.
+
+-- behind the guard's text sheets of sheets can be placed: a law
+abbrev pub GuardTakesSheets : Type 0
+GuardTakesSheets = (sheet : Option Paper) (rest : List Token) → TakesSheets [] (behind_guard sheet rest)
+
+-- the names that it rests on
+abbrev pub taken_names : List (List ℕ)
+taken_names =
+    codes "restore" ∷ codes "ImposeSave" ∷ codes "ImposeOuter" ∷ codes "PStoPSmatrix" ∷ codes "PStoPSclip" ∷ guarded_names
+
+-- where any other name is defined, in any dictionary that has been made, it stays so: a law
+abbrev pub StaysTakingSheets : Type 0
+StaysTakingSheets =
+    (s : State) (e : Entry) → TakesSheets [] s → among e.key taken_names ≡ false → e.dictionary < s.work.made + 1
+    → TakesSheets [] (defined e s)
+
+-- The laws.
+
+-- a sheet of another document, placed as a page, paints its own picture, placed, if each of its pages, within this one,
+-- paints its own: a law. Its `showpage` prints nothing
+abbrev pub SheetIsPlaced : Type 0
+SheetIsPlaced =
+    (outers : List Outer) (s : State) (n : Numbers) (xs : List Shown) (rest : List Token) → TakesSheets outers s
+    → AllSheltered (page_round outers s n ∷ outers) (page_begun outers s n) xs
+    → Runs false (run_of (placed_tokens (sheet_as_page s n xs).placed ++ rest) s)
+    (record s { left = rest; painted = page_picture s.graphics (sheet_as_page s n xs) ++ s.painted })
+
+-- a sheet's picture, placed, is that of a sheet in that place: each of its pages is placed by its own matrix, and then by
+-- the sheet's, and clipped by its own paper's edge, and then by the outer one's: a law
+abbrev pub SheetIsComposed : Type 0
+SheetIsComposed =
+    (p : Place) (g : Graphics) (xs : List Shown)
+    → picture_at p (sheet_picture g xs []) ≡ sheet_picture (graphics_at p g) xs []
+
+-- a sheet that is a page of an outer one, by the numbers by which it is placed there, and its own pages
+pub record Inner : Type 0 where
+  pub numbers : Numbers
+  pub pages : List Shown
+
+abbrev pub as_pages : State → List Inner → List Shown
+as_pages s xs = map (λ x. sheet_as_page s x.numbers x.pages) xs
+
+abbrev pub AllWithin : State → List Inner → Type 0
+AllWithin s [] = Unit {0}
+AllWithin s (x ∷ xs) =
+    AllSheltered (page_round [] s x.numbers ∷ []) (page_begun [] s x.numbers) x.pages × AllWithin s xs
+
+abbrev pub AllSheetsWithin : State → List (List Inner) → Type 0
+AllSheetsWithin s [] = Unit {0}
+AllSheetsWithin s (x ∷ xs) = AllWithin s x × AllSheetsWithin s xs
+
+-- sheets of sheets are printed, each with the pictures of its sheets, placed: a law
+abbrev pub SheetsOfSheetsArePrinted : Type 0
+SheetsOfSheetsArePrinted =
+    (s : State) (xs : List (List Inner)) (rest : List Token) → IsGuarded s → TakesSheets [] s → s.painted ≡ []
+    → AllSheetsWithin s xs
+    → Runs false (run_of (sheets_tokens (map (as_pages s) xs) ++ rest) s)
+    (record s { left = rest; sheets = printed s.graphics (map (as_pages s) xs) s.sheets })
+
+-- Two runs: impose puts the guard into what a run wrote, and imposes it.
+
+-- the sheets of the run before, each with its own picture; there is no other one
+abbrev pub run_picture : Frame → List NestedUnit → (ℕ → List Painting) → State → List (List Slot) → ℕ → List Painting
+run_picture frame us picture s all p =
+    sheet_picture (beginning s) (shown_sheet frame us picture (slice_index_or all p [])) []
+
+-- the page, as the first document has it, paints this by itself within whatever place on the outer paper; its text ends
+-- between tokens, and so does what stands before each of its lines that is dropped
+abbrev pub PagePaintsWithin : (inner : Frame) → List NestedUnit → (outer : Frame) → State → ℕ → List Painting → Type 0
+PagePaintsWithin inner us outer s p picture =
+    IsComplete (page_of us p) × (page_comments_apart (page_of us p) ≡ true)
+    × ((item : Item)
+    → PaintsSheltered (page_round [] s (numbers_of outer item) ∷ []) (page_begun [] s (numbers_of outer item))
+    (outline_of inner) (tokens (page_of us p)) picture)
+
+-- the units of what a run wrote, with the guard put in
+abbrev pub units_again : Option Paper → Frame → Option ℕ → Spec → List NestedUnit → List NestedUnit
+units_again sheet frame sides spec us = units_of (guarded sheet (output frame sides spec us))
+
+-- Of an accepted document whose last page leaves no embedded document open: what is written of its output, with the guard
+-- put in, shows the sheets of the first run, each as the picture of its pages, placed, if each page that stands on one
+-- paints its picture by itself there. A law
+abbrev pub TwoRunsAreShown : Type 0
+TwoRunsAreShown =
+    (sheet : Option Paper) (inner outer : Frame) (sides outer_sides : Option ℕ) (spec outer_spec : Spec) (text : List ℕ)
+    (us : List NestedUnit) (picture : ℕ → List Painting) (s : State)
+    → document_of text ≡ Ok us → depth_behind (page_run us) ≡ 0
+    → 0 < length (all_sheets sides spec us) → length (all_sheets sides spec us) ≤ most_pages
+    → length (output inner sides spec us) ≤ most_input_bytes
+    → length (guarded sheet (output inner sides spec us)) ≤ most_input_bytes
+    → preamble_comments_apart (units_again sheet inner sides spec us) ≡ true
+    → GuardedPreambleRuns (bytes_of (preamble (units_again sheet inner sides spec us))) s → TakesSheets [] s
+    → OnSheets (λ p. PagePaintsWithin inner us outer s p (picture p)) (all_sheets sides spec us)
+    → OnSheets (λ p. page_comments_apart (page_of (units_again sheet inner sides spec us) p) ≡ true)
+    (all_sheets outer_sides outer_spec (units_again sheet inner sides spec us))
+    → IsPrinted outer outer_sides outer_spec (units_again sheet inner sides spec us)
+    (run_picture inner us picture s (all_sheets sides spec us)) s
