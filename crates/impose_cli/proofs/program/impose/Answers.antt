@@ -6,8 +6,9 @@ use Rattle.impose_cli.proofs.program.impose.Goals as goal
 
 pub returns-in-Ok : goal.returns-in-Ok
 returns-in-Ok g c = record {
-  ended =
-      (entered_at_home (map string_bytes c.args.words.now) c.in-Ok.read c.at_home-request.result c.home_of.result c.at_home-request.ensures c.in-Ok.ensures.read,
-      subst (λ p. IsHome c.args.paper_size.now (g.W.World.gives c.args.world) p) (sym (ap (λ r. r.home_paper) c.at_home-request.ensures)) c.home_of.ensures,
-      c.carry_out-left.ensures);
+  ended = (
+    entered_at_home (map string_bytes c.args.words.now) c.in-Ok.read c.at_home-request.result c.home_of.result c.at_home-request.ensures c.in-Ok.ensures.read,
+    subst (λ p. IsHome c.args.paper_size.now (g.W.World.gives c.args.world) p) (sym (ap (λ r. r.home_paper) c.at_home-request.ensures)) c.home_of.ensures,
+    c.carry_out-left.ensures,
+  );
 }
