@@ -1,0 +1,22 @@
+-- What the errors of the parts are called here.
+use Rattle.rows.specs.declared.error.RowError.{RowError}
+use Rattle.rows.specs.declared.error.RowError.TheVariants as row
+use Rattle.layouts.specs.declared.error.ArrangementError.{ArrangementError}
+use Rattle.layouts.specs.declared.error.ArrangementError.TheVariants as arrangement
+use Rattle.sheet_runs.specs.declared.error.SheetsError.{SheetsError}
+use Rattle.sheet_runs.specs.declared.error.SheetsError.TheVariants as sheets
+use Rattle.row_runs.specs.declared.error.AskedError.{AskedError}
+use Rattle.row_runs.specs.declared.error.AskedError.TheVariants as error
+
+abbrev pub of_row : RowError → AskedError
+of_row row.NoMemory = error.NoMemory 0
+of_row other = error.Row other
+
+abbrev pub of_arrangement : ArrangementError → AskedError
+of_arrangement arrangement.NoMemory = error.NoMemory 0
+of_arrangement other = error.Arrangement other
+
+abbrev pub of_sheets : SheetsError → AskedError
+of_sheets (sheets.Sheets e) = error.Sheets e
+of_sheets (sheets.NoMemory written) = error.NoMemory written
+of_sheets (sheets.Write written) = error.Write written

@@ -1,0 +1,68 @@
+-- The sheets that are asked for.
+use Rattle.std.specs.Prelude.{◌≡◌, ⊤, ℕ, ◌<◌, ◌≤◌, List, length, IsOk, IfSome, Ok, Result, option_map}
+use Rattle.rules.specs.Papers.{Paper}
+use Rattle.made_sheets.specs.Made.{MadeSheet}
+use Rattle.made_sheets.specs.Rows.{Row}
+use Rattle.made_sheets.specs.Choice.{RowFault, imposed_row}
+use Rattle.layouts.specs.Cells.{size}
+use Rattle.layouts.specs.declared.error.ArrangementError.{ArrangementError}
+use Rattle.layouts.specs.declared.error.ArrangementError.TheVariants as why
+use Rattle.rows.specs.Choices.{choice_of}
+use Rattle.rows.specs.Sewing.{MayBeSewn, signing_of}
+use Rattle.rows.specs.Refusals.{RefusesRow}
+use Rattle.row_sheets.specs.RowSheets.{selected}
+use Rattle.arranged_sheets.specs.Filled.{card_sheets, duplex_sheets, grid_sheets, stack_sheets}
+use Rattle.arranged_sheets.specs.Shapes.{IsRefusedFor, filling}
+use Rattle.row_runs.specs.declared.asked.Asked.{Asked}
+use Rattle.row_runs.specs.declared.asked.Laying.{Laying}
+use Rattle.row_runs.specs.declared.asked.Laying.TheVariants as laying
+use Rattle.row_runs.specs.declared.error.AskedError.{AskedError}
+use Rattle.row_runs.specs.declared.error.AskedError.TheVariants as error
+
+-- so many cells are some, and the sheet has them
+abbrev pub MayBeLaid : Laying → Type 0
+MayBeLaid (laying.AsTheyAre blank) = ⊤
+MayBeLaid (laying.Grid setting cells) = (0 < cells) × (cells ≤ size setting.grid)
+MayBeLaid (laying.Cards setting cells) = (0 < cells) × (cells ≤ size setting.grid)
+MayBeLaid (laying.Stack setting cells) = (0 < cells) × (cells ≤ size setting.grid)
+MayBeLaid (laying.Leaves setting) = ⊤
+
+-- and a signature may have so many sides
+pub record MayBeAsked (a : Asked) : Type 0 where
+  pub laid : MayBeLaid a.laying
+  pub sewn : IfSome a.signing MayBeSewn
+
+-- a row of pages with these papers, laid on sheets
+abbrev pub sheets_laid : Laying → List Paper → Row → List MadeSheet
+sheets_laid (laying.AsTheyAre blank) papers row = selected papers blank row
+sheets_laid (laying.Grid setting cells) papers row = grid_sheets (filling setting papers) cells row
+sheets_laid (laying.Cards setting cells) papers row = card_sheets (filling setting papers) cells row
+sheets_laid (laying.Stack setting cells) papers row = stack_sheets (filling setting papers) cells row
+sheets_laid (laying.Leaves setting) papers row = duplex_sheets (filling setting papers) row
+
+-- why it can't be laid: out of memory, or a page that can't stand in its cell
+abbrev pub WhyNotLaid : Laying → List Paper → Row → ArrangementError → Type 0
+WhyNotLaid (laying.AsTheyAre blank) papers row e = e ≡ why.NoMemory
+WhyNotLaid (laying.Grid setting cells) papers row e = IsRefusedFor (filling setting papers) row e
+WhyNotLaid (laying.Cards setting cells) papers row e = IsRefusedFor (filling setting papers) row e
+WhyNotLaid (laying.Stack setting cells) papers row e = IsRefusedFor (filling setting papers) row e
+WhyNotLaid (laying.Leaves setting) papers row e = IsRefusedFor (filling setting papers) row e
+
+-- the row that is asked for of a document with so many pages, or its fault
+abbrev pub row_asked : (pages : ℕ) → Asked → Result Row RowFault
+row_asked pages a = imposed_row pages (choice_of a.choice) (option_map signing_of a.signing)
+
+-- these are the sheets that are asked for: the row that is asked for, laid as is asked
+pub record AreAsked (pages : ℕ) (papers : List Paper) (a : Asked) (made : List MadeSheet) : Type 0 where
+  pub row : Row
+  pub chosen : row_asked pages a ≡ Ok row
+  pub are_laid : made ≡ sheets_laid a.laying papers row
+
+-- a refusal tells the fault of the row, or, if there is one, why it can't be laid
+abbrev pub RefusesAsked : (pages : ℕ) → List Paper → Asked → AskedError → Type 0
+RefusesAsked pages papers a (error.Row e) = RefusesRow (row_asked pages a) e
+RefusesAsked pages papers a (error.Arrangement e) =
+    (row : Row) × (row_asked pages a ≡ Ok row) × WhyNotLaid a.laying papers row e
+RefusesAsked pages papers a (error.Sheets e) = ⊥
+RefusesAsked pages papers a (error.NoMemory written) = (written ≡ 0) × IsOk (row_asked pages a)
+RefusesAsked pages papers a (error.Write written) = ⊥

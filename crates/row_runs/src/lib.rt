@@ -1,0 +1,10 @@
+//! Runs on rows of a document's pages: which pages are imposed, in which order, and how they are laid on sheets.
+#![tactic(auto)]
+
+mod asked;
+mod error;
+mod run;
+
+pub use asked::{Asked, Laying, asked_sheets};
+pub use error::AskedError;
+pub use run::{RowJob, impose_row};

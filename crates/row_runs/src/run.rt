@@ -1,0 +1,84 @@
+//! A run on a row of a document's pages.
+ghost use Rattle.std.specs.Prelude.{◌≡◌, IfErr, IfOk, IsTrue, OnOk, length};
+ghost use Rattle.rules.specs.Parts.{pages};
+ghost use Rattle.sheet_text.specs.Jobs.{is_border};
+ghost use Rattle.sheet_writer.specs.Sinks.{IsCountable};
+ghost use Rattle.imposer.specs.Workers.{AreWorkers};
+ghost use Rattle.row_runs.specs.Errors.{of_sheets};
+ghost use Rattle.row_runs.specs.Sheets.{MayBeAsked};
+ghost use Rattle.row_runs.specs.Runs.{FailedWith, Imposes, RefusesRun, WroteWith};
+
+use crate::asked::{Asked, asked_sheets};
+use crate::error::AskedError;
+use dsc::Document;
+use imposer::{Gate, Report, Sink, Workers};
+use lengths::{Grains, Paper};
+use sheet_runs::{SheetJob, SheetsError, impose_sheets};
+use std::alloc::Global;
+use std::sync::Wait;
+use std::thread::Threads;
+
+/// What is imposed of a document, which was read before; the papers of its pages in their order, of which those that
+/// aren't told have the sheet's; a border round each page, wider than nothing, if one is asked for; and how many threads
+/// prepare and impose.
+#[derive(Clone, Copy)]
+pub struct RowJob<'j, 'd> {
+    pub document: &'j Document<'d>,
+    pub papers: &'j [Paper],
+    pub asked: Asked<'j>,
+    pub border: Option<Grains>,
+    pub workers: Workers,
+}
+
+/// Hands the sink the sheets that are asked for, with the lines by which they tell their papers. What is wrong with the row
+/// is refused first, then a page that can't stand in a cell, then sheets that can't be planned; nothing is written then.
+/// After `NoMemory` and `Write` the sink has taken the first `written` bytes of the output. The sink isn't flushed. The work
+/// is done as `run` of imposer does it.
+pub fn impose_row<R: Threads + Wait + Sync, G: Gate + Sync, S: Sink>(
+    rt: &R,
+    alloc: Global,
+    job: &RowJob<'_, '_>,
+    gate: &G,
+    sink: &mut S,
+) -> Result<Report, AskedError>
+    requires asked { MayBeAsked job.now.asked }
+    requires border { IsTrue (is_border job.now.border) }
+    requires workers { AreWorkers job.now.workers }
+    requires countable { IsCountable (S.seen sink.old) }
+    // There is such a row, and exactly the output of its sheets was appended, with the lines that tell their papers.
+    ensures finished { IfOk result (Imposes job.now (S.seen sink.old) (S.seen sink.new)) }
+    // A refusal names the first fault.
+    ensures refused { IfErr result (RefusesRun job.now) }
+    // After an error the sink has taken as much of the output as the error says, and nothing after a refusal.
+    ensures written { IfErr result (WroteWith job.now (S.seen sink.old) (S.seen sink.new)) }
+    // At Ok the sink didn't fail in the call, and after an error as often as the error allows: at Write once.
+    ensures steady { OnOk result ((S.seen sink.new).failures ≡ (S.seen sink.old).failures) }
+    ensures failed { IfErr result (λ e. FailedWith e (S.seen sink.old) (S.seen sink.new)) }
+{
+    let count = job.document.pages();
+    let sheets = match asked_sheets(alloc, count, job.papers, &job.asked) {
+        Ok(sheets) => sheets,
+        Err(error) => return Err(error),
+    };
+    let made = SheetJob {
+        document: job.document,
+        sheets: &sheets,
+        border: job.border,
+        workers: job.workers,
+    };
+    match impose_sheets(rt, alloc, &made, gate, sink) {
+        Ok(report) => Ok(report),
+        Err(error) => Err(sheets_error(error)),
+    }
+}
+
+/// What an error of the sheets is called.
+fn sheets_error(error: SheetsError) -> AskedError
+    ensures { result ≡ of_sheets error }
+{
+    match error {
+        SheetsError::Sheets(error) => AskedError::Sheets(error),
+        SheetsError::NoMemory { written } => AskedError::NoMemory { written },
+        SheetsError::Write { written } => AskedError::Write { written },
+    }
+}
