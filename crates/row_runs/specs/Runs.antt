@@ -28,11 +28,11 @@ abbrev pub output_on : RowJob → List MadeSheet → List ℕ
 output_on j made = told_output j.border made j.document.now
 
 -- exactly the output of the sheets that are asked for was appended, and the report has its numbers
-pub record Imposes (j : RowJob) (old new : SinkView) (report : Report) : Type 0 where
+pub record Imposes (j : RowJob) (old new : SinkView) (done : Report) : Type 0 where
   pub made : List MadeSheet
   pub planned : ArePlanned j made
   pub written : Appends old.bytes new.bytes (output_on j made)
-  pub report : ReportsOn j.border made j.document.now report
+  pub report : ReportsOn j.border made j.document.now done
 
 -- what holds after an error: after a refusal; of the number of bytes that were written, after out of memory and after a
 -- failed write
