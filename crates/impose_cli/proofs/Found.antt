@@ -7,9 +7,10 @@ use Rattle.clap.specs.declared.parser.matches.ArgMatches.{ArgMatches}
 use Rattle.clap.specs.declared.parser.matches.ArgMatches.TheViews.{out-ArgMatches, out-SubCommand}
 use Rattle.rules.specs.Papers.{Paper}
 use Rattle.impose_cli.specs.declared.request.Request.{Request}
-use Rattle.impose_cli.specs.Words.{AsksFor, Entered, Enters, HasLayout, HasPapers, HasSizes, ParseRefuses, Reads, Refuses, RefusesFound, RefusesArguments, border_found, size_found}
-use Rattle.impose_cli.specs.Sizing.{ReadsSizes, RefusesBorder, RefusesOutfile, RefusesSize, RefusesSizes}
+use Rattle.impose_cli.specs.Words.{AsksFor, ChoosesBy, Entered, Enters, HasChoice, HasLayout, HasPapers, HasSizes, ParseRefuses, Reads, Refuses, RefusesFound, RefusesArguments, border_found, ranges_id, size_found}
+use Rattle.impose_cli.specs.Sizing.{ReadsSizes, RefusesBorder, RefusesChoice, RefusesOutfile, RefusesSize, RefusesSizes}
 use Rattle.impose_cli.specs.declared.request.Layout.{Layout}
+use Rattle.impose_cli.specs.declared.request.PageChoice.{PageChoice}
 use Rattle.impose_cli.specs.declared.fault.PaperOption.{PaperOption}
 use Rattle.impose_cli.specs.declared.fault.PaperOption.TheVariants.{Paper as OfPages, Sheet as OfSheets}
 use Rattle.impose_cli.specs.declared.fault.CommandFault.{CommandFault}
@@ -135,7 +136,7 @@ has_sizes found page_paper sheet_paper border r =
 pub refuses_arguments : (name : Text) (found : List Row) (page_paper sheet_paper : Option Paper) (border : Option ℤ) (f : CommandFault) → ReadsSizes found page_paper sheet_paper border
     → RefusesArguments name found f → RefusesFound name found f
 refuses_arguments name found page_paper sheet_paper border fault.Lacking r h = (has_sizes found page_paper sheet_paper border r, h)
-refuses_arguments name found page_paper sheet_paper border fault.OddAndEven r h = (has_sizes found page_paper sheet_paper border r, h)
+refuses_arguments name found page_paper sheet_paper border fault.OddAndEven r h = absurd h
 refuses_arguments name found page_paper sheet_paper border (fault.BadSignature sides) r h = (has_sizes found page_paper sheet_paper border r, h)
 refuses_arguments name found page_paper sheet_paper border fault.NoMemory r h = tt
 refuses_arguments name found page_paper sheet_paper border (fault.Words error) r h = h
@@ -144,18 +145,34 @@ refuses_arguments name found page_paper sheet_paper border (fault.UnknownPaper o
 refuses_arguments name found page_paper sheet_paper border (fault.BadBorder text) r h = absurd h
 refuses_arguments name found page_paper sheet_paper border (fault.OptionAsOutfile text) r h = absurd h
 
-pub refuses_outfile : (name : Text) (found : List Row) (page_paper sheet_paper : Option Paper) (border : Option ℤ) (layout : Layout) (f : CommandFault)
-    → ReadsSizes found page_paper sheet_paper border → AsksFor name found layout → RefusesOutfile found f → RefusesFound name found f
-refuses_outfile name found page_paper sheet_paper border layout (fault.OptionAsOutfile text) r a h =
-    (record { sizes = has_sizes found page_paper sheet_paper border r; layout = layout; asked = a }, h)
-refuses_outfile name found page_paper sheet_paper border layout fault.NoMemory r a h = tt
-refuses_outfile name found page_paper sheet_paper border layout (fault.UnknownPaper option text) r a h = absurd h
-refuses_outfile name found page_paper sheet_paper border layout (fault.BadBorder text) r a h = absurd h
-refuses_outfile name found page_paper sheet_paper border layout fault.Lacking r a h = absurd h
-refuses_outfile name found page_paper sheet_paper border layout fault.OddAndEven r a h = absurd h
-refuses_outfile name found page_paper sheet_paper border layout (fault.BadSignature sides) r a h = absurd h
-refuses_outfile name found page_paper sheet_paper border layout (fault.Words error) r a h = h
-refuses_outfile name found page_paper sheet_paper border layout fault.NoText r a h = h
+has_layout : (name : Text) (found : List Row) (page_paper sheet_paper : Option Paper) (border : Option ℤ) (layout : Layout) → ReadsSizes found page_paper sheet_paper border → AsksFor name found layout → HasLayout name found
+has_layout name found page_paper sheet_paper border layout r a = record { sizes = has_sizes found page_paper sheet_paper border r; layout = layout; asked = a }
+
+pub refuses_choice : (name : Text) (found : List Row) (page_paper sheet_paper : Option Paper) (border : Option ℤ) (layout : Layout) (f : CommandFault)
+    → ReadsSizes found page_paper sheet_paper border → AsksFor name found layout → RefusesChoice found f → RefusesFound name found f
+refuses_choice name found page_paper sheet_paper border layout fault.OddAndEven r a h =
+    record { layout = has_layout name found page_paper sheet_paper border layout r a; odd = h.0; even = h.1 }
+refuses_choice name found page_paper sheet_paper border layout fault.NoMemory r a h = tt
+refuses_choice name found page_paper sheet_paper border layout (fault.UnknownPaper option text) r a h = absurd h
+refuses_choice name found page_paper sheet_paper border layout (fault.BadBorder text) r a h = absurd h
+refuses_choice name found page_paper sheet_paper border layout fault.Lacking r a h = absurd h
+refuses_choice name found page_paper sheet_paper border layout (fault.BadSignature sides) r a h = absurd h
+refuses_choice name found page_paper sheet_paper border layout (fault.OptionAsOutfile text) r a h = absurd h
+refuses_choice name found page_paper sheet_paper border layout (fault.Words error) r a h = h
+refuses_choice name found page_paper sheet_paper border layout fault.NoText r a h = h
+
+pub refuses_outfile : (name : Text) (found : List Row) (page_paper sheet_paper : Option Paper) (border : Option ℤ) (layout : Layout) (choice : PageChoice) (f : CommandFault)
+    → ReadsSizes found page_paper sheet_paper border → AsksFor name found layout → ChoosesBy (ranges_id layout) found choice → RefusesOutfile found f → RefusesFound name found f
+refuses_outfile name found page_paper sheet_paper border layout choice (fault.OptionAsOutfile text) r a o h =
+    (record { layout = has_layout name found page_paper sheet_paper border layout r a; choice = choice; chosen = o }, h)
+refuses_outfile name found page_paper sheet_paper border layout choice fault.NoMemory r a o h = tt
+refuses_outfile name found page_paper sheet_paper border layout choice (fault.UnknownPaper option text) r a o h = absurd h
+refuses_outfile name found page_paper sheet_paper border layout choice (fault.BadBorder text) r a o h = absurd h
+refuses_outfile name found page_paper sheet_paper border layout choice fault.Lacking r a o h = absurd h
+refuses_outfile name found page_paper sheet_paper border layout choice fault.OddAndEven r a o h = absurd h
+refuses_outfile name found page_paper sheet_paper border layout choice (fault.BadSignature sides) r a o h = absurd h
+refuses_outfile name found page_paper sheet_paper border layout choice (fault.Words error) r a o h = h
+refuses_outfile name found page_paper sheet_paper border layout choice fault.NoText r a o h = h
 
 -- ---- the paper at home
 
@@ -163,6 +180,7 @@ refuses_outfile name found page_paper sheet_paper border layout fault.NoText r a
 reads_at_home : (name : Text) (found : List Row) (r : Request) (home : Paper) → Reads name found r → Reads name found (record r { home_paper = home })
 reads_at_home name found r home h = record {
   layout = h.layout;
+  choice = h.choice;
   page_paper = h.page_paper;
   sheet_paper = h.sheet_paper;
   border = h.border;

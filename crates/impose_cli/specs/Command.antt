@@ -53,16 +53,20 @@ common_rules =
 abbrev pub subcommand_app : (name : Text) → (own : List Rule) → App
 subcommand_app name own = fold with_rule (fold with_rule (new_app name) own) common_rules
 
+-- which of the pages, and in which order
+abbrev pub order_rules : List Rule
+order_rules = flag_rule (codes "odd") ∷ flag_rule (codes "even") ∷ flag_rule (codes "reverse") ∷ []
+
 abbrev pub nup_app : App
-nup_app = subcommand_app (codes "nup") (ranged 1 most_on_sheet (required_rule (codes "count")) ∷ [])
+nup_app = subcommand_app (codes "nup") (ranged 1 most_on_sheet (required_rule (codes "count"))
+    ∷ option_rule (codes "pages") ∷ order_rules)
 
 abbrev pub booklet_app : App
 booklet_app = subcommand_app (codes "booklet") (ranged 4 most_sides (option_rule (codes "signature"))
-    ∷ flag_rule (codes "long-edge") ∷ [])
+    ∷ flag_rule (codes "long-edge") ∷ option_rule (codes "pages") ∷ order_rules)
 
 abbrev pub select_app : App
-select_app = subcommand_app (codes "select") (required_rule (codes "ranges") ∷ flag_rule (codes "odd")
-    ∷ flag_rule (codes "even") ∷ [])
+select_app = subcommand_app (codes "select") (required_rule (codes "ranges") ∷ order_rules)
 
 abbrev pub spec_app : App
 spec_app = subcommand_app (codes "spec") (required_rule (codes "specs") ∷ [])

@@ -3,24 +3,36 @@ use Rattle.std.specs.Prelude.{ℕ, ◌==◌, Bool, if◌then◌else◌, List, []
 use Rattle.std.specs.List.{starts_with}
 use Rattle.dsc.specs.declared.errors.DscError.{DscError}
 use Rattle.dsc.specs.declared.errors.DscError.TheVariants.{NotPostScript, TooLong}
-use Rattle.layouts.specs.declared.error.LayoutError.{LayoutError}
-use Rattle.layouts.specs.declared.error.LayoutError.TheVariants as layout
+use Rattle.layouts.specs.declared.error.ArrangementError.{ArrangementError}
+use Rattle.layouts.specs.declared.error.ArrangementError.TheVariants as layout
+use Rattle.rows.specs.declared.error.RowError.{RowError}
+use Rattle.rows.specs.declared.error.RowError.TheVariants as row
+use Rattle.row_runs.specs.declared.error.AskedError.{AskedError}
+use Rattle.row_runs.specs.declared.error.AskedError.TheVariants as asked
 use Rattle.imposer.specs.Outcomes.{no_memory, of_document as of_read}
+use Rattle.imposer.specs.declared.outcome.RunError.TheVariants as run
 use Rattle.impose_cli.specs.declared.fault.Fault.{Fault}
 use Rattle.impose_cli.specs.declared.fault.Fault.TheVariants as fault
 
 abbrev pub without_memory : Fault
 without_memory = fault.Run no_memory
 
-abbrev pub of_layout : LayoutError → Fault
+abbrev pub of_layout : ArrangementError → Fault
 of_layout layout.NoMemory = without_memory
 of_layout other = fault.Layout other
 
--- of a selection from a document of so many pages
-abbrev pub of_selection : (pages : ℕ) → LayoutError → Fault
-of_selection pages layout.NoMemory = without_memory
-of_selection pages (layout.PageNotInDocument place) = fault.NoSuchPage place pages
-of_selection pages other = fault.Layout other
+-- of a row of pages of a document that has so many
+abbrev pub of_row : (pages : ℕ) → RowError → Fault
+of_row pages (row.NotInDocument place) = fault.NoSuchPage place pages
+of_row pages other = fault.Row other
+
+-- of a run on a row of pages of a document that has so many
+abbrev pub of_asked : (pages : ℕ) → AskedError → Fault
+of_asked pages (asked.Row e) = of_row pages e
+of_asked pages (asked.Arrangement e) = fault.Layout e
+of_asked pages (asked.Sheets e) = fault.Sheets e
+of_asked pages (asked.NoMemory written) = fault.Run (run.NoMemory written)
+of_asked pages (asked.Write written) = fault.Run (run.Write written)
 
 abbrev pub is_pdf : (input : List ℕ) → Bool
 is_pdf input = starts_with nat_eq input (codes "%PDF-")

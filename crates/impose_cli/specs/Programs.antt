@@ -9,11 +9,11 @@ use Rattle.world.specs.Outputs.{IsFrontOf, told_if}
 use Rattle.input.specs.Input.{IsFirst, most_bytes}
 use Rattle.rules.specs.Papers.{Paper}
 use Rattle.paper_names.specs.Home.{home_paper}
-use Rattle.impose_cli.specs.Endings.{Ends}
+use Rattle.impose_cli.specs.Endings.{Ends, Finishes}
 use Rattle.impose_cli.specs.Faults.{without_memory}
 use Rattle.impose_cli.specs.Refusals.{RefusesTask}
 use Rattle.impose_cli.specs.Statuses.{fault_status}
-use Rattle.impose_cli.specs.Tasks.{Finishes, IsTask}
+use Rattle.impose_cli.specs.Tasks.{IsTask}
 use Rattle.impose_cli.specs.Unread.{IsPossible, RefusesUnread}
 use Rattle.impose_cli.specs.Words.{Entered, Reads, Refuses}
 use Rattle.impose_cli.specs.declared.fault.Fault.{Fault}

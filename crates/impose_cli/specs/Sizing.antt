@@ -1,8 +1,8 @@
--- The papers, the border and OUTFILE that the words ask for: the steps of their reading.
+-- The papers, the border, the pages and OUTFILE that the words ask for: the steps of their reading.
 use Rattle.std.specs.Prelude.{◌≡◌, ⊤, ℤ, true, is_some, List, Option, Some, None, codes, string_bytes}
 use Rattle.clap.specs.Words.{Row, first_of}
 use Rattle.rules.specs.Papers.{Paper}
-use Rattle.impose_cli.specs.Words.{HasPapers, NamesNoSize, WritesToOption, border_found, size_found}
+use Rattle.impose_cli.specs.Words.{HasPapers, NamesNoSize, WritesToOption, border_found, has_flag, size_found}
 use Rattle.impose_cli.specs.declared.fault.PaperOption.{PaperOption}
 use Rattle.impose_cli.specs.declared.fault.PaperOption.TheVariants.{Paper as OfPages, Sheet as OfSheets}
 use Rattle.impose_cli.specs.declared.fault.CommandFault.{CommandFault}
@@ -53,6 +53,18 @@ RefusesSizes found (fault.BadSignature sides) = ⊥
 RefusesSizes found (fault.OptionAsOutfile text) = ⊥
 RefusesSizes found (fault.Words error) = ⊥
 RefusesSizes found fault.NoText = ⊥
+
+-- a refusal of the pages
+abbrev pub RefusesChoice : (found : List Row) → CommandFault → Type 0
+RefusesChoice found fault.OddAndEven = (has_flag (codes "odd") found ≡ true) × (has_flag (codes "even") found ≡ true)
+RefusesChoice found fault.NoMemory = ⊤
+RefusesChoice found (fault.UnknownPaper option text) = ⊥
+RefusesChoice found (fault.BadBorder text) = ⊥
+RefusesChoice found fault.Lacking = ⊥
+RefusesChoice found (fault.BadSignature sides) = ⊥
+RefusesChoice found (fault.OptionAsOutfile text) = ⊥
+RefusesChoice found (fault.Words error) = ⊥
+RefusesChoice found fault.NoText = ⊥
 
 -- a refusal of the file that is written
 abbrev pub RefusesOutfile : (found : List Row) → CommandFault → Type 0

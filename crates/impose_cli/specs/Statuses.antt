@@ -4,8 +4,12 @@ use Rattle.std.specs.Prelude.{ℕ}
 use Rattle.clap.specs.Words.{kind_of}
 use Rattle.clap.specs.declared.error.kind.ErrorKind.{ErrorKind}
 use Rattle.clap.specs.declared.error.kind.ErrorKind.TheVariants.{DisplayHelp, DisplayVersion}
-use Rattle.layouts.specs.declared.error.LayoutError.{LayoutError}
-use Rattle.layouts.specs.declared.error.LayoutError.TheVariants as layout
+use Rattle.layouts.specs.declared.error.ArrangementError.{ArrangementError}
+use Rattle.layouts.specs.declared.error.ArrangementError.TheVariants as layout
+use Rattle.rows.specs.declared.error.RowError.{RowError}
+use Rattle.rows.specs.declared.error.RowError.TheVariants as row
+use Rattle.sheet_plan.specs.declared.error.MadeError.{MadeError}
+use Rattle.sheet_plan.specs.declared.error.MadeError.TheVariants as made
 use Rattle.command_words.specs.Statuses.{run_status}
 use Rattle.impose_cli.specs.declared.fault.CommandFault.{CommandFault}
 use Rattle.impose_cli.specs.declared.fault.CommandFault.TheVariants as command
@@ -22,14 +26,25 @@ command_status command.NoMemory = 3
 command_status (command.Words error) = words_status (kind_of error)
 command_status other = 2
 
-abbrev pub layout_status : LayoutError → ℕ
+abbrev pub layout_status : ArrangementError → ℕ
 layout_status layout.NoMemory = 3
 layout_status other = 1
+
+abbrev pub row_status : RowError → ℕ
+row_status row.NoMemory = 3
+row_status other = 1
+
+abbrev pub sheets_status : MadeError → ℕ
+sheets_status made.NoMemory = 3
+sheets_status other = 1
 
 abbrev pub fault_status : Fault → ℕ
 fault_status (fault.Command f) = command_status f
 fault_status (fault.Layout e) = layout_status e
+fault_status (fault.Row e) = row_status e
 fault_status (fault.NoSuchPage place pages) = 1
+fault_status (fault.Sheets e) = sheets_status e
+fault_status fault.NoSpecification = 1
 fault_status (fault.Read cause) = 3
 fault_status (fault.Run e) = run_status e
 fault_status fault.NoInput = 1

@@ -8,8 +8,10 @@ use Rattle.rules.specs.Papers.{Paper}
 use Rattle.lengths.specs.Lengths.{a4}
 use Rattle.command_words.specs.Borders.{border_named}
 use Rattle.command_words.specs.Matches.{has_true, number_named}
-use Rattle.layouts.specs.declared.selections.Which.{Which}
-use Rattle.layouts.specs.declared.selections.Which.TheVariants.{All, Odd, Even}
+use Rattle.rows.specs.declared.choices.Part.{Part}
+use Rattle.rows.specs.declared.choices.Part.TheVariants.{All, Odd, Even}
+use Rattle.impose_cli.specs.Choices.{is_whole}
+use Rattle.impose_cli.specs.declared.request.PageChoice.{PageChoice}
 use Rattle.impose_cli.specs.Command.{impose}
 use Rattle.impose_cli.specs.Sizes.{size_named}
 use Rattle.impose_cli.specs.declared.request.Layout.{Layout}
@@ -51,14 +53,14 @@ abbrev pub is_folded : (signature : Option ℕ) → Bool
 is_folded None = true
 is_folded (Some sides) = sides % 4 == 0
 
-abbrev pub which_of : (odd even : Bool) → Option Which
-which_of false false = Some All
-which_of true false = Some Odd
-which_of false true = Some Even
-which_of true true = None
+abbrev pub part_by : (odd even : Bool) → Option Part
+part_by false false = Some All
+part_by true false = Some Odd
+part_by false true = Some Even
+part_by true true = None
 
-abbrev pub which_found : (found : List Row) → Option Which
-which_found found = which_of (has_flag (codes "odd") found) (has_flag (codes "even") found)
+abbrev pub part_found : (found : List Row) → Option Part
+part_found found = part_by (has_flag (codes "odd") found) (has_flag (codes "even") found)
 
 -- a minus sign is standard input or output, as no file is
 abbrev pub file_of : Text → Option Text
@@ -85,15 +87,26 @@ AsksFor name found (layout.NUp n) = (name ≡ codes "nup") × (number_found (cod
 AsksFor name found (layout.Booklet signature long_edge) =
     (name ≡ codes "booklet") × (number_found (codes "signature") found ≡ signature) × (is_folded signature ≡ true)
     × (has_flag (codes "long-edge") found ≡ long_edge)
-AsksFor name found (layout.Selection ranges which) =
-    (name ≡ codes "select") × (first_of (codes "ranges") found ≡ Some (string_bytes ranges))
-    × (which_found found ≡ Some which)
+AsksFor name found layout.Selection = (name ≡ codes "select") × (is_some (first_of (codes "ranges") found) ≡ true)
 AsksFor name found (layout.Spec specs) = (name ≡ codes "spec")
     × (first_of (codes "specs") found ≡ Some (string_bytes specs))
+
+-- the argument that names the pages of a layout, if it has one
+abbrev pub ranges_id : Layout → Option Text
+ranges_id layout.Selection = Some (codes "ranges")
+ranges_id (layout.Spec specs) = None
+ranges_id other = Some (codes "pages")
+
+-- what was found asks for these pages: as that argument says, or for all
+abbrev pub ChoosesBy : Option Text → (found : List Row) → PageChoice → Type 0
+ChoosesBy None found choice = is_whole choice ≡ true
+ChoosesBy (Some id) found choice = (first_of id found ≡ option_map string_bytes choice.ranges)
+    × (part_found found ≡ Some choice.part) × (has_flag (codes "reverse") found ≡ choice.backwards)
 
 -- the request is what was found
 pub record Reads (name : Text) (found : List Row) (r : Request) : Type 0 where
   pub layout : AsksFor name found r.layout
+  pub choice : ChoosesBy (ranges_id r.layout) found r.choice
   pub page_paper : size_found OfPages found ≡ Some r.page_paper
   pub sheet_paper : size_found OfSheets found ≡ Some r.sheet_paper
   pub border : border_found found ≡ Some r.border
@@ -140,6 +153,17 @@ pub record HasLayout (name : Text) (found : List Row) : Type 0 where
   pub layout : Layout
   pub asked : AsksFor name found layout
 
+pub record HasChoice (name : Text) (found : List Row) : Type 0 where
+  pub layout : HasLayout name found
+  pub choice : PageChoice
+  pub chosen : ChoosesBy (ranges_id layout.layout) found choice
+
+-- odd and even entries are asked for, which leave none together
+pub record AsksForNone (name : Text) (found : List Row) : Type 0 where
+  pub layout : HasLayout name found
+  pub odd : has_flag (codes "odd") found ≡ true
+  pub even : has_flag (codes "even") found ≡ true
+
 -- the arguments that the subcommand needs were found
 abbrev pub is_complete : (name : Text) → (found : List Row) → Bool
 is_complete name found =
@@ -152,8 +176,7 @@ is_complete name found =
 abbrev pub RefusesArguments : (name : Text) → (found : List Row) → CommandFault → Type 0
 RefusesArguments name found (fault.BadSignature sides) = (name ≡ codes "booklet")
     × (number_found (codes "signature") found ≡ Some sides) × (is_folded (Some sides) ≡ false)
-RefusesArguments name found fault.OddAndEven = (name ≡ codes "select") × (has_flag (codes "odd") found ≡ true)
-    × (has_flag (codes "even") found ≡ true)
+RefusesArguments name found fault.OddAndEven = ⊥
 RefusesArguments name found fault.Lacking = is_complete name found ≡ false
 RefusesArguments name found fault.NoMemory = ⊤
 RefusesArguments name found (fault.Words error) = ⊥
@@ -162,7 +185,8 @@ RefusesArguments name found (fault.UnknownPaper option text) = ⊥
 RefusesArguments name found (fault.BadBorder text) = ⊥
 RefusesArguments name found (fault.OptionAsOutfile text) = ⊥
 
--- what a refusal says of what was found, and of what was looked at before: --paper, --sheet, --border, the layout, OUTFILE
+-- what a refusal says of what was found, and of what was looked at before: --paper, --sheet, --border, the layout, the
+-- pages, OUTFILE
 abbrev pub RefusesFound : (name : Text) → (found : List Row) → CommandFault → Type 0
 RefusesFound name found (fault.UnknownPaper OfPages text) = NamesNoSize OfPages found (string_bytes text)
 RefusesFound name found (fault.UnknownPaper OfSheets text) = (is_some (size_found OfPages found) ≡ true)
@@ -171,9 +195,9 @@ RefusesFound name found (fault.BadBorder text) = HasPapers found
     × (first_of (codes "border") found ≡ Some (string_bytes text)) × (border_found found ≡ None)
 RefusesFound name found (fault.BadSignature sides) = HasSizes found
     × RefusesArguments name found (fault.BadSignature sides)
-RefusesFound name found fault.OddAndEven = HasSizes found × RefusesArguments name found fault.OddAndEven
+RefusesFound name found fault.OddAndEven = AsksForNone name found
 RefusesFound name found fault.Lacking = HasSizes found × RefusesArguments name found fault.Lacking
-RefusesFound name found (fault.OptionAsOutfile text) = HasLayout name found × WritesToOption found (string_bytes text)
+RefusesFound name found (fault.OptionAsOutfile text) = HasChoice name found × WritesToOption found (string_bytes text)
 RefusesFound name found fault.NoMemory = ⊤
 RefusesFound name found (fault.Words error) = ⊥
 RefusesFound name found fault.NoText = ⊥

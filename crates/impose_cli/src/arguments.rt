@@ -18,6 +18,7 @@ Examples:
   impose nup 2 in.ps out.ps           two pages on each sheet
   impose booklet in.ps out.ps         print on both sides, fold, staple
   impose select 9-3,12- in.ps out.ps  pages 9 down to 3, then 12 to the last
+  impose booklet --pages 3-14 in.ps out.ps
   pdftops in.pdf - | impose nup 4 --sheet a3 - | ps2pdf - out.pdf";
 
 /// The command with its subcommands.
@@ -50,7 +51,8 @@ fn nup<'a>(alloc: Global) -> Result<Command<'a>, AllocError>
         .value_parser(value_parser!(u32).range(1..=1_024))
         .help("How many pages, from 1 to 1024");
     let about = "Several pages on each sheet, as large as they fit";
-    subcommand(alloc, "nup", about, vec![in alloc; count]?)
+    let own = vec![in alloc; count, pages(alloc), odd(alloc), even(alloc), reverse(alloc)]?;
+    subcommand(alloc, "nup", about, own)
 }
 
 fn booklet<'a>(alloc: Global) -> Result<Command<'a>, AllocError>
@@ -61,24 +63,46 @@ fn booklet<'a>(alloc: Global) -> Result<Command<'a>, AllocError>
         .help("Leaves of so many sides, a multiple of four [default: all pages]");
     let long_edge = flag(alloc, "long-edge").help("For printers that flip on the long edge");
     let about = "A booklet, to be printed on both sides, folded and stapled";
-    subcommand(
-        alloc,
-        "booklet",
-        about,
-        vec![in alloc; signature, long_edge]?,
-    )
+    let own = vec![in alloc;
+        signature, long_edge, pages(alloc), odd(alloc), even(alloc), reverse(alloc),
+    ]?;
+    subcommand(alloc, "booklet", about, own)
 }
 
 fn select<'a>(alloc: Global) -> Result<Command<'a>, AllocError>
     ensures { IfOk result (λ c. app_of c ≡ select_app) }
 {
-    let ranges = required(alloc, "ranges", "RANGES").help(
-        "Pages counted from 1, as 7 or 3-9 or 9-3 or 5-, with commas between them",
-    );
-    let odd = flag(alloc, "odd").help("Only pages with an odd number");
-    let even = flag(alloc, "even").help("Only pages with an even number");
-    let about = "Some pages, in the order in which they are named";
-    subcommand(alloc, "select", about, vec![in alloc; ranges, odd, even]?)
+    let ranges = required(alloc, "ranges", "RANGES").help(RANGES_HELP);
+    let about = "Some pages, in the order in which they are named, each on a sheet of its own";
+    let own = vec![in alloc; ranges, odd(alloc), even(alloc), reverse(alloc)]?;
+    subcommand(alloc, "select", about, own)
+}
+
+const RANGES_HELP: &str =
+    "Pages, as 7, 3-9, 9-3, 5- or _1 (the last), blank for an empty one, with commas between them";
+
+fn pages<'a>(alloc: Global) -> Arg<'a>
+    ensures { rule_of result ≡ option_rule (codes "pages") }
+{
+    option(alloc, "pages", "RANGES").help(RANGES_HELP)
+}
+
+fn odd<'a>(alloc: Global) -> Arg<'a>
+    ensures { rule_of result ≡ flag_rule (codes "odd") }
+{
+    flag(alloc, "odd").help("Of these the first, the third and so on")
+}
+
+fn even<'a>(alloc: Global) -> Arg<'a>
+    ensures { rule_of result ≡ flag_rule (codes "even") }
+{
+    flag(alloc, "even").help("Of these the second, the fourth and so on")
+}
+
+fn reverse<'a>(alloc: Global) -> Arg<'a>
+    ensures { rule_of result ≡ flag_rule (codes "reverse") }
+{
+    flag(alloc, "reverse").help("The last of these first")
 }
 
 fn spec<'a>(alloc: Global) -> Result<Command<'a>, AllocError>

@@ -4,18 +4,19 @@ ghost use Rattle.clap.specs.Words.{fault_of, first_of, found_of, is_simple, rows
 ghost use Rattle.impose_cli.specs.Command.{impose};
 ghost use Rattle.impose_cli.specs.Words.{AsksFor, Entered, ParseRefuses, Reads, Refuses, RefusesFound};
 ghost use Rattle.impose_cli.specs.Words.{RefusesArguments, border_found, file_asked, is_outfile, paper_id};
-ghost use Rattle.impose_cli.specs.Words.{size_found, which_found, which_of as of_both};
-ghost use Rattle.impose_cli.specs.Sizing.{ReadsSizes, RefusesBorder, RefusesOutfile, RefusesSize, RefusesSizes};
+ghost use Rattle.impose_cli.specs.Words.{ChoosesBy, ranges_id, part_by as of_both, size_found};
+ghost use Rattle.impose_cli.specs.Sizing.{ReadsSizes, RefusesBorder, RefusesChoice, RefusesOutfile, RefusesSize};
+ghost use Rattle.impose_cli.specs.Sizing.{RefusesSizes};
 
 use crate::arguments::command;
 use crate::fault::{CommandFault, PaperOption};
-use crate::request::{Layout, Request};
+use crate::request::{Layout, PageChoice, Request};
 use crate::sizes::size_named;
 use clap::ArgMatches;
 use clap::error::ErrorKind;
 use command_words::{border_named, is_set, number_of, owned, text_of};
-use layouts::Which;
 use lengths::{Grains, Paper, a4};
+use rows::Part;
 use std::alloc::Global;
 
 /// The request that the words make, of which the first is the program's name. The paper at home is no matter of the words:
@@ -23,8 +24,8 @@ use std::alloc::Global;
 ///
 /// Words that the command doesn't take are `Words`, with clap's message, and so is a call for help or for the version.
 /// Among words that it takes, the first of these is the fault: a paper that there isn't, after `--paper`, then after
-/// `--sheet`; a border that is no length, or below zero; what the subcommand's own arguments can't be together; an OUTFILE
-/// that begins with a minus sign.
+/// `--sheet`; a border that is no length, or below zero; what the subcommand's own arguments can't be together; odd and
+/// even entries together; an OUTFILE that begins with a minus sign.
 #[tactic(auto, using(crate::proofs::Commands::impose_is_simple))]
 pub fn read_command(alloc: Global, words: &[String]) -> Result<Request, CommandFault>
     // The command takes the words, and the request is what it finds among them.
@@ -77,6 +78,10 @@ fn request_of(alloc: Global, name: &str, found: &ArgMatches<'_>) -> Result<Reque
         Ok(layout) => layout,
         Err(fault) => return Err(fault),
     };
+    let choice = match choice_of(alloc, &layout, found) {
+        Ok(choice) => choice,
+        Err(fault) => return Err(fault),
+    };
     let infile = owned(alloc, file_named(text_of(found, "infile")))?;
     let outfile = match outfile_of(alloc, found) {
         Ok(outfile) => outfile,
@@ -84,6 +89,7 @@ fn request_of(alloc: Global, name: &str, found: &ArgMatches<'_>) -> Result<Reque
     };
     Ok(Request {
         layout,
+        choice,
         page_paper: sizes.page_paper,
         home_paper: a4(),
         sheet_paper: sizes.sheet_paper,
@@ -179,7 +185,7 @@ fn layout_of(alloc: Global, name: &str, found: &ArgMatches<'_>) -> Result<Layout
     } else if name == "booklet" {
         booklet_of(found)
     } else if name == "select" {
-        selection_of(alloc, found)
+        selection_of(found)
     } else if name == "spec" {
         spec_of(alloc, found)
     } else {
@@ -213,30 +219,13 @@ fn booklet_of(found: &ArgMatches<'_>) -> Result<Layout, CommandFault>
     })
 }
 
-fn selection_of(alloc: Global, found: &ArgMatches<'_>) -> Result<Layout, CommandFault>
+fn selection_of(found: &ArgMatches<'_>) -> Result<Layout, CommandFault>
     ensures read { IfOk result (AsksFor (codes "select") (rows_of (found_of found.now))) }
     ensures refused { IfErr result (RefusesArguments (codes "select") (rows_of (found_of found.now))) }
 {
-    let Some(ranges) = text_of(found, "ranges") else {
-        return Err(CommandFault::Lacking);
-    };
-    match which_of(is_set(found, "odd"), is_set(found, "even")) {
-        Some(which) => Ok(Layout::Selection {
-            ranges: String::from_str(alloc, ranges)?,
-            which,
-        }),
-        None => Err(CommandFault::OddAndEven),
-    }
-}
-
-fn which_of(odd: bool, even: bool) -> Option<Which>
-    ensures { result ≡ of_both odd even }
-{
-    match (odd, even) {
-        (false, false) => Some(Which::All),
-        (true, false) => Some(Which::Odd),
-        (false, true) => Some(Which::Even),
-        (true, true) => None,
+    match text_of(found, "ranges") {
+        Some(_) => Ok(Layout::Selection),
+        None => Err(CommandFault::Lacking),
     }
 }
 
@@ -247,6 +236,52 @@ fn spec_of(alloc: Global, found: &ArgMatches<'_>) -> Result<Layout, CommandFault
     match text_of(found, "specs") {
         Some(specs) => Ok(Layout::Spec(String::from_str(alloc, specs)?)),
         None => Err(CommandFault::Lacking),
+    }
+}
+
+/// Which pages of the document are laid out so, and in which order.
+fn choice_of(
+    alloc: Global,
+    layout: &Layout,
+    found: &ArgMatches<'_>,
+) -> Result<PageChoice, CommandFault>
+    ensures read { IfOk result (ChoosesBy (ranges_id layout.now) (rows_of (found_of found.now))) }
+    ensures refused { IfErr result (RefusesChoice (rows_of (found_of found.now))) }
+{
+    match layout {
+        Layout::NUp(_) | Layout::Booklet { .. } => choice_by(alloc, "pages", found),
+        Layout::Selection => choice_by(alloc, "ranges", found),
+        Layout::Spec(_) => Ok(PageChoice::whole()),
+    }
+}
+
+/// The pages that the ranges of this argument name.
+fn choice_by(
+    alloc: Global,
+    id: &str,
+    found: &ArgMatches<'_>,
+) -> Result<PageChoice, CommandFault>
+    ensures read { IfOk result (ChoosesBy (Some id.now) (rows_of (found_of found.now))) }
+    ensures refused { IfErr result (RefusesChoice (rows_of (found_of found.now))) }
+{
+    match part_of(is_set(found, "odd"), is_set(found, "even")) {
+        Some(part) => Ok(PageChoice {
+            ranges: owned(alloc, text_of(found, id))?,
+            part,
+            backwards: is_set(found, "reverse"),
+        }),
+        None => Err(CommandFault::OddAndEven),
+    }
+}
+
+fn part_of(odd: bool, even: bool) -> Option<Part>
+    ensures { result ≡ of_both odd even }
+{
+    match (odd, even) {
+        (false, false) => Some(Part::All),
+        (true, false) => Some(Part::Odd),
+        (false, true) => Some(Part::Even),
+        (true, true) => None,
     }
 }
 

@@ -1,7 +1,9 @@
 //! Why nothing, or not all, was imposed.
 use clap::Error as WordsError;
 use imposer::RunError;
-use layouts::LayoutError;
+use layouts::ArrangementError;
+use rows::RowError;
+use sheet_plan::MadeError;
 use std::alloc::AllocError;
 use std::io;
 
@@ -41,12 +43,18 @@ pub enum Fault {
     /// The command line is refused.
     Command(CommandFault),
     /// There is no such layout.
-    Layout(LayoutError),
+    Layout(ArrangementError),
+    /// There is no such row of pages.
+    Row(RowError),
     /// The document has only so many pages, and not all of the range at this place of the text.
     NoSuchPage {
         place: usize,
         pages: u32,
     },
+    /// The sheets of the row can't be planned.
+    Sheets(MadeError),
+    /// No specification says what is asked for.
+    NoSpecification,
     /// The input couldn't be opened or read, and why, if the system said it.
     Read(Option<io::Error>),
     /// The run is refused or failed, but for a failed write.
@@ -102,15 +110,15 @@ impl From<AllocError> for Fault {
     }
 }
 
-impl From<LayoutError> for Fault {
+impl From<ArrangementError> for Fault {
     ghost use Rattle.std.specs.Prelude.{◌≡◌};
     ghost use Rattle.impose_cli.specs.Faults.{of_layout};
 
     ghost from_gives = { λ error fault. fault ≡ of_layout error };
 
-    fn from(error: LayoutError) -> Fault {
+    fn from(error: ArrangementError) -> Fault {
         match error {
-            LayoutError::NoMemory => Fault::no_memory(),
+            ArrangementError::NoMemory => Fault::no_memory(),
             error => Fault::Layout(error),
         }
     }

@@ -1,31 +1,29 @@
 //! What is imposed, and how: the request for a document.
-ghost use Rattle.std.specs.Prelude.{◌≡◌, ◌<◌, ◌≤◌, IfErr, IfOk, None, OnOk, Some, string_bytes, unwrap_or};
+ghost use Rattle.std.specs.Prelude.{◌≡◌, ◌⊎◌, ℕ, List, ◌<◌, ◌≤◌, IfErr, IfOk, None, OnOk, Some, string_bytes, unwrap_or};
 ghost use Rattle.std.specs.Io.KnownBytes.{Appends};
 ghost use Rattle.rules.specs.Output.{output};
 ghost use Rattle.rules.specs.Run.{most_pages};
-ghost use Rattle.layouts.specs.Grids.{leaves, n_up};
-ghost use Rattle.layouts.specs.Laws.{IsNUp, IsBooklet};
-ghost use Rattle.layouts.specs.Refusals.{why_not, why_no_booklet};
-ghost use Rattle.layouts.specs.Selections.{IsSelection};
+ghost use Rattle.layouts.specs.Grids.{leaves, n_up, plain, plain_binding};
+ghost use Rattle.layouts.specs.Laws.{IsArranged, IsBound};
+ghost use Rattle.layouts.specs.declared.arrangement.Cells.TheVariants.{AtLeast};
 ghost use Rattle.sheet_writer.specs.Sinks.{IsCountable};
 ghost use Rattle.imposer.specs.Runs.{Accepted, FailedIn, HasWritten, IsRefusal, Reports, frame_of};
-ghost use Rattle.rules.specs.Specification.{Spec as SpecValue};
-ghost use Rattle.impose_cli.specs.Faults.{of_document as document_fault, of_other_input};
-ghost use Rattle.impose_cli.specs.Faults.{of_selection as selection_fault, without_memory};
-ghost use Rattle.impose_cli.specs.Tasks.{Finishes, HasPages, IsPlaced, IsTask, IsWritten, asked_by, fours};
-ghost use Rattle.impose_cli.specs.Tasks.{page_paper_found, sheet_paper_found, taken_text};
-ghost use Rattle.impose_cli.specs.Refusals.{RefusesDocument, RefusesLayout, RefusesRanges, RefusesTask};
-ghost use Rattle.impose_cli.specs.Endings.{Ends};
+ghost use Rattle.impose_cli.specs.Faults.{of_document as document_fault, of_other_input, without_memory};
+ghost use Rattle.impose_cli.specs.Tasks.{HasPages, IsPlaced, IsTask, IsWritten, asked_by, fours, page_paper_found};
+ghost use Rattle.impose_cli.specs.Tasks.{IsSpec, sheet_paper_found, taken_text};
+ghost use Rattle.impose_cli.specs.Refusals.{RefusesDocument, RefusesLayout, RefusesTask};
+ghost use Rattle.impose_cli.specs.Endings.{EndsBySpec};
 ghost use Rattle.impose_cli.specs.Unread.{IsPossible, IsSpecification, RefusesSpecification, RefusesUnread};
 ghost use Rattle.impose_cli.specs.declared.request.Layout.TheVariants as layout;
 
 use crate::fault::Fault;
+use crate::laying::{laying_for, papers_for, plain_binding, plain_cells};
 use crate::request::{Layout, Request};
 use document_paper::{Comment, document_paper};
 use dsc::{Document, DscError};
 use guard::put_guard;
 use imposer::{Open, Options, Report, RunError, Sink, Workers, run};
-use layouts::{LayoutError, Which, booklet, nup, selection};
+use layouts::{Papers, arrange, bind};
 use lengths::Paper;
 use pagespec::{Spec, read_spec, write_spec};
 use std::alloc::{AllocError, Global};
@@ -66,7 +64,7 @@ pub struct Finished {
 }
 
 /// As many preparers and imposers as `pstops` has.
-const WORKERS: Workers = Workers {
+pub(crate) const WORKERS: Workers = Workers {
     preparers: 2,
     imposers: 2,
 };
@@ -79,23 +77,14 @@ pub fn check_layout(alloc: Global, request: &Request) -> Result<(), Fault>
 {
     match (&request.layout, &request.page_paper) {
         (Layout::Spec(specs), _) => check_spec(alloc, specs.as_str()),
-        (Layout::NUp(count), Some(page_paper)) => {
-            check_nup(
-                alloc,
-                *count,
-                page_paper,
-                paper_of_sheets(&request.sheet_paper, page_paper),
-            )
+        (_, None) => Ok(()),
+        (layout, Some(page_paper)) => {
+            let papers = papers_for(layout, request.sheet_paper, *page_paper);
+            match laying_for(layout, &papers) {
+                Ok(_) => Ok(()),
+                Err(fault) => Err(fault),
+            }
         }
-        (Layout::Booklet { long_edge, .. }, Some(page_paper)) => {
-            check_booklet(
-                alloc,
-                page_paper,
-                paper_of_sheets(&request.sheet_paper, page_paper),
-                *long_edge,
-            )
-        }
-        _ => Ok(()),
     }
 }
 
@@ -109,38 +98,8 @@ fn check_spec(alloc: Global, specs: &str) -> Result<(), Fault>
     }
 }
 
-fn check_nup(
-    alloc: Global,
-    count: u32,
-    page_paper: &Paper,
-    sheet_paper: &Paper,
-) -> Result<(), Fault>
-    ensures possible { OnOk result (why_not page_paper.now sheet_paper.now count ≡ None) }
-    ensures refused { IfErr result (RefusesLayout (layout.NUp count) page_paper.now sheet_paper.now 0) }
-{
-    match nup(alloc, count, page_paper, sheet_paper) {
-        Ok(_) => Ok(()),
-        Err(error) => Err(Fault::from(error)),
-    }
-}
-
-fn check_booklet(
-    alloc: Global,
-    page_paper: &Paper,
-    sheet_paper: &Paper,
-    long_edge: bool,
-) -> Result<(), Fault>
-    ensures possible { OnOk result (why_no_booklet page_paper.now sheet_paper.now ≡ None) }
-    ensures refused { IfErr result (RefusesLayout (layout.Booklet None long_edge) page_paper.now sheet_paper.now 0) }
-{
-    match booklet(alloc, page_paper, sheet_paper, long_edge) {
-        Ok(_) => Ok(()),
-        Err(error) => Err(Fault::from(error)),
-    }
-}
-
-/// The request for this document, and the fault if there is none: a document that is refused, then a layout that there
-/// isn't.
+/// The specification that says what a request asks for, with what a run by it takes; and the fault if there is none: a
+/// document that is refused, then pages that are chosen, then a layout that there isn't, or that no specification says.
 pub fn task_for(alloc: Global, request: &Request, input: Vec<u8>) -> Result<Task, Fault>
     ensures is_task { IfOk result (IsTask request.now input.items) }
     ensures refused { IfErr result (RefusesTask request.now input.items) }
@@ -150,11 +109,10 @@ pub fn task_for(alloc: Global, request: &Request, input: Vec<u8>) -> Result<Task
         Ok(pages) => pages,
         Err(fault) => return Err(fault),
     };
-    let (page_paper, origin) = paper_of_pages(
-        request.page_paper,
-        request.home_paper,
-        input.as_slice(),
-    );
+    if !request.choice.is_whole() {
+        return Err(Fault::NoSpecification);
+    }
+    let (page_paper, origin) = paper_of_pages(request, input.as_slice());
     let sheet_paper = *paper_of_sheets(&request.sheet_paper, &page_paper);
     let (spec, sides) = match placing(alloc, &request.layout, &page_paper, &sheet_paper, pages) {
         Ok(placed) => placed,
@@ -179,7 +137,7 @@ pub fn task_for(alloc: Global, request: &Request, input: Vec<u8>) -> Result<Task
 }
 
 /// The document, with the guard in it if it is asked for.
-fn text_to_impose(
+pub(crate) fn text_to_impose(
     is_guarded: bool,
     sheet_paper: &Paper,
     input: Vec<u8>,
@@ -194,20 +152,20 @@ fn text_to_impose(
 }
 
 /// The paper of the pages: the one that is named, else the document's own, else the one at home.
-fn paper_of_pages(named: Option<Paper>, home: Paper, input: &[u8]) -> (Paper, PaperOrigin)
-    ensures { result ≡ page_paper_found named home input.now }
+pub(crate) fn paper_of_pages(request: &Request, input: &[u8]) -> (Paper, PaperOrigin)
+    ensures { result ≡ page_paper_found request.now.page_paper request.now.home_paper input.now }
 {
-    match named {
+    match request.page_paper {
         Some(page_paper) => (page_paper, PaperOrigin::Named),
         None => match document_paper(input) {
             Some((page_paper, comment)) => (page_paper, PaperOrigin::ByComment(comment)),
-            None => (home, PaperOrigin::AtHome),
+            None => (request.home_paper, PaperOrigin::AtHome),
         },
     }
 }
 
 /// The paper of the sheets, which is that of the pages if none is named.
-fn paper_of_sheets<'p>(named: &'p Option<Paper>, page_paper: &'p Paper) -> &'p Paper
+pub(crate) fn paper_of_sheets<'p>(named: &'p Option<Paper>, page_paper: &'p Paper) -> &'p Paper
     ensures { result.now ≡ unwrap_or named.now page_paper.now }
 {
     match named {
@@ -217,7 +175,7 @@ fn paper_of_sheets<'p>(named: &'p Option<Paper>, page_paper: &'p Paper) -> &'p P
 }
 
 /// How many pages the document has.
-fn pages_of(alloc: Global, input: &[u8]) -> Result<u32, Fault>
+pub(crate) fn pages_of(alloc: Global, input: &[u8]) -> Result<u32, Fault>
     ensures counted { IfOk result (HasPages input.now) }
     ensures within { IfOk result (λ pages. pages ≤ most_pages) }
     ensures refused { IfErr result (RefusesDocument input.now) }
@@ -269,20 +227,23 @@ fn placing(
     requires { pages ≤ most_pages }
     ensures placed { IfOk result (λ placed.
         IsPlaced layout.now page_paper.now sheet_paper.now pages (string_bytes placed.0) placed.1) }
-    ensures refused { IfErr result (RefusesLayout layout.now page_paper.now sheet_paper.now pages) }
+    ensures refused { IfErr result (λ f.
+        (f ≡ without_memory) ⊎ RefusesLayout layout.now page_paper.now sheet_paper.now f) }
 {
+    let papers = Papers {
+        page: *page_paper,
+        sheet: *sheet_paper,
+    };
     match layout {
-        Layout::NUp(count) => nup_placing(alloc, *count, page_paper, sheet_paper),
+        Layout::NUp(count) => nup_placing(alloc, *count, &papers),
         Layout::Booklet {
             signature,
             long_edge,
         } => {
             let sides = signature.unwrap_or(in_fours(pages));
-            booklet_placing(alloc, page_paper, sheet_paper, *long_edge, sides)
+            booklet_placing(alloc, &papers, *long_edge, sides)
         }
-        Layout::Selection { ranges, which } => {
-            selection_placing(alloc, ranges.as_str(), *which, pages)
-        }
+        Layout::Selection => Err(Fault::NoSpecification),
         Layout::Spec(specs) => match String::from_str(alloc, specs.as_str()) {
             Ok(text) => Ok((text, None)),
             Err(_) => Err(Fault::no_memory()),
@@ -290,18 +251,14 @@ fn placing(
     }
 }
 
-fn nup_placing(
-    alloc: Global,
-    count: u32,
-    page_paper: &Paper,
-    sheet_paper: &Paper,
-) -> Result<Placed, Fault>
+fn nup_placing(alloc: Global, count: u32, papers: &Papers) -> Result<Placed, Fault>
     ensures placed { IfOk result (λ placed.
-        (IsWritten (n_up page_paper.now sheet_paper.now count) (string_bytes placed.0)
-        × IsNUp page_paper.now sheet_paper.now count (n_up page_paper.now sheet_paper.now count)) × (placed.1 ≡ None)) }
-    ensures refused { IfErr result (RefusesLayout (layout.NUp count) page_paper.now sheet_paper.now 0) }
+        (IsWritten (n_up papers.now.page papers.now.sheet count) (string_bytes placed.0)
+        × IsArranged papers.now.page papers.now.sheet (plain (AtLeast count)) (n_up papers.now.page papers.now.sheet count))
+        × (placed.1 ≡ None)) }
+    ensures refused { IfErr result (RefusesLayout (layout.NUp count) papers.now.page papers.now.sheet) }
 {
-    match nup(alloc, count, page_paper, sheet_paper) {
+    match arrange(alloc, papers, &plain_cells(count)) {
         Ok(spec) => written(alloc, &spec, None),
         Err(error) => Err(Fault::from(error)),
     }
@@ -309,42 +266,20 @@ fn nup_placing(
 
 fn booklet_placing(
     alloc: Global,
-    page_paper: &Paper,
-    sheet_paper: &Paper,
+    papers: &Papers,
     long_edge: bool,
     sides: u32,
 ) -> Result<Placed, Fault>
     ensures placed { IfOk result (λ placed.
-        (IsWritten (leaves page_paper.now sheet_paper.now long_edge) (string_bytes placed.0)
-        × IsBooklet page_paper.now sheet_paper.now long_edge (leaves page_paper.now sheet_paper.now long_edge))
+        (IsWritten (leaves papers.now.page papers.now.sheet long_edge) (string_bytes placed.0)
+        × IsBound papers.now.page papers.now.sheet (plain_binding long_edge)
+        (leaves papers.now.page papers.now.sheet long_edge))
         × (placed.1 ≡ Some sides)) }
-    ensures refused { IfErr result (RefusesLayout (layout.Booklet None long_edge) page_paper.now sheet_paper.now 0) }
+    ensures refused { IfErr result (RefusesLayout (layout.Booklet None long_edge) papers.now.page papers.now.sheet) }
 {
-    match booklet(alloc, page_paper, sheet_paper, long_edge) {
+    match bind(alloc, papers, &plain_binding(long_edge)) {
         Ok(spec) => written(alloc, &spec, Some(sides)),
         Err(error) => Err(Fault::from(error)),
-    }
-}
-
-fn selection_placing(alloc: Global, ranges: &str, which: Which, pages: u32) -> Result<Placed, Fault>
-    ensures placed { IfOk result (λ placed.
-        ((spec : SpecValue) × IsSelection ranges.now which pages spec × IsWritten spec (string_bytes placed.0))
-        × (placed.1 ≡ None)) }
-    ensures refused { IfErr result (RefusesRanges ranges.now which pages) }
-{
-    match selection(alloc, ranges, which, pages) {
-        Ok(spec) => written(alloc, &spec, None),
-        Err(error) => Err(of_selection(error, pages)),
-    }
-}
-
-fn of_selection(error: LayoutError, pages: u32) -> Fault
-    ensures { result ≡ selection_fault pages error }
-{
-    match error {
-        LayoutError::NoMemory => Fault::no_memory(),
-        LayoutError::PageNotInDocument(place) => Fault::NoSuchPage { place, pages },
-        error => Fault::Layout(error),
     }
 }
 
@@ -368,9 +303,8 @@ fn in_fours(pages: u32) -> u32
     (pages + 3) / 4 * 4
 }
 
-/// Carries a request out for this document: what `task_for` says is refused first, and then what the run refuses.
-/// Nothing is written before all of it is checked.
-pub fn run_request<R: Threads + Wait + Sync, S: Sink>(
+/// Carries a request out by the specification that it names.
+pub(crate) fn run_spec<R: Threads + Wait + Sync, S: Sink>(
     rt: &R,
     alloc: Global,
     request: &Request,
@@ -378,12 +312,8 @@ pub fn run_request<R: Threads + Wait + Sync, S: Sink>(
     sink: &mut S,
 ) -> Result<Finished, Fault>
     requires countable { IsCountable (S.seen sink.old) }
-    // Exactly the output was appended that the rules define for the layout's specification and the guarded document.
-    ensures finished { IfOk result (Finishes request.now input.items (S.seen sink.old).bytes (S.seen sink.new).bytes) }
-    // It was carried out and no write failed; or a fault was found before the run, and nothing was written; or the fault
-    // is the run's, which names the first check that fails, or says after how many bytes memory ran out or a write
-    // failed.
-    ensures ended { Ends request.now input.items (S.seen sink.old) (S.seen sink.new) result }
+    requires spec { (text : List ℕ) × IsSpec request.now.layout text }
+    ensures ended { EndsBySpec request.now input.items (S.seen sink.old) (S.seen sink.new) result }
 {
     let task = match task_for(alloc, request, input) {
         Ok(task) => task,

@@ -1,5 +1,5 @@
 -- What the answers of a run on a row mean.
-use Rattle.std.specs.Prelude.{◌≡◌, ◌⊎◌, ⊤, ℕ, ◌+◌, ◌≤◌, List, length, take, IsOk, Ok}
+use Rattle.std.specs.Prelude.{◌≡◌, ◌⊎◌, ⊤, ℕ, ◌+◌, ◌≤◌, List, length, take, Option, IsOk, Ok}
 use Rattle.std.specs.Io.KnownBytes.{Appends, Keeps}
 use Rattle.rules.specs.Parts.{pages}
 use Rattle.made_sheets.specs.Made.{MadeSheet}
@@ -28,10 +28,10 @@ abbrev pub output_on : RowJob → List MadeSheet → List ℕ
 output_on j made = told_output j.border made j.document.now
 
 -- exactly the output of the sheets that are asked for was appended, and the report has its numbers
-pub record Imposes (j : RowJob) (old new : SinkView) (done : Report) : Type 0 where
+pub record Imposes (j : RowJob) (old new : Option (List ℕ)) (done : Report) : Type 0 where
   pub made : List MadeSheet
   pub planned : ArePlanned j made
-  pub written : Appends old.bytes new.bytes (output_on j made)
+  pub written : Appends old new (output_on j made)
   pub report : ReportsOn j.border made j.document.now done
 
 -- what holds after an error: after a refusal; of the number of bytes that were written, after out of memory and after a

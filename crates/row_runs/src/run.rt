@@ -49,7 +49,7 @@ pub fn impose_row<R: Threads + Wait + Sync, G: Gate + Sync, S: Sink>(
     requires workers { AreWorkers job.now.workers }
     requires countable { IsCountable (S.seen sink.old) }
     // There is such a row, and exactly the output of its sheets was appended, with the lines that tell their papers.
-    ensures finished { IfOk result (Imposes job.now (S.seen sink.old) (S.seen sink.new)) }
+    ensures finished { IfOk result (Imposes job.now (S.seen sink.old).bytes (S.seen sink.new).bytes) }
     // A refusal names the first fault.
     ensures refused { IfErr result (RefusesRun job.now) }
     // After an error the sink has taken as much of the output as the error says, and nothing after a refusal.

@@ -1,0 +1,109 @@
+-- What is imposed of a row of pages, and how: a request for a document, if its layout lays rows on sheets.
+use Rattle.std.specs.Prelude.{◌≡◌, ⊤, ℕ, true, List, length, replicate, Option, Some, None, Ok, IfSome, option_map}
+use Rattle.rules.specs.Papers.{Paper}
+use Rattle.rules.specs.Parts.{NestedUnit, pages}
+use Rattle.rules.specs.Run.{document_of}
+use Rattle.made_sheets.specs.Choice.{Signing, InOne, OfSides}
+use Rattle.rows.specs.Choices.{choice_of}
+use Rattle.rows.specs.Sewing.{MayBeSewn, signing_of}
+use Rattle.layouts.specs.Fitted.{binding_setting_of, setting_of}
+use Rattle.layouts.specs.Grids.{plain, plain_binding}
+use Rattle.layouts.specs.Refusals.{why_not_arranged, why_not_bound}
+use Rattle.layouts.specs.declared.arrangement.Cells.TheVariants.{AtLeast}
+use Rattle.layouts.specs.declared.error.ArrangementError.{ArrangementError}
+use Rattle.row_runs.specs.Runs.{Imposes, page_count}
+use Rattle.row_runs.specs.Sheets.{MayBeLaid}
+use Rattle.sheet_text.specs.Jobs.{is_border}
+use Rattle.imposer.specs.declared.outcome.Report.{Report}
+use Rattle.row_runs.specs.declared.asked.Laying.{Laying}
+use Rattle.row_runs.specs.declared.asked.Laying.TheVariants as laying
+use Rattle.row_runs.specs.declared.run.RowJob.{RowJob}
+use Rattle.impose_cli.specs.Choices.{choice_in}
+use Rattle.impose_cli.specs.Tasks.{HasPages, page_paper_found, sheet_paper_found, taken_text}
+use Rattle.impose_cli.specs.declared.request.Layout.{Layout}
+use Rattle.impose_cli.specs.declared.request.Layout.TheVariants as layout
+use Rattle.impose_cli.specs.declared.request.Request.{Request}
+use Rattle.impose_cli.specs.declared.task.Finished.{Finished}
+use Rattle.impose_cli.specs.declared.row_task.RowTask.{RowTask}
+
+-- how a layout is sewn
+abbrev pub signing_in : Layout → Option Signing
+signing_in (layout.NUp n) = None
+signing_in (layout.Booklet None long_edge) = Some InOne
+signing_in (layout.Booklet (Some sides) long_edge) = Some (OfSides sides)
+signing_in layout.Selection = None
+signing_in (layout.Spec specs) = None
+
+-- the paper of the sheets of a layout, for pages of this paper: a selection keeps pages on their own
+abbrev pub sheet_paper_in : Layout → (named : Option Paper) → (page_paper : Paper) → Paper
+sheet_paper_in layout.Selection named page_paper = page_paper
+sheet_paper_in other named page_paper = sheet_paper_found named page_paper
+
+-- how a layout lays a row of pages of a paper on sheets, if it does
+abbrev pub laying_in : Layout → (page_paper sheet_paper : Paper) → Option Laying
+laying_in (layout.NUp n) page_paper sheet_paper =
+    Some (laying.Grid (setting_of page_paper sheet_paper (plain (AtLeast n))) n)
+laying_in (layout.Booklet signature long_edge) page_paper sheet_paper =
+    Some (laying.Booklet (binding_setting_of sheet_paper (plain_binding long_edge)) long_edge)
+laying_in layout.Selection page_paper sheet_paper = Some (laying.AsTheyAre sheet_paper)
+laying_in (layout.Spec specs) page_paper sheet_paper = None
+
+-- why it can't
+abbrev pub why_not_laid : Layout → (page_paper sheet_paper : Paper) → Option ArrangementError
+why_not_laid (layout.NUp n) page_paper sheet_paper = why_not_arranged page_paper sheet_paper (plain (AtLeast n))
+why_not_laid (layout.Booklet signature long_edge) page_paper sheet_paper =
+    why_not_bound page_paper sheet_paper (plain_binding long_edge)
+why_not_laid layout.Selection page_paper sheet_paper = None
+why_not_laid (layout.Spec specs) page_paper sheet_paper = None
+
+-- the document, with the guard in it if it is asked for, for sheets of the layout's paper
+abbrev pub text_for : Request → (page_paper : Paper) → (input : List ℕ) → List ℕ
+text_for r page_paper input = taken_text r.is_guarded (sheet_paper_in r.layout r.sheet_paper page_paper) input
+
+-- the layout lays rows on sheets
+abbrev pub LaysRows : Layout → Type 0
+LaysRows (layout.Spec specs) = ⊥
+LaysRows other = ⊤
+
+-- the task is what the request asks for with this document
+pub record IsRowTask (r : Request) (input : List ℕ) (t : RowTask) : Type 0 where
+  pub pages : ℕ
+  pub document : HasPages input pages
+  pub page_paper : (t.page_paper, t.origin) ≡ page_paper_found r.page_paper r.home_paper input
+  pub text : t.text.items ≡ text_for r t.page_paper input
+  pub laying : laying_in r.layout t.page_paper (sheet_paper_in r.layout r.sheet_paper t.page_paper) ≡ Some t.laying
+  pub may_be_laid : MayBeLaid t.laying
+  pub signing : option_map signing_of t.signing ≡ signing_in r.layout
+  pub may_be_sewn : IfSome t.signing MayBeSewn
+  pub border : is_border r.border ≡ true
+
+-- the job is the run of such a task
+pub record IsJobOf (r : Request) (t : RowTask) (job : RowJob) : Type 0 where
+  pub document : document_of t.text.items ≡ Ok job.document.now
+  pub papers : job.papers.now ≡ replicate (page_count job) t.page_paper
+  pub choice : choice_of job.asked.choice ≡ choice_in r.choice
+  pub signing : job.asked.signing ≡ t.signing
+  pub laying : job.asked.laying ≡ t.laying
+  pub border : job.border ≡ r.border
+
+abbrev pub ImposesTask : Request → RowTask → (old new : Option (List ℕ)) → Report → Type 0
+ImposesTask r t old new report = (job : RowJob) × IsJobOf r t job × Imposes job old new report
+
+-- the job is what the request asks for with this document, whose pages have this paper
+pub record IsRowJob (r : Request) (input : List ℕ) (page_paper : Paper) (job : RowJob) : Type 0 where
+  pub document : document_of (text_for r page_paper input) ≡ Ok job.document.now
+  pub papers : job.papers.now ≡ replicate (page_count job) page_paper
+  pub choice : choice_of job.asked.choice ≡ choice_in r.choice
+  pub signing : option_map signing_of job.asked.signing ≡ signing_in r.layout
+  pub laying : laying_in r.layout page_paper (sheet_paper_in r.layout r.sheet_paper page_paper) ≡ Some job.asked.laying
+  pub border : job.border ≡ r.border
+
+-- The request was carried out for this document: exactly the output was appended of the sheets on which its layout lays
+-- its row, with the lines by which they tell their papers.
+pub record FinishesRow (r : Request) (input : List ℕ) (old new : Option (List ℕ)) (done : Finished) : Type 0 where
+  pub pages : ℕ
+  pub document : HasPages input pages
+  pub page_paper : (done.page_paper, done.origin) ≡ page_paper_found r.page_paper r.home_paper input
+  pub job : RowJob
+  pub is_job : IsRowJob r input done.page_paper job
+  pub imposes : Imposes job old new done.report
