@@ -1,6 +1,6 @@
 -- Sheets whose cells are filled from a row: grids, cards, stacks. Each page is fitted into its cell by its own paper. All
 -- here is this project's own rules.
-use Rattle.std.specs.Prelude.{◌≡◌, ◌≢◌, ℕ, ◌+◌, ◌-◌, ◌*◌, ◌/◌, ◌%◌, ◌<◌, Bool, ◌==◌, if◌then◌else◌, List, [], ◌∷◌}
+use Rattle.std.specs.Prelude.{◌≡◌, ◌≢◌, ℕ, ◌+◌, ◌-◌, ◌*◌, ◌/◌, ◌%◌, ◌<◌, Bool, true, false, ◌&&◌, ◌==◌, if◌then◌else◌, List, [], ◌∷◌}
 use Rattle.std.specs.Prelude.{map, flat_map, length, Option, Some, None, ⊤}
 use Rattle.std.specs.List.{range_with_len}
 use Rattle.rules.specs.Papers.{Paper}
@@ -14,7 +14,7 @@ use Rattle.layouts.specs.declared.arrangement.Turned.{Turned}
 use Rattle.layouts.specs.declared.setting.Setting.{Setting}
 use Rattle.layouts.specs.Placed.{Room, IsInside, AreApart}
 use Rattle.layouts.specs.Cells.{Grid, size, read_columns, read_rows, read_row, read_column}
-use Rattle.layouts.specs.Fitted.{fitted, why_not_fitted}
+use Rattle.layouts.specs.Fitted.{fitted, fitted_back, why_not_fitted}
 use Rattle.layouts.specs.Laws.{IsPaper}
 
 -- what the cells are filled with: the cells of a sheet, and the paper of each page
@@ -27,12 +27,30 @@ abbrev pub slot_in : Filling → (c : ℕ) → Option ℕ → MadeSlot
 slot_in f c None = Blank
 slot_in f c (Some page) = let paper = f.paper_of page in Placed page (fitted f.setting paper c) paper
 
+-- as it stands if the whole sheet is turned by half
+abbrev pub back_slot_in : Filling → (c : ℕ) → Option ℕ → MadeSlot
+back_slot_in f c None = Blank
+back_slot_in f c (Some page) = let paper = f.paper_of page in Placed page (fitted_back f.setting paper c) paper
+
+-- on a sheet that is turned by half, or isn't
+abbrev pub slot_on : Filling → (by_half : Bool) → (c : ℕ) → Option ℕ → MadeSlot
+slot_on f false c entry = slot_in f c entry
+slot_on f true c entry = back_slot_in f c entry
+
+-- sheets are fronts and backs in turn, from a front on; if backs are turned, each of them is turned by half
+abbrev pub is_turned : (turned_backs : Bool) → (s : ℕ) → Bool
+is_turned turned_backs s = turned_backs && (s % 2 == 1)
+
 -- so many sheets with so many cells each, of which cell c of sheet s has this entry
-abbrev pub filled : Filling → (sheets cells : ℕ) → (entry : (s c : ℕ) → Option ℕ) → List MadeSheet
-filled f sheets cells entry = map (λ s. record {
+abbrev pub sides : Filling → (turned_backs : Bool) → (sheets cells : ℕ) → (entry : (s c : ℕ) → Option ℕ) → List MadeSheet
+sides f turned_backs sheets cells entry = map (λ s. record {
   paper = f.setting.room.paper;
-  slots = map (λ c. slot_in f c (entry s c)) (range_with_len 0 cells);
+  slots = map (λ c. slot_on f (is_turned turned_backs s) c (entry s c)) (range_with_len 0 cells);
 }) (range_with_len 0 sheets)
+
+-- none of which is turned
+abbrev pub filled : Filling → (sheets cells : ℕ) → (entry : (s c : ℕ) → Option ℕ) → List MadeSheet
+filled f sheets cells entry = sides f false sheets cells entry
 
 -- ---- what stands where
 
@@ -74,7 +92,15 @@ abbrev pub duplex_sheets : Filling → Row → List MadeSheet
 duplex_sheets f row = let leaves = blocks (2 * size f.setting.grid) (length row) in
     filled f (2 * leaves) (size f.setting.grid) (duplex_entry leaves (behind_in f.setting) row)
 
+-- the sides of a booklet's leaves, two entries on each: the row stands in signature order
+abbrev pub booklet_sheets : Filling → (turned_backs : Bool) → Row → List MadeSheet
+booklet_sheets f turned_backs row = sides f turned_backs (blocks 2 (length row)) 2 (grid_entry 2 row)
+
 -- ---- laws
+
+-- if no back is turned they are a grid with two cells
+abbrev pub BookletIsGrid : Type 0
+BookletIsGrid = (f : Filling) (row : Row) → booklet_sheets f false row ≡ grid_sheets f 2 row
 
 -- so many cells of each sheet in turn are the row, and behind its end blanks
 abbrev pub GridRunsOn : Type 0

@@ -1,6 +1,6 @@
 //! Laws of the definitions. The functions do nothing.
 ghost use Rattle.arranged_sheets.specs.Filled.{GridRunsOn, StackRunsOn, DuplexRunsOn, BehindIsMirror};
-ghost use Rattle.arranged_sheets.specs.Filled.{FilledIsInside, FilledIsApart};
+ghost use Rattle.arranged_sheets.specs.Filled.{FilledIsInside, FilledIsApart, BookletIsGrid};
 ghost use Rattle.arranged_sheets.specs.Creep.{CreepMoves, CreepGrows, CreepKeepsSides};
 ghost use Rattle.arranged_sheets.specs.Posters.{PosterCovers, TilesOverlap};
 
@@ -32,6 +32,11 @@ pub fn filled_is_inside()
 /// Two placed pages of a sheet are apart by the gap, whatever their papers.
 pub fn filled_is_apart()
     ensures { FilledIsApart }
+{}
+
+/// The sides of a booklet of which no back is turned are a grid with two cells.
+pub fn booklet_is_grid()
+    ensures { BookletIsGrid }
 {}
 
 /// A page of a leaf that creeps stands where it would, moved towards the fold.

@@ -6,6 +6,7 @@ use Rattle.lengths.proofs.Numbers.{same_byte}
 use Rattle.rules.specs.Papers.{Paper}
 use Rattle.rules.specs.Specification.{Item, Spec}
 use Rattle.layouts.specs.declared.arrangement.Arrangement.{Arrangement}
+use Rattle.layouts.specs.declared.arrangement.Binding.{Binding}
 use Rattle.layouts.specs.declared.arrangement.Cells.{Cells}
 use Rattle.layouts.specs.declared.arrangement.Cells.TheVariants.{AtLeast, Exactly}
 use Rattle.layouts.specs.declared.arrangement.Turned.{Turned}
@@ -15,14 +16,15 @@ use Rattle.layouts.specs.declared.error.ArrangementError.TheVariants as why
 use Rattle.layouts.specs.declared.setting.Setting.{Setting}
 use Rattle.layouts.specs.Placed.{Room, IsInside, AreApart}
 use Rattle.layouts.specs.Cells.{Grid, size, scale_in, item_in, run_in, read_rows, row_of, column_of}
-use Rattle.layouts.specs.Grids.{alone, is_same, is_itself, room_of, grid, grid_of, best_grid, best_of, best_formed, scale_for, count_of, rounded_up, rounded_down, arranged}
+use Rattle.layouts.specs.Grids.{beside, leaf_order, alone, is_same, is_itself, room_of, grid, grid_of, best_grid, best_of, best_formed, scale_for, count_of, rounded_up, rounded_down, arranged}
 use Rattle.layouts.specs.Refusals.{first_of, is_count, are_reached, is_length, is_shown, why_no_scale, why_not_arranged}
-use Rattle.layouts.specs.Laws.{IsPaper, HasPlace, IsExact, IsInMiddle, cell_at, ComesInRun, ComesInRunBefore, IsNotTiny, Allows, IsChosen}
-use Rattle.layouts.specs.Fitted.{is_whole, scale_on, fitted, setting_of, why_no_scale_on, why_not_fitted, IsFitted, FittedStands, FittedIsApart, FittedIsInOrder, ArrangedIsFitted}
+use Rattle.layouts.specs.Laws.{IsPaper, HasPlace, IsExact, IsHalfTurnOf, IsInMiddle, cell_at, ComesInRun, ComesInRunBefore, IsNotTiny, Allows, IsChosen}
+use Rattle.layouts.specs.Fitted.{is_whole, scale_on, fitted, fitted_back, setting_of, binding_setting_of, why_no_scale_on, why_not_fitted, IsFitted, FittedStands, FittedIsApart, FittedIsInOrder, ArrangedIsFitted}
 use Rattle.layouts.proofs.InGrid.{cells, room_in, both_true}
 use Rattle.layouts.proofs.InOrder.{grid_inside, grid_in_order}
 use Rattle.layouts.proofs.Apart.{grid_apart}
 use Rattle.layouts.proofs.Middle.{grid_in_middle}
+use Rattle.layouts.proofs.Backs.{back_inside, back_is_half_turn}
 use Rattle.layouts.proofs.BestGrid.{allowed, best_has_cells}
 use Rattle.layouts.proofs.Printing.{printed_as_it_is}
 use Rattle.layouts.proofs.LaidOut.{SameSides, same_sides, itself_in, itself_exact, itself_large_at, some_each, read_best, read_square, is_chosen, enough}
@@ -121,6 +123,21 @@ cell_fitted t page k is on within h =
           let less = allowed page t.room t.grid s sides some.0 some.1 allows in
           let asked : scale_on t page ≡ scale_in page t.room t.grid = ap (λ a. scale_for a (scale_in page t.room t.grid)) none in
           omega (arith, less, asked);
+    }
+
+-- and one that is turned by half
+pub record StandsBack (t : Setting) (page : Paper) (k : ℕ) (item : Item) : Type 0 where
+  pub inside : IsInside t.room page item
+  pub turned : is_whole t page ≡ false → IsHalfTurnOf page t.room.paper (fitted t page k) item
+  pub exact : IsExact page item
+
+pub stands_back : (t : Setting) (page : Paper) (k : ℕ) → IsPaper page → IsPaper t.room.paper → k < size t.grid → why_no_scale_on t page ≡ None → StandsBack t page k (fitted_back t page k)
+stands_back t page k is on within h =
+    let s = scale_on t page in record {
+      inside = back_inside page t.room t.grid t.order s 0 k is on (has_scale t page h).place within;
+      turned = λ e. subst (λ i. IsHalfTurnOf page t.room.paper i (fitted_back t page k)) (sym (either_way (is_whole t page) (alone k) (item_in page t.room t.grid t.order s k) e))
+          (back_is_half_turn page t.room t.grid t.order s 0 k);
+      exact = (printed_as_it_is page t.room t.grid t.order s 0 k).1;
     }
 
 by_test : {P : Type 0} (b : Bool) → (b ≡ true → P) → (b ≡ false → P) → P
@@ -273,3 +290,10 @@ arranged_is_fitted page sheet a h =
     let same : is_whole (setting_of page sheet a) page ≡ is_itself page sheet a =
     ap (λ b. b && is_same page sheet && (rounded_up a.margin == 0) && (rounded_down a.trim == 0) && is_none a.scale) (same_test page room a.order.turned a.cells holds.some) in
     by_test (is_itself page sheet a) (λ e. whole_so page sheet a e (same ∙ e)) (λ e. cells_so page sheet a holds e (same ∙ e))
+
+-- ---- leaves
+
+-- the halves of a sheet, by their parts
+pub halves_made : (sheet : Paper) (b : Binding) (room : Room) (g : Grid) (o : Order) → room ≡ room_of sheet b.margin b.gap b.trim → g ≡ beside true → o ≡ leaf_order b.right_to_left
+    → record { room = room; grid = g; order = o; scale = None } ≡ binding_setting_of sheet b
+halves_made sheet b room g o e f h = cc (e, f, h)

@@ -1,17 +1,18 @@
 -- Pages of several papers in the cells of one grid: each is fitted into its cell by its own sides. All here is this
 -- project's own rules.
 use Rattle.std.specs.Prelude.{◌≡◌, ◌≢◌, ℕ, ◌+◌, ◌/◌, ◌%◌, ◌<◌, Bool, ◌&&◌, ◌==◌, if◌then◌else◌, [], ◌∷◌, map}
-use Rattle.std.specs.Prelude.{pos, Option, None, is_none}
+use Rattle.std.specs.Prelude.{pos, true, Option, None, is_none}
 use Rattle.std.specs.List.{range_with_len}
 use Rattle.rules.specs.Papers.{Paper}
 use Rattle.rules.specs.Specification.{Item}
 use Rattle.layouts.specs.declared.arrangement.Arrangement.{Arrangement}
+use Rattle.layouts.specs.declared.arrangement.Binding.{Binding}
 use Rattle.layouts.specs.declared.error.ArrangementError.{ArrangementError}
 use Rattle.layouts.specs.declared.error.ArrangementError.TheVariants as why
 use Rattle.layouts.specs.declared.setting.Setting.{Setting}
 use Rattle.layouts.specs.Placed.{IsInside, AreApart}
-use Rattle.layouts.specs.Cells.{size, scale_in, item_in, run_in, row_of, column_of}
-use Rattle.layouts.specs.Grids.{alone, is_same, room_of, grid_of, scale_for, count_of, arranged}
+use Rattle.layouts.specs.Cells.{size, scale_in, item_in, back_in, run_in, row_of, column_of}
+use Rattle.layouts.specs.Grids.{alone, is_same, room_of, grid_of, scale_for, count_of, arranged, beside, leaf_order}
 use Rattle.layouts.specs.Refusals.{first_of, are_reached, is_shown, why_no_scale, why_not_arranged}
 use Rattle.layouts.specs.Laws.{IsPaper, IsExact, IsInMiddle, cell_at, ComesInRun, ComesInRunBefore, IsNotTiny, Allows}
 
@@ -28,6 +29,11 @@ scale_on t page = scale_for t.scale (scale_in page t.room t.grid)
 abbrev pub fitted : Setting → (page : Paper) → (k : ℕ) → Item
 fitted t page k = if is_whole t page then alone k else item_in page t.room t.grid t.order (scale_on t page) k
 
+-- a page of this paper in cell k, as it stands if the whole sheet is turned by half; it is fitted into its cell on a sheet
+-- of its own paper too
+abbrev pub fitted_back : Setting → (page : Paper) → (k : ℕ) → Item
+fitted_back t page k = back_in page t.room t.grid t.order (scale_on t page) 0 k
+
 -- the cells that an arrangement comes to, if the grid is chosen for pages of this paper
 abbrev pub setting_of : (page sheet : Paper) → Arrangement → Setting
 setting_of page sheet a = let room = room_of sheet a.margin a.gap a.trim in record {
@@ -35,6 +41,15 @@ setting_of page sheet a = let room = room_of sheet a.margin a.gap a.trim in reco
   grid = grid_of page room a.order.turned a.cells;
   order = a.order;
   scale = a.scale;
+}
+
+-- the two halves of a sheet whose leaves are bound so
+abbrev pub binding_setting_of : (sheet : Paper) → Binding → Setting
+binding_setting_of sheet b = record {
+  room = room_of sheet b.margin b.gap b.trim;
+  grid = beside true;
+  order = leaf_order b.right_to_left;
+  scale = None;
 }
 
 -- the first reason why pages of this paper can't have their scale in these cells
