@@ -1,14 +1,22 @@
 -- What was written for a request is a document again.
-use Rattle.std.proofs.Common.{◌≤◌, ◌≡◌, ◌∙◌, ℕ, ◌++◌, List, ap, drop, length, subst, sym}
-use Rattle.std.specs.Prelude.{Some, string_bytes}
+use Rattle.std.proofs.Common.{◌≤◌, ◌<◌, ◌≡◌, ◌∙◌, ℕ, ◌++◌, List, ap, drop, length, subst, sym, inl, inr, true, false, Bool, None, Result, Ok, Err, refl}
+use Rattle.std.specs.Prelude.{Some, nat_lt}
 use Rattle.std.proofs.Math.Seq.{drop-append_seam}
+use Rattle.std.proofs.lemmas.Bool.{ltb-false}
 use Rattle.rules.specs.Admissible.{most_slots}
 use Rattle.rules.specs.Output.{output}
-use Rattle.rules.specs.Run.{most_input_bytes}
+use Rattle.rules.specs.Run.{most_input_bytes, most_pages, most_sheets, refuse_if}
 use Rattle.rules.specs.Parts.{NestedUnit}
+use Rattle.made_sheets.specs.Made.{MadeSheet}
+use Rattle.made_sheets.specs.MadePlans.{MadeFault, MadeTooManyPages, MadeTooManySheets, made_plan_of}
 use Rattle.imposed_again.proofs.Again.{imposed_again, trailer_shuts}
-use Rattle.impose_cli.specs.Tasks.{Finishes, frame_used, sheets_made, sheet_paper_found, taken_text}
-use Rattle.impose_cli.specs.Laws.{IsDocumentAgain, WroteDocument}
+use Rattle.imposed_again.proofs.MadeAgain.{made_is_document}
+use Rattle.page_papers.specs.Told.{telling}
+use Rattle.page_papers.proofs.Tame.{telling_is_tame}
+use Rattle.row_runs.specs.Runs.{output_on}
+use Rattle.impose_cli.specs.Tasks.{FinishesSpec, frame_used, sheet_paper_found, taken_text}
+use Rattle.impose_cli.specs.RowTasks.{FinishesRow, text_for}
+use Rattle.impose_cli.specs.Laws.{IsDocumentAgain, IsMadeDocument, WroteDocument, sheets_named}
 use Rattle.impose_cli.specs.declared.request.Request.{Request}
 use Rattle.impose_cli.specs.declared.task.Finished.{Finished}
 
@@ -16,12 +24,14 @@ use Rattle.impose_cli.specs.declared.task.Finished.{Finished}
 behind : (old one other : List ℕ) → old ++ one ≡ old ++ other → one ≡ other
 behind old one other e = sym (drop-append_seam old one) ∙ ap (drop (length old)) e ∙ drop-append_seam old other
 
-again : (r : Request) (input old text : List ℕ) (done : Finished) (h : Finishes r input (Some old) (Some (old ++ text)) done)
-    → length (output (frame_used r done) h.sides h.spec h.units) ≤ most_input_bytes
-    → IsDocumentAgain (frame_used r done) (sheets_made h) h.units (output (frame_used r done) h.sides h.spec h.units)
-again r input old text done h l =
+-- ---- by a specification
+
+spec_again : (r : Request) (input old text : List ℕ) (done : Finished) (h : FinishesSpec r input (Some old) (Some (old ++ text)) done)
+    → length (output (frame_used r done) None h.spec h.units) ≤ most_input_bytes
+    → IsDocumentAgain (frame_used r done) (sheets_named h) h.units (output (frame_used r done) None h.spec h.units)
+spec_again r input old text done h l =
     let taken = taken_text r.is_guarded (sheet_paper_found r.sheet_paper done.page_paper) input in
-    let i = imposed_again most_slots (frame_used r done) h.sides h.spec taken h.units (sheets_made h) h.taken h.valid h.admissible h.plan l in
+    let i = imposed_again most_slots (frame_used r done) None h.spec taken h.units (sheets_named h) h.taken tt (record { text = h.text; taken = h.takes }) h.plan l in
     record {
       accepted = i.0;
       again = i.1;
@@ -29,8 +39,39 @@ again r input old text done h l =
       with_trailer = λ some. i.2 (trailer_shuts taken h.units h.taken some);
     }
 
+-- ---- on a row
+
+passes : {A E : Type 0} (t : Bool) (fault : E) (next : Result A E) (x : A) → refuse_if t fault next ≡ Ok x → (t ≡ false) × (next ≡ Ok x)
+passes true fault next x e = cc
+passes false fault next x e = (refl, e)
+
+-- a plan has at most so many sheets
+few_sheets : (pages : ℕ) (all : List MadeSheet) → made_plan_of pages all ≡ Ok all → length all ≤ most_pages
+few_sheets pages all e =
+    let first = passes (nat_lt most_pages pages) MadeTooManyPages _ all e in
+    ltb-false _ _ (passes (nat_lt most_sheets (length all)) MadeTooManySheets _ all first.1).0
+
+row_again : (r : Request) (input old text : List ℕ) (done : Finished) (h : FinishesRow r input (Some old) (Some (old ++ text)) done)
+    → length (output_on h.job h.imposes.made) ≤ most_input_bytes → 0 < length h.imposes.made
+    → IsMadeDocument h.job.border (telling h.imposes.made) h.imposes.made h.job.document.now (output_on h.job h.imposes.made)
+row_again r input old text done h l some =
+    let taken = text_for r done.page_paper input in
+    let made = h.imposes.made in
+    let us = h.job.document.now in
+    let i = made_is_document h.job.border (telling made) made taken us (telling_is_tame made) h.is_job.document some (few_sheets _ made h.imposes.planned.planned) l in
+    record {
+      accepted = i.0;
+      again = i.1;
+      shut = i.2;
+      with_trailer = λ some. i.2 (trailer_shuts taken us h.is_job.document some);
+    }
+
 pub wrote_document : WroteDocument
-wrote_document r input old text done h l =
+wrote_document r input old text done (inl h) l =
     let e = sym (behind old text _ h.written) in
-    subst (IsDocumentAgain (frame_used r done) (sheets_made h) h.units) e
-    (again r input old text done h (subst (λ t. length t ≤ most_input_bytes) (sym e) l))
+    subst (IsDocumentAgain (frame_used r done) (sheets_named h) h.units) e
+    (spec_again r input old text done h (subst (λ t. length t ≤ most_input_bytes) (sym e) l))
+wrote_document r input old text done (inr h) l =
+    λ some. let e = sym (behind old text _ h.imposes.written) in
+    subst (IsMadeDocument h.job.border (telling h.imposes.made) h.imposes.made h.job.document.now) e
+    (row_again r input old text done h (subst (λ t. length t ≤ most_input_bytes) (sym e) l) some)

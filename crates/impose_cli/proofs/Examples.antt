@@ -5,8 +5,8 @@ use Rattle.clap.specs.declared.error.kind.ErrorKind.TheVariants.{DisplayHelp, Di
 use Rattle.lengths.specs.Reading.{number_at}
 use Rattle.rules.specs.Papers.{points}
 use Rattle.guard.specs.Guard.{guarded}
-use Rattle.layouts.specs.declared.error.LayoutError.TheVariants as layout
-use Rattle.layouts.specs.declared.selections.Which.TheVariants.{All, Odd, Even}
+use Rattle.layouts.specs.declared.error.ArrangementError.TheVariants as layout
+use Rattle.rows.specs.declared.choices.Part.TheVariants.{All, Odd, Even}
 use Rattle.dsc.specs.declared.errors.DscError.TheVariants.{NoMemory, NoPages, NotPostScript, TooLong}
 use Rattle.imposer.specs.declared.outcome.RunError.TheVariants as run
 use Rattle.document_paper.specs.declared.media.Comment.TheVariants.{DocumentMedia}
@@ -15,7 +15,7 @@ use Rattle.impose_cli.specs.declared.fault.Fault.TheVariants as fault
 use Rattle.impose_cli.specs.declared.fault.CommandFault.TheVariants as command
 use Rattle.paper_names.specs.Names.{papers}
 use Rattle.impose_cli.specs.Sizes.{size_named}
-use Rattle.impose_cli.specs.Words.{which_of, file_asked, is_folded, is_outfile}
+use Rattle.impose_cli.specs.Words.{part_by, file_asked, is_folded, is_outfile}
 use Rattle.impose_cli.specs.Statuses.{words_status, command_status, layout_status, fault_status}
 use Rattle.impose_cli.specs.Tasks.{own_or_home, page_paper_found, sheet_paper_found, taken_text, fours}
 use Rattle.impose_cli.specs.Faults.{of_document}
@@ -38,16 +38,16 @@ standard_input = refl
 file_with_a_minus : file_asked (Some (codes "-a")) ≡ Some (codes "-a")
 file_with_a_minus = refl
 
-neither : which_of false false ≡ Some All
+neither : part_by false false ≡ Some All
 neither = refl
 
-odd : which_of true false ≡ Some Odd
+odd : part_by true false ≡ Some Odd
 odd = refl
 
-even : which_of false true ≡ Some Even
+even : part_by false true ≡ Some Even
 even = refl
 
-both : which_of true true ≡ None
+both : part_by true true ≡ None
 both = refl
 
 folded : map is_folded (Some 4 ∷ Some 6 ∷ Some 8 ∷ None ∷ []) ≡ true ∷ false ∷ true ∷ true ∷ []
@@ -128,8 +128,8 @@ help_and_version = refl
 commands : map command_status (command.NoText ∷ command.Lacking ∷ command.BadSignature 6 ∷ command.OddAndEven ∷ command.NoMemory ∷ []) ≡ 2 ∷ 2 ∷ 2 ∷ 2 ∷ 3 ∷ []
 commands = refl
 
-layouts : map layout_status (layout.PagesOutOfRange ∷ layout.NoPages ∷ layout.Syntax 1 ∷ layout.NoMemory ∷ []) ≡ 1 ∷ 1 ∷ 1 ∷ 3 ∷ []
+layouts : map layout_status (layout.CellsOutOfRange ∷ layout.NoRoom ∷ layout.FoldOnLongEdge ∷ layout.NoMemory ∷ []) ≡ 1 ∷ 1 ∷ 1 ∷ 3 ∷ []
 layouts = refl
 
-faults : map fault_status (fault.NoSuchPage 1 2 ∷ fault.NoInput ∷ fault.Pdf ∷ fault.Compressed ∷ fault.JobLanguage ∷ fault.TooLong ∷ fault.Read None ∷ fault.Write 0 None ∷ []) ≡ 1 ∷ 1 ∷ 1 ∷ 1 ∷ 1 ∷ 1 ∷ 3 ∷ 3 ∷ []
+faults : map fault_status (fault.NoSuchPage 1 2 ∷ fault.NoSpecification ∷ fault.NoInput ∷ fault.Pdf ∷ fault.Compressed ∷ fault.JobLanguage ∷ fault.TooLong ∷ fault.Read None ∷ fault.Write 0 None ∷ []) ≡ 1 ∷ 1 ∷ 1 ∷ 1 ∷ 1 ∷ 1 ∷ 1 ∷ 3 ∷ 3 ∷ []
 faults = refl

@@ -145,7 +145,7 @@ refuses_arguments name found page_paper sheet_paper border (fault.UnknownPaper o
 refuses_arguments name found page_paper sheet_paper border (fault.BadBorder text) r h = absurd h
 refuses_arguments name found page_paper sheet_paper border (fault.OptionAsOutfile text) r h = absurd h
 
-has_layout : (name : Text) (found : List Row) (page_paper sheet_paper : Option Paper) (border : Option ℤ) (layout : Layout) → ReadsSizes found page_paper sheet_paper border → AsksFor name found layout → HasLayout name found
+abbrev has_layout : (name : Text) (found : List Row) (page_paper sheet_paper : Option Paper) (border : Option ℤ) (layout : Layout) → ReadsSizes found page_paper sheet_paper border → AsksFor name found layout → HasLayout name found
 has_layout name found page_paper sheet_paper border layout r a = record { sizes = has_sizes found page_paper sheet_paper border r; layout = layout; asked = a }
 
 pub refuses_choice : (name : Text) (found : List Row) (page_paper sheet_paper : Option Paper) (border : Option ℤ) (layout : Layout) (f : CommandFault)

@@ -1,40 +1,32 @@
 -- What the fault of a layout's error says of the layout.
-use Rattle.std.proofs.Common.{◌≡◌, ℕ, refl, inl, inr, List, Option, Some}
+use Rattle.std.proofs.Common.{◌≡◌, ◌∙◌, refl, inl, inr, Option, Some, Result, Ok, Err, IfOk}
+use Rattle.std.specs.Prelude.{◌⊎◌}
 use Rattle.rules.specs.Papers.{Paper}
-use Rattle.layouts.specs.NoSelection.{RefusesSelection}
-use Rattle.layouts.specs.Refusals.{IsRefusal}
-use Rattle.layouts.specs.declared.error.LayoutError.{LayoutError}
-use Rattle.layouts.specs.declared.error.LayoutError.TheVariants.{PagesOutOfRange, SideTooLong, FoldOnLongEdge, ScaleOutOfRange, DocumentTooLong, Syntax, PageNotInDocument, TooManyPages, NoPages, NoMemory}
-use Rattle.layouts.specs.declared.selections.Which.{Which}
-use Rattle.impose_cli.specs.Faults.{of_layout, of_selection}
-use Rattle.impose_cli.specs.Refusals.{RefusesLayout, RefusesRanges, WhyNot}
+use Rattle.layouts.specs.Refusals.{IsFault}
+use Rattle.layouts.specs.declared.error.ArrangementError.{ArrangementError}
+use Rattle.layouts.specs.declared.error.ArrangementError.TheVariants.{CellsOutOfRange, SideTooLong, LengthOutOfRange, NothingLeftOfPage, FoldOnLongEdge, NoRoom, ScaleOutOfRange, ScaleTooLarge, NoMemory}
+use Rattle.impose_cli.specs.Faults.{of_layout, without_memory}
+use Rattle.impose_cli.specs.Refusals.{RefusesLaying}
+use Rattle.impose_cli.specs.RowTasks.{why_not_laid}
 use Rattle.impose_cli.specs.declared.request.Layout.{Layout}
 
-unless : (why : Option LayoutError) (e : LayoutError) → (e ≡ NoMemory → ⊥) → IsRefusal why e → why ≡ Some e
-unless why e other h = elim h [ inl bad ↦ absurd (other bad) | inr is ↦ is ]
+unless : (found : Option ArrangementError) (e : ArrangementError) → (e ≡ NoMemory → ⊥) → IsFault found e → found ≡ Some e
+unless found e other h = elim h [ inl bad ↦ absurd (other bad) | inr is ↦ is ]
 
--- a refusal by name is the layout's
-pub refuses_layout : (why : Option LayoutError) (l : Layout) (page_paper sheet_paper : Paper) → ((e : LayoutError) → why ≡ Some e → WhyNot l page_paper sheet_paper 0 e)
-    → (e : LayoutError) → IsRefusal why e → RefusesLayout l page_paper sheet_paper 0 (of_layout e)
-refuses_layout why l page_paper sheet_paper is NoMemory h = refl
-refuses_layout why l page_paper sheet_paper is PagesOutOfRange h = is PagesOutOfRange (unless why PagesOutOfRange (λ bad. cc) h)
-refuses_layout why l page_paper sheet_paper is SideTooLong h = is SideTooLong (unless why SideTooLong (λ bad. cc) h)
-refuses_layout why l page_paper sheet_paper is FoldOnLongEdge h = is FoldOnLongEdge (unless why FoldOnLongEdge (λ bad. cc) h)
-refuses_layout why l page_paper sheet_paper is ScaleOutOfRange h = is ScaleOutOfRange (unless why ScaleOutOfRange (λ bad. cc) h)
-refuses_layout why l page_paper sheet_paper is DocumentTooLong h = is DocumentTooLong (unless why DocumentTooLong (λ bad. cc) h)
-refuses_layout why l page_paper sheet_paper is NoPages h = is NoPages (unless why NoPages (λ bad. cc) h)
-refuses_layout why l page_paper sheet_paper is (Syntax place) h = is (Syntax place) (unless why (Syntax place) (λ bad. cc) h)
-refuses_layout why l page_paper sheet_paper is (PageNotInDocument place) h = is (PageNotInDocument place) (unless why (PageNotInDocument place) (λ bad. cc) h)
-refuses_layout why l page_paper sheet_paper is (TooManyPages place) h = is (TooManyPages place) (unless why (TooManyPages place) (λ bad. cc) h)
+-- two facts of an answer are one
+pub ok_both : {T E : Type 0} (r : Result T E) (P Q : T → Type 0) → IfOk r P → IfOk r Q → IfOk r (λ x. P x × Q x)
+ok_both (Ok x) P Q p q = (p, q)
+ok_both (Err e) P Q p q = tt
 
-pub refuses_ranges : (ranges : List ℕ) (which : Which) (pages : ℕ) (e : LayoutError) → RefusesSelection ranges which pages e → RefusesRanges ranges which pages (of_selection pages e)
-refuses_ranges ranges which pages NoMemory h = refl
-refuses_ranges ranges which pages PagesOutOfRange h = h
-refuses_ranges ranges which pages SideTooLong h = h
-refuses_ranges ranges which pages FoldOnLongEdge h = h
-refuses_ranges ranges which pages ScaleOutOfRange h = h
-refuses_ranges ranges which pages DocumentTooLong h = h
-refuses_ranges ranges which pages NoPages h = h
-refuses_ranges ranges which pages (Syntax place) h = h
-refuses_ranges ranges which pages (PageNotInDocument place) h = (refl, h)
-refuses_ranges ranges which pages (TooManyPages place) h = h
+-- it is out of memory, or the layout's
+pub refuses_layout : (found : Option ArrangementError) (l : Layout) (page_paper sheet_paper : Paper) → why_not_laid l page_paper sheet_paper ≡ found
+    → (e : ArrangementError) → IsFault found e → (of_layout e ≡ without_memory) ⊎ RefusesLaying l page_paper sheet_paper (of_layout e)
+refuses_layout found l page_paper sheet_paper is NoMemory h = inl refl
+refuses_layout found l page_paper sheet_paper is CellsOutOfRange h = inr (CellsOutOfRange, refl, is ∙ unless found CellsOutOfRange (λ bad. cc) h)
+refuses_layout found l page_paper sheet_paper is SideTooLong h = inr (SideTooLong, refl, is ∙ unless found SideTooLong (λ bad. cc) h)
+refuses_layout found l page_paper sheet_paper is LengthOutOfRange h = inr (LengthOutOfRange, refl, is ∙ unless found LengthOutOfRange (λ bad. cc) h)
+refuses_layout found l page_paper sheet_paper is NothingLeftOfPage h = inr (NothingLeftOfPage, refl, is ∙ unless found NothingLeftOfPage (λ bad. cc) h)
+refuses_layout found l page_paper sheet_paper is FoldOnLongEdge h = inr (FoldOnLongEdge, refl, is ∙ unless found FoldOnLongEdge (λ bad. cc) h)
+refuses_layout found l page_paper sheet_paper is NoRoom h = inr (NoRoom, refl, is ∙ unless found NoRoom (λ bad. cc) h)
+refuses_layout found l page_paper sheet_paper is ScaleOutOfRange h = inr (ScaleOutOfRange, refl, is ∙ unless found ScaleOutOfRange (λ bad. cc) h)
+refuses_layout found l page_paper sheet_paper is ScaleTooLarge h = inr (ScaleTooLarge, refl, is ∙ unless found ScaleTooLarge (λ bad. cc) h)

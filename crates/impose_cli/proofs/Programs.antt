@@ -5,12 +5,16 @@ use Rattle.std.specs.Io.KnownBytes.{Appends, Keeps}
 use Rattle.std.proofs.KnownBytes.{Appends-kept}
 use Rattle.world.specs.Outputs.{IsFrontOf, told_if}
 use Rattle.sheet_writer.specs.Sinks.{SinkView}
-use Rattle.impose_cli.specs.Endings.{Ends}
+use Rattle.impose_cli.specs.Endings.{Ends, Finishes}
+use Rattle.row_runs.specs.Runs.{Imposes}
+use Rattle.row_runs.specs.declared.run.RowJob.{RowJob}
+use Rattle.imposer.specs.declared.outcome.Report.{Report}
+use Rattle.impose_cli.specs.RowTasks.{FinishesRow}
 use Rattle.input.specs.Input.{IsFirst, most_bytes}
 use Rattle.impose_cli.specs.Programs.{BreaksOff, CarriesOut, Gives, IsReading, IsSaidAs, IsSaidOf, Prints, RunsInto}
 use Rattle.impose_cli.specs.Programs.{TakesInput}
 use Rattle.impose_cli.specs.Unread.{IsPossible, RefusesUnread}
-use Rattle.impose_cli.specs.Tasks.{Finishes, IsTask}
+use Rattle.impose_cli.specs.Tasks.{FinishesSpec, IsTask}
 use Rattle.impose_cli.specs.declared.fault.Fault.{Fault}
 use Rattle.impose_cli.specs.declared.fault.Fault.TheVariants as fault
 use Rattle.impose_cli.specs.declared.program.Done.{Done}
@@ -39,6 +43,46 @@ kept_in true true written before (Some all) h there = absurd h
 kept_in true false written before handed h there = h
 kept_in false bare written before handed h there = cc there
 
+-- what was appended is kept
+kept_spec : (r : Request) (input : List ℕ) (start handed written : Option (List ℕ)) (finished : Finished) → Keeps handed written
+    → FinishesSpec r input start handed finished → FinishesSpec r input start written finished
+kept_spec r input start handed written finished kept h = record {
+  page_count = h.page_count;
+  document = h.document;
+  page_paper = h.page_paper;
+  text = h.text;
+  is_text = h.is_text;
+  spec = h.spec;
+  takes = h.takes;
+  units = h.units;
+  taken = h.taken;
+  plan = h.plan;
+  written = Appends-kept start handed written _ h.written kept;
+  report = h.report;
+}
+
+kept_imposed : (job : RowJob) (start handed written : Option (List ℕ)) (report : Report) → Keeps handed written → Imposes job start handed report → Imposes job start written report
+kept_imposed job start handed written report kept h =
+    record { made = h.made; planned = h.planned; written = Appends-kept start handed written _ h.written kept; report = h.report }
+
+kept_row : (r : Request) (input : List ℕ) (start handed written : Option (List ℕ)) (finished : Finished) → Keeps handed written
+    → FinishesRow r input start handed finished → FinishesRow r input start written finished
+kept_row r input start handed written finished kept h = record {
+  pages = h.pages;
+  document = h.document;
+  page_paper = h.page_paper;
+  job = h.job;
+  is_job = h.is_job;
+  imposes = kept_imposed h.job start handed written finished.report kept h.imposes;
+}
+
+kept_finish : (r : Request) (input : List ℕ) (start handed written : Option (List ℕ)) (finished : Finished) → Keeps handed written
+    → Finishes r input start handed finished → Finishes r input start written finished
+kept_finish r input start handed written finished kept h = elim h [
+  | inl by ↦ inl (kept_spec r input start handed written finished kept by)
+  | inr on ↦ inr (kept_row r input start handed written finished kept on)
+]
+
 -- the run finished, and the output has all of what it handed on
 pub imposed : (r : Request) (input : List ℕ) (tells : Bool) (start handed : Option (List ℕ)) (finished : Finished)
     (is_there is_bare : Bool) (written before : Option (List ℕ))
@@ -46,21 +90,8 @@ pub imposed : (r : Request) (input : List ℕ) (tells : Bool) (start handed : Op
     → Keeps handed (late_tells is_there is_bare written before) → is_there ≡ true
     → Finishes r input (told_if tells (option_map string_bytes r.outfile) []) written finished
 imposed r input tells start handed finished is_there is_bare written before began h kept there =
-    subst (λ s. Finishes r input s written finished) began (record {
-      page_count = h.page_count;
-      document = h.document;
-      page_paper = h.page_paper;
-      spec = h.spec;
-      sides = h.sides;
-      layout_is = h.layout_is;
-      units = h.units;
-      taken = h.taken;
-      valid = h.valid;
-      admissible = h.admissible;
-      plan = h.plan;
-      written = Appends-kept start handed written _ h.written (kept_in is_there is_bare written before handed kept there);
-      report = h.report;
-    })
+    subst (λ s. Finishes r input s written finished) began
+    (kept_finish r input start handed written finished (kept_in is_there is_bare written before handed kept there) h)
 
 -- the run broke off
 pub broke_off : (r : Request) (input : List ℕ) (tells : Bool) (start sink : SinkView)

@@ -51,7 +51,13 @@ fn nup<'a>(alloc: Global) -> Result<Command<'a>, AllocError>
         .value_parser(value_parser!(u32).range(1..=1_024))
         .help("How many pages, from 1 to 1024");
     let about = "Several pages on each sheet, as large as they fit";
-    let own = vec![in alloc; count, pages(alloc), odd(alloc), even(alloc), reverse(alloc)]?;
+    let own = vec![in alloc;
+        count,
+        pages(alloc),
+        odd(alloc),
+        even(alloc),
+        reverse(alloc),
+    ]?;
     subcommand(alloc, "nup", about, own)
 }
 
@@ -64,7 +70,12 @@ fn booklet<'a>(alloc: Global) -> Result<Command<'a>, AllocError>
     let long_edge = flag(alloc, "long-edge").help("For printers that flip on the long edge");
     let about = "A booklet, to be printed on both sides, folded and stapled";
     let own = vec![in alloc;
-        signature, long_edge, pages(alloc), odd(alloc), even(alloc), reverse(alloc),
+        signature,
+        long_edge,
+        pages(alloc),
+        odd(alloc),
+        even(alloc),
+        reverse(alloc),
     ]?;
     subcommand(alloc, "booklet", about, own)
 }

@@ -256,11 +256,7 @@ fn choice_of(
 }
 
 /// The pages that the ranges of this argument name.
-fn choice_by(
-    alloc: Global,
-    id: &str,
-    found: &ArgMatches<'_>,
-) -> Result<PageChoice, CommandFault>
+fn choice_by(alloc: Global, id: &str, found: &ArgMatches<'_>) -> Result<PageChoice, CommandFault>
     ensures read { IfOk result (ChoosesBy (Some id.now) (rows_of (found_of found.now))) }
     ensures refused { IfErr result (RefusesChoice (rows_of (found_of found.now))) }
 {

@@ -1,15 +1,9 @@
 //! Laws of what impose wrote. The functions do nothing.
-ghost use Rattle.impose_cli.specs.Laws.{SheetsAreOfLayout, WroteDocument};
+ghost use Rattle.impose_cli.specs.Laws.{WroteDocument};
 
 /// What was appended for a request that was carried out is a document again, unless it has more than 2^30 bytes: its
 /// preamble and trailer are those that were written, and its pages are the sheets if the last page of the document that
 /// was imposed leaves no embedded document open, or if that document has a trailer.
 pub fn wrote_document()
     ensures { WroteDocument }
-{}
-
-/// The sheets of a request that was carried out have the document's pages as the layout puts them: `n` on a sheet in
-/// order, the row of a booklet's signatures by twos, or a selection's pages one by one.
-pub fn sheets_are_of_layout()
-    ensures { SheetsAreOfLayout }
 {}

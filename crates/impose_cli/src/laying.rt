@@ -1,7 +1,5 @@
 //! How a layout lays a row of pages on sheets.
 ghost use Rattle.std.specs.Prelude.{◌≡◌, ◌<◌, IfErr, IfOk, IfSome, OnOk, None, Some, option_map};
-ghost use Rattle.layouts.specs.Grids.{plain, plain_binding as binding_of};
-ghost use Rattle.layouts.specs.declared.arrangement.Cells.TheVariants.{AtLeast};
 ghost use Rattle.rows.specs.Sewing.{MayBeSewn, signing_of};
 ghost use Rattle.row_runs.specs.Sheets.{MayBeLaid};
 ghost use Rattle.impose_cli.specs.Refusals.{RefusesLaying, RefusesSides};
@@ -11,8 +9,8 @@ ghost use Rattle.impose_cli.specs.declared.request.Layout.TheVariants as layout;
 use crate::fault::Fault;
 use crate::request::Layout;
 use imposer::RunError;
-use layouts::{Arrangement, Binding, Cells, Order, Papers, Run, Setting, Turned};
-use lengths::{Grains, Paper};
+use layouts::{Arrangement, Binding, Cells, Papers, Setting};
+use lengths::Paper;
 use row_runs::Laying;
 use rows::Signing;
 
@@ -52,7 +50,7 @@ fn cells_for(count: u32, papers: &Papers) -> Result<Option<Laying>, Fault>
     ensures possible { OnOk result (why_not_laid (layout.NUp count) papers.now.page papers.now.sheet ≡ None) }
     ensures refused { IfErr result (RefusesLaying (layout.NUp count) papers.now.page papers.now.sheet) }
 {
-    match Setting::of(papers, &plain_cells(count)) {
+    match Setting::of(papers, &Arrangement::plain(Cells::AtLeast(count))) {
         Ok(setting) => Ok(Some(Laying::Grid {
             setting,
             cells: count,
@@ -68,43 +66,12 @@ fn halves_for(papers: &Papers, long_edge: bool) -> Result<Option<Laying>, Fault>
     ensures possible { OnOk result (why_not_laid (layout.Booklet None long_edge) papers.now.page papers.now.sheet ≡ None) }
     ensures refused { IfErr result (RefusesLaying (layout.Booklet None long_edge) papers.now.page papers.now.sheet) }
 {
-    match Setting::of_binding(papers, &plain_binding(long_edge)) {
+    match Setting::of_binding(papers, &Binding::plain(long_edge)) {
         Ok(setting) => Ok(Some(Laying::Booklet {
             setting,
             turned_backs: long_edge,
         })),
         Err(error) => Err(Fault::Layout(error)),
-    }
-}
-
-/// So many cells or more, as large as they can be, and nothing else.
-pub(crate) fn plain_cells(count: u32) -> Arrangement
-    ensures { result ≡ plain (AtLeast count) }
-{
-    Arrangement {
-        cells: Cells::AtLeast(count),
-        margin: Grains::new(0),
-        gap: Grains::new(0),
-        order: Order {
-            run: Run::Rows,
-            right_to_left: false,
-            turned: Turned::Upright,
-        },
-        scale: None,
-        trim: Grains::new(0),
-    }
-}
-
-/// Two halves, and nothing else but how the printer flips a sheet.
-pub(crate) fn plain_binding(long_edge: bool) -> Binding
-    ensures { result ≡ binding_of long_edge }
-{
-    Binding {
-        margin: Grains::new(0),
-        gap: Grains::new(0),
-        right_to_left: false,
-        trim: Grains::new(0),
-        long_edge,
     }
 }
 

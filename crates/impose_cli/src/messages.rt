@@ -5,7 +5,7 @@ ghost use Rattle.impose_cli.specs.Statuses.{fault_status as status_of_fault, wor
 use crate::caret::{caret_below, group_place, item_place, large_place};
 use crate::fault::{CommandFault, Fault, PaperOption};
 use crate::mistakes::looks_like_file;
-use crate::request::{Layout, Request};
+use crate::request::{Layout, PageChoice, Request};
 use crate::shown::shown_word;
 use crate::task::{Finished, PaperOrigin};
 use clap::error::ErrorKind;
@@ -13,11 +13,12 @@ use command_words::run_status;
 use document_paper::Comment;
 use dsc::DscError;
 use imposer::{Report, RunError};
-use layouts::LayoutError;
+use layouts::ArrangementError;
 use lengths::{Paper, print_points};
 use pagespec::SpecError;
 use paper_names::{PaperError, name_list, read_paper};
-use sheet_plan::PlanError;
+use rows::RowError;
+use sheet_plan::{MadeError, PlanError};
 use std::alloc::{AllocError, Global};
 use std::io;
 
@@ -31,8 +32,10 @@ pub fn fault_status(fault: &Fault) -> u8
         Fault::Command(CommandFault::NoMemory) => 3,
         Fault::Command(CommandFault::Words(error)) => words_status(error.kind()),
         Fault::Command(_) => 2,
-        Fault::Layout(LayoutError::NoMemory) => 3,
-        Fault::Layout(_) | Fault::NoSuchPage { .. } | Fault::NoInput => 1,
+        Fault::Layout(ArrangementError::NoMemory) => 3,
+        Fault::Row(RowError::NoMemory) | Fault::Sheets(MadeError::NoMemory) => 3,
+        Fault::Layout(_) | Fault::Row(_) | Fault::Sheets(_) => 1,
+        Fault::NoSuchPage { .. } | Fault::NoSpecification | Fault::NoInput => 1,
         Fault::Pdf | Fault::Compressed | Fault::JobLanguage | Fault::TooLong => 1,
         Fault::Read(_) | Fault::Write { .. } => 3,
         Fault::Run(error) => run_status(error),
@@ -82,7 +85,7 @@ fn blanks_of(layout: &Layout, report: &Report) -> u64 {
     let places = match layout {
         Layout::NUp(count) => u64::from(*count),
         Layout::Booklet { .. } => 2,
-        Layout::Selection { .. } | Layout::Spec(_) => 0,
+        Layout::Selection | Layout::Spec(_) => 0,
     };
     places
         .saturating_mul(u64::from(report.sheets))
@@ -153,7 +156,13 @@ pub fn fault_text(
 ) -> Result<String, AllocError> {
     match fault {
         Fault::Command(fault) => command_text(alloc, fault),
-        Fault::Layout(error) => layout_text(alloc, error, request),
+        Fault::Layout(error) => String::from_str(alloc, layout_message(error)),
+        Fault::Row(error) => row_text(alloc, error, request),
+        Fault::Sheets(error) => String::from_str(alloc, sheets_message(error)),
+        Fault::NoSpecification => String::from_str(
+            alloc,
+            "--print-spec: no specification says a selection, nor --pages, --odd, --even or --reverse; leave it out",
+        ),
         Fault::NoSuchPage { place, pages } => {
             let message = format!(in alloc;
                 "page ranges: the document has pages 1 to {pages} only"
@@ -352,7 +361,10 @@ fn ranges_of(request: Option<&Request>) -> &str {
     match request {
         Some(
             Request {
-                layout: Layout::Selection { ranges, .. },
+                choice: PageChoice {
+                    ranges: Some(ranges),
+                    ..
+                },
                 ..
             },
         ) => ranges.as_str(),
@@ -360,21 +372,22 @@ fn ranges_of(request: Option<&Request>) -> &str {
     }
 }
 
-fn layout_text(
+/// What is said of ranges that name no row.
+fn row_text(
     alloc: Global,
-    error: &LayoutError,
+    error: &RowError,
     request: Option<&Request>,
 ) -> Result<String, AllocError> {
     let message = match error {
-        LayoutError::Syntax(_) if looks_like_file(ranges_of(request)) => String::from_str(
+        RowError::NotARange(_) if looks_like_file(ranges_of(request)) => String::from_str(
             alloc,
             "page ranges: they stand before the file, and 1- are all pages: impose select 1- in.ps out.ps",
         )?,
-        LayoutError::Syntax(at) => format!(in alloc;
-            "page ranges: syntax error at byte {at}; write them as 7 or 3-9 or 5-, with commas \
+        RowError::NotARange(at) => format!(in alloc;
+            "page ranges: no range at byte {at}; write them as 7, 3-9, 5-, _1 (the last) or blank, with commas \
             between them"
         )?,
-        error => String::from_str(alloc, layout_message(error))?,
+        error => String::from_str(alloc, row_message(error))?,
     };
     match ranges_place(error) {
         Some(place) => shown(alloc, message, ranges_of(request), place),
@@ -382,41 +395,68 @@ fn layout_text(
     }
 }
 
-fn layout_message(error: &LayoutError) -> &'static str {
+fn row_message(error: &RowError) -> &'static str {
     match error {
-        LayoutError::PagesOutOfRange => "a sheet takes from 1 to 1,024 pages",
-        LayoutError::SideTooLong => {
+        RowError::NotARange(_) => "page ranges: no range",
+        RowError::NotInDocument(_) => "page ranges: the document doesn't have these pages",
+        RowError::TooManyEntries(_) => {
+            "page ranges: more than 1,000,000 pages; impose them in several runs"
+        }
+        RowError::NoEntries => {
+            "page ranges: no page is left by --odd or --even; pages are counted from 1"
+        }
+        RowError::NoMemory => "out of memory",
+    }
+}
+
+fn layout_message(error: &ArrangementError) -> &'static str {
+    match error {
+        ArrangementError::CellsOutOfRange => "a sheet takes from 1 to 1,024 pages",
+        ArrangementError::SideTooLong => {
             "a side of a paper is 100,000 points or more: name a smaller paper"
         }
-        LayoutError::FoldOnLongEdge => {
+        ArrangementError::LengthOutOfRange => {
+            "a margin, a gap or a trim is below 0, or 100,000 points or more"
+        }
+        ArrangementError::NothingLeftOfPage =>
+            "nothing is left of a page that is trimmed so: trim less",
+        ArrangementError::FoldOnLongEdge => {
             "upright pages side by side would be larger on this sheet, and it would fold along its longer edge: name \
             another sheet, as --sheet a4, or use nup 2"
         }
-        LayoutError::ScaleOutOfRange => {
+        ArrangementError::NoRoom => "margins and gaps leave no room for pages: take smaller ones",
+        ArrangementError::ScaleOutOfRange => {
             "the pages would be too small or too large on the sheet: name other papers by --paper and --sheet"
         }
-        LayoutError::DocumentTooLong => {
-            "the document has more than 99,999 pages, from which none can be selected: split it first"
+        ArrangementError::ScaleTooLarge =>
+            "pages of this scale are larger than their cells: take a smaller one",
+        ArrangementError::NoMemory => "out of memory",
+    }
+}
+
+/// What is said of a row that takes too many sheets.
+fn sheets_message(error: &MadeError) -> &'static str {
+    match error {
+        MadeError::TooManyPages => "the document has more than 1,000,000 pages: split it first",
+        MadeError::TooManySheets => {
+            "the output would have more than 1,000,000 sheets: impose in several runs"
         }
-        LayoutError::Syntax(_) => "page ranges: syntax error",
-        LayoutError::PageNotInDocument(_) => "page ranges: the document doesn't have these pages",
-        LayoutError::TooManyPages(_) => {
-            "page ranges: more than 10,000 pages; select them in several runs"
+        MadeError::SlotsOutOfRange(_) => "a sheet takes at most 4,096 pages",
+        MadeError::TooManyPlaces => {
+            "more than 4,000,000 pages would be placed: impose in several runs"
         }
-        LayoutError::NoPages => {
-            "page ranges: no page is left by --odd or --even; pages are counted from 1"
-        }
-        LayoutError::NoMemory => "out of memory",
+        MadeError::NoSuchPage(_) => "a sheet has a page that the document doesn't have",
+        MadeError::NoMemory => "out of memory",
     }
 }
 
 /// Where page ranges are at fault, if that is at one place.
-fn ranges_place(error: &LayoutError) -> Option<usize> {
+fn ranges_place(error: &RowError) -> Option<usize> {
     match error {
-        LayoutError::Syntax(at)
-        | LayoutError::PageNotInDocument(at)
-        | LayoutError::TooManyPages(at) => Some(*at),
-        _ => None,
+        RowError::NotARange(at) | RowError::NotInDocument(at) | RowError::TooManyEntries(at) => {
+            Some(*at)
+        }
+        RowError::NoEntries | RowError::NoMemory => None,
     }
 }
 

@@ -12,7 +12,9 @@ ghost use Rattle.impose_cli.specs.Refusals.{RefusesRowTask};
 use crate::fault::Fault;
 use crate::laying::{laying_for, papers_for, signing_for};
 use crate::request::{Layout, Request};
-use crate::task::{Finished, PaperOrigin, WORKERS, pages_of, paper_of_pages, run_spec, text_to_impose};
+use crate::task::{
+    Finished, PaperOrigin, WORKERS, pages_of, paper_of_pages, run_spec, text_to_impose,
+};
 use dsc::Document;
 use imposer::{Open, Report, RunError, Sink};
 use lengths::{Grains, Paper};
@@ -177,10 +179,8 @@ fn impose_task<R: Threads + Wait + Sync, S: Sink>(
 fn papers_of(alloc: Global, pages: u32, page_paper: &Paper) -> Result<Vec<Paper>, AllocError>
     ensures { IfOk result (λ papers. papers.items ≡ replicate pages page_paper.now) }
 {
-    let mut papers = Vec::with_capacity(alloc, pages as usize)?;
-    for _ in 0..pages {
-        papers.push(*page_paper)?;
-    }
+    let mut papers = Vec::new(alloc);
+    papers.resize(pages as usize, *page_paper)?;
     Ok(papers)
 }
 

@@ -17,13 +17,13 @@ ghost use Rattle.impose_cli.specs.Unread.{IsPossible, IsSpecification, RefusesSp
 ghost use Rattle.impose_cli.specs.declared.request.Layout.TheVariants as layout;
 
 use crate::fault::Fault;
-use crate::laying::{laying_for, papers_for, plain_binding, plain_cells};
+use crate::laying::{laying_for, papers_for};
 use crate::request::{Layout, Request};
 use document_paper::{Comment, document_paper};
 use dsc::{Document, DscError};
 use guard::put_guard;
 use imposer::{Open, Options, Report, RunError, Sink, Workers, run};
-use layouts::{Papers, arrange, bind};
+use layouts::{Arrangement, Binding, Cells, Papers, arrange, bind};
 use lengths::Paper;
 use pagespec::{Spec, read_spec, write_spec};
 use std::alloc::{AllocError, Global};
@@ -258,7 +258,7 @@ fn nup_placing(alloc: Global, count: u32, papers: &Papers) -> Result<Placed, Fau
         × (placed.1 ≡ None)) }
     ensures refused { IfErr result (RefusesLayout (layout.NUp count) papers.now.page papers.now.sheet) }
 {
-    match arrange(alloc, papers, &plain_cells(count)) {
+    match arrange(alloc, papers, &Arrangement::plain(Cells::AtLeast(count))) {
         Ok(spec) => written(alloc, &spec, None),
         Err(error) => Err(Fault::from(error)),
     }
@@ -277,7 +277,7 @@ fn booklet_placing(
         × (placed.1 ≡ Some sides)) }
     ensures refused { IfErr result (RefusesLayout (layout.Booklet None long_edge) papers.now.page papers.now.sheet) }
 {
-    match bind(alloc, papers, &plain_binding(long_edge)) {
+    match bind(alloc, papers, &Binding::plain(long_edge)) {
         Ok(spec) => written(alloc, &spec, Some(sides)),
         Err(error) => Err(Fault::from(error)),
     }

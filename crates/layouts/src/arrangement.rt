@@ -1,7 +1,8 @@
 //! What a sheet looks like: cells, margin, gap, order, scale.
-ghost use Rattle.std.specs.Prelude.{◌≡◌};
-ghost use Rattle.layouts.specs.Grids.{count_of};
+ghost use Rattle.std.specs.Prelude.{◌≡◌, pos};
+ghost use Rattle.layouts.specs.Grids.{count_of, plain as plain_of, plain_binding};
 
+use super::arranging::leaf_order;
 use lengths::{Grains, Number, Paper};
 
 /// The paper of the pages, and that of the sheets.
@@ -86,4 +87,44 @@ pub struct Binding {
     pub trim: Grains,
     /// For printers that flip a sheet about its longer edge the backs are turned by half.
     pub long_edge: bool,
+}
+
+impl Arrangement {
+    /// Nothing is asked for but these cells.
+    pub fn plain(cells: Cells) -> Arrangement
+        ensures { result ≡ plain_of cells }
+    {
+        Arrangement {
+            cells,
+            margin: no_length(),
+            gap: no_length(),
+            order: leaf_order(false),
+            scale: None,
+            trim: no_length(),
+        }
+    }
+}
+
+impl Binding {
+    /// Nothing is asked for but how the printer flips a sheet.
+    pub fn plain(long_edge: bool) -> Binding
+        ensures { result ≡ plain_binding long_edge }
+    {
+        Binding {
+            margin: no_length(),
+            gap: no_length(),
+            right_to_left: false,
+            trim: no_length(),
+            long_edge,
+        }
+    }
+}
+
+fn no_length() -> Grains
+    ensures { result ≡ pos 0 }
+{
+    match Grains::new(0) {
+        Some(length) => length,
+        None => unreachable!(),
+    }
 }

@@ -1,14 +1,13 @@
 //! Pages on sheets and on leaves, with nothing asked for but how many.
-ghost use Rattle.std.specs.Prelude.{◌≡◌, IfOk, IfErr, OnOk, None, pos};
+ghost use Rattle.std.specs.Prelude.{◌≡◌, IfOk, IfErr, OnOk, None};
 ghost use Rattle.layouts.specs.Laws.{IsNUp, IsBooklet};
-ghost use Rattle.layouts.specs.Grids.{n_up, leaves, plain as plain_of, plain_binding};
+ghost use Rattle.layouts.specs.Grids.{n_up, leaves};
 ghost use Rattle.layouts.specs.Refusals.{why_not, why_no_booklet, IsRefusal, as_layout};
-ghost use Rattle.layouts.specs.declared.arrangement.Cells.TheVariants.{AtLeast as at_least};
 
 use super::arrangement::{Arrangement, Binding, Cells, Papers};
-use super::arranging::{arrange, bind, leaf_order};
+use super::arranging::{arrange, bind};
 use super::error::{ArrangementError, LayoutError};
-use lengths::{Grains, Paper};
+use lengths::Paper;
 use pagespec::Spec;
 use std::alloc::Global;
 
@@ -30,7 +29,7 @@ pub fn nup(
         page: *page_paper,
         sheet: *sheet_paper,
     };
-    match arrange(alloc, &papers, &plain(n)) {
+    match arrange(alloc, &papers, &Arrangement::plain(Cells::AtLeast(n))) {
         Ok(spec) => Ok(spec),
         Err(error) => Err(as_layout_error(error)),
     }
@@ -53,45 +52,9 @@ pub fn booklet(
         page: *page_paper,
         sheet: *sheet_paper,
     };
-    match bind(alloc, &papers, &plain_leaves(long_edge)) {
+    match bind(alloc, &papers, &Binding::plain(long_edge)) {
         Ok(spec) => Ok(spec),
         Err(error) => Err(as_layout_error(error)),
-    }
-}
-
-/// Nothing is asked for but n pages.
-fn plain(n: u32) -> Arrangement
-    ensures { result ≡ plain_of (at_least n) }
-{
-    Arrangement {
-        cells: Cells::AtLeast(n),
-        margin: no_length(),
-        gap: no_length(),
-        order: leaf_order(false),
-        scale: None,
-        trim: no_length(),
-    }
-}
-
-/// Nothing is asked for but how the printer flips a sheet.
-fn plain_leaves(long_edge: bool) -> Binding
-    ensures { result ≡ plain_binding long_edge }
-{
-    Binding {
-        margin: no_length(),
-        gap: no_length(),
-        right_to_left: false,
-        trim: no_length(),
-        long_edge,
-    }
-}
-
-fn no_length() -> Grains
-    ensures { result ≡ pos 0 }
-{
-    match Grains::new(0) {
-        Some(length) => length,
-        None => unreachable!(),
     }
 }
 

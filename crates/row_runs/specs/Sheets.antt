@@ -11,7 +11,7 @@ use Rattle.rows.specs.Choices.{choice_of}
 use Rattle.rows.specs.Sewing.{MayBeSewn, signing_of}
 use Rattle.rows.specs.Refusals.{RefusesRow}
 use Rattle.row_sheets.specs.RowSheets.{selected}
-use Rattle.arranged_sheets.specs.Filled.{card_sheets, duplex_sheets, grid_sheets, stack_sheets}
+use Rattle.arranged_sheets.specs.Filled.{booklet_sheets, card_sheets, duplex_sheets, grid_sheets, stack_sheets}
 use Rattle.arranged_sheets.specs.Shapes.{IsRefusedFor, filling}
 use Rattle.row_runs.specs.declared.asked.Asked.{Asked}
 use Rattle.row_runs.specs.declared.asked.Laying.{Laying}
@@ -26,6 +26,7 @@ MayBeLaid (laying.Grid setting cells) = (0 < cells) × (cells ≤ size setting.g
 MayBeLaid (laying.Cards setting cells) = (0 < cells) × (cells ≤ size setting.grid)
 MayBeLaid (laying.Stack setting cells) = (0 < cells) × (cells ≤ size setting.grid)
 MayBeLaid (laying.Leaves setting) = ⊤
+MayBeLaid (laying.Booklet setting turned_backs) = 2 ≤ size setting.grid
 
 -- and a signature may have so many sides
 pub record MayBeAsked (a : Asked) : Type 0 where
@@ -39,6 +40,7 @@ sheets_laid (laying.Grid setting cells) papers row = grid_sheets (filling settin
 sheets_laid (laying.Cards setting cells) papers row = card_sheets (filling setting papers) cells row
 sheets_laid (laying.Stack setting cells) papers row = stack_sheets (filling setting papers) cells row
 sheets_laid (laying.Leaves setting) papers row = duplex_sheets (filling setting papers) row
+sheets_laid (laying.Booklet setting turned_backs) papers row = booklet_sheets (filling setting papers) turned_backs row
 
 -- why it can't be laid: out of memory, or a page that can't stand in its cell
 abbrev pub WhyNotLaid : Laying → List Paper → Row → ArrangementError → Type 0
@@ -47,6 +49,7 @@ WhyNotLaid (laying.Grid setting cells) papers row e = IsRefusedFor (filling sett
 WhyNotLaid (laying.Cards setting cells) papers row e = IsRefusedFor (filling setting papers) row e
 WhyNotLaid (laying.Stack setting cells) papers row e = IsRefusedFor (filling setting papers) row e
 WhyNotLaid (laying.Leaves setting) papers row e = IsRefusedFor (filling setting papers) row e
+WhyNotLaid (laying.Booklet setting turned_backs) papers row e = IsRefusedFor (filling setting papers) row e
 
 -- the row that is asked for of a document with so many pages, or its fault
 abbrev pub row_asked : (pages : ℕ) → Asked → Result Row RowFault

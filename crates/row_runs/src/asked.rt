@@ -10,7 +10,7 @@ ghost use Rattle.row_runs.specs.Errors.{of_arrangement, of_row};
 ghost use Rattle.row_runs.specs.Sheets.{AreAsked, MayBeAsked, MayBeLaid, RefusesAsked, WhyNotLaid, sheets_laid};
 
 use crate::error::AskedError;
-use arranged_sheets::{card_sheets, grid_sheets, leaf_sheets, stack_sheets};
+use arranged_sheets::{booklet_sheets, card_sheets, grid_sheets, leaf_sheets, stack_sheets};
 use layouts::{ArrangementError, Setting};
 use lengths::Paper;
 use row_sheets::{PagePapers, PaperList, select};
@@ -31,6 +31,9 @@ pub enum Laying {
     Stack { setting: Setting, cells: u32 },
     /// The same on both sides of leaves, in all cells.
     Leaves { setting: Setting },
+    /// Two entries on each side of leaves, for a row in signatures; for printers that flip a sheet about its longer edge
+    /// the backs are turned by half.
+    Booklet { setting: Setting, turned_backs: bool },
 }
 
 /// What is imposed of a document, and how: which pages, in signatures or not, laid so on sheets.
@@ -101,6 +104,10 @@ fn laid(
         Laying::Cards { setting, cells } => card_sheets(alloc, setting, papers, *cells, row),
         Laying::Stack { setting, cells } => stack_sheets(alloc, setting, papers, *cells, row),
         Laying::Leaves { setting } => leaf_sheets(alloc, setting, papers, row),
+        Laying::Booklet {
+            setting,
+            turned_backs,
+        } => booklet_sheets(alloc, setting, papers, *turned_backs, row),
     }
 }
 

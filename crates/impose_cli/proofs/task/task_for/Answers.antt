@@ -1,5 +1,7 @@
-use Rattle.std.proofs.Common.{◌≡◌, refl, subst, inl, inr}
+use Rattle.std.proofs.Common.{◌≡◌, refl, subst, inl, inr, rules}
 use Rattle.rules.specs.Papers.{Paper}
+use Rattle.std.specs.Prelude.{◌⊎◌}
+use Rattle.impose_cli.specs.Faults.{without_memory}
 use Rattle.impose_cli.specs.Tasks.{page_paper_found, sheet_paper_found}
 use Rattle.impose_cli.specs.Refusals.{RefusesLayout}
 use Rattle.impose_cli.specs.declared.task.PaperOrigin.{PaperOrigin}
@@ -9,6 +11,7 @@ pub returns-clause-is_task : goal.returns-clause-is_task
 returns-clause-is_task c = record {
   page_count = c.in-Ok.pages;
   document = rw c.as_slice.ensures.value at c.in-Ok.ensures.counted;
+  whole = search rules;
   page_paper = rw c.as_slice-2.ensures.value at c.paper_of_pages-page_paper.ensures;
   placed = rw c.paper_of_sheets.ensures at c.in-Ok-placing.ensures.placed;
   text = rw c.paper_of_sheets.ensures at c.in-Ok-text_to_impose.ensures;
@@ -24,5 +27,5 @@ returns-in-Err-placing-clause-refused c =
     let request = c.args.request.now in
     let found : c.paper_of_pages-page_paper.result ≡ page_paper_found request.page_paper request.home_paper c.args.input.items = rw c.as_slice-2.ensures.value at c.paper_of_pages-page_paper.ensures in
     let refused = rw c.paper_of_sheets.ensures at c.in-Err-placing.ensures.refused in
-    let there = subst (λ (p : Paper × PaperOrigin). RefusesLayout request.layout p.0 (sheet_paper_found request.sheet_paper p.0) c.in-Ok.pages c.in-Err-placing.fault) found refused in
-    inr (c.in-Ok.pages, rw c.as_slice.ensures.value at c.in-Ok.ensures.counted, there)
+    let there = subst (λ (p : Paper × PaperOrigin). (c.in-Err-placing.fault ≡ without_memory) ⊎ RefusesLayout request.layout p.0 (sheet_paper_found request.sheet_paper p.0) c.in-Err-placing.fault) found refused in
+    inr (c.in-Ok.pages, rw c.as_slice.ensures.value at c.in-Ok.ensures.counted, inr there)
