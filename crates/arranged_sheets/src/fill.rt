@@ -1,13 +1,14 @@
 //! Sheets whose cells are filled from a row.
-ghost use Rattle.std.specs.Prelude.{◌≡◌, ◌<◌, ◌≤◌, ◌*◌, IfOk, IfErr, length, map};
+ghost use Rattle.std.specs.Prelude.{◌≡◌, ◌<◌, ◌≤◌, ◌*◌, IfOk, IfErr, length, map, true};
 ghost use Rattle.std.specs.List.{range_with_len};
 ghost use Rattle.rules.specs.Sheets.{blocks};
 ghost use Rattle.rules.specs.Signatures.{entry_of};
 ghost use Rattle.layouts.specs.Cells.{size, read_columns, read_rows};
 ghost use Rattle.layouts.specs.declared.error.ArrangementError.TheVariants as why;
 ghost use Rattle.sheet_plan.specs.OfSheets.{slot_of};
-ghost use Rattle.arranged_sheets.specs.Filled.{behind_in, slot_in as slot_of_cell, filled as filled_of, grid_sheets as grid_of};
-ghost use Rattle.arranged_sheets.specs.Filled.{card_sheets as cards_of, stack_sheets as stack_of, duplex_sheets as leaves_of};
+ghost use Rattle.arranged_sheets.specs.Filled.{behind_in, slot_on as slot_of_cell, is_turned as is_turned_on, sides as sides_of};
+ghost use Rattle.arranged_sheets.specs.Filled.{grid_sheets as grid_of, card_sheets as cards_of, stack_sheets as stack_of};
+ghost use Rattle.arranged_sheets.specs.Filled.{duplex_sheets as leaves_of, booklet_sheets as booklet_of};
 ghost use Rattle.arranged_sheets.specs.Shapes.{filling, place as place_of, cell_on, entry_in, IsRefusedFor, IsRefusedFrom};
 
 use layouts::{ArrangementError, Run, Setting, Turned};
@@ -24,12 +25,13 @@ enum Kind {
     Leaves,
 }
 
-/// So many sheets, and so many cells of each.
+/// So many sheets, and so many cells of each; they are fronts and backs in turn, and backs may be turned by half.
 #[derive(Clone, Copy, Debug, PartialEq, Eq)]
 struct Shape {
     kind: Kind,
     sheets: u32,
     cells: u32,
+    turned_backs: bool,
 }
 
 /// The row on sheets of so many cells, from cell to cell and from sheet to sheet. A page whose paper isn't told has the
@@ -60,6 +62,7 @@ pub fn grid_sheets(
             kind,
             sheets,
             cells,
+            turned_backs: false,
         },
     )
 }
@@ -91,6 +94,7 @@ pub fn card_sheets(
             kind,
             sheets,
             cells,
+            turned_backs: false,
         },
     )
 }
@@ -122,6 +126,7 @@ pub fn stack_sheets(
             kind,
             sheets,
             cells,
+            turned_backs: false,
         },
     )
 }
@@ -159,6 +164,40 @@ pub fn leaf_sheets(
             kind,
             sheets,
             cells,
+            turned_backs: false,
+        },
+    )
+}
+
+/// The sides of a booklet's leaves, fronts and backs in turn, for a row that stands in signature order: two entries on each
+/// side, in its first two cells. For printers that flip a sheet about its longer edge the backs are turned by half. A page
+/// whose paper isn't told has the sheet's.
+pub fn booklet_sheets(
+    alloc: Global,
+    setting: &Setting,
+    papers: &[Paper],
+    turned_backs: bool,
+    row: &[Option<u32>],
+) -> Result<MadeSheets, ArrangementError>
+    requires { 2 ≤ size setting.now.grid }
+    ensures made { IfOk result (λ made. made ≡ booklet_of (filling setting.now papers.now) turned_backs row.now) }
+    ensures refused { IfErr result (IsRefusedFor (filling setting.now papers.now) row.now) }
+{
+    let sheets = match blocks_of(row, 2) {
+        Ok(sheets) => sheets,
+        Err(error) => return Err(error),
+    };
+    let kind = Kind::Grid;
+    filled(
+        alloc,
+        setting,
+        papers,
+        row,
+        Shape {
+            kind,
+            sheets,
+            cells: 2,
+            turned_backs,
         },
     )
 }
@@ -196,9 +235,10 @@ fn filled(
     row: &[Option<u32>],
     shape: Shape,
 ) -> Result<MadeSheets, ArrangementError>
-    requires { shape.cells ≤ size setting.now.grid }
-    ensures made { IfOk result (λ made. made ≡ filled_of (filling setting.now papers.now) shape.sheets shape.cells
-        (entry_in shape setting.now row.now)) }
+    requires cells { shape.cells ≤ size setting.now.grid }
+    requires halves { shape.turned_backs ≡ true → 2 ≤ size setting.now.grid }
+    ensures made { IfOk result (λ made. made ≡ sides_of (filling setting.now papers.now) shape.turned_backs shape.sheets
+        shape.cells (entry_in shape setting.now row.now)) }
     ensures refused { IfErr result (IsRefusedFor (filling setting.now papers.now) row.now) }
 {
     let mut made = MadeSheets::new(alloc);
@@ -224,16 +264,18 @@ fn slots_in(
     shape: Shape,
     s: u32,
 ) -> Result<Vec<MadeSlot>, ArrangementError>
-    requires { shape.cells ≤ size setting.now.grid }
+    requires cells { shape.cells ≤ size setting.now.grid }
+    requires halves { shape.turned_backs ≡ true → 2 ≤ size setting.now.grid }
     ensures made { IfOk result (λ slots. map slot_of slots.items
-        ≡ map (λ c. slot_of_cell (filling setting.now papers.now) c (entry_in shape setting.now row.now s c))
-        (range_with_len 0 shape.cells)) }
+        ≡ map (λ c. slot_of_cell (filling setting.now papers.now) (is_turned_on shape.turned_backs s) c
+        (entry_in shape setting.now row.now s c)) (range_with_len 0 shape.cells)) }
     ensures refused { IfErr result (IsRefusedFor (filling setting.now papers.now) row.now) }
 {
+    let by_half = is_turned(shape, s);
     let mut slots = Vec::new(alloc);
     for c in 0..shape.cells {
         let entry = entry_at(row, place(shape, setting, s, c));
-        let slot = match slot_in(setting, papers, entry, c) {
+        let slot = match slot_in(setting, papers, by_half, entry, c) {
             Ok(slot) => slot,
             Err(error) => return Err(error),
         };
@@ -245,15 +287,25 @@ fn slots_in(
     Ok(slots)
 }
 
-/// An entry of a row in a cell.
+/// Whether this sheet is turned by half.
+fn is_turned(shape: Shape, s: u32) -> bool
+    ensures { result ≡ is_turned_on shape.turned_backs s }
+{
+    shape.turned_backs && s % 2 == 1
+}
+
+/// An entry of a row in a cell of a sheet that is turned by half, or isn't.
 fn slot_in(
     setting: &Setting,
     papers: &[Paper],
+    by_half: bool,
     entry: Option<u32>,
     cell: u32,
 ) -> Result<MadeSlot, ArrangementError>
-    requires { cell < size setting.now.grid }
-    ensures made { IfOk result (λ slot. slot_of slot ≡ slot_of_cell (filling setting.now papers.now) cell entry) }
+    requires cell { cell < size setting.now.grid }
+    requires halves { by_half ≡ true → 2 ≤ size setting.now.grid }
+    ensures made { IfOk result (λ slot. slot_of slot
+        ≡ slot_of_cell (filling setting.now papers.now) by_half cell entry) }
     ensures refused { IfErr result (IsRefusedFrom (filling setting.now papers.now) entry) }
 {
     let page = match entry {
@@ -261,7 +313,12 @@ fn slot_in(
         None => return Ok(MadeSlot::Blank),
     };
     let paper = paper_of(setting, papers, page);
-    match setting.item(&paper, cell) {
+    let found = if by_half {
+        setting.back_item(&paper, cell)
+    } else {
+        setting.item(&paper, cell)
+    };
+    match found {
         Ok(item) => Ok(MadeSlot::Placed { page, item, paper }),
         Err(error) => Err(error),
     }

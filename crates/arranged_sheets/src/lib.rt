@@ -6,5 +6,5 @@ mod fill;
 pub mod laws;
 mod poster;
 
-pub use fill::{card_sheets, grid_sheets, leaf_sheets, stack_sheets};
+pub use fill::{booklet_sheets, card_sheets, grid_sheets, leaf_sheets, stack_sheets};
 pub use poster::{Poster, PosterError, poster_sheets};

@@ -252,7 +252,7 @@ pub fn is_of_size(page: &Paper, sheet: &Paper) -> bool
 }
 
 /// Whether the fold between two pages is parallel to the shorter edge of the sheet.
-fn is_fold_short(page: &Paper, room: &Room) -> bool
+pub fn is_fold_short(page: &Paper, room: &Room) -> bool
     requires { IsTrue (are_shown page.now room.now) }
     ensures { result ≡ folds_short page.now room.now }
 {

@@ -1,7 +1,7 @@
 //! Pages in the cells of a grid.
 ghost use Rattle.std.specs.Prelude.{◌≡◌, ◌+◌, ◌-◌, ◌*◌, pos, IfOk, ◌<◌, ◌≤◌, ◌+ℤ◌, ◌-ℤ◌, if◌then◌else◌, nat_abs, IsTrue, map, ◌∷◌, []};
 ghost use Rattle.std.specs.List.{range_with_len};
-ghost use Rattle.rules.specs.Numbers.{greatest_whole, greatest_number};
+ghost use Rattle.rules.specs.Numbers.{greatest_number};
 ghost use Rattle.rules.specs.Papers.{is_side};
 ghost use Rattle.pagespec.specs.Items.{item_of, measure_of, groups_of};
 ghost use Rattle.layouts.specs.Grids.{alone as alone_of};
@@ -213,12 +213,12 @@ impl Layout {
     }
 
     /// Page n + k of a block, where page k stands if the sheet is turned by half.
-    fn back_in(&self, n: u32, k: u32) -> Item
+    pub fn back_in(&self, n: u32, k: u32) -> Item
         requires place { HasPlace self.now.page self.now.room self.now.grid self.now.scale }
         requires near { IsTrue (are_near self.now.room self.now.scale) }
         requires scale { self.now.scale ≤ greatest_number }
         requires cell { k < size self.now.grid }
-        requires page { n + k ≤ greatest_whole }
+        requires page { n + k < 4_294_967_296 }
         ensures { item_of result
             ≡ back_of_grid self.now.page self.now.room self.now.grid self.now.order self.now.scale n k }
     {

@@ -1,15 +1,18 @@
 //! Pages of several papers in the cells of one grid.
-ghost use Rattle.std.specs.Prelude.{◌≡◌, ◌<◌, ◌≤◌, pos, IfOk, IfErr, OnOk, Some, None};
+ghost use Rattle.std.specs.Prelude.{◌≡◌, ◌<◌, ◌≤◌, pos, IfOk, IfErr, OnOk, Some, None, false};
 ghost use Rattle.pagespec.specs.Items.{item_of};
 ghost use Rattle.layouts.specs.Cells.{size, scale_in as scale_of};
 ghost use Rattle.layouts.specs.Grids.{count_of};
-ghost use Rattle.layouts.specs.Refusals.{why_not_arranged};
-ghost use Rattle.layouts.specs.Fitted.{is_whole as is_whole_on, scale_on, fitted, setting_of, why_no_scale_on, why_not_fitted, IsFitted};
-ghost use Rattle.layouts.specs.Laws.{IsPaper, IsChosen};
+ghost use Rattle.layouts.specs.Refusals.{why_not_arranged, why_not_bound};
+ghost use Rattle.layouts.specs.Fitted.{is_whole as is_whole_on, scale_on, fitted, fitted_back, setting_of, binding_setting_of};
+ghost use Rattle.layouts.specs.Fitted.{why_no_scale_on, why_not_fitted, IsFitted, HaveOneFold};
+ghost use Rattle.layouts.specs.Placed.{IsInside};
+ghost use Rattle.layouts.specs.Laws.{IsPaper, IsChosen, IsExact, IsHalfTurnOf};
 
-use super::arrangement::{Arrangement, Order, Papers};
+use super::arrangement::{Arrangement, Binding, Order, Papers};
 use super::arranging::{
-    MOST_ON_SHEET, is_itself, is_of_size, is_reached_across, is_shown, scale_found, sheet_in,
+    MOST_ON_SHEET, is_fold_short, is_itself, is_of_size, is_reached_across, is_shown, leaf_order,
+    scale_found, sheet_in,
 };
 use super::best::grid_of;
 use super::error::ArrangementError;
@@ -79,6 +82,38 @@ impl Setting {
         }
     }
 
+    /// The two halves of a sheet whose leaves are bound so, if pages of the one paper can stand in them: one fold
+    /// for pages of all papers.
+    pub fn of_binding(papers: &Papers, binding: &Binding) -> Result<Setting, ArrangementError>
+        ensures page { IsPaper papers.now.page }
+        ensures sheet { IsPaper papers.now.sheet }
+        ensures made { IfOk result (λ t. t ≡ binding_setting_of papers.now.sheet binding.now) }
+        ensures cells { IfOk result (λ t. size t.grid ≡ 2) }
+        ensures folded { IfOk result (λ t. HaveOneFold t binding.now.right_to_left) }
+        ensures possible { OnOk result (why_not_bound papers.now.page papers.now.sheet binding.now ≡ None) }
+        ensures refused { IfErr result (λ error.
+            why_not_bound papers.now.page papers.now.sheet binding.now ≡ Some error) }
+    {
+        let room = match sheet_in(papers, binding.margin, binding.gap, binding.trim) {
+            Ok(room) => room,
+            Err(error) => return Err(error),
+        };
+        if !is_fold_short(&papers.page, &room) {
+            return Err(ArrangementError::FoldOnLongEdge);
+        }
+        let grid = Grid::beside(true);
+        let largest = scale_in(&papers.page, &room, grid);
+        match scale_found(&room, None, largest) {
+            Ok(_) => Ok(Setting {
+                room,
+                grid,
+                order: leaf_order(binding.right_to_left),
+                scale: None,
+            }),
+            Err(error) => Err(error),
+        }
+    }
+
     /// The scale of pages of this paper, if they can have it: the one that is asked for, or else the largest.
     pub fn scale(&self, page_paper: &Paper) -> Result<Number, ArrangementError>
         ensures value { IfOk result (λ scale. scale ≡ pos (scale_on self.now page_paper.now)) }
@@ -119,6 +154,34 @@ impl Setting {
         Ok(layout.item_in(cell))
     }
 
+    /// A page of this paper in a cell, counted from 0, as it stands if the whole sheet is turned by half. It is fitted into
+    /// its cell on a sheet of its own paper too.
+    pub fn back_item(&self, page_paper: &Paper, cell: u32) -> Result<Item, ArrangementError>
+        requires { cell < size self.now.grid }
+        ensures page { IsPaper page_paper.now }
+        ensures sheet { IsPaper self.now.room.paper }
+        ensures made { IfOk result (λ item. item_of item ≡ fitted_back self.now page_paper.now cell) }
+        ensures inside { IfOk result (λ item. IsInside self.now.room page_paper.now (item_of item)) }
+        ensures turned { is_whole_on self.now page_paper.now ≡ false → IfOk result (λ item.
+            IsHalfTurnOf page_paper.now self.now.room.paper (fitted self.now page_paper.now cell) (item_of item)) }
+        ensures exact { IfOk result (λ item. IsExact page_paper.now (item_of item)) }
+        ensures possible { OnOk result (why_no_scale_on self.now page_paper.now ≡ None) }
+        ensures refused { IfErr result (λ error. why_no_scale_on self.now page_paper.now ≡ Some error) }
+    {
+        let scale = match self.scale_found(page_paper) {
+            Ok(scale) => scale,
+            Err(error) => return Err(error),
+        };
+        let layout = Layout {
+            page: *page_paper,
+            room: self.room,
+            grid: self.grid,
+            order: self.order,
+            scale,
+        };
+        Ok(layout.back_in(0, cell))
+    }
+
     /// Whether pages of this paper are left as they are.
     fn is_whole(&self, page_paper: &Paper) -> bool
         ensures value { result ≡ is_whole_on self.now page_paper.now }
@@ -135,6 +198,8 @@ impl Setting {
 
     /// The scale of pages of this paper, in 10^-9.
     fn scale_found(&self, page_paper: &Paper) -> Result<u64, ArrangementError>
+        ensures page { IsPaper page_paper.now }
+        ensures sheet { IsPaper self.now.room.paper }
         ensures value { IfOk result (λ scale. scale ≡ scale_on self.now page_paper.now) }
         ensures possible { OnOk result (why_no_scale_on self.now page_paper.now ≡ None) }
         ensures refused { IfErr result (λ error. why_no_scale_on self.now page_paper.now ≡ Some error) }

@@ -1,4 +1,4 @@
-use Rattle.std.proofs.Common.{arith, rules, ◌≡◌, ◌<◌, ◌*◌}
+use Rattle.std.proofs.Common.{rules}
 use Rattle.layouts.proofs.LaidOut.{some_cells}
 use Rattle.layouts.proofs.grid.Grid.size.Goals as goal
 
