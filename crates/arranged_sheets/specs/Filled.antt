@@ -1,6 +1,6 @@
 -- Sheets whose cells are filled from a row: grids, cards, stacks. Each page is fitted into its cell by its own paper. All
 -- here is this project's own rules.
-use Rattle.std.specs.Prelude.{◌≡◌, ◌≢◌, ℕ, ◌+◌, ◌-◌, ◌*◌, ◌/◌, ◌%◌, ◌<◌, Bool, true, false, ◌&&◌, ◌==◌, if◌then◌else◌, List, [], ◌∷◌}
+use Rattle.std.specs.Prelude.{◌≡◌, ◌≢◌, ℕ, ◌+◌, ◌-◌, ◌*◌, ◌/◌, ◌%◌, ◌<◌, ◌≤◌, nat_abs, Bool, true, false, ◌&&◌, ◌==◌, if◌then◌else◌, List, [], ◌∷◌}
 use Rattle.std.specs.Prelude.{map, flat_map, length, Option, Some, None, ⊤}
 use Rattle.std.specs.List.{range_with_len}
 use Rattle.rules.specs.Papers.{Paper}
@@ -8,14 +8,16 @@ use Rattle.rules.specs.Sheets.{blocks}
 use Rattle.rules.specs.Signatures.{entry_of}
 use Rattle.made_sheets.specs.Made.{MadeSlot, Blank, Placed, MadeSheet}
 use Rattle.made_sheets.specs.Rows.{Row}
+use Rattle.layouts.specs.declared.arrangement.Binding.{Binding}
 use Rattle.layouts.specs.declared.arrangement.Run.{Run}
 use Rattle.layouts.specs.declared.arrangement.Run.TheVariants.{Rows, Columns}
 use Rattle.layouts.specs.declared.arrangement.Turned.{Turned}
 use Rattle.layouts.specs.declared.setting.Setting.{Setting}
 use Rattle.layouts.specs.Placed.{Room, IsInside, AreApart}
-use Rattle.layouts.specs.Cells.{Grid, size, read_columns, read_rows, read_row, read_column}
-use Rattle.layouts.specs.Fitted.{fitted, fitted_back, why_not_fitted}
-use Rattle.layouts.specs.Laws.{IsPaper}
+use Rattle.layouts.specs.Cells.{Grid, size, read_columns, read_rows, read_row, read_column, whole}
+use Rattle.layouts.specs.Fitted.{fitted, fitted_back, why_not_fitted, binding_setting_of}
+use Rattle.layouts.specs.Refusals.{why_not_bound}
+use Rattle.layouts.specs.Laws.{IsPaper, LiesBefore, LiesBehind}
 
 -- what the cells are filled with: the cells of a sheet, and the paper of each page
 pub record Filling : Type 0 where
@@ -158,3 +160,44 @@ abbrev pub FilledIsApart : Type 0
 FilledIsApart = (f : Filling) (c d : ℕ) (one other : Option ℕ) → IsPaper f.setting.room.paper → HavePlaces f
     → c < size f.setting.grid → d < size f.setting.grid → c ≢ d
     → SlotsAreApart f.setting.room (slot_in f c one) (slot_in f d other)
+
+-- also on sheets that are turned by half
+abbrev pub SidesAreInside : Type 0
+SidesAreInside = (f : Filling) (by_half : Bool) (c : ℕ) (entry : Option ℕ) → IsPaper f.setting.room.paper → HavePlaces f
+    → 2 ≤ size f.setting.grid → c < size f.setting.grid → SlotIsInside f.setting.room (slot_on f by_half c entry)
+
+abbrev pub SidesAreApart : Type 0
+SidesAreApart = (f : Filling) (by_half : Bool) (c d : ℕ) (one other : Option ℕ) → IsPaper f.setting.room.paper → HavePlaces f
+    → c < size f.setting.grid → d < size f.setting.grid → c ≢ d
+    → SlotsAreApart f.setting.room (slot_on f by_half c one) (slot_on f by_half d other)
+
+-- a placed slot lies before a line across the sheet, or behind it, by half of the gap; the line is twice as far up as said
+abbrev pub SlotLiesBefore : Room → (twice : ℕ) → MadeSlot → Type 0
+SlotLiesBefore room twice Blank = ⊤
+SlotLiesBefore room twice (Placed page item paper) = LiesBefore room twice paper item
+
+abbrev pub SlotLiesBehind : Room → (twice : ℕ) → MadeSlot → Type 0
+SlotLiesBehind room twice Blank = ⊤
+SlotLiesBehind room twice (Placed page item paper) = LiesBehind room twice paper item
+
+-- on the sides of leaves nothing crosses the fold, whatever the entries are, and whatever their papers: it is one line for
+-- all fronts, in the middle of the sheet to 10^-5 of a point, and the same line, turned by half, for backs that are turned
+pub record BookletFolds (f : Filling) (right_to_left : Bool) : Type 0 where
+  pub twice : ℕ
+  pub no_farther : twice ≤ whole (nat_abs f.setting.room.paper.height) + 1
+  pub no_nearer : whole (nat_abs f.setting.room.paper.height) ≤ twice + 1
+  pub before : (entry : Option ℕ)
+      → SlotLiesBefore f.setting.room twice (slot_on f false (if right_to_left then 1 else 0) entry)
+  pub behind : (entry : Option ℕ)
+      → SlotLiesBehind f.setting.room twice (slot_on f false (if right_to_left then 0 else 1) entry)
+  pub turned_behind : (entry : Option ℕ)
+      → SlotLiesBehind f.setting.room (2 * whole (nat_abs f.setting.room.paper.height) - twice)
+      (slot_on f true (if right_to_left then 1 else 0) entry)
+  pub turned_before : (entry : Option ℕ)
+      → SlotLiesBefore f.setting.room (2 * whole (nat_abs f.setting.room.paper.height) - twice)
+      (slot_on f true (if right_to_left then 0 else 1) entry)
+
+-- if the cells are the halves of sheets that are bound so for pages of some paper
+abbrev pub BookletKeepsFold : Type 0
+BookletKeepsFold = (f : Filling) (page sheet : Paper) (b : Binding) → why_not_bound page sheet b ≡ None
+    → f.setting ≡ binding_setting_of sheet b → HavePlaces f → BookletFolds f b.right_to_left

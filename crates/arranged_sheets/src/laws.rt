@@ -1,6 +1,6 @@
 //! Laws of the definitions. The functions do nothing.
 ghost use Rattle.arranged_sheets.specs.Filled.{GridRunsOn, StackRunsOn, DuplexRunsOn, BehindIsMirror};
-ghost use Rattle.arranged_sheets.specs.Filled.{FilledIsInside, FilledIsApart, BookletIsGrid};
+ghost use Rattle.arranged_sheets.specs.Filled.{FilledIsInside, FilledIsApart, SidesAreInside, SidesAreApart, BookletIsGrid, BookletKeepsFold};
 ghost use Rattle.arranged_sheets.specs.Creep.{CreepMoves, CreepGrows, CreepKeepsSides};
 ghost use Rattle.arranged_sheets.specs.Posters.{PosterCovers, TilesOverlap};
 
@@ -32,6 +32,21 @@ pub fn filled_is_inside()
 /// Two placed pages of a sheet are apart by the gap, whatever their papers.
 pub fn filled_is_apart()
     ensures { FilledIsApart }
+{}
+
+/// The same of sheets that are turned by half: each placed page lies on what the margin leaves of its sheet.
+pub fn sides_are_inside()
+    ensures { SidesAreInside }
+{}
+
+/// And two placed pages are apart by the gap.
+pub fn sides_are_apart()
+    ensures { SidesAreApart }
+{}
+
+/// Nothing on the sides of a booklet's leaves crosses the fold, whatever the papers: it is one line for all of them.
+pub fn booklet_keeps_fold()
+    ensures { BookletKeepsFold }
 {}
 
 /// The sides of a booklet of which no back is turned are a grid with two cells.

@@ -3,4 +3,5 @@ pub mod Guarded
 pub mod NotCured
 pub mod Applied
 pub mod AppliedTwice
+pub mod AppliedNests
 pub mod AppliedOwn

@@ -16,6 +16,7 @@ pub mod Sheets
 pub mod PutThere
 pub mod SheetsOfSheets
 pub mod Taking
+pub mod Nests
 pub mod Documents
 pub mod OwnShowpage
 pub mod TwoRuns

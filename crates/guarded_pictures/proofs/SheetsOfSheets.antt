@@ -18,7 +18,7 @@ use Rattle.pictures.proofs.Twice.{places_compose}
 use Rattle.guarded_pictures.specs.Shelter.{Outer, outer_is, outer_entries, outer_made, page_matrix, beginning, sheltered, outline_tokens, page_save, all_absent}
 use Rattle.guarded_pictures.specs.Lines.{clip_to}
 use Rattle.guarded_pictures.specs.Pages.{TakesPages, Encloses, AllHeld, AllSheltered, has_nothing, looked_up, looked_up_first, Around, around}
-use Rattle.guarded_pictures.specs.SheetsOfSheets.{page_round, page_begun, sheet_as_page, none_above, none_above_of, put_there, AllOlder, TakesSheets, SheetIsPlaced, SheetIsComposed, Inner, as_pages, AllWithin, AllSheetsWithin, SheetsOfSheetsArePrinted}
+use Rattle.guarded_pictures.specs.SheetsOfSheets.{page_round, page_begun, sheet_as_page, none_newer, none_above, none_above_of, put_there, AllOlder, TakesSheets, SheetIsPlaced, SheetIsComposed, Inner, as_pages, AllWithin, AllSheetsWithin, SheetsOfSheetsArePrinted}
 use Rattle.guarded_pictures.proofs.Lines.{page_is_left}
 use Rattle.guarded_pictures.proofs.Begins.{all_apart, page_begins, same_place}
 use Rattle.guarded_pictures.proofs.Placed.{behind, closing}
@@ -54,26 +54,26 @@ upon g (x ∷ xs) ps before =
 -- The state where the page begins.
 
 -- the entries that the sheet's text puts, and those of the guard above them
-abbrev two : State → List Entry
+abbrev pub two : State → List Entry
 two s = in_userdict (codes "showpage") (Procedure []) ∷ in_userdict (codes "ImposeSave") (Saved s.level) ∷ []
 
-abbrev matrix_entry : List Outer → State → Entry
+abbrev pub matrix_entry : List Outer → State → Entry
 matrix_entry outers s = in_userdict (codes "PStoPSmatrix") (Matrix (page_matrix outers s))
 
-abbrev outline_entry : Numbers → Entry
+abbrev pub outline_entry : Numbers → Entry
 outline_entry n = in_userdict (codes "PStoPSclip") (Procedure (outline_tokens n))
 
-abbrev flag_entry : Entry
+abbrev pub flag_entry : Entry
 flag_entry = in_userdict (codes "PStoPSenablepage") (Truth false)
 
-abbrev three : List Outer → State → Numbers → List Entry
+abbrev pub three : List Outer → State → Numbers → List Entry
 three outers s n = flag_entry ∷ outline_entry n ∷ matrix_entry outers s ∷ []
 
-abbrev all_entries : List Outer → State → Numbers → List Entry
+abbrev pub all_entries : List Outer → State → Numbers → List Entry
 all_entries outers s n = three outers s n ++ (outer_entries outers ++ (two s ++ s.work.entries))
 
 -- what asks for none of the names that are put finds what it found
-unput : {X : Type 0} (f : List Entry → X) (names : List (List ℕ)) → ((e : Entry) (es : List Entry) → apart e.key names ≡ true → f (e ∷ es) ≡ f es)
+pub unput : {X : Type 0} (f : List Entry → X) (names : List (List ℕ)) → ((e : Entry) (es : List Entry) → apart e.key names ≡ true → f (e ∷ es) ≡ f es)
     → (outers : List Outer) (s : State) (n : Numbers) → all_apart (three outers s n) names ≡ true → are_apart put_there names ≡ true → all_apart (two s) names ≡ true
     → f (all_entries outers s n) ≡ f s.work.entries
 unput f names step outers s n a h b =
@@ -82,13 +82,13 @@ unput f names step outers s n a h b =
     ∙ over f names step (two s) s.work.entries b
 
 -- above userdict nothing has these names
-above_name : (names : List (List ℕ)) (ds : List ℕ) (es : List Entry) → none_above_of names ds es ≡ true → (name : List ℕ) → among name names ≡ true → none_above name ds es ≡ true
+pub above_name : (names : List (List ℕ)) (ds : List ℕ) (es : List Entry) → none_above_of names ds es ≡ true → (name : List ℕ) → among name names ≡ true → none_above name ds es ≡ true
 above_name [] ds es h name k = absurd (true≢false (sym k))
 above_name (other ∷ others) ds es h name k = by_test (bytes_eq name other)
     (λ same. subst (λ z. none_above z ds es ≡ true) (sym ((bytes_eq-Decides name other).0 same)) (first (none_above other ds es) (none_above_of others ds es) h))
     (λ differ. above_name others ds es (second (none_above other ds es) (none_above_of others ds es) h) name (subst (λ b. (b || among name others) ≡ true) differ k))
 
-are_new : (outers : List Outer) (s : State) → Encloses outers s → AreNew outers s.work.made
+pub are_new : (outers : List Outer) (s : State) → Encloses outers s → AreNew outers s.work.made
 are_new [] s e = tt
 are_new (o ∷ os) s e = e.4
 
@@ -204,7 +204,7 @@ dictionaries_old a b (d ∷ ds) h e =
     both_true (nat_lt d (b + 1)) (all_old b ds) (grows (a + 1) (b + 1) d (first (nat_lt d (a + 1)) (all_old a ds) e) (omega (arith, h)))
     (dictionaries_old a b ds h (second (nat_lt d (a + 1)) (all_old a ds) e))
 
-more_made : (outers : List Outer) (made : ℕ) → made ≤ outer_made outers made
+pub more_made : (outers : List Outer) (made : ℕ) → made ≤ outer_made outers made
 more_made [] made = omega arith
 more_made (o ∷ os) made = omega arith
 
@@ -213,6 +213,13 @@ more_made (o ∷ os) made = omega arith
 pub still_new : (d : ℕ) (e : Entry) (es : List Entry) → e.dictionary < d → has_nothing d es ≡ true → has_nothing d (e ∷ es) ≡ true
 still_new d e es less h =
     both_true (not (e.dictionary == d)) (has_nothing d es) (ap not (ne_eqb e.dictionary d (λ k. omega (arith, less, k)))) h
+
+-- one that hasn't been made has nothing
+nothing_newer : (made d : ℕ) (es : List Entry) → made < d → none_newer made es ≡ true → has_nothing d es ≡ true
+nothing_newer made d [] less h = refl
+nothing_newer made d (e ∷ es) less h =
+    let old = ltb-true e.dictionary (made + 1) (first (nat_lt e.dictionary (made + 1)) (none_newer made es) h) in
+    still_new d e es (omega (arith, old, less)) (nothing_newer made d es less (second (nat_lt e.dictionary (made + 1)) (none_newer made es) h))
 
 outers_new : (outers : List Outer) (made : ℕ) (es : List Entry) → AreNew outers made → has_nothing (outer_made outers made + 1 + 1) es ≡ true
     → has_nothing (outer_made outers made + 1 + 1) (outer_entries outers ++ es) ≡ true
@@ -231,6 +238,8 @@ new_there outers s n t =
     let d : ℕ = page_matrix outers s + 1 in
     let es : List Entry = s.work.entries in
     let less : 0 < d = omega arith in
+    let made = more_made outers s.work.made in
+    let new = nothing_newer s.work.made d es (omega (arith, made)) t.new in
     let save : Entry = in_userdict (codes "ImposeSave") (Saved s.level) in
     let show : Entry = in_userdict (codes "showpage") (Procedure []) in
     let below : List Entry = outer_entries outers ++ (two s ++ es) in
@@ -238,7 +247,7 @@ new_there outers s n t =
     (still_new d (outline_entry n) (matrix_entry outers s ∷ below) less
     (still_new d (matrix_entry outers s) below less
     (outers_new outers s.work.made (two s ++ es) (are_new outers s t.takes.encloses)
-    (still_new d show (save ∷ es) less (still_new d save es less t.new)))))
+    (still_new d show (save ∷ es) less (still_new d save es less new)))))
 
 held_over : (outers : List Outer) (made number : ℕ) (chain : List Call) (ks : List Kept) → made < number → AllOlder outers made → AllHeld outers ks
     → AllHeld outers (record { number = number; chain = chain } ∷ ks)
@@ -250,7 +259,7 @@ held_over (o ∷ os) made number chain ks less a h = (
 
 -- So pages can be placed there.
 
-takes_there : (outers : List Outer) (s : State) (n : Numbers) → TakesSheets outers s → TakesPages (page_round outers s n ∷ outers) (page_begun outers s n)
+pub takes_there : (outers : List Outer) (s : State) (n : Numbers) → TakesSheets outers s → TakesPages (page_round outers s n ∷ outers) (page_begun outers s n)
 takes_there outers s n t =
     let ds : List ℕ = s.work.dictionaries in
     let g = t.takes in
@@ -298,9 +307,8 @@ sheet_leaves outers s n xs ps sheets t = record {
 sheet_upon : (p : Place) (g : Graphics) (xs : List Shown) (before : List Painting) → sheet_picture (graphics_at p g) xs before ≡ picture_at p (sheet_picture g xs []) ++ before
 sheet_upon p g xs before = upon (graphics_at p g) xs [] before ∙ ap (λ ps. ps ++ before) (sym (sheet_is_composed p g xs))
 
-pub sheet_places : (outers : List Outer) (s : State) (n : Numbers) (xs : List Shown) → TakesSheets outers s → AllSheltered (page_round outers s n ∷ outers) (page_begun outers s n) xs
-    → Places s (sheet_as_page s n xs)
-sheet_places outers s n xs t h ps sheets rest =
+pub sheet_of_placed : (outers : List Outer) (s : State) (n : Numbers) (xs : List Shown) → TakesSheets outers s → AllPlace (page_begun outers s n) xs → Places s (sheet_as_page s n xs)
+sheet_of_placed outers s n xs t h ps sheets rest =
     let u : State = record s { painted = ps; sheets = sheets } in
     let body : List Token = sheet_tokens (map (λ x. x.placed) xs) in
     let more : List Token = closing_tokens ++ rest in
@@ -324,11 +332,16 @@ sheet_places outers s n xs t h ps sheets rest =
     (runs_join false (run_of middle u) (at (body ++ more) border) end (page_begins outers u n body more takes)
     (subst (λ l. Runs false (at l border) end) (sym (append_assoc (pages_of xs) (Name (codes "showpage") ∷ []) more))
     (runs_join false (at (pages_of xs ++ last) border) (at last full) end
-    (pages_run xs begun border sheets last (all_place (page_round outers s n ∷ outers) begun xs (takes_there outers s n t) h))
+    (pages_run xs begun border sheets last h)
     (runs_join false (at last full) (at more full) end
     (page_is_left (at more full) (codes "showpage") more (showpage_there outers s n t))
     (subst (λ painted. Runs false (at more painted) end) (sym (sheet_upon place (beginning s) xs border))
     (closing u (sheet_end outers s n xs) n rest takes.operands takes.dictionaries (sheet_leaves outers s n xs ps sheets t))))))))
+
+pub sheet_places : (outers : List Outer) (s : State) (n : Numbers) (xs : List Shown) → TakesSheets outers s → AllSheltered (page_round outers s n ∷ outers) (page_begun outers s n) xs
+    → Places s (sheet_as_page s n xs)
+sheet_places outers s n xs t h =
+    sheet_of_placed outers s n xs t (all_place (page_round outers s n ∷ outers) (page_begun outers s n) xs (takes_there outers s n t) h)
 
 pub sheet_is_placed : SheetIsPlaced
 sheet_is_placed outers s n xs rest t h = sheet_places outers s n xs t h s.painted s.sheets rest

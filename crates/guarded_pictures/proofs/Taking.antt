@@ -1,17 +1,18 @@
 -- Where sheets of sheets can be placed: behind the guard, and behind definitions of other names.
-use Rattle.std.specs.Prelude.{Some, None, codes, bytes_eq}
-use Rattle.std.proofs.Common.{◌≡◌, ℕ, ◌+◌, refl, ap, ap₂, ◌∙◌, true, false, not, ◌&&◌, ◌||◌, List, [], ◌∷◌, arith}
+use Rattle.std.specs.Prelude.{Some, None, codes, bytes_eq, nat_lt}
+use Rattle.std.proofs.lemmas.Bool.{lt-ltb}
+use Rattle.std.proofs.Common.{◌≡◌, ℕ, ◌+◌, refl, ap, ap₂, ◌∙◌, true, false, not, ◌&&◌, ◌||◌, List, [], ◌∷◌}
 use Rattle.pictures.specs.Dictionaries.{Entry}
 use Rattle.pictures.specs.Sheets.{among}
 use Rattle.pictures.proofs.Opening.{name_other, apart}
 use Rattle.pictures.proofs.Tests.{first, second}
+use Rattle.pictures.proofs.Placed.{both_true}
 use Rattle.guarded_pictures.specs.Behind.{behind_guard}
 use Rattle.guarded_pictures.specs.Pages.{looked_up, looked_up_first, guarded_names}
-use Rattle.guarded_pictures.specs.SheetsOfSheets.{none_above_of, put_there, taken_names, GuardTakesSheets, StaysTakingSheets}
+use Rattle.guarded_pictures.specs.SheetsOfSheets.{none_newer, none_above_of, put_there, taken_names, GuardTakesSheets, StaysTakingSheets}
 use Rattle.guarded_pictures.proofs.Ground.{guard_is_enough, nor, differs, all_differ, all_among, entry_other, holder_other, all_absent_other}
 use Rattle.guarded_pictures.proofs.Placed.{takes_pages}
 use Rattle.guarded_pictures.proofs.PutThere.{above_other}
-use Rattle.guarded_pictures.proofs.SheetsOfSheets.{still_new}
 
 pub guard_takes_sheets : GuardTakesSheets
 guard_takes_sheets None rest = record { takes = takes_pages (behind_guard None rest) (guard_is_enough None rest); above = refl; outermost = refl; restore_is = refl; new = refl; older = tt }
@@ -65,6 +66,6 @@ stays_taking_sheets s e t a made =
       above = all_above put_there ds e es a refl ∙ t.above;
       outermost = name_other ds e es (codes "ImposeOuter") (other (codes "ImposeOuter") refl) ∙ t.outermost;
       restore_is = name_other ds e es (codes "restore") (other (codes "restore") refl) ∙ t.restore_is;
-      new = still_new (s.work.made + 1 + 1) e es (omega (arith, made)) t.new;
+      new = both_true (nat_lt e.dictionary (s.work.made + 1)) (none_newer s.work.made es) (lt-ltb e.dictionary (s.work.made + 1) made) t.new;
       older = t.older;
     }

@@ -1,7 +1,7 @@
 -- Sheets of sheets: the sheets of one document are the pages of another one, which is imposed with the guard too. Each
 -- page stands in its inner place, and with that in the outer one.
 use Rattle.std.specs.Prelude.{◌≡◌, ℕ, ◌+◌, ◌<◌, ◌≤◌, List, [], ◌∷◌, ◌++◌, map, length, Bool, true, false, not, ◌&&◌, ◌||◌, ◌==◌}
-use Rattle.std.specs.Prelude.{Option, Some, Ok, codes, slice_index_or}
+use Rattle.std.specs.Prelude.{zero, suc, Option, Some, Ok, codes, slice_index_or, nat_lt}
 use Rattle.rules.specs.Specification.{Item, Spec}
 use Rattle.rules.specs.Sheets.{Slot}
 use Rattle.rules.specs.Papers.{Paper}
@@ -23,7 +23,7 @@ use Rattle.pictures.specs.Kept.{page_comments_apart, preamble_comments_apart}
 use Rattle.guarded_pictures.specs.Shelter.{Outer, outer_is, means, outline_tokens, page_matrix, beginning, sheltered}
 use Rattle.guarded_pictures.specs.Shelter.{PaintsSheltered}
 use Rattle.guarded_pictures.specs.Behind.{behind_guard}
-use Rattle.guarded_pictures.specs.Pages.{IsGuarded, TakesPages, AllSheltered, has_nothing, placed_at, around, outline_of}
+use Rattle.guarded_pictures.specs.Pages.{IsGuarded, TakesPages, AllSheltered, placed_at, around, outline_of}
 use Rattle.guarded_pictures.specs.Pages.{GuardedPreambleRuns, guarded_names, defined}
 
 -- A page that a sheet of another document is.
@@ -75,14 +75,19 @@ abbrev pub AllOlder : List Outer → ℕ → Type 0
 AllOlder [] made = Unit {0}
 AllOlder (o ∷ os) made = (o.matrix < made + 1) × AllOlder os made
 
+-- no dictionary has anything that hasn't been made
+abbrev pub none_newer : ℕ → List Entry → Bool
+none_newer made [] = true
+none_newer made (e ∷ es) = nat_lt e.dictionary (made + 1) && none_newer made es
+
 -- besides all that is asked where pages are placed: the names that are put there mean what is put; `restore` means the
--- operator; and the dictionary in which the page is kept is new
+-- operator; and the dictionaries that are made next are new
 pub record TakesSheets (outers : List Outer) (s : State) : Type 0 where
   pub takes : TakesPages outers s
   pub above : none_above_of put_there s.work.dictionaries s.work.entries ≡ true
   pub outermost : IsOutermost outers s
   pub restore_is : means s (codes "restore") ≡ system (codes "restore")
-  pub new : has_nothing (page_matrix outers s + 1) s.work.entries ≡ true
+  pub new : none_newer s.work.made s.work.entries ≡ true
   pub older : AllOlder outers s.work.made
 
 -- What such a state is come to by.
@@ -144,6 +149,44 @@ SheetsOfSheetsArePrinted =
     → AllSheetsWithin s xs
     → Runs false (run_of (sheets_tokens (map (as_pages s) xs) ++ rest) s)
     (record s { left = rest; sheets = printed s.graphics (map (as_pages s) xs) s.sheets })
+
+-- Any number of runs.
+
+-- a page, or a sheet of such, so many times; a sheet with the numbers by which it is placed
+abbrev pub Nest : ℕ → Type 0
+Nest zero = Shown
+Nest (suc depth) = Numbers × List (Nest depth)
+
+-- as a page, where the graphics state is this
+abbrev pub nest_as_page : (depth : ℕ) → Graphics → Nest depth → Shown
+nest_as_page zero g x = x
+nest_as_page (suc depth) g (n, xs) = record {
+  placed = record { numbers = n; body = sheet_tokens (map (λ x. x.placed) (map (nest_as_page depth g) xs)) };
+  picture = sheet_picture g (map (nest_as_page depth g) xs) [];
+}
+
+abbrev pub AllOf : {A : Type 0} → (A → Type 0) → List A → Type 0
+AllOf P [] = Unit {0}
+AllOf P (x ∷ xs) = P x × AllOf P xs
+
+-- each of its pages, within all sheets round it, paints its picture by itself
+abbrev pub PaintsNested : (depth : ℕ) → List Outer → State → Nest depth → Type 0
+PaintsNested zero outers s x = PaintsSheltered outers s (outline_tokens x.placed.numbers) x.placed.body x.picture
+PaintsNested (suc depth) outers s (n, xs) = AllOf (PaintsNested depth (page_round outers s n ∷ outers) (page_begun outers s n)) xs
+
+-- where sheets can be placed, they can be placed within a page: a law
+abbrev pub SheetsAreTakenWithin : Type 0
+SheetsAreTakenWithin =
+    (outers : List Outer) (s : State) (n : Numbers) → TakesSheets outers s
+    → TakesSheets (page_round outers s n ∷ outers) (page_begun outers s n)
+
+-- so what was imposed any number of times is printed, each sheet with the pictures of its sheets, placed: a law
+abbrev pub NestsArePrinted : Type 0
+NestsArePrinted =
+    (depth : ℕ) (s : State) (xs : List (List (Nest depth))) (rest : List Token) → IsGuarded s → TakesSheets [] s
+    → s.painted ≡ [] → AllOf (AllOf (PaintsNested depth [] s)) xs
+    → Runs false (run_of (sheets_tokens (map (map (nest_as_page depth (beginning s))) xs) ++ rest) s)
+    (record s { left = rest; sheets = printed s.graphics (map (map (nest_as_page depth (beginning s))) xs) s.sheets })
 
 -- Two runs: impose puts the guard into what a run wrote, and imposes it.
 

@@ -7,6 +7,7 @@ ghost use Rattle.guarded_pictures.specs.Pages.{GuardIsEnough, GuardedDocumentIsS
 ghost use Rattle.guarded_pictures.specs.Pages.{GuardedSheetsArePrinted, GuardedSheetsShowThePages, PageBegins};
 ghost use Rattle.guarded_pictures.specs.Pages.{ShelterCommutes, StaysGuarded};
 ghost use Rattle.guarded_pictures.specs.SheetsOfSheets.{SheetIsComposed, SheetIsPlaced, SheetsOfSheetsArePrinted};
+ghost use Rattle.guarded_pictures.specs.SheetsOfSheets.{NestsArePrinted, SheetsAreTakenWithin};
 ghost use Rattle.guarded_pictures.specs.SheetsOfSheets.{GuardTakesSheets, StaysTakingSheets, TwoRunsAreShown};
 ghost use Rattle.guarded_pictures.specs.Lines.{AskingShows, AsksUserdict, ClipIsThePages, DefaultIsThePages};
 ghost use Rattle.guarded_pictures.specs.Lines.{DeviceIsLeft, GraphicsAreThePages, GuardedTwice, LoadedShowpage};
@@ -181,4 +182,14 @@ pub fn sheets_of_sheets_are_printed()
 /// A machine prints of what impose makes of a run's output the sheets of that run, placed.
 pub fn two_runs_are_shown()
     ensures { TwoRunsAreShown }
+{}
+
+/// Where sheets can be placed, they can be placed within a page.
+pub fn sheets_are_taken_within()
+    ensures { SheetsAreTakenWithin }
+{}
+
+/// What was imposed any number of times is printed, each sheet with the pictures of its sheets, placed.
+pub fn nests_are_printed()
+    ensures { NestsArePrinted }
 {}

@@ -1,16 +1,16 @@
 -- Pages on sheets that are turned by half.
-use Rattle.std.proofs.Common.{arith, ◌≡◌, ℕ, ◌+◌, Bool, true, false}
+use Rattle.std.proofs.Common.{arith, ◌≡◌, inl, inr, ℕ, ◌+◌, Bool, true, false}
 use Rattle.std.specs.Prelude.{ℤ, pos, neg_ℤ, ◌≤ℤ◌, ◌+ℤ◌, ◌*ℤ◌, ◌-ℤ◌, nat_abs, if◌then◌else◌}
 use Rattle.std.proofs.lemmas.Int.{ints}
 use Rattle.rules.specs.Papers.{Paper}
-use Rattle.rules.specs.Specification.{Upright, Left}
+use Rattle.rules.specs.Specification.{Item, Upright, Left}
 use Rattle.rules.specs.Placement.{Point}
 use Rattle.layouts.specs.declared.arrangement.Order.{Order}
 use Rattle.layouts.specs.declared.arrangement.Turned.TheVariants as sideways
-use Rattle.layouts.specs.Placed.{Room, stands, fine, IsLeftOf}
+use Rattle.layouts.specs.Placed.{Room, stands, fine, IsLeftOf, AreApart}
 use Rattle.layouts.specs.Cells.{half_turned, item_in, back_in, to_right, to_top, whole, row_of, column_of}
 use Rattle.layouts.specs.Grids.{beside}
-use Rattle.layouts.specs.Laws.{BackIsInside, BackIsHalfTurn}
+use Rattle.layouts.specs.Laws.{BackIsInside, BackIsHalfTurn, IsHalfTurnOf}
 use Rattle.layouts.proofs.Sides.{placed, LiesIn}
 use Rattle.layouts.proofs.InGrid.{in_whole, on_sheet}
 use Rattle.layouts.proofs.InOrder.{place_fits}
@@ -64,3 +64,19 @@ back_left page room o s n k l h p q of of' =
     let one = back_is_half_turn page room (beside true) o s n k in
     let other = back_is_half_turn page room (beside true) o s n l in
     same_order _ _ _ _ (pos 1_270_000_000_000_000 *ℤ pos (whole (nat_abs room.paper.height))) (fine room.gap) (h p q of of') (one.up p) (other.up q)
+
+-- two pages that are apart still are if the sheet is turned
+
+half_turned_first : (H a b a' b' e : ℤ) → (a +ℤ e) ≤ℤ b → a' ≡ H -ℤ a → b' ≡ H -ℤ b → (b' +ℤ e) ≤ℤ a'
+half_turned_first H a b a' b' e h is is' = omega (arith, ints, h, is, is')
+
+pub half_turned_apart : (room : Room) (page page' : Paper) (one other one' other' : Item) → IsHalfTurnOf page room.paper one one' → IsHalfTurnOf page' room.paper other other'
+    → AreApart room page one page' other → AreApart room page one' page' other'
+half_turned_apart room page page' one other one' other' half half' (inl (inl h)) =
+    inl (inr (λ q p of' of. half_turned_first (pos 1_270_000_000_000_000 *ℤ pos (whole (nat_abs room.paper.width))) _ _ _ _ (fine room.gap) (h p q of of') (half.across p) (half'.across q)))
+half_turned_apart room page page' one other one' other' half half' (inl (inr h)) =
+    inl (inl (λ p q of of'. half_turned_first (pos 1_270_000_000_000_000 *ℤ pos (whole (nat_abs room.paper.width))) _ _ _ _ (fine room.gap) (h q p of' of) (half'.across q) (half.across p)))
+half_turned_apart room page page' one other one' other' half half' (inr (inl h)) =
+    inr (inr (λ q p of' of. half_turned_first (pos 1_270_000_000_000_000 *ℤ pos (whole (nat_abs room.paper.height))) _ _ _ _ (fine room.gap) (h p q of of') (half.up p) (half'.up q)))
+half_turned_apart room page page' one other one' other' half half' (inr (inr h)) =
+    inr (inl (λ p q of of'. half_turned_first (pos 1_270_000_000_000_000 *ℤ pos (whole (nat_abs room.paper.height))) _ _ _ _ (fine room.gap) (h q p of' of) (half'.up q) (half.up p)))

@@ -1,6 +1,6 @@
 -- Pages of several papers, each fitted into its cell.
 use Rattle.std.proofs.Common.{arith, rules, ◌≡◌, ◌≢◌, ℕ, suc, zero, ◌*◌, ◌/◌, ◌%◌, ◌<◌, ◌≤◌, Bool, true, false, Option, None, refl, sym, ap, subst, ◌∙◌, [], ◌∷◌}
-use Rattle.std.specs.Prelude.{◌&&◌, ◌==◌, nat_le, if◌then◌else◌, is_none, map}
+use Rattle.std.specs.Prelude.{◌&&◌, ◌==◌, nat_le, nat_abs, if◌then◌else◌, is_none, map}
 use Rattle.std.specs.List.{range_with_len}
 use Rattle.lengths.proofs.Numbers.{same_byte}
 use Rattle.rules.specs.Papers.{Paper}
@@ -16,15 +16,16 @@ use Rattle.layouts.specs.declared.error.ArrangementError.TheVariants as why
 use Rattle.layouts.specs.declared.setting.Setting.{Setting}
 use Rattle.layouts.specs.Placed.{Room, IsInside, AreApart}
 use Rattle.layouts.specs.Cells.{Grid, size, scale_in, item_in, run_in, read_rows, row_of, column_of}
-use Rattle.layouts.specs.Grids.{beside, leaf_order, alone, is_same, is_itself, room_of, grid, grid_of, best_grid, best_of, best_formed, scale_for, count_of, rounded_up, rounded_down, arranged}
-use Rattle.layouts.specs.Refusals.{first_of, is_count, are_reached, is_length, is_shown, why_no_scale, why_not_arranged}
+use Rattle.layouts.specs.Grids.{beside, leaf_order, alone, is_same, is_itself, room_of, grid, grid_of, best_grid, best_of, best_formed, scale_for, count_of, rounded_up, rounded_down, arranged, sides_in}
+use Rattle.layouts.specs.Refusals.{first_of, is_count, are_reached, is_length, is_shown, why_no_scale, why_not_arranged, why_not_bound, folds_short}
 use Rattle.layouts.specs.Laws.{IsPaper, HasPlace, IsExact, IsHalfTurnOf, IsInMiddle, cell_at, ComesInRun, ComesInRunBefore, IsNotTiny, Allows, IsChosen}
-use Rattle.layouts.specs.Fitted.{is_whole, scale_on, fitted, fitted_back, setting_of, binding_setting_of, why_no_scale_on, why_not_fitted, IsFitted, FittedStands, FittedIsApart, FittedIsInOrder, ArrangedIsFitted}
-use Rattle.layouts.proofs.InGrid.{cells, room_in, both_true}
+use Rattle.layouts.specs.Fitted.{is_whole, scale_on, fitted, fitted_back, setting_of, binding_setting_of, why_no_scale_on, why_not_fitted, IsFitted, FittedStands, FittedIsApart, FittedIsInOrder, ArrangedIsFitted, HaveOneFold, halves, BoundIsFitted}
+use Rattle.layouts.proofs.Folds.{fold, in_middle as fold_in_middle, fold_on_sheet, lies_before, lies_behind, turned_behind, turned_before}
+use Rattle.layouts.proofs.InGrid.{fits, cells, room_in, both_true}
 use Rattle.layouts.proofs.InOrder.{grid_inside, grid_in_order}
 use Rattle.layouts.proofs.Apart.{grid_apart}
 use Rattle.layouts.proofs.Middle.{grid_in_middle}
-use Rattle.layouts.proofs.Backs.{back_inside, back_is_half_turn}
+use Rattle.layouts.proofs.Backs.{back_inside, back_is_half_turn, half_turned_apart}
 use Rattle.layouts.proofs.BestGrid.{allowed, best_has_cells}
 use Rattle.layouts.proofs.Printing.{printed_as_it_is}
 use Rattle.layouts.proofs.LaidOut.{SameSides, same_sides, itself_in, itself_exact, itself_large_at, some_each, read_best, read_square, is_chosen, enough}
@@ -131,12 +132,16 @@ pub record StandsBack (t : Setting) (page : Paper) (k : ℕ) (item : Item) : Typ
   pub turned : is_whole t page ≡ false → IsHalfTurnOf page t.room.paper (fitted t page k) item
   pub exact : IsExact page item
 
+front_turned : (t : Setting) (page : Paper) (k : ℕ) → is_whole t page ≡ false → IsHalfTurnOf page t.room.paper (fitted t page k) (fitted_back t page k)
+front_turned t page k e =
+    subst (λ i. IsHalfTurnOf page t.room.paper i (fitted_back t page k)) (sym (either_way (is_whole t page) (alone k) (item_in page t.room t.grid t.order (scale_on t page) k) e))
+    (back_is_half_turn page t.room t.grid t.order (scale_on t page) 0 k)
+
 pub stands_back : (t : Setting) (page : Paper) (k : ℕ) → IsPaper page → IsPaper t.room.paper → k < size t.grid → why_no_scale_on t page ≡ None → StandsBack t page k (fitted_back t page k)
 stands_back t page k is on within h =
     let s = scale_on t page in record {
       inside = back_inside page t.room t.grid t.order s 0 k is on (has_scale t page h).place within;
-      turned = λ e. subst (λ i. IsHalfTurnOf page t.room.paper i (fitted_back t page k)) (sym (either_way (is_whole t page) (alone k) (item_in page t.room t.grid t.order s k) e))
-          (back_is_half_turn page t.room t.grid t.order s 0 k);
+      turned = front_turned t page k;
       exact = (printed_as_it_is page t.room t.grid t.order s 0 k).1;
     }
 
@@ -161,6 +166,12 @@ not_whole : (t : Setting) (page : Paper) (k l : ℕ) → k < size t.grid → l <
 not_whole t page k l in_k in_l differ =
     is_false (is_whole t page) (λ h. let one = (whole_page t page h).one in differ (omega (arith, one, in_k, in_l)))
 
+pub one_of_many : (t : Setting) (page : Paper) → 2 ≤ size t.grid → is_whole t page ≡ false
+one_of_many t page many = is_false (is_whole t page) (λ h. let one = (whole_page t page h).one in omega (arith, one, many))
+
+pub scale_of_many : (t : Setting) (page : Paper) → 2 ≤ size t.grid → why_not_fitted t page ≡ None → why_no_scale_on t page ≡ None
+scale_of_many t page many h = sym (either_way (is_whole t page) None (why_no_scale_on t page) (one_of_many t page many)) ∙ h
+
 -- so each stands in its cell
 pub in_cell : (t : Setting) (page : Paper) (k l : ℕ) → is_whole t page ≡ false → why_not_fitted t page ≡ None
     → (fitted t page k ≡ item_in page t.room t.grid t.order (scale_on t page) k) × HasPlace page t.room t.grid (scale_on t page)
@@ -176,6 +187,14 @@ fitted_is_apart t page page' k l is is' on h h' in_k in_l differ =
     subst (λ i. AreApart t.room page i page' (fitted t page' l)) (sym one.0)
     (subst (λ i. AreApart t.room page (item_in page t.room t.grid t.order (scale_on t page) k) page' i) (sym other.0)
     (grid_apart page page' t.room t.grid t.order (scale_on t page) (scale_on t page') k l is is' on one.1 other.1 in_k in_l differ))
+
+-- and so do two that are turned by half
+pub backs_are_apart : (t : Setting) (page page' : Paper) (k l : ℕ) → IsPaper page → IsPaper page' → IsPaper t.room.paper → why_not_fitted t page ≡ None → why_not_fitted t page' ≡ None → k < size t.grid → l < size t.grid → k ≢ l
+    → AreApart t.room page (fitted_back t page k) page' (fitted_back t page' l)
+backs_are_apart t page page' k l is is' on h h' in_k in_l differ =
+    half_turned_apart t.room page page' (fitted t page k) (fitted t page' l) (fitted_back t page k) (fitted_back t page' l)
+    (front_turned t page k (not_whole t page k l in_k in_l differ)) (front_turned t page' l (not_whole t page' k l in_k in_l differ))
+    (fitted_is_apart t page page' k l is is' on h h' in_k in_l differ)
 
 pub fitted_is_in_order : FittedIsInOrder
 fitted_is_in_order t page page' k l is is' on h h' in_k in_l =
@@ -297,3 +316,46 @@ arranged_is_fitted page sheet a h =
 pub halves_made : (sheet : Paper) (b : Binding) (room : Room) (g : Grid) (o : Order) → room ≡ room_of sheet b.margin b.gap b.trim → g ≡ beside true → o ≡ leaf_order b.right_to_left
     → record { room = room; grid = g; order = o; scale = None } ≡ binding_setting_of sheet b
 halves_made sheet b room g o e f h = cc (e, f, h)
+
+-- what nothing refuses for leaves, nothing refuses in their halves
+pub halves_fit : (page sheet : Paper) (b : Binding) → why_not_bound page sheet b ≡ None → why_no_scale_on (binding_setting_of sheet b) page ≡ None
+halves_fit page sheet b h =
+    let room = room_of sheet b.margin b.gap b.trim in
+    let largest = scale_in page room (beside true) in
+    let fourth = first_of (folds_short page room) why.FoldOnLongEdge (why_no_scale room largest largest) in
+    let third = first_of (is_shown page room) why.NothingLeftOfPage fourth in
+    let second = first_of (is_length b.margin && is_length b.gap && is_length b.trim) why.LengthOutOfRange third in
+    let one = passed (are_reached page && are_reached sheet) why.SideTooLong second h in
+    let two = passed (is_length b.margin && is_length b.gap && is_length b.trim) why.LengthOutOfRange third one.1 in
+    let three = passed (is_shown page room) why.NothingLeftOfPage fourth two.1 in
+    let four = passed (folds_short page room) why.FoldOnLongEdge (why_no_scale room largest largest) three.1 in
+    one_way (are_reached page && are_reached sheet) _ _ one.0 ∙ (one_way (is_shown page room) _ _ three.0 ∙ four.1)
+
+sides_fitted : (page : Paper) (sheet : Paper) (b : Binding) (e : Bool) → sides_in page (room_of sheet b.margin b.gap b.trim) (leaf_order b.right_to_left) e ≡ halves (binding_setting_of sheet b) page e
+sides_fitted page sheet b false = refl
+sides_fitted page sheet b true = refl
+
+pub bound_is_fitted : BoundIsFitted
+bound_is_fitted page sheet b h = (halves_fit page sheet b h, sides_fitted page sheet b b.long_edge)
+
+pub one_fold : (page sheet : Paper) (b : Binding) → why_not_bound page sheet b ≡ None → HaveOneFold (binding_setting_of sheet b) b.right_to_left
+one_fold page sheet b h =
+    let t = binding_setting_of sheet b in
+    let room = t.room in
+    let r = b.right_to_left in
+    let side = nat_abs sheet.height in
+    let has : (o : Paper) → why_no_scale_on t o ≡ None → HasPlace o room (beside true) (scale_on t o) = λ o e. (has_scale t o e).place in
+    let some = (fits page room (beside true) (scale_on t page) (has page (halves_fit page sheet b h))).some_wide in
+    let middle = fold_in_middle room side some in
+    let on = fold_on_sheet room side some in
+    record {
+      twice = fold room side;
+      no_farther = middle.0;
+      no_nearer = middle.1;
+      before = λ o is e. lies_before o room r (scale_on t o) is (has o e);
+      behind = λ o is e. lies_behind o room r (scale_on t o) is (has o e);
+      turned_behind = λ o is e. turned_behind room (fold room side) o _ _ on (lies_before o room r (scale_on t o) is (has o e))
+          (back_is_half_turn o room (beside true) (leaf_order r) (scale_on t o) 0 (if r then 1 else 0));
+      turned_before = λ o is e. turned_before room (fold room side) o _ _ on (lies_behind o room r (scale_on t o) is (has o e))
+          (back_is_half_turn o room (beside true) (leaf_order r) (scale_on t o) 0 (if r then 0 else 1));
+    }

@@ -1,14 +1,14 @@
 -- Nothing crosses the fold of a leaf.
-use Rattle.std.proofs.Common.{arith, ℕ, suc, zero, ◌+◌, ◌-◌, ◌*◌, ◌<◌, ◌≤◌, Bool, true, false, refl, sym, subst}
+use Rattle.std.proofs.Common.{arith, ◌≡◌, ℕ, suc, zero, ◌+◌, ◌-◌, ◌*◌, ◌<◌, ◌≤◌, Bool, true, false, refl, sym, subst}
 use Rattle.std.specs.Prelude.{ℤ, pos, negsuc, ◌≤ℤ◌, ◌+ℤ◌, ◌-ℤ◌, ◌*ℤ◌, nat_abs, ◌==◌, if◌then◌else◌}
 use Rattle.std.proofs.Math.Nat.{lt-div-mul-add, div-mul-le_self}
 use Rattle.std.proofs.lemmas.Int.{ints}
 use Rattle.rules.specs.Papers.{Paper}
-use Rattle.rules.specs.Specification.{Left}
+use Rattle.rules.specs.Specification.{Item, Left}
 use Rattle.layouts.specs.Placed.{Room, fine, stands, IsOfPage}
 use Rattle.layouts.specs.Cells.{kept, step, left_free, trimmed, whole, item_in, to_right}
 use Rattle.layouts.specs.Grids.{beside, leaf_order}
-use Rattle.layouts.specs.Laws.{HasPlace, KeepsFold, LeafKeepsFold, RightToLeftIsMirror}
+use Rattle.layouts.specs.Laws.{IsPaper, HasPlace, IsHalfTurnOf, LiesBefore, LiesBehind, KeepsFold, LeafKeepsFold, RightToLeftIsMirror}
 use Rattle.layouts.proofs.AlongSide.{moved_back, in_cell, cells_fit}
 use Rattle.layouts.proofs.Sides.{of_sides, placed, point, between}
 use Rattle.layouts.proofs.OnSide.{HasCell, ends, cell, shown, from_start}
@@ -60,6 +60,64 @@ pub has_cell : (v u : ℕ) (room : Room) (s : ℕ) → HasPlace (of_sides v u) r
 has_cell v u room s place =
     let f = fits (of_sides v u) room (beside true) s place in
     record { some = f.some_wide; fits = f.is_wide; left = place.some_wide }
+
+-- one page, whatever its paper
+
+front_before : (v u : ℕ) (room : Room) (b : Bool) (s : ℕ) → HasPlace (of_sides v u) room (beside true) s
+    → LiesBefore room (fold room (nat_abs room.paper.height)) (of_sides v u) (item_in (of_sides v u) room (beside true) (leaf_order b) s (if b then 1 else 0))
+front_before v u room false s place p of =
+    before_at v u 0 s room (nat_abs room.paper.height) (to_right (of_sides v u) room (beside true) s 0 0) (has_cell v u room s place) p.x p.y of
+front_before v u room true s place p of =
+    before_at v u 1 s room (nat_abs room.paper.height) (to_right (of_sides v u) room (beside true) s 0 0) (has_cell v u room s place) p.x p.y of
+
+front_behind : (v u : ℕ) (room : Room) (b : Bool) (s : ℕ) → HasPlace (of_sides v u) room (beside true) s
+    → LiesBehind room (fold room (nat_abs room.paper.height)) (of_sides v u) (item_in (of_sides v u) room (beside true) (leaf_order b) s (if b then 0 else 1))
+front_behind v u room false s place p of =
+    behind_at v u 1 s room (nat_abs room.paper.height) (to_right (of_sides v u) room (beside true) s 0 1) (has_cell v u room s place) p.x p.y of
+front_behind v u room true s place p of =
+    behind_at v u 0 s room (nat_abs room.paper.height) (to_right (of_sides v u) room (beside true) s 0 1) (has_cell v u room s place) p.x p.y of
+
+abbrev BeforeIf : (room : Room) (b : Bool) (s : ℕ) → Paper → Type 0
+BeforeIf room b s o = HasPlace o room (beside true) s
+    → LiesBefore room (fold room (nat_abs room.paper.height)) o (item_in o room (beside true) (leaf_order b) s (if b then 1 else 0))
+
+pub lies_before : (page : Paper) (room : Room) (b : Bool) (s : ℕ) → IsPaper page → HasPlace page room (beside true) s
+    → LiesBefore room (fold room (nat_abs room.paper.height)) page (item_in page room (beside true) (leaf_order b) s (if b then 1 else 0))
+lies_before page room b s is place =
+    subst (BeforeIf room b s) (sym (sides_are page is)) (λ here. front_before (nat_abs page.width) (nat_abs page.height) room b s here) place
+
+abbrev BehindIf : (room : Room) (b : Bool) (s : ℕ) → Paper → Type 0
+BehindIf room b s o = HasPlace o room (beside true) s
+    → LiesBehind room (fold room (nat_abs room.paper.height)) o (item_in o room (beside true) (leaf_order b) s (if b then 0 else 1))
+
+pub lies_behind : (page : Paper) (room : Room) (b : Bool) (s : ℕ) → IsPaper page → HasPlace page room (beside true) s
+    → LiesBehind room (fold room (nat_abs room.paper.height)) page (item_in page room (beside true) (leaf_order b) s (if b then 0 else 1))
+lies_behind page room b s is place =
+    subst (BehindIf room b s) (sym (sides_are page is)) (λ here. front_behind (nat_abs page.width) (nat_abs page.height) room b s here) place
+
+-- the fold isn't as far up as twice the sheet
+pub fold_on_sheet : (room : Room) (h : ℕ) → 0 < cell room h 2 → fold room h ≤ 2 * whole h
+fold_on_sheet room h some =
+    let little = kept_little room room.gap in
+    omega (arith, some, cells_fit room h 2 0 some (omega arith), little.0, little.1)
+
+-- a page that is turned by half lies on the other side of a fold that is turned too
+
+behind_turned : (T W g : ℕ) (y y' : ℤ) → T ≤ 2 * W → ((pos 2 *ℤ y) +ℤ fine g) ≤ℤ fine T → y' ≡ (pos 1_270_000_000_000_000 *ℤ pos W) -ℤ y → (fine (2 * W - T) +ℤ fine g) ≤ℤ (pos 2 *ℤ y')
+behind_turned T W g y y' most h e = omega (arith, ints, most, h, e)
+
+before_turned : (T W g : ℕ) (y y' : ℤ) → T ≤ 2 * W → (fine T +ℤ fine g) ≤ℤ (pos 2 *ℤ y) → y' ≡ (pos 1_270_000_000_000_000 *ℤ pos W) -ℤ y → ((pos 2 *ℤ y') +ℤ fine g) ≤ℤ fine (2 * W - T)
+before_turned T W g y y' most h e = omega (arith, ints, most, h, e)
+
+pub turned_behind : (room : Room) (T : ℕ) (page : Paper) (one other : Item) → T ≤ 2 * whole (nat_abs room.paper.height) → LiesBefore room T page one → IsHalfTurnOf page room.paper one other
+    → LiesBehind room (2 * whole (nat_abs room.paper.height) - T) page other
+turned_behind room T page one other most h half p of =
+    behind_turned T (whole (nat_abs room.paper.height)) room.gap (stands page one p).y (stands page other p).y most (h p of) (half.up p)
+
+pub turned_before : (room : Room) (T : ℕ) (page : Paper) (one other : Item) → T ≤ 2 * whole (nat_abs room.paper.height) → LiesBehind room T page one → IsHalfTurnOf page room.paper one other
+    → LiesBefore room (2 * whole (nat_abs room.paper.height) - T) page other
+turned_before room T page one other most h half p of =
+    before_turned T (whole (nat_abs room.paper.height)) room.gap (stands page one p).y (stands page other p).y most (h p of) (half.up p)
 
 leaf_at : (v u : ℕ) (room : Room) (b : Bool) (s : ℕ) → HasPlace (of_sides v u) room (beside true) s
     → KeepsFold (of_sides v u) room (item_in (of_sides v u) room (beside true) (leaf_order b) s (if b then 1 else 0)) (item_in (of_sides v u) room (beside true) (leaf_order b) s (if b then 0 else 1))

@@ -1,20 +1,20 @@
 -- Pages of several papers in the cells of one grid: each is fitted into its cell by its own sides. All here is this
 -- project's own rules.
-use Rattle.std.specs.Prelude.{◌≡◌, ◌≢◌, ℕ, ◌+◌, ◌/◌, ◌%◌, ◌<◌, Bool, ◌&&◌, ◌==◌, if◌then◌else◌, [], ◌∷◌, map}
-use Rattle.std.specs.Prelude.{pos, true, Option, None, is_none}
+use Rattle.std.specs.Prelude.{◌≡◌, ◌≢◌, ℕ, ◌+◌, ◌-◌, ◌*◌, ◌/◌, ◌%◌, ◌<◌, ◌≤◌, nat_abs, Bool, ◌&&◌, ◌==◌, if◌then◌else◌, [], ◌∷◌, map}
+use Rattle.std.specs.Prelude.{pos, true, false, Option, None, is_none}
 use Rattle.std.specs.List.{range_with_len}
 use Rattle.rules.specs.Papers.{Paper}
-use Rattle.rules.specs.Specification.{Item}
+use Rattle.rules.specs.Specification.{Item, Spec}
 use Rattle.layouts.specs.declared.arrangement.Arrangement.{Arrangement}
 use Rattle.layouts.specs.declared.arrangement.Binding.{Binding}
 use Rattle.layouts.specs.declared.error.ArrangementError.{ArrangementError}
 use Rattle.layouts.specs.declared.error.ArrangementError.TheVariants as why
 use Rattle.layouts.specs.declared.setting.Setting.{Setting}
 use Rattle.layouts.specs.Placed.{IsInside, AreApart}
-use Rattle.layouts.specs.Cells.{size, scale_in, item_in, back_in, run_in, row_of, column_of}
-use Rattle.layouts.specs.Grids.{alone, is_same, room_of, grid_of, scale_for, count_of, arranged, beside, leaf_order}
-use Rattle.layouts.specs.Refusals.{first_of, are_reached, is_shown, why_no_scale, why_not_arranged}
-use Rattle.layouts.specs.Laws.{IsPaper, IsExact, IsInMiddle, cell_at, ComesInRun, ComesInRunBefore, IsNotTiny, Allows}
+use Rattle.layouts.specs.Cells.{size, scale_in, item_in, back_in, run_in, row_of, column_of, whole}
+use Rattle.layouts.specs.Grids.{alone, is_same, room_of, grid_of, scale_for, count_of, arranged, bound, beside, leaf_order}
+use Rattle.layouts.specs.Refusals.{first_of, are_reached, is_shown, why_no_scale, why_not_arranged, why_not_bound}
+use Rattle.layouts.specs.Laws.{IsPaper, IsExact, IsInMiddle, cell_at, ComesInRun, ComesInRunBefore, IsNotTiny, Allows, LiesBefore, LiesBehind}
 
 -- one page on a sheet of its own paper, with nothing kept free, nothing trimmed, and no scale asked for
 abbrev pub is_whole : Setting → (page : Paper) → Bool
@@ -105,3 +105,38 @@ ArrangedIsFitted = (page sheet : Paper) (a : Arrangement) → why_not_arranged p
       modulo = count_of a.cells;
       groups = map (fitted (setting_of page sheet a) page) (range_with_len 0 (count_of a.cells)) ∷ [];
     })
+
+-- ---- leaves
+
+-- whatever their papers, pages in the one half lie before a line across the sheet, and pages in the other behind it, each
+-- by half of the gap. It is one line for them all, twice as far up as said: the fold, in the middle of the sheet to 10^-5
+-- of a point. If the sheet is turned by half, so is the fold
+pub record HaveOneFold (t : Setting) (right_to_left : Bool) : Type 0 where
+  pub twice : ℕ
+  pub no_farther : twice ≤ whole (nat_abs t.room.paper.height) + 1
+  pub no_nearer : whole (nat_abs t.room.paper.height) ≤ twice + 1
+  pub before : (page : Paper) → IsPaper page → why_not_fitted t page ≡ None
+      → LiesBefore t.room twice page (fitted t page (if right_to_left then 1 else 0))
+  pub behind : (page : Paper) → IsPaper page → why_not_fitted t page ≡ None
+      → LiesBehind t.room twice page (fitted t page (if right_to_left then 0 else 1))
+  pub turned_behind : (page : Paper) → IsPaper page → why_not_fitted t page ≡ None
+      → LiesBehind t.room (2 * whole (nat_abs t.room.paper.height) - twice) page
+      (fitted_back t page (if right_to_left then 1 else 0))
+  pub turned_before : (page : Paper) → IsPaper page → why_not_fitted t page ≡ None
+      → LiesBefore t.room (2 * whole (nat_abs t.room.paper.height) - twice) page
+      (fitted_back t page (if right_to_left then 0 else 1))
+
+-- pages of one paper in the two halves, on fronts alone or on both sides of leaves
+abbrev pub halves : Setting → (page : Paper) → (long_edge : Bool) → Spec
+halves t page false = record { modulo = 2; groups = map (fitted t page) (range_with_len 0 2) ∷ [] }
+halves t page true = record {
+  modulo = 4;
+  groups = map (fitted t page) (range_with_len 0 2)
+      ∷ map (λ k. record (fitted_back t page k) { page = 2 + k }) (range_with_len 0 2) ∷ [];
+}
+
+-- what is bound for pages of one paper is each of them in its half: a law
+abbrev pub BoundIsFitted : Type 0
+BoundIsFitted = (page sheet : Paper) (b : Binding) → why_not_bound page sheet b ≡ None
+    → (why_not_fitted (binding_setting_of sheet b) page ≡ None)
+    × (bound page sheet b ≡ halves (binding_setting_of sheet b) page b.long_edge)

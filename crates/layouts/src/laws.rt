@@ -1,6 +1,6 @@
 //! Laws of the definitions. The functions do nothing.
 ghost use Rattle.layouts.specs.Placed.{StandsWherePut};
-ghost use Rattle.layouts.specs.Fitted.{FittedStands, FittedIsApart, FittedIsInOrder, ArrangedIsFitted};
+ghost use Rattle.layouts.specs.Fitted.{FittedStands, FittedIsApart, FittedIsInOrder, ArrangedIsFitted, BoundIsFitted};
 ghost use Rattle.layouts.specs.Selections.{SheetsAreRow};
 ghost use Rattle.layouts.specs.Laws.{GridIsInside, GridIsApart, GridIsInOrder, GridIsInMiddle};
 ghost use Rattle.layouts.specs.Laws.{BestHasCells, BestIsBest, BestIsLarge};
@@ -84,6 +84,11 @@ pub fn fitted_is_in_order()
 /// What is arranged for pages of one paper is each of them fitted into its cell.
 pub fn arranged_is_fitted()
     ensures { ArrangedIsFitted }
+{}
+
+/// What is bound for pages of one paper is each of them fitted into its half.
+pub fn bound_is_fitted()
+    ensures { BoundIsFitted }
 {}
 
 /// The matrix that is written for a page in a cell is the item's own: nothing of its shift is rounded.

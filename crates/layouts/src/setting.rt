@@ -5,7 +5,7 @@ ghost use Rattle.layouts.specs.Cells.{size, scale_in as scale_of};
 ghost use Rattle.layouts.specs.Grids.{count_of};
 ghost use Rattle.layouts.specs.Refusals.{why_not_arranged, why_not_bound};
 ghost use Rattle.layouts.specs.Fitted.{is_whole as is_whole_on, scale_on, fitted, fitted_back, setting_of, binding_setting_of};
-ghost use Rattle.layouts.specs.Fitted.{why_no_scale_on, why_not_fitted, IsFitted};
+ghost use Rattle.layouts.specs.Fitted.{why_no_scale_on, why_not_fitted, IsFitted, HaveOneFold};
 ghost use Rattle.layouts.specs.Placed.{IsInside};
 ghost use Rattle.layouts.specs.Laws.{IsPaper, IsChosen, IsExact, IsHalfTurnOf};
 
@@ -82,12 +82,14 @@ impl Setting {
         }
     }
 
-    /// The two halves of a sheet whose leaves are bound so, with a fold that is chosen for pages of the one paper.
+    /// The two halves of a sheet whose leaves are bound so, if pages of the one paper can stand in them: one fold
+    /// for pages of all papers.
     pub fn of_binding(papers: &Papers, binding: &Binding) -> Result<Setting, ArrangementError>
         ensures page { IsPaper papers.now.page }
         ensures sheet { IsPaper papers.now.sheet }
         ensures made { IfOk result (λ t. t ≡ binding_setting_of papers.now.sheet binding.now) }
         ensures cells { IfOk result (λ t. size t.grid ≡ 2) }
+        ensures folded { IfOk result (λ t. HaveOneFold t binding.now.right_to_left) }
         ensures possible { OnOk result (why_not_bound papers.now.page papers.now.sheet binding.now ≡ None) }
         ensures refused { IfErr result (λ error.
             why_not_bound papers.now.page papers.now.sheet binding.now ≡ Some error) }

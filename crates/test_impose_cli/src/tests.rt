@@ -1,7 +1,6 @@
 //! Words, documents and whole programs, and what comes of them, with memory to spare.
 mod carets;
 mod commands;
-mod in_memory;
 mod messages;
 mod mistakes;
 mod other_messages;

@@ -1,7 +1,6 @@
 //! Commands, inputs, lines, requests and whole programs.
 mod examples;
 mod growth;
-mod in_memory;
 mod programs;
 
 use pstops_cli::{ReadFault, ReadSource, read_command, read_input};

@@ -31,7 +31,7 @@ preamble_runs : GuardedPreambleRuns (bytes_of (preamble again)) behind
 unfolding digits
 preamble_runs = (refl, (271, refl), refl, refl, refl, guarded_behind)
 
-takes_sheets : TakesSheets [] behind
+pub takes_sheets : TakesSheets [] behind
 takes_sheets = record { takes = takes_pages behind guarded_behind; above = refl; outermost = refl; restore_is = refl; new = refl; older = tt }
 
 abbrev round : Item → List Outer

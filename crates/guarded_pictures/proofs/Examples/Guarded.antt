@@ -94,6 +94,26 @@ sets_device : imposed (codes "/x 1 def") ((codes "1 dict dup /PageSize [9 9] put
 unfolding digits
 sets_device = refl
 
+sets_device_in_setup : imposed (codes "1 dict dup /PageSize [9 9] put setpagedevice") (stroke ∷ []) ≡ one_placed
+unfolding digits
+sets_device_in_setup = refl
+
+sets_device_if_it_can : imposed (codes "/x 1 def") ((codes "/setpagedevice where {pop 1 dict setpagedevice} {letter} ifelse " ++ stroke) ∷ []) ≡ one_placed
+unfolding digits
+sets_device_if_it_can = refl
+
+-- saves of its own, on an empty stack
+saves_on_nothing : imposed (codes "/x 1 def") ((codes "save " ++ (stroke ++ codes " restore")) ∷ []) ≡ one_placed
+unfolding digits
+saves_on_nothing = refl
+
+-- a document within the page, for which it has made showpage do nothing
+embeds_a_document : imposed (codes "/x 1 def")
+    ((codes "/s save def userdict /showpage {} put " ++ (stroke ++ (codes " /e {showpage} bind def e s restore " ++ stroke))) ∷ [])
+    ≡ Ok (Some ((placed ∷ placed ∷ []) ∷ []))
+unfolding digits
+embeds_a_document = refl
+
 -- a dictionary on the stack with a showpage of its own
 has_its_own_showpage : imposed (codes "/d 1 dict def d /showpage {} put d begin") (stroke ∷ []) ≡ one_placed
 unfolding digits

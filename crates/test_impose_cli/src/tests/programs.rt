@@ -1,5 +1,4 @@
 //! The whole program over a world in memory: what it reads, what it creates and writes, and how it ends.
-use super::in_memory::{InMemory, Takes};
 use super::words_of;
 use dsc::DscError;
 use impose_cli::{CommandFault, Done, Ended, Fault, PaperOrigin, impose};
@@ -11,8 +10,10 @@ use std::io::ErrorKind;
 use std::process::Abort;
 use std::str;
 use std::sync::Wait;
+use std::sync::atomic::AtomicU32;
 use std::test::Fail;
 use std::thread::Threads;
+use test_world::{InMemory, Takes};
 
 /// Room for every output.
 const AMPLE: Takes = Takes::Bytes(200_000);
@@ -43,10 +44,12 @@ fn ended<'a, R: Threads + Wait + Sync>(
     line: &str,
     document: &'a str,
     takes: Takes,
+    opened: &'a AtomicU32,
 ) -> Result<Ended<InMemory<'a>>, AllocError> {
     let words = words_of(alloc, line)?;
     let world = InMemory {
         alloc,
+        opened,
         name: "in.ps",
         text: document,
         home: None,
@@ -62,10 +65,12 @@ fn ended_at<'a, R: Threads + Wait + Sync>(
     line: &str,
     variable: &[u8],
     home: Option<&'a str>,
+    opened: &'a AtomicU32,
 ) -> Result<Ended<InMemory<'a>>, AllocError> {
     let words = words_of(alloc, line)?;
     let world = InMemory {
         alloc,
+        opened,
         name: "in.ps",
         text: ONE_PAGE,
         home,
@@ -120,17 +125,18 @@ fn assert_write_failed<R: Abort>(rt: &R, ended: &Ended<InMemory<'_>>, behind: u6
 
 #[test]
 fn sheets_stand_under_the_name_that_is_asked_for(rt: HostRuntime) -> Result<(), Fail> {
+    let opened = AtomicU32::new(0);
     let line = "nup 1 --unguarded in.ps out.ps";
-    let end = ended(&rt, rt.alloc(), line, ONE_PAGE, AMPLE)?;
+    let end = ended(&rt, rt.alloc(), line, ONE_PAGE, AMPLE, &opened)?;
     assert_imposed(&rt, &end, 1);
     assert_created(&rt, &end, Some("out.ps"), ONE_SHEET);
     let line = "spec 2:0L@.7(21cm,0)+1L@.7(21cm,14.85cm) -p a4 --unguarded in.ps -";
-    let end = ended(&rt, rt.alloc(), line, TWO_PAGES, AMPLE)?;
+    let end = ended(&rt, rt.alloc(), line, TWO_PAGES, AMPLE, &opened)?;
     assert_imposed(&rt, &end, 1);
     assert_created(&rt, &end, None, TWO_PAGES_ON_A_SHEET);
     // Both may be one file.
     let line = "nup 1 --unguarded in.ps in.ps";
-    let end = ended(&rt, rt.alloc(), line, ONE_PAGE, AMPLE)?;
+    let end = ended(&rt, rt.alloc(), line, ONE_PAGE, AMPLE, &opened)?;
     assert_imposed(&rt, &end, 1);
     assert_created(&rt, &end, Some("in.ps"), ONE_SHEET);
     Ok(())
@@ -138,13 +144,14 @@ fn sheets_stand_under_the_name_that_is_asked_for(rt: HostRuntime) -> Result<(), 
 
 #[test]
 fn a_specification_is_printed_to_standard_output(rt: HostRuntime) -> Result<(), Fail> {
+    let opened = AtomicU32::new(0);
     let line = "spec 0 -p a4 --unguarded --print-spec in.ps out.ps";
     let printed = "0\npstops -w 595pt -h 842pt '0' 'in.ps' 'out.ps'\n";
-    let end = ended(&rt, rt.alloc(), line, ONE_PAGE, AMPLE)?;
+    let end = ended(&rt, rt.alloc(), line, ONE_PAGE, AMPLE, &opened)?;
     assert!(rt; matches!(end.outcome, Ok(Done::Printed)));
     assert_eq!(rt; end.status(), 0);
     assert_created(&rt, &end, None, printed);
-    let end = ended(&rt, rt.alloc(), line, ONE_PAGE, Takes::Nothing)?;
+    let end = ended(&rt, rt.alloc(), line, ONE_PAGE, Takes::Nothing, &opened)?;
     assert_write_failed(&rt, &end, 0, ErrorKind::PermissionDenied);
     assert_none_created(&rt, &end);
     Ok(())
@@ -163,19 +170,20 @@ fn assert_paper(ended: &Ended<InMemory<'_>>, rt: &impl Abort, paper: &[u8], orig
 
 #[test]
 fn the_paper_at_home_is_taken_if_none_is_told(rt: HostRuntime) -> Result<(), Fail> {
+    let opened = AtomicU32::new(0);
     let letter = Some("# letter\n");
     let alloc = rt.alloc();
     let line = "nup 1 in.ps out.ps";
-    let end = ended_at(&rt, alloc, line, b"", Some(" letter\na5\n"))?;
+    let end = ended_at(&rt, alloc, line, b"", Some(" letter\na5\n"), &opened)?;
     assert_paper(&end, &rt, b"letter", PaperOrigin::AtHome);
-    let end = ended_at(&rt, alloc, line, b"A5", Some("letter\n"))?;
+    let end = ended_at(&rt, alloc, line, b"A5", Some("letter\n"), &opened)?;
     assert_paper(&end, &rt, b"a5", PaperOrigin::AtHome);
-    let end = ended_at(&rt, alloc, line, b"none", letter)?;
+    let end = ended_at(&rt, alloc, line, b"none", letter, &opened)?;
     assert_paper(&end, &rt, b"a4", PaperOrigin::AtHome);
-    let end = ended_at(&rt, alloc, line, b"", None)?;
+    let end = ended_at(&rt, alloc, line, b"", None, &opened)?;
     assert_paper(&end, &rt, b"a4", PaperOrigin::AtHome);
     let line = "nup 1 -p a3 in.ps out.ps";
-    let end = ended_at(&rt, alloc, line, b"a5", Some("letter\n"))?;
+    let end = ended_at(&rt, alloc, line, b"a5", Some("letter\n"), &opened)?;
     assert_paper(&end, &rt, b"a3", PaperOrigin::Named);
     Ok(())
 }
@@ -187,8 +195,9 @@ fn refused<'a, R: Threads + Wait + Abort + Sync>(
     line: &str,
     document: &'a str,
     status: u8,
+    opened: &'a AtomicU32,
 ) -> Result<Ended<InMemory<'a>>, AllocError> {
-    let end = ended(rt, alloc, line, document, AMPLE)?;
+    let end = ended(rt, alloc, line, document, AMPLE, opened)?;
     assert_none_created(rt, &end);
     assert_eq!(rt; end.status(), status, "at {line}");
     Ok(end)
@@ -196,24 +205,25 @@ fn refused<'a, R: Threads + Wait + Abort + Sync>(
 
 #[test]
 fn nothing_is_created_before_a_fault(rt: HostRuntime) -> Result<(), Fail> {
+    let opened = AtomicU32::new(0);
     let alloc = rt.alloc();
-    let end = refused(&rt, alloc, "nup 0 in.ps out.ps", ONE_PAGE, 2)?;
+    let end = refused(&rt, alloc, "nup 0 in.ps out.ps", ONE_PAGE, 2, &opened)?;
     assert!(rt; matches!(&end.outcome, Err(Fault::Command(CommandFault::Words(_)))));
-    let end = refused(&rt, alloc, "nup 1 - out.ps", ONE_PAGE, 1)?;
+    let end = refused(&rt, alloc, "nup 1 - out.ps", ONE_PAGE, 1, &opened)?;
     assert!(rt; matches!(&end.outcome, Err(Fault::NoInput)));
-    let end = refused(&rt, alloc, "nup 1 in.ps out.ps", "%!PS\n", 1)?;
+    let end = refused(&rt, alloc, "nup 1 in.ps out.ps", "%!PS\n", 1, &opened)?;
     assert!(rt;
         matches!(
             &end.outcome,
             Err(Fault::Run(RunError::Document(DscError::NoPages)))
         )
     );
-    let end = refused(&rt, alloc, "select 2 in.ps out.ps", ONE_PAGE, 1)?;
+    let end = refused(&rt, alloc, "select 2 in.ps out.ps", ONE_PAGE, 1, &opened)?;
     assert!(rt; matches!(&end.outcome, Err(Fault::NoSuchPage { place: 0, pages: 1 })));
-    let end = refused(&rt, alloc, "nup 1 other.ps out.ps", ONE_PAGE, 3)?;
+    let end = refused(&rt, alloc, "nup 1 other.ps out.ps", ONE_PAGE, 3, &opened)?;
     assert!(rt; matches!(&end.outcome, Err(Fault::Read(Some(_)))));
     // A mistake in the layout is found before the file is opened, which can't be.
-    let end = refused(&rt, alloc, "spec 0Q other.ps out.ps", ONE_PAGE, 1)?;
+    let end = refused(&rt, alloc, "spec 0Q other.ps out.ps", ONE_PAGE, 1, &opened)?;
     assert!(rt;
         matches!(
             &end.outcome,
@@ -225,11 +235,12 @@ fn nothing_is_created_before_a_fault(rt: HostRuntime) -> Result<(), Fail> {
 
 #[test]
 fn an_output_that_cannot_be_created_or_flushed(rt: HostRuntime) -> Result<(), Fail> {
+    let opened = AtomicU32::new(0);
     let line = "nup 1 --unguarded in.ps out.ps";
-    let end = ended(&rt, rt.alloc(), line, ONE_PAGE, Takes::Nothing)?;
+    let end = ended(&rt, rt.alloc(), line, ONE_PAGE, Takes::Nothing, &opened)?;
     assert_write_failed(&rt, &end, 0, ErrorKind::PermissionDenied);
     assert_none_created(&rt, &end);
-    let end = ended(&rt, rt.alloc(), line, ONE_PAGE, Takes::NoFlush)?;
+    let end = ended(&rt, rt.alloc(), line, ONE_PAGE, Takes::NoFlush, &opened)?;
     assert_write_failed(&rt, &end, ONE_SHEET.len() as u64, ErrorKind::Other);
     assert_created(&rt, &end, Some("out.ps"), ONE_SHEET);
     Ok(())
@@ -243,8 +254,9 @@ fn assert_cut_off<R: Threads + Wait + Abort + Sync>(
     sheets: &str,
     most: usize,
 ) -> Result<(), Fail> {
+    let opened = AtomicU32::new(0);
     let line = "nup 1 --unguarded in.ps out.ps";
-    let end = ended(rt, alloc, line, document, Takes::Bytes(most))?;
+    let end = ended(rt, alloc, line, document, Takes::Bytes(most), &opened)?;
     if most < sheets.len() {
         assert_write_failed(rt, &end, most as u64, ErrorKind::StorageFull);
     } else {

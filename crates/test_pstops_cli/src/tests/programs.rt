@@ -1,6 +1,5 @@
 //! The whole program over a world in memory: what it reads, what it creates and writes, and how it ends.
 use super::examples::{ONE_SHEET, TWO_PAGES, TWO_PAGES_ON_A_SHEET, TWO_UP};
-use super::in_memory::{InMemory, Takes, Written};
 use super::{ONE_PAGE, words_of};
 use pstops_cli::{Ended, pstops};
 use std::alloc::{AllocError, Global};
@@ -12,6 +11,7 @@ use std::sync::atomic::Ordering::SeqCst;
 use std::test::Fail;
 use std::thread::Threads;
 use std::{io, str};
+use test_world::{InMemory, Takes, Written};
 use world::tell;
 
 /// Room for every output.
@@ -35,6 +35,7 @@ fn ended<'a, R: Threads + Wait + Sync>(
         opened,
         name: "in.ps",
         text: document,
+        home: None,
         takes,
     };
     Ok(pstops(rt, alloc, words.as_slice(), world))

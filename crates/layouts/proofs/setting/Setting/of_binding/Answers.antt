@@ -1,10 +1,11 @@
-use Rattle.std.proofs.Common.{rules, ◌≡◌, ap, ◌∙◌, true}
+use Rattle.std.proofs.Common.{rules, ◌≡◌, sym, ap, subst, ◌∙◌, true}
 use Rattle.layouts.specs.Cells.{scale_in}
 use Rattle.layouts.specs.Grids.{beside}
 use Rattle.layouts.specs.Refusals.{folds_short}
+use Rattle.layouts.specs.Fitted.{HaveOneFold}
 use Rattle.layouts.proofs.Possible.{leaves_refused}
 use Rattle.layouts.proofs.Complete.{leaves_hold, leaf_scale_refused}
-use Rattle.layouts.proofs.Fitting.{halves_made}
+use Rattle.layouts.proofs.Fitting.{halves_made, one_fold}
 use Rattle.layouts.proofs.setting.Setting.of_binding.Goals as goal
 
 pub returns-in-Err-clause-refused : goal.returns-in-Err-clause-refused
@@ -24,6 +25,11 @@ returns-in-Ok-scale_found-clause-possible c =
     let large : c.scale_in-largest.result ≡ scale_in page c.in-Ok.room (beside true) = c.scale_in-largest.ensures ∙ ap (scale_in page c.in-Ok.room) c.beside-grid.ensures in
     (leaves_hold page sheet b c.in-Ok.room c.scale_in-largest.result c.in-Ok-scale_found.field-0 c.in-Ok.ensures.page c.in-Ok.ensures.sheet c.in-Ok.ensures.possible
     c.in-Ok.ensures.room folds large c.in-Ok-scale_found.ensures.value c.in-Ok-scale_found.ensures.possible).possible
+
+pub returns-in-Ok-scale_found-clause-folded : goal.returns-in-Ok-scale_found-clause-folded
+returns-in-Ok-scale_found-clause-folded c =
+    let b = c.args.binding.now in
+    subst (λ t. HaveOneFold t b.right_to_left) (sym (returns-in-Ok-scale_found-clause-made c)) (one_fold c.args.papers.now.page c.args.papers.now.sheet b (returns-in-Ok-scale_found-clause-possible c))
 
 pub returns-in-Err-scale_found-clause-refused : goal.returns-in-Err-scale_found-clause-refused
 returns-in-Err-scale_found-clause-refused c =
