@@ -1,8 +1,8 @@
 //! Command lines as they are typed, and what each asks for.
 use super::read;
 use impose_cli::{CommandFault, Layout, PaperOption, Request, size_named};
-use layouts::Which;
 use lengths::{Grains, Paper, paper_by_name};
+use rows::Part;
 use std::process::Abort;
 use std::test::Fail;
 
@@ -85,20 +85,29 @@ fn booklets(rt: HostRuntime) -> Result<(), Fail> {
 #[test]
 fn selections(rt: HostRuntime) -> Result<(), Fail> {
     let rows = [
-        ("select 9-3,5-", "9-3,5-", Which::All),
-        ("select 1- --odd", "1-", Which::Odd),
-        ("select --even 1- in.ps", "1-", Which::Even),
+        ("select 9-3,5-", "9-3,5-", Part::All, false),
+        ("select 1- --odd", "1-", Part::Odd, false),
+        ("select --even 1- in.ps", "1-", Part::Even, false),
+        ("select _1,blank --reverse", "_1,blank", Part::All, true),
+        ("nup 2 --pages 3-4,_", "3-4,_", Part::All, false),
+        ("booklet --pages=2- --odd --reverse", "2-", Part::Odd, true),
     ];
-    for (line, text, kept) in rows {
+    for (line, text, part, backwards) in rows {
         let request = read(rt.alloc(), line)?;
-        match &request.layout {
-            Layout::Selection { ranges, which } => {
-                assert_eq!(rt; ranges.as_str(), text);
-                assert_eq!(rt; *which, kept, "at {line}");
-            }
-            _ => assert!(rt; false, "at {line}"),
-        }
+        assert_eq!(rt; file(&request.choice.ranges), Some(text), "at {line}");
+        assert_eq!(rt; request.choice.part, part, "at {line}");
+        assert_eq!(rt; request.choice.backwards, backwards, "at {line}");
     }
+    assert!(rt; matches!(read(rt.alloc(), "select 1-")?.layout, Layout::Selection));
+    for line in ["nup 2", "booklet", "spec 0"] {
+        assert!(rt; read(rt.alloc(), line)?.choice.is_whole(), "at {line}");
+    }
+    assert!(rt;
+        matches!(
+            read(rt.alloc(), "nup 2 --odd --even"),
+            Err(CommandFault::OddAndEven)
+        )
+    );
     let request = read(rt.alloc(), "spec 2:0,1 in.ps")?;
     assert!(rt; matches!(&request.layout, Layout::Spec(spec) if spec.as_str() == "2:0,1"));
     Ok(())

@@ -3,8 +3,8 @@ use super::read;
 use dsc::DscError;
 use impose_cli::{CommandFault, Fault, PaperOption, Request, fault_status, fault_text};
 use imposer::RunError;
-use layouts::LayoutError;
 use pagespec::SpecError;
+use rows::RowError;
 use sheet_plan::PlanError;
 use std::io;
 use std::io::ErrorKind;
@@ -208,7 +208,7 @@ fn places_have_a_caret(rt: HostRuntime) -> Result<(), Fail> {
     assert_told(
         &rt,
         &request,
-        Fault::Layout(LayoutError::NoPages),
+        Fault::Row(RowError::NoEntries),
         1,
         "page ranges: no page is left by --odd or --even; pages are counted from 1",
     )

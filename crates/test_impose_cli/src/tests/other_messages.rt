@@ -6,10 +6,11 @@ use impose_cli::{
     Fault, Finished, PaperOrigin, Request, fault_status, fault_text, note_text, report_text,
 };
 use imposer::{Report, RunError};
-use layouts::LayoutError;
+use layouts::ArrangementError;
 use lengths::paper_by_name;
 use pagespec::SpecError;
-use sheet_plan::PlanError;
+use rows::RowError;
+use sheet_plan::{MadeError, PlanError};
 use std::process::Abort;
 use std::test::Fail;
 
@@ -31,20 +32,28 @@ fn layouts_plans_and_faulty_documents(rt: HostRuntime) -> Result<(), Fail> {
     let request = read(rt.alloc(), "nup 2 in.ps")?;
     let rows = [
         (
-            Fault::Layout(LayoutError::PagesOutOfRange),
+            Fault::Layout(ArrangementError::CellsOutOfRange),
             "a sheet takes from 1 to 1,024 pages",
         ),
         (
-            Fault::Layout(LayoutError::SideTooLong),
+            Fault::Layout(ArrangementError::SideTooLong),
             "a side of a paper is 100,000 points or more: name a smaller paper",
         ),
         (
-            Fault::Layout(LayoutError::ScaleOutOfRange),
+            Fault::Layout(ArrangementError::ScaleOutOfRange),
             "the pages would be too small or too large on the sheet: name other papers by --paper and --sheet",
         ),
         (
-            Fault::Layout(LayoutError::DocumentTooLong),
-            "the document has more than 99,999 pages, from which none can be selected: split it first",
+            Fault::Row(RowError::NoEntries),
+            "page ranges: no page is left by --odd or --even; pages are counted from 1",
+        ),
+        (
+            Fault::Sheets(MadeError::TooManySheets),
+            "the output would have more than 1,000,000 sheets: impose in several runs",
+        ),
+        (
+            Fault::NoSpecification,
+            "--print-spec: no specification says a selection, nor --pages, --odd, --even or --reverse; leave it out",
         ),
         (
             Fault::Run(RunError::Plan(PlanError::TooManyPages)),

@@ -20,7 +20,8 @@ const AMPLE: Takes = Takes::Bytes(200_000);
 
 const ONE_PAGE: &str = "%!PS-Adobe-3.0\n%%EndComments\n%%Page: 1 1\n(0) pop\nshowpage\n%%EOF\n";
 
-const ONE_SHEET: &str = "%!PS-Adobe-3.0\n%%Pages: 1\n%%EndComments\n%%Page: 1 1\n\
+const ONE_SHEET: &str = "%!PS-Adobe-3.0\n%%Pages: 1\n%%BoundingBox: 0 0 595 842\n\
+    %%DocumentMedia: Plain 595 842 0 () ()\n%%EndComments\n%%Page: 1 1\n\
     userdict /ImposeSave save put\nuserdict /showpage {} put\n[1 0 0 1 0 0] concat\n\
     newpath 0 0 moveto 595 0 lineto 595 842 lineto 0 842 lineto closepath clip newpath\n\
     (0) pop\nshowpage\nImposeSave restore\nshowpage\n%%EOF\n";

@@ -2,14 +2,19 @@
 use super::read;
 use document_paper::Comment;
 use dsc::DscError;
-use impose_cli::{Fault, PaperOrigin, check_layout, printed_task, run_request, task_for};
+use impose_cli::{
+    Fault, PaperOrigin, check_layout, fault_text, printed_task, run_request, task_for,
+};
 use imposer::{MemorySink, RunError};
-use layouts::LayoutError;
+use layouts::ArrangementError;
 use pagespec::SpecError;
+use rows::RowError;
 use std::alloc::Global;
 use std::process::Abort;
 use std::str;
+use std::sync::Wait;
 use std::test::Fail;
+use std::thread::Threads;
 
 const ONE_PAGE: &str = "%!PS-Adobe-3.0\n%%EndComments\n%%Page: 1 1\nshowpage\n%%EOF\n";
 
@@ -128,22 +133,46 @@ fn documents_that_are_refused(rt: HostRuntime) {
     );
     assert!(rt;
         matches!(
-            fault_of(alloc, "select 1-2", ONE_PAGE),
-            Err(Fault::NoSuchPage { place: 0, pages: 1 })
+            fault_of(alloc, "select 1", ONE_PAGE),
+            Err(Fault::NoSpecification)
         )
     );
     assert!(rt;
         matches!(
-            fault_of(alloc, "select 1,x", ONE_PAGE),
-            Err(Fault::Layout(LayoutError::Syntax(2)))
+            fault_of(alloc, "nup 2 --reverse", ONE_PAGE),
+            Err(Fault::NoSpecification)
         )
     );
-    assert!(rt;
-        matches!(
-            fault_of(alloc, "select 1 --even", ONE_PAGE),
-            Err(Fault::Layout(LayoutError::NoPages))
-        )
-    );
+}
+
+#[test]
+fn rows_that_are_refused(rt: HostRuntime) -> Result<(), Fail> {
+    let rows = [
+        ("select 1-2", Fault::NoSuchPage { place: 0, pages: 1 }),
+        ("nup 2 --pages 1,x", Fault::Row(RowError::NotARange(2))),
+        ("booklet --even", Fault::Row(RowError::NoEntries)),
+    ];
+    for (line, fault) in rows {
+        let request = read(rt.alloc(), line)?;
+        let mut sink = MemorySink::new(rt.alloc(), 100, 100, 100)?;
+        let result = run_request(
+            &rt,
+            rt.alloc(),
+            &request,
+            owned(rt.alloc(), ONE_PAGE)?,
+            &mut sink,
+        );
+        match result {
+            Ok(_) => assert!(rt; false, "at {line}"),
+            Err(told) => {
+                let told = fault_text(rt.alloc(), &told, Some(&request))?;
+                let wanted = fault_text(rt.alloc(), &fault, Some(&request))?;
+                assert_eq!(rt; told.as_str(), wanted.as_str());
+            }
+        }
+        assert!(rt; sink.bytes().is_empty());
+    }
+    Ok(())
 }
 
 // What doesn't ask for the document comes before it.
@@ -160,7 +189,7 @@ fn layouts_that_are_refused(rt: HostRuntime) {
     assert!(rt;
         matches!(
             fault_of(alloc, wide, ""),
-            Err(Fault::Layout(LayoutError::FoldOnLongEdge))
+            Err(Fault::Layout(ArrangementError::FoldOnLongEdge))
         )
     );
     let wide = "booklet --sheet 842x595";
@@ -175,7 +204,7 @@ fn layouts_that_are_refused(rt: HostRuntime) {
     assert!(rt;
         matches!(
             fault_of(alloc, long, ""),
-            Err(Fault::Layout(LayoutError::SideTooLong))
+            Err(Fault::Layout(ArrangementError::SideTooLong))
         )
     );
 }
@@ -193,10 +222,58 @@ fn a_page_is_imposed_as_it_is(rt: HostRuntime) -> Result<(), Fail> {
     )?;
     assert_eq!(rt; done.report.sheets, 1);
     assert_eq!(rt; done.origin, PaperOrigin::AtHome);
-    let sheet = "%!PS-Adobe-3.0\n%%Pages: 1\n%%EndComments\n%%Page: 1 1\n\
+    let sheet = "%!PS-Adobe-3.0\n%%Pages: 1\n%%BoundingBox: 0 0 595 842\n\
+        %%DocumentMedia: Plain 595 842 0 () ()\n%%EndComments\n%%Page: 1 1\n\
         userdict /ImposeSave save put\nuserdict /showpage {} put\n[1 0 0 1 0 0] concat\n\
         newpath 0 0 moveto 595 0 lineto 595 842 lineto 0 842 lineto closepath clip newpath\n\
         showpage\nImposeSave restore\nshowpage\n%%EOF\n";
     assert_eq!(rt; str::from_utf8(sink.bytes()), Ok(sheet));
+    Ok(())
+}
+
+const THREE_PAGES: &str =
+    "%!PS\n%%Page: 1 1\n(a) show\n%%Page: 2 2\n(b) show\n%%Page: 3 3\n(c) show\n%%Trailer\n";
+
+/// The order in which the pages are shown on the sheets, which a stroke parts; a dot stands for a blank.
+fn shown(rt: &(impl Threads + Wait + Sync + AllocGlobal), line: &str) -> Result<String, Fail> {
+    let request = read(rt.alloc(), line)?;
+    let mut sink = MemorySink::new(rt.alloc(), 20_000, 20_000, 20_000)?;
+    run_request(
+        rt,
+        rt.alloc(),
+        &request,
+        owned(rt.alloc(), THREE_PAGES)?,
+        &mut sink,
+    )?;
+    let mut order = String::new(rt.alloc());
+    for text in str::from_utf8(sink.bytes()).unwrap_or("").lines() {
+        match text {
+            "(a) show" => order.push('a')?,
+            "(b) show" => order.push('b')?,
+            "(c) show" => order.push('c')?,
+            text if text.starts_with("%%Page: ") => order.push('|')?,
+            _ => {}
+        }
+    }
+    Ok(order)
+}
+
+#[test]
+fn rows_in_their_order(rt: HostRuntime) -> Result<(), Fail> {
+    let rows = [
+        ("nup 2 -p a4", "|ab|c"),
+        ("nup 2 -p a4 --reverse", "|cb|a"),
+        ("nup 2 -p a4 --pages 3,1", "|ca"),
+        ("nup 4 -p a4 --pages _1,blank,1-", "|cab|c"),
+        ("nup 3 -p a4 --odd", "|ac"),
+        ("select 2-3,1", "|b|c|a"),
+        ("select _,last-1 --even", "|c|a"),
+        ("booklet -p a4", "|a|bc"),
+        ("booklet -p a4 --pages 2", "|b|"),
+        ("booklet -p a4 --reverse --long-edge", "|c|ba"),
+    ];
+    for (line, order) in rows {
+        assert_eq!(rt; shown(&rt, line)?.as_str(), order, "at {line}");
+    }
     Ok(())
 }
