@@ -57,7 +57,7 @@ pub fn report_text(
     done: &Finished,
     request: &Request,
 ) -> Result<String, AllocError> {
-    let counts = counts_text(alloc, &done.report, &request.layout)?;
+    let counts = counts_text(alloc, &done.report, request)?;
     let counts = counts.as_str();
     let size = size_text(alloc, &done.page_paper)?;
     let size = size.as_str();
@@ -66,26 +66,26 @@ pub fn report_text(
 }
 
 /// How many pages, blanks, sheets and leaves there are, and how many bytes.
-fn counts_text(alloc: Global, report: &Report, layout: &Layout) -> Result<String, AllocError> {
+fn counts_text(alloc: Global, report: &Report, request: &Request) -> Result<String, AllocError> {
     let pages = report.pages;
     let sheets = report.sheets;
     let bytes = report.bytes;
-    let blanks = match blanks_of(layout, report) {
+    let blanks = match blanks_of(request, report) {
         0 => String::new(alloc),
         blanks => format!(in alloc; ", blanks {blanks}")?,
     };
     let blanks = blanks.as_str();
-    let leaves = leaves_text(alloc, layout, sheets)?;
+    let leaves = leaves_text(alloc, &request.layout, sheets)?;
     let leaves = leaves.as_str();
     format!(in alloc; "pages {pages}{blanks}, sheets {sheets}{leaves}, bytes {bytes}")
 }
 
 /// How many places of the sheets have no page, where all sheets have equally many and each page has one.
-fn blanks_of(layout: &Layout, report: &Report) -> u64 {
-    let places = match layout {
-        Layout::NUp(count) => u64::from(*count),
-        Layout::Booklet { .. } => 2,
-        Layout::Selection | Layout::Spec(_) => 0,
+fn blanks_of(request: &Request, report: &Report) -> u64 {
+    let places = match request.layout {
+        Layout::NUp(count) if request.choice.is_whole() => u64::from(count),
+        Layout::Booklet { .. } if request.choice.is_whole() => 2,
+        _ => 0,
     };
     places
         .saturating_mul(u64::from(report.sheets))
