@@ -59,21 +59,8 @@ impl<'d> Shelf<'d> {
         self.put_as(rt, prepared, false)
     }
 
-    /// Puts a page that is one of the document that the shelf is of, as `put` does.
-    pub fn put_own<R: Wait>(
-        &self,
-        rt: &R,
-        prepared: Prepared<'d>,
-    ) -> Result<Receipt<'d>, PutError<'d>>
-        requires own { IsOwn self.now prepared }
-        ensures put { IfOk result (λ receipt. IsOn self.now receipt × (receipt.value ≡ prepared.entry)) }
-        ensures refused { IfErr result (GivesNoReceipt self.now prepared.entry) }
-    {
-        self.put_as(rt, prepared, true)
-    }
-
-    /// Puts a page, and notes whether it is the document's own.
-    fn put_as<R: Wait>(
+    /// Puts a page as `put` does, and notes that it is one of the document that the shelf is of, if it is put as such.
+    pub fn put_as<R: Wait>(
         &self,
         rt: &R,
         prepared: Prepared<'d>,
