@@ -187,7 +187,7 @@ page_next:
 	go_on(turn_p, has);
 #endif
 	/* Delivery::deliver: memory for the page, the answers or the shelf is refused before anything is marked; or
-	   Shelf::put gives no receipt */
+	   Shelf::put_as gives no receipt */
 	if
 	:: goto mark
 #ifdef F_PREP
@@ -634,7 +634,7 @@ init
 	byte spent, room;
 #endif
 
-	/* The table: run_job, gather. Ready::by_right, most_puts_in_all: the pass has room for all puts. */
+	/* The table: run_job, gather_on. Ready::by_right, most_puts_in_all: the pass has room for all puts. */
 	d_step {
 		n = 0;
 		do

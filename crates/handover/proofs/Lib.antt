@@ -1,3 +1,4 @@
+pub mod Naming
 pub mod Histories
 pub mod Rooms
 mod RuleKept

@@ -1,7 +1,10 @@
 -- The shelf, and the tokens of its entries.
-use Rattle.std.specs.Prelude.{◌≡◌, ℕ, ◌<◌}
+use Rattle.std.specs.Prelude.{◌≡◌, ℕ, ◌<◌, List}
 use Rattle.boxcar.specs.Table.{Shows, Shelves, Where}
+use Rattle.rules.specs.Parts.{NestedUnit, pages}
 use Rattle.handover.specs.Pages.{PreparedPage}
+use Rattle.handover.specs.Naming.{pages_in}
+use Rattle.handover.specs.Entries.{IsNamed}
 use Rattle.handover.specs.declared.receipts.PutError.{PutError}
 use Rattle.handover.specs.declared.receipts.PutError.TheVariants.{NoMemory, ShelfFull}
 
@@ -20,3 +23,11 @@ pub record LiesAt (shelf : Shelves) (index : ℕ) (page : PreparedPage) : Type 0
 abbrev pub GivesNoReceipt : Shelves → PreparedPage → PutError → Type 0
 GivesNoReceipt shelf page (NoMemory back) = back ≡ page
 GivesNoReceipt shelf page (ShelfFull token) = IsOn shelf token × (token.value ≡ page) × (4_294_967_295 < token.index)
+
+-- the shelf is that of the document with these units
+abbrev pub IsShelfOf : Shelves → List NestedUnit → Type 0
+IsShelfOf shelf us = pages_in shelf.tag ≡ pages us
+
+-- the page is one of the document that the shelf is of
+abbrev pub IsOwn : Shelves → PreparedPage → Type 0
+IsOwn shelf page = IsNamed shelf.tag page

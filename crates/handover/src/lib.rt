@@ -1,6 +1,7 @@
 //! What preparers hand over to imposers: prepared pages on a shelf, and the sheets that are ready in a queue.
 #![tactic(auto)]
 
+mod entry;
 pub mod laws;
 mod pass;
 mod prepared;
@@ -15,4 +16,4 @@ pub use crate::pass::Pass;
 pub use crate::prepared::Prepared;
 pub use crate::ready::{Full, Ready};
 pub use crate::receipts::{Overflow, PutError, Receipt};
-pub use crate::shelf::Shelf;
+pub use crate::shelf::{Shelf, Shelved};

@@ -1,25 +1,27 @@
 //! What the shelf answers a put with.
 ghost use Rattle.std.specs.Prelude.{◌≡◌, ◌<◌};
 
+use crate::entry::{Entry, ToldTruly};
 use crate::prepared::Prepared;
-use boxcar::{Anything, Pushed};
+use boxcar::Pushed;
 use std::alloc::Global;
 use std::marker::Model;
 
 /// The token of an entry of a shelf: which page was put, and at which index.
 #[derive(Drop)]
 pub struct Receipt<'d> {
-    pub(crate) token: Pushed<Prepared<'d>, Global, Anything>,
+    pub(crate) token: Pushed<Entry<'d>, Global, ToldTruly>,
 }
 
 impl<'d> Model for Receipt<'d> {
     ghost use Rattle.std.specs.Prelude.{◌<◌};
     ghost use Rattle.boxcar.specs.Table.{Where};
     ghost use Rattle.handover.specs.Pages.{PreparedPage};
+    ghost use Rattle.handover.specs.Entries.{of_page};
 
     ghost Value = { Where PreparedPage };
 
-    ghost view = { λ r. r.token };
+    ghost view = { λ r. of_page r.token };
 
     ghost invariant = { λ r. r.token.index < 4_294_967_296 };
 }
@@ -36,17 +38,18 @@ impl<'d> Receipt<'d> {
 /// The token of an entry whose index has more than 32 bits, so that no receipt names it. The entry stays on the shelf.
 #[derive(Drop)]
 pub struct Overflow<'d> {
-    pub(crate) token: Pushed<Prepared<'d>, Global, Anything>,
+    pub(crate) token: Pushed<Entry<'d>, Global, ToldTruly>,
 }
 
 impl<'d> Model for Overflow<'d> {
     ghost use Rattle.std.specs.Prelude.{◌<◌};
     ghost use Rattle.boxcar.specs.Table.{Where};
     ghost use Rattle.handover.specs.Pages.{PreparedPage};
+    ghost use Rattle.handover.specs.Entries.{of_page};
 
     ghost Value = { Where PreparedPage };
 
-    ghost view = { λ o. o.token };
+    ghost view = { λ o. of_page o.token };
 
     ghost invariant = { λ o. 4_294_967_295 < o.token.index };
 }

@@ -1,18 +1,22 @@
 //! The shelf of prepared pages.
-ghost use Rattle.std.specs.Prelude.{◌≡◌, IfOk, IfErr, IfSome};
+ghost use Rattle.std.specs.Prelude.{◌≡◌, IfOk, IfErr, IfSome, IsTrue};
 ghost use Rattle.handover.specs.Pages.{IsPrepared};
-ghost use Rattle.handover.specs.Shelves.{IsOn, LiesAt, GivesNoReceipt};
+ghost use Rattle.handover.specs.Shelves.{IsOn, LiesAt, GivesNoReceipt, IsShelfOf, IsOwn};
 
+use crate::entry::{Entry, ItsPages, ToldTruly};
 use crate::prepared::Prepared;
 use crate::receipts::{Overflow, PutError, Receipt};
+use boxcar::tag::Tag;
+use dsc::Document;
 use std::alloc::{AllocError, Global};
 use std::marker::Model;
 use std::sync::Wait;
 
-/// Prepared pages, shared by many threads without a lock: it only grows, and a page stays where it was put.
+/// Prepared pages, shared by many threads without a lock: it only grows, and a page stays where it was put. It may be the
+/// shelf of a document: then it tells of each page whether it was put as one of this document.
 #[derive(Drop)]
 pub struct Shelf<'d> {
-    list: boxcar::Vec<Prepared<'d>>,
+    list: boxcar::Vec<Entry<'d>, Global, ToldTruly>,
 }
 
 impl<'d> Model for Shelf<'d> {
@@ -23,10 +27,26 @@ impl<'d> Model for Shelf<'d> {
     ghost view = { λ s. s.list };
 }
 
+/// A page on a shelf, and whether it was put as one of the document that the shelf is of.
+#[derive(Drop)]
+pub struct Shelved<'a, 'd> {
+    pub page: &'a Prepared<'d>,
+    pub is_own: bool,
+}
+
 impl<'d> Shelf<'d> {
-    /// An empty shelf.
+    /// An empty shelf, of no document.
     pub fn new(alloc: Global) -> Result<Shelf<'d>, AllocError> {
-        let list = boxcar::Vec::new(alloc)?;
+        let list = boxcar::Vec::with_rule(alloc, Tag::empty())?;
+        Ok(Shelf { list })
+    }
+
+    /// An empty shelf, that of this document.
+    pub fn of_document(alloc: Global, document: &Document<'_>) -> Result<Shelf<'d>, AllocError>
+        ensures of { IfOk result (λ shelf. IsShelfOf shelf document.now) }
+    {
+        let tag = Tag::of::<Document<'_>, ItsPages>(document);
+        let list = boxcar::Vec::with_rule(alloc, tag)?;
         Ok(Shelf { list })
     }
 
@@ -36,7 +56,25 @@ impl<'d> Shelf<'d> {
         ensures put { IfOk result (λ receipt. IsOn self.now receipt × (receipt.value ≡ prepared.entry)) }
         ensures refused { IfErr result (GivesNoReceipt self.now prepared.entry) }
     {
-        match self.list.push_shown(rt, prepared) {
+        self.put_as(rt, prepared, false)
+    }
+
+    /// Puts a page as `put` does, and notes that it is one of the document that the shelf is of, if it is put as such.
+    pub fn put_as<R: Wait>(
+        &self,
+        rt: &R,
+        prepared: Prepared<'d>,
+        is_own: bool,
+    ) -> Result<Receipt<'d>, PutError<'d>>
+        requires own { IsTrue is_own → IsOwn self.now prepared }
+        ensures put { IfOk result (λ receipt. IsOn self.now receipt × (receipt.value ≡ prepared.entry)) }
+        ensures refused { IfErr result (GivesNoReceipt self.now prepared.entry) }
+    {
+        let entry = Entry {
+            page: prepared,
+            is_own,
+        };
+        match self.list.push_shown(rt, entry) {
             Ok(token) => {
                 if token.index() > 4_294_967_295 {
                     Err(PutError::ShelfFull(Overflow { token }))
@@ -44,7 +82,7 @@ impl<'d> Shelf<'d> {
                     Ok(Receipt { token })
                 }
             }
-            Err(prepared) => Err(PutError::NoMemory(prepared)),
+            Err(entry) => Err(PutError::NoMemory(entry.page)),
         }
     }
 
@@ -53,7 +91,7 @@ impl<'d> Shelf<'d> {
         requires { IsOn self.now receipt.now }
         ensures { result.now ≡ receipt.now.value }
     {
-        self.list.value(&receipt.token)
+        &self.list.value(&receipt.token).page
     }
 
     /// The page that was put at an index, if the shelf shows one.
@@ -61,10 +99,25 @@ impl<'d> Shelf<'d> {
         ensures shown { IfSome result (λ page. LiesAt self.now index page.now) }
         ensures prepared { IfSome result (λ page. IsPrepared page.now) }
     {
+        let found = self.find(index)?;
+        Some(found.page)
+    }
+
+    /// The page that was put at an index, if the shelf shows one, and whether it is one of the document that the shelf
+    /// is of, by what it was put as.
+    pub fn find(&self, index: u32) -> Option<Shelved<'_, 'd>>
+        ensures shown { IfSome result (λ found. LiesAt self.now index found.page.now) }
+        ensures prepared { IfSome result (λ found. IsPrepared found.page.now) }
+        ensures own { IfSome result (λ found. IsTrue found.is_own → IsOwn self.now found.page.now) }
+    {
         let token = self.list.witness(index as usize)?;
-        let prepared = self.list.value(&token);
+        let entry = self.list.get_seen(index as usize, &token)?;
+        let page = &entry.page;
         // It tells that its body is the prepared form of its bytes.
-        prepared.body();
-        Some(prepared)
+        page.body();
+        Some(Shelved {
+            page,
+            is_own: entry.is_own,
+        })
     }
 }

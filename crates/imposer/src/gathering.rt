@@ -6,7 +6,7 @@ ghost use Rattle.rules.specs.Sheets.{layout};
 ghost use Rattle.rules.specs.Filters.{trailer_text};
 ghost use Rattle.histories.specs.Seats.{whole_share};
 ghost use Rattle.handover.specs.Passes.{IsPassOf};
-ghost use Rattle.handover.specs.Shelves.{IsOn};
+ghost use Rattle.handover.specs.Shelves.{IsOn, IsShelfOf};
 ghost use Rattle.imposer.specs.declared.outcome.RunError.TheVariants.{NoMemory};
 ghost use Rattle.sheet_text.specs.Jobs.{text_of, output_of};
 ghost use Rattle.imposer.specs.Workers.{AreWorkers};
@@ -107,6 +107,41 @@ pub fn gather<'j, 'd, R: Threads + Wait + Sync, G: Gate + Sync, S: Sink>(
     ensures handed_on { IfSome result.tokens (λ t. IsHandedOn t.1.front
         × (HasRoomForAll table.now.layout workers.preparers pass → AreAllPut table.now.layout t.0.front t.1.front)) }
 {
+    gather_on(
+        rt, alloc, job, table, seat, shelf, false, ready, pass, workers, gate, sink,
+    )
+}
+
+/// `gather`, on a shelf that may be that of the job's document: then pages are put as the document's own, and imposers
+/// don't compare them.
+pub(crate) fn gather_on<'j, 'd, R: Threads + Wait + Sync, G: Gate + Sync, S: Sink>(
+    rt: &R,
+    alloc: Global,
+    job: &Job<'j, 'd>,
+    table: &GatherTable<'j>,
+    seat: Seat,
+    shelf: &Shelf<'d>,
+    is_of_document: bool,
+    ready: &Ready,
+    pass: Pass,
+    workers: Workers,
+    gate: &G,
+    sink: &mut S,
+) -> Gathered<'d>
+    requires table { table.now.layout ≡ layout job.now.plan }
+    requires seat { IsFreshSeat table.now seat }
+    requires pass { IsFreshPass ready.now pass }
+    requires workers { AreWorkers workers }
+    requires countable { IsCountable (S.seen sink.old) }
+    requires of_document { IsTrue is_of_document → IsShelfOf shelf.now job.now.units }
+    ensures outcome { Answers job.now (S.seen sink.old) (S.seen sink.new) result.outcome }
+    ensures tokens { MatchResult result.outcome (λ _. IsSomeAnd result.tokens (λ t. ⊤)) (λ e.
+        HandsBackTokens e result.tokens) }
+    ensures whole { IfSome result.tokens (λ t. AreWhole table.now ready.now t.0 t.1
+        × IsHandedOn t.1.front × (IsNone result.unshelved → IsGathered table.now.layout t.0.front)
+        × (HasRoomForAll table.now.layout workers.preparers pass → AreAllPut table.now.layout t.0.front t.1.front)) }
+    ensures unshelved { IfSome result.unshelved (IsOn shelf.now) }
+{
     // Each tells that it keeps what every seat and every pass keeps.
     seat.share();
     pass.share();
@@ -120,6 +155,7 @@ pub fn gather<'j, 'd, R: Threads + Wait + Sync, G: Gate + Sync, S: Sink>(
         job,
         table,
         shelf,
+        is_of_document,
         ready,
         by_right,
         preparers_left: AtomicU32::new(workers.preparers),

@@ -15,7 +15,7 @@ ghost use Rattle.imposer.specs.Runs.{Request, request, frame_of, Accepted, IsRef
 ghost use Rattle.imposer.specs.Runs.{IsUnwritten, IsGiven, AnswersRequest};
 
 use crate::gate::Gate;
-use crate::gathering::gather;
+use crate::gathering::gather_on;
 use crate::options::{Options, Workers, are_valid};
 use crate::outcome::{Report, RunError};
 use crate::rooms::most_puts_in_all;
@@ -178,7 +178,7 @@ fn run_job<R: Threads + Wait + Sync, G: Gate + Sync, S: Sink>(
     let Ok((table, seat)) = GatherTable::new(alloc, job.plan()) else {
         return Err(RunError::NoMemory { written: 0 });
     };
-    let Ok(shelf) = Shelf::new(alloc) else {
+    let Ok(shelf) = Shelf::of_document(alloc, job.document()) else {
         return Err(RunError::NoMemory { written: 0 });
     };
     // Room for all puts, so that none is refused.
@@ -186,8 +186,8 @@ fn run_job<R: Threads + Wait + Sync, G: Gate + Sync, S: Sink>(
     let Ok((ready, pass)) = Ready::by_right(alloc, room.max(job.sheets()).max(1)) else {
         return Err(RunError::NoMemory { written: 0 });
     };
-    let gathered = gather(
-        rt, alloc, job, &table, seat, &shelf, &ready, pass, workers, gate, sink,
+    let gathered = gather_on(
+        rt, alloc, job, &table, seat, &shelf, true, &ready, pass, workers, gate, sink,
     );
     gathered.outcome
 }

@@ -1,6 +1,7 @@
 //! What all threads of one run share, and what the workers need.
-ghost use Rattle.std.specs.Prelude.{◌≡◌};
+ghost use Rattle.std.specs.Prelude.{◌≡◌, IsTrue};
 ghost use Rattle.rules.specs.Sheets.{layout};
+ghost use Rattle.handover.specs.Shelves.{IsShelfOf};
 
 use crate::channel::{RuledJob, SheetSender, Texts};
 use crate::spent::SpentTexts;
@@ -21,6 +22,8 @@ pub(crate) struct Shared<'s, 'r, 'j, 'd, G> {
     pub(crate) job: &'s Job<'j, 'd>,
     pub(crate) table: &'s GatherTable<'j>,
     pub(crate) shelf: &'r Shelf<'d>,
+    /// Whether the shelf is that of the job's document. Then pages are put as the document's own, and not compared.
+    pub(crate) is_of_document: bool,
     pub(crate) ready: &'s Ready,
     /// Whether the queue has room by right for all puts: then it refuses none.
     pub(crate) by_right: bool,
@@ -33,6 +36,7 @@ pub(crate) struct Shared<'s, 'r, 'j, 'd, G> {
     /// Preparers take turns, and so do imposers.
     pub(crate) preparing: Turns,
     pub(crate) imposing: Turns,
+    ghost of_document: { IsTrue is_of_document → IsShelfOf shelf.now job.now.units },
     ghost same_plan: { table.now.layout ≡ layout job.now.plan },
 }
 

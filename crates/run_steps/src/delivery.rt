@@ -1,11 +1,11 @@
 //! A page is put on the shelf, published and marked.
 ghost use Rattle.std.specs.Prelude.{◌≡◌, ℕ, ◌<◌, ◌≤◌, ◌+◌, ◌++◌, [], ◌∷◌, List, length, All, filter};
-ghost use Rattle.std.specs.Prelude.{IfOk, IfErr, MatchResult, vec_capacity, if◌then◌else◌};
+ghost use Rattle.std.specs.Prelude.{IfOk, IfErr, IsTrue, MatchResult, vec_capacity, if◌then◌else◌};
 ghost use Rattle.rules.specs.Sheets.{layout};
 ghost use Rattle.gather_table.specs.Shared.{IsSeatOf, Makes};
 ghost use Rattle.sheet_plan.specs.Places.{places_of};
 ghost use Rattle.handover.specs.Passes.{IsPassOf, puts_in};
-ghost use Rattle.handover.specs.Shelves.{IsOn};
+ghost use Rattle.handover.specs.Shelves.{IsOn, IsOwn};
 ghost use Rattle.run_steps.specs.Delivery.{IsReady, is_filling, place_calls, answer_list, completes_sheet};
 ghost use Rattle.run_steps.specs.Delivery.{calls_of, AreAnswered, completed, HandedOn};
 ghost use Rattle.run_steps.specs.HandingBack.{HandsBack};
@@ -88,6 +88,7 @@ pub fn deliver<'d, R: Wait>(
         table: &*table,
         shelf,
         ready: &*ready,
+        as_own: false,
     };
     delivery.deliver(rt, seat, pass, prepared, Answers::new(alloc))
 }
@@ -99,6 +100,8 @@ pub struct Delivery<'f, 'p, 't, 'd> {
     pub table: &'f GatherTable<'t>,
     pub shelf: &'f Shelf<'d>,
     pub ready: &'f Ready,
+    /// Whether pages are put as ones of the document that the shelf is of, so that an imposer needn't compare them.
+    pub as_own: bool,
     ghost same_plan: { table.now.layout ≡ layout plan.now },
 }
 
@@ -115,6 +118,7 @@ impl<'f, 'p, 't, 'd> Delivery<'f, 'p, 't, 'd> {
         requires seat { IsSeatOf self.now.table.now seat.old }
         requires pass { IsPassOf self.now.ready.now pass.old }
         requires page { prepared.page < self.now.plan.now.pages }
+        requires own { IsTrue self.now.as_own → IsOwn self.now.shelf.now prepared }
 
         // At Ok the seat published the page at the receipt's index and marked its places, each once and in order, with
         // the closing of each group directly after the mark that filled it, and called nothing else.
@@ -144,7 +148,7 @@ impl<'f, 'p, 't, 'd> Delivery<'f, 'p, 't, 'd> {
         let Ok(answers) = answers.reserve(places.len()) else {
             return Err(DeliverError::NoMemory(prepared));
         };
-        let receipt = match self.shelf.put(rt, prepared) {
+        let receipt = match self.shelf.put_as(rt, prepared, self.as_own) {
             Ok(receipt) => receipt,
             Err(error) => match error {
                 PutError::NoMemory(prepared) => return Err(DeliverError::NoMemory(prepared)),

@@ -1,6 +1,6 @@
 //! A sheet is made of the pages that are shelved.
 ghost use Rattle.std.specs.Prelude.{◌≡◌, ℕ, ◌+◌, ◌-◌, ◌<◌, ◌≤◌, ◌++◌, ◌∷◌, [], IfOk, OnOk, OnErr, MatchResult, length};
-ghost use Rattle.std.specs.Prelude.{Some, slice_get, slice_index_or, true};
+ghost use Rattle.std.specs.Prelude.{IsTrue, Some, slice_get, slice_index_or, true};
 ghost use Rattle.rules.specs.Parts.{pages};
 ghost use Rattle.rules.specs.Sheets.{layout};
 ghost use Rattle.made_sheets.specs.Made.{MadeSlot};
@@ -9,12 +9,13 @@ ghost use Rattle.sheet_plan.specs.Plans.{pages_on};
 ghost use Rattle.gather_table.specs.History.{PageAt, IsComplete};
 ghost use Rattle.gather_table.specs.Shared.{IsSeatOf, Made};
 ghost use Rattle.handover.specs.Pages.{IsPrepared};
+ghost use Rattle.handover.specs.Shelves.{IsShelfOf, IsOwn};
 ghost use Rattle.sheet_text.specs.Jobs.{slots_of, slots_text, text_of};
 ghost use Rattle.run_steps.specs.Reading.{OnlyReads};
 ghost use Rattle.run_steps.specs.LookUps.{pages_of, LooksUp, LooksUpUntil, LooksAt, HasIndex};
 
 use gather_table::{GatherTable, Seat};
-use handover::{Prepared, Shelf};
+use handover::{Prepared, Shelf, Shelved};
 use sheet_text::{Job, Openings, Rope, append_placed, begin_sheet, end_sheet};
 use sheet_writer::FinishedSheet;
 use std::alloc::Global;
@@ -62,6 +63,7 @@ pub fn impose<'d>(
         job: &*job,
         table: &*table,
         shelf,
+        is_of_document: false,
     };
     let finished = match imposition.impose(
         Rope::new(alloc),
@@ -85,6 +87,9 @@ pub struct Imposition<'s, 'r, 'j, 't, 'd> {
     pub job: &'s Job<'j, 'd>,
     pub table: &'s GatherTable<'t>,
     pub shelf: &'r Shelf<'d>,
+    /// Whether the shelf is that of the job's document. Then a page that was put as its own isn't compared with it.
+    pub is_of_document: bool,
+    ghost of_document: { IsTrue is_of_document → IsShelfOf shelf.now job.now.units },
     ghost same_plan: { table.now.layout ≡ layout job.now.plan },
 }
 
@@ -197,17 +202,34 @@ impl<'s, 'r, 'j, 't, 'd> Imposition<'s, 'r, 'j, 't, 'd> {
         ensures raw { IfOk result (λ shown. shown.now.raw ≡ slice_index_or (pages self.now.job.now.units) page []) }
         ensures prepared { IfOk result (λ shown. IsPrepared shown.now) }
     {
-        let job = self.job;
         let Some(index) = self.table.page_at(seat, page) else {
             unreachable!();
         };
-        let Some(shown) = self.shelf.at(index) else {
+        let Some(found) = self.shelf.find(index) else {
             return Err(ImposeError::NotShown);
         };
-        if shown.page() != page || shown.raw() != job.document().page(page) {
+        if !self.is_page(&found, page) {
             return Err(ImposeError::NotShown);
         }
-        Ok(shown)
+        Ok(found.page)
+    }
+
+    /// Whether this is a page of the document, with this number. It is told by its bytes, unless it was put as the
+    /// document's own.
+    fn is_page(&self, found: &Shelved<'_, 'd>, page: u32) -> bool
+        requires in_document { page < length (pages self.now.job.now.units) }
+        requires own { IsTrue found.now.is_own → IsOwn self.now.shelf.now found.now.page.now }
+        ensures page { IsTrue result → found.now.page.now.page ≡ page }
+        ensures raw { IsTrue result → found.now.page.now.raw ≡ slice_index_or (pages self.now.job.now.units) page [] }
+    {
+        if found.page.page() != page {
+            return false;
+        }
+        if self.is_of_document && found.is_own {
+            return true;
+        }
+        let job = self.job;
+        found.page.raw() == job.document().page(page)
     }
 }
 

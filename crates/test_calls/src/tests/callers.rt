@@ -139,6 +139,7 @@ impl<'s, 'j, 't, 'd> Caller<'s, 'j, 't, 'd> {
             table: self.table,
             shelf: self.shelf,
             ready: self.ready,
+            as_own: false,
         };
         Some(delivery.deliver(rt, &mut self.seat, &mut self.pass, prepared, answers))
     }

@@ -5,13 +5,13 @@ use Rattle.rules.specs.Sheets.{Plan, Layout, layout}
 use Rattle.run_steps.specs.Duty.{most_puts_in_all}
 use Rattle.run_steps.specs.Gathered.{IsGathered}
 use Rattle.imposer.proofs.Ends.{fresh_tokens, put_if_room}
-use Rattle.imposer.proofs.gathering.gather.Goals as goal
+use Rattle.imposer.proofs.gathering.gather_on.Goals as goal
 
 pub gather_as-requires-clause-tokens : goal.gather_as-requires-clause-tokens
 gather_as-requires-clause-tokens g c κs within = fresh_tokens _ _ _ c.requires.seat c.requires.pass c.share.ensures.seat c.share-2.ensures.pass
 
-pub returns-clause-handed_on : goal.returns-clause-handed_on
-returns-clause-handed_on g c =
+pub returns-clause-whole : goal.returns-clause-whole
+returns-clause-whole g c =
     let count = c.args.workers.preparers in
     let same : most_puts_in_all (layout c.plan.result.now) count ≡ most_puts_in_all c.args.table.now.layout count
     = ap (λ (plan : Plan). most_puts_in_all (layout plan) count) c.plan.ensures.value ∙ ap (λ (l : Layout). most_puts_in_all l count) (sym c.requires.table) in
