@@ -11,6 +11,7 @@ use Rattle.rules.specs.Output.{output}
 use Rattle.imposer.specs.Runs.{Accepted, Reports, frame_of}
 use Rattle.imposer.specs.declared.outcome.Report.{Report}
 use Rattle.impose_cli.specs.Tasks.{FinishesSpec, IsPlaced, IsSpec, IsTask, asked_by}
+use Rattle.impose_cli.specs.declared.request.Spacing.{Spacing}
 use Rattle.impose_cli.specs.declared.request.Layout.{Layout}
 use Rattle.impose_cli.specs.declared.request.Layout.TheVariants as layout
 use Rattle.impose_cli.specs.declared.request.Request.{Request}
@@ -21,12 +22,14 @@ stays None = tt
 stays (Some xs) = refl
 
 -- a specification that is named is what is run, without signatures
-placed_as_named : (l : Layout) (named : List ℕ) (page_paper sheet_paper : Paper) (pages : ℕ) (text : List ℕ) (sides : Option ℕ) → IsSpec l named
-    → IsPlaced l page_paper sheet_paper pages text sides → (text ≡ named) × (sides ≡ None)
-placed_as_named (layout.NUp n) named page_paper sheet_paper pages text sides is h = absurd is
-placed_as_named (layout.Booklet signature long_edge) named page_paper sheet_paper pages text sides is h = absurd is
-placed_as_named layout.Selection named page_paper sheet_paper pages text sides is h = absurd is
-placed_as_named (layout.Spec specs) named page_paper sheet_paper pages text sides is h = (h.0 ∙ sym is, h.1)
+placed_as_named : (l : Layout) (s : Spacing) (named : List ℕ) (page_paper sheet_paper : Paper) (pages : ℕ) (text : List ℕ) (sides : Option ℕ) → IsSpec l named
+    → IsPlaced l s page_paper sheet_paper pages text sides → (text ≡ named) × (sides ≡ None)
+placed_as_named (layout.NUp n) s named page_paper sheet_paper pages text sides is h = absurd is
+placed_as_named (layout.Booklet signature long_edge) s named page_paper sheet_paper pages text sides is h = absurd is
+placed_as_named layout.Selection s named page_paper sheet_paper pages text sides is h = absurd is
+placed_as_named (layout.Cards n) s named page_paper sheet_paper pages text sides is h = absurd is
+placed_as_named (layout.Stack n duplex) s named page_paper sheet_paper pages text sides is h = absurd is
+placed_as_named (layout.Spec specs) s named page_paper sheet_paper pages text sides is h = (h.0 ∙ sym is, h.1)
 
 pub finishes : (r : Request) (input : List ℕ) (task : Task) (old new : Option (List ℕ)) (report : Report) → ((text : List ℕ) × IsSpec r.layout text) → IsTask r input task
     → Accepted (asked_by task) (λ spec us. Appends old new (output (frame_of task.options) task.options.sides spec us) × Reports (frame_of task.options) task.options.sides spec us report)
@@ -35,7 +38,7 @@ finishes r input task old new report named is h =
     let spec = h.0 in
     let units = h.1 in
     let accepted = h.2 in
-    let p = placed_as_named r.layout named.0 _ _ _ _ _ named.1 is.placed in
+    let p = placed_as_named r.layout r.spacing named.0 _ _ _ _ _ named.1 is.placed in
     let n = length (pages units) in
     record {
       page_count = is.page_count;

@@ -1,16 +1,21 @@
 -- What was found for a subcommand, and what its refusals say of the words.
 use Rattle.std.proofs.Common.{◌≡◌, ℤ, ap, ap₂, refl, inr, subst, sym, List, Option, Some, None, unwrap_or, true}
-use Rattle.std.specs.Prelude.{is_some, option_map}
+use Rattle.std.specs.Prelude.{is_some, option_map, string_bytes}
 use Rattle.std.specs.Box.{box_value}
-use Rattle.clap.specs.Words.{Row, Text, found_of, rows_of, subcommand_name_of, subcommand_rows, subcommand_rows_of}
+use Rattle.clap.specs.Words.{Row, Text, first_of, found_of, rows_of, subcommand_name_of, subcommand_rows, subcommand_rows_of}
 use Rattle.clap.specs.declared.parser.matches.ArgMatches.{ArgMatches}
 use Rattle.clap.specs.declared.parser.matches.ArgMatches.TheViews.{out-ArgMatches, out-SubCommand}
 use Rattle.rules.specs.Papers.{Paper}
+use Rattle.lengths.specs.Lengths.{a4, length_named}
 use Rattle.impose_cli.specs.declared.request.Request.{Request}
-use Rattle.impose_cli.specs.Words.{AsksFor, ChoosesBy, Entered, Enters, HasChoice, HasLayout, HasPapers, HasSizes, ParseRefuses, Reads, Refuses, RefusesFound, RefusesArguments, border_found, ranges_id, size_found}
-use Rattle.impose_cli.specs.Sizing.{ReadsSizes, RefusesBorder, RefusesChoice, RefusesOutfile, RefusesSize, RefusesSizes}
+use Rattle.impose_cli.specs.Words.{AreBefore, AsksFor, ChoosesBy, Entered, Enters, HasChoice, HasLayout, HasPapers, HasSizes, HasSpacing, NamesNoLength, SpacesBy, length_found, length_id, ParseRefuses, Reads, Refuses, RefusesFound, RefusesArguments, border_found, ranges_id, size_found}
+use Rattle.impose_cli.specs.Sizing.{ReadsSizes, RefusesBorder, RefusesChoice, RefusesLength, RefusesOutfile, RefusesSize, RefusesSizes, RefusesSpacing}
 use Rattle.impose_cli.specs.declared.request.Layout.{Layout}
 use Rattle.impose_cli.specs.declared.request.PageChoice.{PageChoice}
+use Rattle.impose_cli.specs.declared.request.Spacing.{Spacing}
+use Rattle.impose_cli.specs.Spacings.{keeps_room}
+use Rattle.impose_cli.specs.declared.fault.LengthOption.{LengthOption}
+use Rattle.impose_cli.specs.declared.fault.LengthOption.TheVariants.{Margin, Gap, Trim}
 use Rattle.impose_cli.specs.declared.fault.PaperOption.{PaperOption}
 use Rattle.impose_cli.specs.declared.fault.PaperOption.TheVariants.{Paper as OfPages, Sheet as OfSheets}
 use Rattle.impose_cli.specs.declared.fault.CommandFault.{CommandFault}
@@ -55,6 +60,7 @@ refuses_parse words fault.Lacking h = absurd h
 refuses_parse words fault.OddAndEven h = absurd h
 refuses_parse words (fault.UnknownPaper option text) h = absurd h
 refuses_parse words (fault.BadBorder text) h = absurd h
+refuses_parse words (fault.BadLength option text) h = absurd h
 refuses_parse words (fault.BadSignature sides) h = absurd h
 refuses_parse words (fault.OptionAsOutfile text) h = absurd h
 
@@ -66,6 +72,7 @@ refuses_words words name found fault.Lacking e h = inr (name, found, e, h)
 refuses_words words name found fault.OddAndEven e h = (name, found, e, h)
 refuses_words words name found (fault.UnknownPaper option text) e h = (name, found, e, h)
 refuses_words words name found (fault.BadBorder text) e h = (name, found, e, h)
+refuses_words words name found (fault.BadLength option text) e h = (name, found, e, h)
 refuses_words words name found (fault.BadSignature sides) e h = (name, found, e, h)
 refuses_words words name found (fault.OptionAsOutfile text) e h = (name, found, e, h)
 
@@ -88,6 +95,7 @@ refuses_page_paper found (fault.BadSignature sides) h = h
 refuses_page_paper found (fault.OptionAsOutfile text) h = h
 refuses_page_paper found (fault.Words error) h = h
 refuses_page_paper found fault.NoText h = h
+refuses_page_paper found (fault.BadLength option text) h = h
 refuses_page_paper found (fault.BadBorder text) h = absurd h
 
 pub refuses_sheet_paper : (found : List Row) (page_paper : Option Paper) (f : CommandFault) → size_found OfPages found ≡ Some page_paper → RefusesSize OfSheets found f → RefusesSizes found f
@@ -103,6 +111,7 @@ refuses_sheet_paper found page_paper (fault.BadSignature sides) p h = h
 refuses_sheet_paper found page_paper (fault.OptionAsOutfile text) p h = h
 refuses_sheet_paper found page_paper (fault.Words error) p h = h
 refuses_sheet_paper found page_paper fault.NoText p h = h
+refuses_sheet_paper found page_paper (fault.BadLength option text) p h = h
 refuses_sheet_paper found page_paper (fault.BadBorder text) p h = absurd h
 
 pub refuses_border : (found : List Row) (page_paper sheet_paper : Option Paper) (f : CommandFault) → size_found OfPages found ≡ Some page_paper → size_found OfSheets found ≡ Some sheet_paper
@@ -115,6 +124,7 @@ refuses_border found page_paper sheet_paper (fault.BadSignature sides) p s h = h
 refuses_border found page_paper sheet_paper (fault.OptionAsOutfile text) p s h = h
 refuses_border found page_paper sheet_paper (fault.Words error) p s h = h
 refuses_border found page_paper sheet_paper fault.NoText p s h = h
+refuses_border found page_paper sheet_paper (fault.BadLength option text) p s h = h
 refuses_border found page_paper sheet_paper (fault.BadBorder text) p s h = (record { page_paper = is_there _ page_paper p; sheet_paper = is_there _ sheet_paper s }, h)
 
 pub refuses_sizes : (name : Text) (found : List Row) (f : CommandFault) → RefusesSizes found f → RefusesFound name found f
@@ -128,6 +138,7 @@ refuses_sizes name found (fault.BadSignature sides) h = absurd h
 refuses_sizes name found (fault.OptionAsOutfile text) h = absurd h
 refuses_sizes name found (fault.Words error) h = h
 refuses_sizes name found fault.NoText h = h
+refuses_sizes name found (fault.BadLength option text) h = absurd h
 
 has_sizes : (found : List Row) (page_paper sheet_paper : Option Paper) (border : Option ℤ) → ReadsSizes found page_paper sheet_paper border → HasSizes found
 has_sizes found page_paper sheet_paper border r =
@@ -141,6 +152,7 @@ refuses_arguments name found page_paper sheet_paper border (fault.BadSignature s
 refuses_arguments name found page_paper sheet_paper border fault.NoMemory r h = tt
 refuses_arguments name found page_paper sheet_paper border (fault.Words error) r h = h
 refuses_arguments name found page_paper sheet_paper border fault.NoText r h = h
+refuses_arguments name found page_paper sheet_paper border (fault.BadLength option text) r h = absurd h
 refuses_arguments name found page_paper sheet_paper border (fault.UnknownPaper option text) r h = absurd h
 refuses_arguments name found page_paper sheet_paper border (fault.BadBorder text) r h = absurd h
 refuses_arguments name found page_paper sheet_paper border (fault.OptionAsOutfile text) r h = absurd h
@@ -148,31 +160,91 @@ refuses_arguments name found page_paper sheet_paper border (fault.OptionAsOutfil
 abbrev has_layout : (name : Text) (found : List Row) (page_paper sheet_paper : Option Paper) (border : Option ℤ) (layout : Layout) → ReadsSizes found page_paper sheet_paper border → AsksFor name found layout → HasLayout name found
 has_layout name found page_paper sheet_paper border layout r a = record { sizes = has_sizes found page_paper sheet_paper border r; layout = layout; asked = a }
 
-pub refuses_choice : (name : Text) (found : List Row) (page_paper sheet_paper : Option Paper) (border : Option ℤ) (layout : Layout) (f : CommandFault)
-    → ReadsSizes found page_paper sheet_paper border → AsksFor name found layout → RefusesChoice found f → RefusesFound name found f
-refuses_choice name found page_paper sheet_paper border layout fault.OddAndEven r a h =
-    record { layout = has_layout name found page_paper sheet_paper border layout r a; odd = h.0; even = h.1 }
-refuses_choice name found page_paper sheet_paper border layout fault.NoMemory r a h = tt
-refuses_choice name found page_paper sheet_paper border layout (fault.UnknownPaper option text) r a h = absurd h
-refuses_choice name found page_paper sheet_paper border layout (fault.BadBorder text) r a h = absurd h
-refuses_choice name found page_paper sheet_paper border layout fault.Lacking r a h = absurd h
-refuses_choice name found page_paper sheet_paper border layout (fault.BadSignature sides) r a h = absurd h
-refuses_choice name found page_paper sheet_paper border layout (fault.OptionAsOutfile text) r a h = absurd h
-refuses_choice name found page_paper sheet_paper border layout (fault.Words error) r a h = h
-refuses_choice name found page_paper sheet_paper border layout fault.NoText r a h = h
+abbrev has_spacing : (name : Text) (found : List Row) (page_paper sheet_paper : Option Paper) (border : Option ℤ) (layout : Layout) (spacing : Spacing) → ReadsSizes found page_paper sheet_paper border → AsksFor name found layout
+    → SpacesBy (keeps_room layout) found spacing → HasSpacing name found
+has_spacing name found page_paper sheet_paper border layout spacing r a k = record { layout = has_layout name found page_paper sheet_paper border layout r a; spacing = spacing; kept = k }
 
-pub refuses_outfile : (name : Text) (found : List Row) (page_paper sheet_paper : Option Paper) (border : Option ℤ) (layout : Layout) (choice : PageChoice) (f : CommandFault)
-    → ReadsSizes found page_paper sheet_paper border → AsksFor name found layout → ChoosesBy (ranges_id layout) found choice → RefusesOutfile found f → RefusesFound name found f
-refuses_outfile name found page_paper sheet_paper border layout choice (fault.OptionAsOutfile text) r a o h =
-    (record { layout = has_layout name found page_paper sheet_paper border layout r a; choice = choice; chosen = o }, h)
-refuses_outfile name found page_paper sheet_paper border layout choice fault.NoMemory r a o h = tt
-refuses_outfile name found page_paper sheet_paper border layout choice (fault.UnknownPaper option text) r a o h = absurd h
-refuses_outfile name found page_paper sheet_paper border layout choice (fault.BadBorder text) r a o h = absurd h
-refuses_outfile name found page_paper sheet_paper border layout choice fault.Lacking r a o h = absurd h
-refuses_outfile name found page_paper sheet_paper border layout choice fault.OddAndEven r a o h = absurd h
-refuses_outfile name found page_paper sheet_paper border layout choice (fault.BadSignature sides) r a o h = absurd h
-refuses_outfile name found page_paper sheet_paper border layout choice (fault.Words error) r a o h = h
-refuses_outfile name found page_paper sheet_paper border layout choice fault.NoText r a o h = h
+-- ---- what is kept free
+
+names_none : (option : LengthOption) (other : LengthOption) (found : List Row) (text : Text) → other ≡ option → first_of (length_id option) found ≡ Some text → length_named a4 text ≡ None → AreBefore option found → NamesNoLength other found text
+names_none option other found text is given none before = subst (λ o. NamesNoLength o found text) (sym is) (record { given = given; none = none; before = before })
+
+pub refuses_margin : (found : List Row) (f : CommandFault) → RefusesLength Margin found f → RefusesSpacing found f
+refuses_margin found (fault.BadLength option text) h = names_none Margin option found (string_bytes text) h.0 h.1 h.2 tt
+refuses_margin found fault.NoMemory h = tt
+refuses_margin found (fault.UnknownPaper option text) h = h
+refuses_margin found (fault.BadBorder text) h = h
+refuses_margin found fault.Lacking h = h
+refuses_margin found fault.OddAndEven h = h
+refuses_margin found (fault.BadSignature sides) h = h
+refuses_margin found (fault.OptionAsOutfile text) h = h
+refuses_margin found (fault.Words error) h = h
+refuses_margin found fault.NoText h = h
+
+pub refuses_gap : (found : List Row) (margin : ℤ) (f : CommandFault) → length_found Margin found ≡ Some margin → RefusesLength Gap found f → RefusesSpacing found f
+refuses_gap found margin (fault.BadLength option text) m h = names_none Gap option found (string_bytes text) h.0 h.1 h.2 (is_there _ margin m)
+refuses_gap found margin fault.NoMemory m h = tt
+refuses_gap found margin (fault.UnknownPaper option text) m h = h
+refuses_gap found margin (fault.BadBorder text) m h = h
+refuses_gap found margin fault.Lacking m h = h
+refuses_gap found margin fault.OddAndEven m h = h
+refuses_gap found margin (fault.BadSignature sides) m h = h
+refuses_gap found margin (fault.OptionAsOutfile text) m h = h
+refuses_gap found margin (fault.Words error) m h = h
+refuses_gap found margin fault.NoText m h = h
+
+pub refuses_trim : (found : List Row) (margin gap : ℤ) (f : CommandFault) → length_found Margin found ≡ Some margin → length_found Gap found ≡ Some gap → RefusesLength Trim found f → RefusesSpacing found f
+refuses_trim found margin gap (fault.BadLength option text) m g h = names_none Trim option found (string_bytes text) h.0 h.1 h.2 (is_there _ margin m, is_there _ gap g)
+refuses_trim found margin gap fault.NoMemory m g h = tt
+refuses_trim found margin gap (fault.UnknownPaper option text) m g h = h
+refuses_trim found margin gap (fault.BadBorder text) m g h = h
+refuses_trim found margin gap fault.Lacking m g h = h
+refuses_trim found margin gap fault.OddAndEven m g h = h
+refuses_trim found margin gap (fault.BadSignature sides) m g h = h
+refuses_trim found margin gap (fault.OptionAsOutfile text) m g h = h
+refuses_trim found margin gap (fault.Words error) m g h = h
+refuses_trim found margin gap fault.NoText m g h = h
+
+pub refuses_spacing : (name : Text) (found : List Row) (page_paper sheet_paper : Option Paper) (border : Option ℤ) (layout : Layout) (f : CommandFault)
+    → ReadsSizes found page_paper sheet_paper border → AsksFor name found layout → RefusesSpacing found f → RefusesFound name found f
+refuses_spacing name found page_paper sheet_paper border layout (fault.BadLength option text) r a h = (has_layout name found page_paper sheet_paper border layout r a, h)
+refuses_spacing name found page_paper sheet_paper border layout fault.NoMemory r a h = tt
+refuses_spacing name found page_paper sheet_paper border layout (fault.UnknownPaper option text) r a h = absurd h
+refuses_spacing name found page_paper sheet_paper border layout (fault.BadBorder text) r a h = absurd h
+refuses_spacing name found page_paper sheet_paper border layout fault.Lacking r a h = absurd h
+refuses_spacing name found page_paper sheet_paper border layout fault.OddAndEven r a h = absurd h
+refuses_spacing name found page_paper sheet_paper border layout (fault.BadSignature sides) r a h = absurd h
+refuses_spacing name found page_paper sheet_paper border layout (fault.OptionAsOutfile text) r a h = absurd h
+refuses_spacing name found page_paper sheet_paper border layout (fault.Words error) r a h = h
+refuses_spacing name found page_paper sheet_paper border layout fault.NoText r a h = h
+
+pub refuses_choice : (name : Text) (found : List Row) (page_paper sheet_paper : Option Paper) (border : Option ℤ) (layout : Layout) (spacing : Spacing) (f : CommandFault)
+    → ReadsSizes found page_paper sheet_paper border → AsksFor name found layout → SpacesBy (keeps_room layout) found spacing → RefusesChoice found f → RefusesFound name found f
+refuses_choice name found page_paper sheet_paper border layout spacing fault.OddAndEven r a k h =
+    record { spacing = has_spacing name found page_paper sheet_paper border layout spacing r a k; odd = h.0; even = h.1 }
+refuses_choice name found page_paper sheet_paper border layout spacing (fault.BadLength option text) r a k h = absurd h
+refuses_choice name found page_paper sheet_paper border layout spacing fault.NoMemory r a k h = tt
+refuses_choice name found page_paper sheet_paper border layout spacing (fault.UnknownPaper option text) r a k h = absurd h
+refuses_choice name found page_paper sheet_paper border layout spacing (fault.BadBorder text) r a k h = absurd h
+refuses_choice name found page_paper sheet_paper border layout spacing fault.Lacking r a k h = absurd h
+refuses_choice name found page_paper sheet_paper border layout spacing (fault.BadSignature sides) r a k h = absurd h
+refuses_choice name found page_paper sheet_paper border layout spacing (fault.OptionAsOutfile text) r a k h = absurd h
+refuses_choice name found page_paper sheet_paper border layout spacing (fault.Words error) r a k h = h
+refuses_choice name found page_paper sheet_paper border layout spacing fault.NoText r a k h = h
+
+pub refuses_outfile : (name : Text) (found : List Row) (page_paper sheet_paper : Option Paper) (border : Option ℤ) (layout : Layout) (spacing : Spacing) (choice : PageChoice) (f : CommandFault)
+    → ReadsSizes found page_paper sheet_paper border → AsksFor name found layout → SpacesBy (keeps_room layout) found spacing → ChoosesBy (ranges_id layout) found choice → RefusesOutfile found f → RefusesFound name found f
+refuses_outfile name found page_paper sheet_paper border layout spacing choice (fault.OptionAsOutfile text) r a k o h =
+    (record { spacing = has_spacing name found page_paper sheet_paper border layout spacing r a k; choice = choice; chosen = o }, h)
+refuses_outfile name found page_paper sheet_paper border layout spacing choice (fault.BadLength option text) r a k o h = absurd h
+refuses_outfile name found page_paper sheet_paper border layout spacing choice fault.NoMemory r a k o h = tt
+refuses_outfile name found page_paper sheet_paper border layout spacing choice (fault.UnknownPaper option text) r a k o h = absurd h
+refuses_outfile name found page_paper sheet_paper border layout spacing choice (fault.BadBorder text) r a k o h = absurd h
+refuses_outfile name found page_paper sheet_paper border layout spacing choice fault.Lacking r a k o h = absurd h
+refuses_outfile name found page_paper sheet_paper border layout spacing choice fault.OddAndEven r a k o h = absurd h
+refuses_outfile name found page_paper sheet_paper border layout spacing choice (fault.BadSignature sides) r a k o h = absurd h
+refuses_outfile name found page_paper sheet_paper border layout spacing choice (fault.Words error) r a k o h = h
+refuses_outfile name found page_paper sheet_paper border layout spacing choice fault.NoText r a k o h = h
 
 -- ---- the paper at home
 
@@ -180,6 +252,7 @@ refuses_outfile name found page_paper sheet_paper border layout choice fault.NoT
 reads_at_home : (name : Text) (found : List Row) (r : Request) (home : Paper) → Reads name found r → Reads name found (record r { home_paper = home })
 reads_at_home name found r home h = record {
   layout = h.layout;
+  spacing = h.spacing;
   choice = h.choice;
   page_paper = h.page_paper;
   sheet_paper = h.sheet_paper;

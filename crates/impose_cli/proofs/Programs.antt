@@ -113,7 +113,7 @@ broke_off r input tells start sink ended (Err f) is_there is_bare written before
 -- nothing was created: the layout is refused, or the input can't be read
 pub stopped_before : (r : Request) (gives : Gives) (tells : Bool) (f : Fault) (outcome : Result Done Fault)
     (has_output : Bool) (written : Option (List ℕ)) → outcome ≡ Err f → has_output ≡ false
-    → RefusesUnread r.layout r.page_paper r.sheet_paper f ⊎ (IsPossible r.layout r.page_paper r.sheet_paper × IsReading f)
+    → RefusesUnread r.layout r.spacing r.page_paper r.sheet_paper f ⊎ (IsPossible r.layout r.spacing r.page_paper r.sheet_paper × IsReading f)
     → CarriesOut r gives tells outcome has_output written
 stopped_before r gives tells f outcome has_output written told none why = inl (f, told, none, why)
 
@@ -121,7 +121,7 @@ stopped_before r gives tells f outcome has_output written told none why = inl (f
 pub took : (r : Request) (gives : Gives) (tells : Bool) (input : List ℕ) (name : Option (List ℕ))
     (outcome : Result Done Fault) (has_output : Bool) (written : Option (List ℕ))
     → name ≡ option_map string_bytes r.infile → IsFirst most_bytes (gives name) input
-    → IsPossible r.layout r.page_paper r.sheet_paper → TakesInput r input tells outcome has_output written
+    → IsPossible r.layout r.spacing r.page_paper r.sheet_paper → TakesInput r input tells outcome has_output written
     → CarriesOut r gives tells outcome has_output written
 took r gives tells input name outcome has_output written named read possible taken =
     inr (input, subst (λ n. IsFirst most_bytes (gives n) input) named read, possible, taken)

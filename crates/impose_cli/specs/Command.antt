@@ -1,5 +1,5 @@
--- The command line: impose nup N, impose booklet, impose select RANGES or impose spec SPECS, with [OPTIONS] [INFILE
--- [OUTFILE]].
+-- The command line: impose nup N, impose booklet, impose cards N, impose stack N, impose select RANGES or impose spec
+-- SPECS, with [OPTIONS] [INFILE [OUTFILE]].
 use Rattle.std.specs.Prelude.{ℕ, pos, true, false, List, [], ◌∷◌, map, Some, codes}
 use Rattle.std.specs.List.{fold}
 use Rattle.rules.specs.Signatures.{most_sides}
@@ -57,13 +57,33 @@ subcommand_app name own = fold with_rule (fold with_rule (new_app name) own) com
 abbrev pub order_rules : List Rule
 order_rules = flag_rule (codes "odd") ∷ flag_rule (codes "even") ∷ flag_rule (codes "reverse") ∷ []
 
+-- what is kept free, which pages, and in which order
+abbrev pub row_rules : List Rule
+row_rules =
+    option_rule (codes "margin")
+    ∷ option_rule (codes "gap")
+    ∷ option_rule (codes "trim")
+    ∷ flag_rule (codes "rtl")
+    ∷ option_rule (codes "pages")
+    ∷ order_rules
+
+abbrev pub count_rule : Rule
+count_rule = ranged 1 most_on_sheet (required_rule (codes "count"))
+
 abbrev pub nup_app : App
-nup_app = subcommand_app (codes "nup") (ranged 1 most_on_sheet (required_rule (codes "count"))
-    ∷ option_rule (codes "pages") ∷ order_rules)
+nup_app = subcommand_app (codes "nup") (count_rule ∷ row_rules)
+
+abbrev pub cards_app : App
+cards_app = subcommand_app (codes "cards") (count_rule ∷ row_rules)
+
+abbrev pub stack_app : App
+stack_app = subcommand_app (codes "stack") (count_rule ∷ flag_rule (codes "duplex") ∷ row_rules)
+
+abbrev pub signature_rule : Rule
+signature_rule = ranged 4 most_sides (option_rule (codes "signature"))
 
 abbrev pub booklet_app : App
-booklet_app = subcommand_app (codes "booklet") (ranged 4 most_sides (option_rule (codes "signature"))
-    ∷ flag_rule (codes "long-edge") ∷ option_rule (codes "pages") ∷ order_rules)
+booklet_app = subcommand_app (codes "booklet") (signature_rule ∷ flag_rule (codes "long-edge") ∷ row_rules)
 
 abbrev pub select_app : App
 select_app = subcommand_app (codes "select") (required_rule (codes "ranges") ∷ order_rules)
@@ -72,7 +92,7 @@ abbrev pub spec_app : App
 spec_app = subcommand_app (codes "spec") (required_rule (codes "specs") ∷ [])
 
 abbrev pub apps : List App
-apps = nup_app ∷ booklet_app ∷ select_app ∷ spec_app ∷ []
+apps = nup_app ∷ booklet_app ∷ cards_app ∷ stack_app ∷ select_app ∷ spec_app ∷ []
 
 -- the command itself: it has a version, and a subcommand must stand among the words
 abbrev pub with_top : Shape → Shape

@@ -126,10 +126,10 @@ abbrev pub CarriesOut : Request → Gives → (tells : Bool) → Result Done Fau
     → (written : Option (List ℕ)) → Type 0
 CarriesOut r gives tells outcome has_output written =
     ((f : Fault) × (outcome ≡ Err f) × (has_output ≡ false)
-    × (RefusesUnread r.layout r.page_paper r.sheet_paper f
-    ⊎ (IsPossible r.layout r.page_paper r.sheet_paper × IsReading f)))
+    × (RefusesUnread r.layout r.spacing r.page_paper r.sheet_paper f
+    ⊎ (IsPossible r.layout r.spacing r.page_paper r.sheet_paper × IsReading f)))
     ⊎ ((input : List ℕ) × IsFirst most_bytes (gives (option_map string_bytes r.infile)) input
-    × IsPossible r.layout r.page_paper r.sheet_paper × TakesInput r input tells outcome has_output written)
+    × IsPossible r.layout r.spacing r.page_paper r.sheet_paper × TakesInput r input tells outcome has_output written)
 
 -- How the program ends: the words are refused, and nothing was created; or they make a request, with the paper at home,
 -- and this comes of it.

@@ -12,6 +12,7 @@ use Rattle.impose_cli.specs.Choices.{is_whole}
 use Rattle.sheet_text.specs.Jobs.{is_border}
 use Rattle.impose_cli.specs.RowTasks.{sheet_paper_in, why_not_laid}
 use Rattle.impose_cli.specs.Tasks.{HasPages, page_paper_found, sheet_paper_found}
+use Rattle.impose_cli.specs.declared.request.Spacing.{Spacing}
 use Rattle.impose_cli.specs.declared.request.Layout.{Layout}
 use Rattle.impose_cli.specs.declared.request.Layout.TheVariants as layout
 use Rattle.impose_cli.specs.declared.request.Request.{Request}
@@ -32,14 +33,16 @@ RefusesDocument input f = (why : DscError) × (f ≡ of_document why input) × I
 -- ---- the layout
 
 -- the fault is why the layout can't lay pages of this paper on sheets of that
-abbrev pub RefusesLaying : Layout → (page_paper sheet_paper : Paper) → Fault → Type 0
-RefusesLaying l page_paper sheet_paper f =
-    (e : ArrangementError) × (f ≡ fault.Layout e) × (why_not_laid l page_paper sheet_paper ≡ Some e)
+abbrev pub RefusesLaying : Layout → Spacing → (page_paper sheet_paper : Paper) → Fault → Type 0
+RefusesLaying l s page_paper sheet_paper f =
+    (e : ArrangementError) × (f ≡ fault.Layout e) × (why_not_laid l s page_paper sheet_paper ≡ Some e)
 
--- why no specification is printed: out of memory, or there is no such layout, or a selection, for which there is none
-abbrev pub RefusesLayout : Layout → (page_paper sheet_paper : Paper) → Fault → Type 0
-RefusesLayout layout.Selection page_paper sheet_paper f = f ≡ fault.NoSpecification
-RefusesLayout l page_paper sheet_paper f = (f ≡ without_memory) ⊎ RefusesLaying l page_paper sheet_paper f
+-- why no specification is printed: out of memory, or there is no such layout, or one that no specification says
+abbrev pub RefusesLayout : Layout → Spacing → (page_paper sheet_paper : Paper) → Fault → Type 0
+RefusesLayout layout.Selection s page_paper sheet_paper f = f ≡ fault.NoSpecification
+RefusesLayout (layout.Cards n) s page_paper sheet_paper f = f ≡ fault.NoSpecification
+RefusesLayout (layout.Stack n duplex) s page_paper sheet_paper f = f ≡ fault.NoSpecification
+RefusesLayout l s page_paper sheet_paper f = (f ≡ without_memory) ⊎ RefusesLaying l s page_paper sheet_paper f
 
 -- ---- the request
 
@@ -52,7 +55,7 @@ RefusesTask r input f =
     × (((f ≡ fault.NoSpecification) × (is_whole r.choice ≡ false))
     ⊎ ((f ≡ without_memory)
     ⊎ (let page_paper = (page_paper_found r.page_paper r.home_paper input).0 in
-    RefusesLayout r.layout page_paper (sheet_paper_found r.sheet_paper page_paper) f))))
+    RefusesLayout r.layout r.spacing page_paper (sheet_paper_found r.sheet_paper page_paper) f))))
 
 -- a signature of so many sides can't be folded, or has too many
 abbrev pub RefusesSides : Layout → Fault → Type 0
@@ -66,6 +69,6 @@ RefusesRowTask r input f =
     RefusesDocument input f
     ⊎ ((n : ℕ) × HasPages input n
     × (let page_paper = (page_paper_found r.page_paper r.home_paper input).0 in
-    RefusesLaying r.layout page_paper (sheet_paper_in r.layout r.sheet_paper page_paper) f
+    RefusesLaying r.layout r.spacing page_paper (sheet_paper_in r.layout r.sheet_paper page_paper) f
     ⊎ (RefusesSides r.layout f
     ⊎ (((f ≡ fault.Run run.Options) × (is_border r.border ≡ false)) ⊎ (f ≡ without_memory)))))

@@ -1,5 +1,5 @@
 -- What is imposed of a row of pages, and how: a request for a document, if its layout lays rows on sheets.
-use Rattle.std.specs.Prelude.{◌≡◌, ⊤, ℕ, true, List, length, replicate, Option, Some, None, Ok, IfSome, option_map}
+use Rattle.std.specs.Prelude.{◌≡◌, ⊤, ℕ, Bool, true, false, List, length, replicate, Option, Some, None, Ok, IfSome, option_map}
 use Rattle.rules.specs.Papers.{Paper}
 use Rattle.rules.specs.Parts.{NestedUnit, pages}
 use Rattle.rules.specs.Run.{document_of}
@@ -7,9 +7,8 @@ use Rattle.made_sheets.specs.Choice.{Signing, InOne, OfSides}
 use Rattle.rows.specs.Choices.{choice_of}
 use Rattle.rows.specs.Sewing.{MayBeSewn, signing_of}
 use Rattle.layouts.specs.Fitted.{binding_setting_of, setting_of}
-use Rattle.layouts.specs.Grids.{plain, plain_binding}
 use Rattle.layouts.specs.Refusals.{why_not_arranged, why_not_bound}
-use Rattle.layouts.specs.declared.arrangement.Cells.TheVariants.{AtLeast}
+use Rattle.layouts.specs.declared.setting.Setting.{Setting}
 use Rattle.layouts.specs.declared.error.ArrangementError.{ArrangementError}
 use Rattle.row_runs.specs.Runs.{Imposes, page_count}
 use Rattle.row_runs.specs.Sheets.{MayBeLaid}
@@ -19,6 +18,8 @@ use Rattle.row_runs.specs.declared.asked.Laying.{Laying}
 use Rattle.row_runs.specs.declared.asked.Laying.TheVariants as laying
 use Rattle.row_runs.specs.declared.run.RowJob.{RowJob}
 use Rattle.impose_cli.specs.Choices.{choice_in}
+use Rattle.impose_cli.specs.Spacings.{arrangement_in, binding_in}
+use Rattle.impose_cli.specs.declared.request.Spacing.{Spacing}
 use Rattle.impose_cli.specs.Tasks.{HasPages, page_paper_found, sheet_paper_found, taken_text}
 use Rattle.impose_cli.specs.declared.request.Layout.{Layout}
 use Rattle.impose_cli.specs.declared.request.Layout.TheVariants as layout
@@ -28,9 +29,11 @@ use Rattle.impose_cli.specs.declared.row_task.RowTask.{RowTask}
 
 -- how a layout is sewn
 abbrev pub signing_in : Layout → Option Signing
-signing_in (layout.NUp n) = None
 signing_in (layout.Booklet None long_edge) = Some InOne
 signing_in (layout.Booklet (Some sides) long_edge) = Some (OfSides sides)
+signing_in (layout.NUp n) = None
+signing_in (layout.Cards n) = None
+signing_in (layout.Stack n duplex) = None
 signing_in layout.Selection = None
 signing_in (layout.Spec specs) = None
 
@@ -39,22 +42,34 @@ abbrev pub sheet_paper_in : Layout → (named : Option Paper) → (page_paper : 
 sheet_paper_in layout.Selection named page_paper = page_paper
 sheet_paper_in other named page_paper = sheet_paper_found named page_paper
 
+-- a stack in so many cells, or in all of them on both sides of leaves
+abbrev pub stacked : (duplex : Bool) → Setting → (cells : ℕ) → Laying
+stacked false t cells = laying.Stack t cells
+stacked true t cells = laying.Leaves t
+
 -- how a layout lays a row of pages of a paper on sheets, if it does
-abbrev pub laying_in : Layout → (page_paper sheet_paper : Paper) → Option Laying
-laying_in (layout.NUp n) page_paper sheet_paper =
-    Some (laying.Grid (setting_of page_paper sheet_paper (plain (AtLeast n))) n)
-laying_in (layout.Booklet signature long_edge) page_paper sheet_paper =
-    Some (laying.Booklet (binding_setting_of sheet_paper (plain_binding long_edge)) long_edge)
-laying_in layout.Selection page_paper sheet_paper = Some (laying.AsTheyAre sheet_paper)
-laying_in (layout.Spec specs) page_paper sheet_paper = None
+abbrev pub laying_in : Layout → Spacing → (page_paper sheet_paper : Paper) → Option Laying
+laying_in (layout.NUp n) s page_paper sheet_paper =
+    Some (laying.Grid (setting_of page_paper sheet_paper (arrangement_in s n)) n)
+laying_in (layout.Cards n) s page_paper sheet_paper =
+    Some (laying.Cards (setting_of page_paper sheet_paper (arrangement_in s n)) n)
+laying_in (layout.Stack n duplex) s page_paper sheet_paper =
+    Some (stacked duplex (setting_of page_paper sheet_paper (arrangement_in s n)) n)
+laying_in (layout.Booklet signature long_edge) s page_paper sheet_paper =
+    Some (laying.Booklet (binding_setting_of sheet_paper (binding_in s long_edge)) long_edge)
+laying_in layout.Selection s page_paper sheet_paper = Some (laying.AsTheyAre sheet_paper)
+laying_in (layout.Spec specs) s page_paper sheet_paper = None
 
 -- why it can't
-abbrev pub why_not_laid : Layout → (page_paper sheet_paper : Paper) → Option ArrangementError
-why_not_laid (layout.NUp n) page_paper sheet_paper = why_not_arranged page_paper sheet_paper (plain (AtLeast n))
-why_not_laid (layout.Booklet signature long_edge) page_paper sheet_paper =
-    why_not_bound page_paper sheet_paper (plain_binding long_edge)
-why_not_laid layout.Selection page_paper sheet_paper = None
-why_not_laid (layout.Spec specs) page_paper sheet_paper = None
+abbrev pub why_not_laid : Layout → Spacing → (page_paper sheet_paper : Paper) → Option ArrangementError
+why_not_laid (layout.NUp n) s page_paper sheet_paper = why_not_arranged page_paper sheet_paper (arrangement_in s n)
+why_not_laid (layout.Cards n) s page_paper sheet_paper = why_not_arranged page_paper sheet_paper (arrangement_in s n)
+why_not_laid (layout.Stack n duplex) s page_paper sheet_paper =
+    why_not_arranged page_paper sheet_paper (arrangement_in s n)
+why_not_laid (layout.Booklet signature long_edge) s page_paper sheet_paper =
+    why_not_bound page_paper sheet_paper (binding_in s long_edge)
+why_not_laid layout.Selection s page_paper sheet_paper = None
+why_not_laid (layout.Spec specs) s page_paper sheet_paper = None
 
 -- the document, with the guard in it if it is asked for, for sheets of the layout's paper
 abbrev pub text_for : Request → (page_paper : Paper) → (input : List ℕ) → List ℕ
@@ -71,7 +86,7 @@ pub record IsRowTask (r : Request) (input : List ℕ) (t : RowTask) : Type 0 whe
   pub document : HasPages input pages
   pub page_paper : (t.page_paper, t.origin) ≡ page_paper_found r.page_paper r.home_paper input
   pub text : t.text.items ≡ text_for r t.page_paper input
-  pub laying : laying_in r.layout t.page_paper (sheet_paper_in r.layout r.sheet_paper t.page_paper) ≡ Some t.laying
+  pub laying : laying_in r.layout r.spacing t.page_paper (sheet_paper_in r.layout r.sheet_paper t.page_paper) ≡ Some t.laying
   pub may_be_laid : MayBeLaid t.laying
   pub signing : option_map signing_of t.signing ≡ signing_in r.layout
   pub may_be_sewn : IfSome t.signing MayBeSewn
@@ -95,7 +110,7 @@ pub record IsRowJob (r : Request) (input : List ℕ) (page_paper : Paper) (job :
   pub papers : job.papers.now ≡ replicate (page_count job) page_paper
   pub choice : choice_of job.asked.choice ≡ choice_in r.choice
   pub signing : option_map signing_of job.asked.signing ≡ signing_in r.layout
-  pub laying : laying_in r.layout page_paper (sheet_paper_in r.layout r.sheet_paper page_paper) ≡ Some job.asked.laying
+  pub laying : laying_in r.layout r.spacing page_paper (sheet_paper_in r.layout r.sheet_paper page_paper) ≡ Some job.asked.laying
   pub border : job.border ≡ r.border
 
 -- The request was carried out for this document: exactly the output was appended of the sheets on which its layout lays

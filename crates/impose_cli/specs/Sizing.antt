@@ -1,8 +1,10 @@
--- The papers, the border, the pages and OUTFILE that the words ask for: the steps of their reading.
+-- The papers, the border, what is kept free, the pages and OUTFILE that the words ask for: the steps of their reading.
 use Rattle.std.specs.Prelude.{◌≡◌, ⊤, ℤ, true, is_some, List, Option, Some, None, codes, string_bytes}
 use Rattle.clap.specs.Words.{Row, first_of}
 use Rattle.rules.specs.Papers.{Paper}
-use Rattle.impose_cli.specs.Words.{HasPapers, NamesNoSize, WritesToOption, border_found, has_flag, size_found}
+use Rattle.lengths.specs.Lengths.{a4, length_named}
+use Rattle.impose_cli.specs.Words.{HasPapers, NamesNoLength, NamesNoSize, WritesToOption, border_found, has_flag, length_id, size_found}
+use Rattle.impose_cli.specs.declared.fault.LengthOption.{LengthOption}
 use Rattle.impose_cli.specs.declared.fault.PaperOption.{PaperOption}
 use Rattle.impose_cli.specs.declared.fault.PaperOption.TheVariants.{Paper as OfPages, Sheet as OfSheets}
 use Rattle.impose_cli.specs.declared.fault.CommandFault.{CommandFault}
@@ -24,6 +26,7 @@ RefusesSize option found fault.OddAndEven = ⊥
 RefusesSize option found (fault.BadSignature sides) = ⊥
 RefusesSize option found (fault.Words error) = ⊥
 RefusesSize option found fault.NoText = ⊥
+RefusesSize option found (fault.BadLength which text) = ⊥
 RefusesSize option found (fault.BadBorder text) = ⊥
 RefusesSize option found (fault.OptionAsOutfile text) = ⊥
 
@@ -39,6 +42,7 @@ RefusesBorder found (fault.BadSignature sides) = ⊥
 RefusesBorder found (fault.OptionAsOutfile text) = ⊥
 RefusesBorder found (fault.Words error) = ⊥
 RefusesBorder found fault.NoText = ⊥
+RefusesBorder found (fault.BadLength option text) = ⊥
 
 -- a refusal of one of them, each behind those before it
 abbrev pub RefusesSizes : (found : List Row) → CommandFault → Type 0
@@ -53,6 +57,33 @@ RefusesSizes found (fault.BadSignature sides) = ⊥
 RefusesSizes found (fault.OptionAsOutfile text) = ⊥
 RefusesSizes found (fault.Words error) = ⊥
 RefusesSizes found fault.NoText = ⊥
+RefusesSizes found (fault.BadLength option text) = ⊥
+
+-- a refusal of what is kept free
+abbrev pub RefusesLength : LengthOption → (found : List Row) → CommandFault → Type 0
+RefusesLength option found (fault.BadLength other text) = (other ≡ option)
+    × (first_of (length_id option) found ≡ Some (string_bytes text)) × (length_named a4 (string_bytes text) ≡ None)
+RefusesLength option found fault.NoMemory = ⊤
+RefusesLength option found (fault.UnknownPaper which text) = ⊥
+RefusesLength option found (fault.BadBorder text) = ⊥
+RefusesLength option found fault.Lacking = ⊥
+RefusesLength option found fault.OddAndEven = ⊥
+RefusesLength option found (fault.BadSignature sides) = ⊥
+RefusesLength option found (fault.OptionAsOutfile text) = ⊥
+RefusesLength option found (fault.Words error) = ⊥
+RefusesLength option found fault.NoText = ⊥
+
+abbrev pub RefusesSpacing : (found : List Row) → CommandFault → Type 0
+RefusesSpacing found (fault.BadLength option text) = NamesNoLength option found (string_bytes text)
+RefusesSpacing found fault.NoMemory = ⊤
+RefusesSpacing found (fault.UnknownPaper option text) = ⊥
+RefusesSpacing found (fault.BadBorder text) = ⊥
+RefusesSpacing found fault.Lacking = ⊥
+RefusesSpacing found fault.OddAndEven = ⊥
+RefusesSpacing found (fault.BadSignature sides) = ⊥
+RefusesSpacing found (fault.OptionAsOutfile text) = ⊥
+RefusesSpacing found (fault.Words error) = ⊥
+RefusesSpacing found fault.NoText = ⊥
 
 -- a refusal of the pages
 abbrev pub RefusesChoice : (found : List Row) → CommandFault → Type 0
@@ -65,6 +96,7 @@ RefusesChoice found (fault.BadSignature sides) = ⊥
 RefusesChoice found (fault.OptionAsOutfile text) = ⊥
 RefusesChoice found (fault.Words error) = ⊥
 RefusesChoice found fault.NoText = ⊥
+RefusesChoice found (fault.BadLength option text) = ⊥
 
 -- a refusal of the file that is written
 abbrev pub RefusesOutfile : (found : List Row) → CommandFault → Type 0
@@ -77,3 +109,4 @@ RefusesOutfile found fault.OddAndEven = ⊥
 RefusesOutfile found (fault.BadSignature sides) = ⊥
 RefusesOutfile found (fault.Words error) = ⊥
 RefusesOutfile found fault.NoText = ⊥
+RefusesOutfile found (fault.BadLength option text) = ⊥

@@ -8,10 +8,8 @@ use Rattle.rules.specs.Parts.{NestedUnit, pages}
 use Rattle.rules.specs.Run.{document_of, plan_in}
 use Rattle.rules.specs.Sheets.{sheets}
 use Rattle.guard.specs.Guard.{guarded}
-use Rattle.layouts.specs.Grids.{leaves, n_up}
-use Rattle.layouts.specs.Grids.{plain, plain_binding}
+use Rattle.layouts.specs.Grids.{arranged, bound}
 use Rattle.layouts.specs.Laws.{IsArranged, IsBound}
-use Rattle.layouts.specs.declared.arrangement.Cells.TheVariants.{AtLeast}
 use Rattle.std.specs.Io.KnownBytes.{Appends}
 use Rattle.rules.specs.Output.{Frame, output}
 use Rattle.imposer.specs.Runs.{Reports}
@@ -21,6 +19,8 @@ use Rattle.document_paper.specs.declared.media.Comment.{Comment}
 use Rattle.impose_cli.specs.declared.task.PaperOrigin.{PaperOrigin}
 use Rattle.impose_cli.specs.declared.task.PaperOrigin.TheVariants.{Named, ByComment, AtHome}
 use Rattle.impose_cli.specs.Choices.{is_whole}
+use Rattle.impose_cli.specs.Spacings.{arrangement_in, binding_in}
+use Rattle.impose_cli.specs.declared.request.Spacing.{Spacing}
 use Rattle.impose_cli.specs.declared.request.Layout.{Layout}
 use Rattle.impose_cli.specs.declared.request.Layout.TheVariants as layout
 use Rattle.impose_cli.specs.declared.request.Request.{Request}
@@ -57,18 +57,19 @@ abbrev pub IsWritten : Spec → (text : List ℕ) → Type 0
 IsWritten spec text = (text ≡ canonical spec) × Takes most_slots text spec
 
 -- The text of the specification and the sides of a signature to which a layout comes, for so many pages of a paper. None
--- says a selection.
-abbrev pub IsPlaced : Layout → (page_paper sheet_paper : Paper) → (pages : ℕ) → (text : List ℕ) → (sides : Option ℕ)
-    → Type 0
-IsPlaced (layout.NUp n) page_paper sheet_paper pages text sides =
-    (IsWritten (n_up page_paper sheet_paper n) text
-    × IsArranged page_paper sheet_paper (plain (AtLeast n)) (n_up page_paper sheet_paper n)) × (sides ≡ None)
-IsPlaced (layout.Booklet signature long_edge) page_paper sheet_paper pages text sides =
-    (IsWritten (leaves page_paper sheet_paper long_edge) text
-    × IsBound page_paper sheet_paper (plain_binding long_edge) (leaves page_paper sheet_paper long_edge))
+-- says a selection, cards or a stack.
+abbrev pub IsPlaced : Layout → Spacing → (page_paper sheet_paper : Paper) → (pages : ℕ) → (text : List ℕ)
+    → (sides : Option ℕ) → Type 0
+IsPlaced (layout.NUp n) s page_paper sheet_paper pages text sides = let a = arrangement_in s n in
+    (IsWritten (arranged page_paper sheet_paper a) text
+    × IsArranged page_paper sheet_paper a (arranged page_paper sheet_paper a)) × (sides ≡ None)
+IsPlaced (layout.Booklet signature long_edge) s page_paper sheet_paper pages text sides = let b = binding_in s long_edge in
+    (IsWritten (bound page_paper sheet_paper b) text × IsBound page_paper sheet_paper b (bound page_paper sheet_paper b))
     × (sides ≡ Some (unwrap_or signature (fours pages)))
-IsPlaced layout.Selection page_paper sheet_paper pages text sides = ⊥
-IsPlaced (layout.Spec specs) page_paper sheet_paper pages text sides = (text ≡ string_bytes specs) × (sides ≡ None)
+IsPlaced (layout.Spec specs) s page_paper sheet_paper pages text sides = (text ≡ string_bytes specs) × (sides ≡ None)
+IsPlaced (layout.Cards n) s page_paper sheet_paper pages text sides = ⊥
+IsPlaced (layout.Stack n duplex) s page_paper sheet_paper pages text sides = ⊥
+IsPlaced layout.Selection s page_paper sheet_paper pages text sides = ⊥
 
 -- the task is what the request asks for with this document
 pub record IsTask (request : Request) (input : List ℕ) (task : Task) : Type 0 where
@@ -76,7 +77,7 @@ pub record IsTask (request : Request) (input : List ℕ) (task : Task) : Type 0 
   pub document : HasPages input page_count
   pub whole : is_whole request.choice ≡ true
   pub page_paper : (task.options.paper, task.origin) ≡ page_paper_found request.page_paper request.home_paper input
-  pub placed : IsPlaced request.layout task.options.paper (sheet_paper_found request.sheet_paper task.options.paper)
+  pub placed : IsPlaced request.layout request.spacing task.options.paper (sheet_paper_found request.sheet_paper task.options.paper)
       page_count (string_bytes task.spec) task.options.sides
   pub text : task.text.items
       ≡ taken_text request.is_guarded (sheet_paper_found request.sheet_paper task.options.paper) input

@@ -8,6 +8,7 @@ use Rattle.pagespec.specs.declared.error.SpecError.{SpecError}
 use Rattle.imposer.specs.Outcomes.{of_spec}
 use Rattle.impose_cli.specs.RowTasks.{sheet_paper_in, why_not_laid}
 use Rattle.impose_cli.specs.Refusals.{RefusesLaying}
+use Rattle.impose_cli.specs.declared.request.Spacing.{Spacing}
 use Rattle.impose_cli.specs.declared.request.Layout.{Layout}
 use Rattle.impose_cli.specs.declared.request.Layout.TheVariants as layout
 use Rattle.impose_cli.specs.declared.fault.Fault.{Fault}
@@ -22,15 +23,15 @@ abbrev pub RefusesSpecification : (text : List ℕ) → Fault → Type 0
 RefusesSpecification text f = (e : SpecError) × (f ≡ fault.Run (of_spec e)) × IsRefusal text e
 
 -- the text of a specification is one; and if the paper of the pages is named, the layout lays them on such sheets
-abbrev pub IsPossible : Layout → (page_paper sheet_paper : Option Paper) → Type 0
-IsPossible (layout.Spec specs) page_paper sheet_paper = IsSpecification (string_bytes specs)
-IsPossible other None sheet_paper = ⊤
-IsPossible other (Some page_paper) sheet_paper =
-    why_not_laid other page_paper (sheet_paper_in other sheet_paper page_paper) ≡ None
+abbrev pub IsPossible : Layout → Spacing → (page_paper sheet_paper : Option Paper) → Type 0
+IsPossible (layout.Spec specs) s page_paper sheet_paper = IsSpecification (string_bytes specs)
+IsPossible other s None sheet_paper = ⊤
+IsPossible other s (Some page_paper) sheet_paper =
+    why_not_laid other s page_paper (sheet_paper_in other sheet_paper page_paper) ≡ None
 
 -- a fault says that this isn't so; or it is out of memory
-abbrev pub RefusesUnread : Layout → (page_paper sheet_paper : Option Paper) → Fault → Type 0
-RefusesUnread (layout.Spec specs) page_paper sheet_paper f = RefusesSpecification (string_bytes specs) f
-RefusesUnread other None sheet_paper f = ⊥
-RefusesUnread other (Some page_paper) sheet_paper f =
-    RefusesLaying other page_paper (sheet_paper_in other sheet_paper page_paper) f
+abbrev pub RefusesUnread : Layout → Spacing → (page_paper sheet_paper : Option Paper) → Fault → Type 0
+RefusesUnread (layout.Spec specs) s page_paper sheet_paper f = RefusesSpecification (string_bytes specs) f
+RefusesUnread other s None sheet_paper f = ⊥
+RefusesUnread other s (Some page_paper) sheet_paper f =
+    RefusesLaying other s page_paper (sheet_paper_in other sheet_paper page_paper) f

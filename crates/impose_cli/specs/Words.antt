@@ -1,11 +1,11 @@
 -- What the words ask for, by the rows that the command finds among them.
-use Rattle.std.specs.Prelude.{◌≡◌, ◌⊎◌, ◌%◌, ◌==◌, ⊤, [], ℕ, ℤ, Bool, true, false, not, if◌then◌else◌, is_some}
+use Rattle.std.specs.Prelude.{◌≡◌, ◌⊎◌, ◌%◌, ◌==◌, ⊤, [], ℕ, ℤ, pos, Bool, true, false, not, if◌then◌else◌, is_some}
 use Rattle.std.specs.Prelude.{option_map, List, Option, Some, None, codes, nat_eq, string_bytes}
 use Rattle.std.specs.Str.{bytes_eq}
 use Rattle.std.specs.List.{starts_with}
 use Rattle.clap.specs.Words.{IsAmong, Row, Text, fault_of, first_of, kind_of, one_of, subcommand_of}
 use Rattle.rules.specs.Papers.{Paper}
-use Rattle.lengths.specs.Lengths.{a4}
+use Rattle.lengths.specs.Lengths.{a4, length_named}
 use Rattle.command_words.specs.Borders.{border_named}
 use Rattle.command_words.specs.Matches.{has_true, number_named}
 use Rattle.rows.specs.declared.choices.Part.{Part}
@@ -17,6 +17,10 @@ use Rattle.impose_cli.specs.Sizes.{size_named}
 use Rattle.impose_cli.specs.declared.request.Layout.{Layout}
 use Rattle.impose_cli.specs.declared.request.Layout.TheVariants as layout
 use Rattle.impose_cli.specs.declared.request.Request.{Request}
+use Rattle.impose_cli.specs.Spacings.{keeps_room, nothing_kept}
+use Rattle.impose_cli.specs.declared.request.Spacing.{Spacing}
+use Rattle.impose_cli.specs.declared.fault.LengthOption.{LengthOption}
+use Rattle.impose_cli.specs.declared.fault.LengthOption.TheVariants.{Margin, Gap, Trim}
 use Rattle.impose_cli.specs.declared.fault.PaperOption.{PaperOption}
 use Rattle.impose_cli.specs.declared.fault.PaperOption.TheVariants.{Paper as OfPages, Sheet as OfSheets}
 use Rattle.impose_cli.specs.declared.fault.CommandFault.{CommandFault}
@@ -47,6 +51,19 @@ size_found option found = size_asked (first_of (paper_id option) found)
 -- no border if none is asked for, or one of the width 0; and nothing if the text names no length, or one below 0
 abbrev pub border_found : (found : List Row) → Option (Option ℤ)
 border_found found = border_named a4 (first_of (codes "border") found)
+
+abbrev pub length_id : LengthOption → Text
+length_id Margin = codes "margin"
+length_id Gap = codes "gap"
+length_id Trim = codes "trim"
+
+-- no length is 0; and nothing if the text names none
+abbrev pub length_asked : Option Text → Option ℤ
+length_asked None = Some (pos 0)
+length_asked (Some text) = length_named a4 text
+
+abbrev pub length_found : LengthOption → (found : List Row) → Option ℤ
+length_found option found = length_asked (first_of (length_id option) found)
 
 -- a signature of leaves that are folded has a multiple of four sides
 abbrev pub is_folded : (signature : Option ℕ) → Bool
@@ -84,6 +101,9 @@ is_outfile (Some name) = not (is_like_option name)
 -- the subcommand with this name and what was found for it ask for this layout
 abbrev pub AsksFor : (name : Text) → (found : List Row) → Layout → Type 0
 AsksFor name found (layout.NUp n) = (name ≡ codes "nup") × (number_found (codes "count") found ≡ Some n)
+AsksFor name found (layout.Cards n) = (name ≡ codes "cards") × (number_found (codes "count") found ≡ Some n)
+AsksFor name found (layout.Stack n duplex) = (name ≡ codes "stack") × (number_found (codes "count") found ≡ Some n)
+    × (has_flag (codes "duplex") found ≡ duplex)
 AsksFor name found (layout.Booklet signature long_edge) =
     (name ≡ codes "booklet") × (number_found (codes "signature") found ≡ signature) × (is_folded signature ≡ true)
     × (has_flag (codes "long-edge") found ≡ long_edge)
@@ -103,9 +123,16 @@ ChoosesBy None found choice = is_whole choice ≡ true
 ChoosesBy (Some id) found choice = (first_of id found ≡ option_map string_bytes choice.ranges)
     × (part_found found ≡ Some choice.part) × (has_flag (codes "reverse") found ≡ choice.backwards)
 
+-- what was found asks for this to be kept free, by a layout that keeps room; or nothing is
+abbrev pub SpacesBy : (keeps : Bool) → (found : List Row) → Spacing → Type 0
+SpacesBy false found s = s ≡ nothing_kept
+SpacesBy true found s = (length_found Margin found ≡ Some s.margin) × (length_found Gap found ≡ Some s.gap)
+    × (length_found Trim found ≡ Some s.trim) × (has_flag (codes "rtl") found ≡ s.right_to_left)
+
 -- the request is what was found
 pub record Reads (name : Text) (found : List Row) (r : Request) : Type 0 where
   pub layout : AsksFor name found r.layout
+  pub spacing : SpacesBy (keeps_room r.layout) found r.spacing
   pub choice : ChoosesBy (ranges_id r.layout) found r.choice
   pub page_paper : size_found OfPages found ≡ Some r.page_paper
   pub sheet_paper : size_found OfSheets found ≡ Some r.sheet_paper
@@ -153,14 +180,30 @@ pub record HasLayout (name : Text) (found : List Row) : Type 0 where
   pub layout : Layout
   pub asked : AsksFor name found layout
 
-pub record HasChoice (name : Text) (found : List Row) : Type 0 where
+pub record HasSpacing (name : Text) (found : List Row) : Type 0 where
   pub layout : HasLayout name found
+  pub spacing : Spacing
+  pub kept : SpacesBy (keeps_room layout.layout) found spacing
+
+pub record HasChoice (name : Text) (found : List Row) : Type 0 where
+  pub spacing : HasSpacing name found
   pub choice : PageChoice
-  pub chosen : ChoosesBy (ranges_id layout.layout) found choice
+  pub chosen : ChoosesBy (ranges_id spacing.layout.layout) found choice
+
+-- the value of the option names no length, and those of the options before it do
+abbrev pub AreBefore : LengthOption → (found : List Row) → Type 0
+AreBefore Margin found = ⊤
+AreBefore Gap found = is_some (length_found Margin found) ≡ true
+AreBefore Trim found = (is_some (length_found Margin found) ≡ true) × (is_some (length_found Gap found) ≡ true)
+
+pub record NamesNoLength (option : LengthOption) (found : List Row) (text : Text) : Type 0 where
+  pub given : first_of (length_id option) found ≡ Some text
+  pub none : length_named a4 text ≡ None
+  pub before : AreBefore option found
 
 -- odd and even entries are asked for, which leave none together
 pub record AsksForNone (name : Text) (found : List Row) : Type 0 where
-  pub layout : HasLayout name found
+  pub spacing : HasSpacing name found
   pub odd : has_flag (codes "odd") found ≡ true
   pub even : has_flag (codes "even") found ≡ true
 
@@ -169,8 +212,10 @@ abbrev pub is_complete : (name : Text) → (found : List Row) → Bool
 is_complete name found =
     if bytes_eq name (codes "nup") then is_some (number_found (codes "count") found)
     else (if bytes_eq name (codes "booklet") then true
+    else (if bytes_eq name (codes "cards") then is_some (number_found (codes "count") found)
+    else (if bytes_eq name (codes "stack") then is_some (number_found (codes "count") found)
     else (if bytes_eq name (codes "select") then is_some (first_of (codes "ranges") found)
-    else (if bytes_eq name (codes "spec") then is_some (first_of (codes "specs") found) else false)))
+    else (if bytes_eq name (codes "spec") then is_some (first_of (codes "specs") found) else false)))))
 
 -- what a refusal of a layout says of what was found
 abbrev pub RefusesArguments : (name : Text) → (found : List Row) → CommandFault → Type 0
@@ -183,10 +228,11 @@ RefusesArguments name found (fault.Words error) = ⊥
 RefusesArguments name found fault.NoText = ⊥
 RefusesArguments name found (fault.UnknownPaper option text) = ⊥
 RefusesArguments name found (fault.BadBorder text) = ⊥
+RefusesArguments name found (fault.BadLength option text) = ⊥
 RefusesArguments name found (fault.OptionAsOutfile text) = ⊥
 
--- what a refusal says of what was found, and of what was looked at before: --paper, --sheet, --border, the layout, the
--- pages, OUTFILE
+-- what a refusal says of what was found, and of what was looked at before: --paper, --sheet, --border, the layout, what is
+-- kept free, the pages, OUTFILE
 abbrev pub RefusesFound : (name : Text) → (found : List Row) → CommandFault → Type 0
 RefusesFound name found (fault.UnknownPaper OfPages text) = NamesNoSize OfPages found (string_bytes text)
 RefusesFound name found (fault.UnknownPaper OfSheets text) = (is_some (size_found OfPages found) ≡ true)
@@ -196,6 +242,7 @@ RefusesFound name found (fault.BadBorder text) = HasPapers found
 RefusesFound name found (fault.BadSignature sides) = HasSizes found
     × RefusesArguments name found (fault.BadSignature sides)
 RefusesFound name found fault.OddAndEven = AsksForNone name found
+RefusesFound name found (fault.BadLength option text) = HasLayout name found × NamesNoLength option found (string_bytes text)
 RefusesFound name found fault.Lacking = HasSizes found × RefusesArguments name found fault.Lacking
 RefusesFound name found (fault.OptionAsOutfile text) = HasChoice name found × WritesToOption found (string_bytes text)
 RefusesFound name found fault.NoMemory = ⊤
@@ -212,6 +259,8 @@ Refuses words (fault.UnknownPaper option text) =
 Refuses words (fault.BadBorder text) = Entered words (λ name found. RefusesFound name found (fault.BadBorder text))
 Refuses words (fault.BadSignature sides) =
     Entered words (λ name found. RefusesFound name found (fault.BadSignature sides))
+Refuses words (fault.BadLength option text) =
+    Entered words (λ name found. RefusesFound name found (fault.BadLength option text))
 Refuses words fault.OddAndEven = Entered words (λ name found. RefusesFound name found fault.OddAndEven)
 Refuses words (fault.OptionAsOutfile text) =
     Entered words (λ name found. RefusesFound name found (fault.OptionAsOutfile text))

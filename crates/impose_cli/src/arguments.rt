@@ -3,8 +3,9 @@ ghost use Rattle.std.specs.Prelude.{◌≡◌, IfOk, codes, map, true};
 ghost use Rattle.std.specs.List.{fold, list_all};
 ghost use Rattle.clap.specs.Words.{app_of, new_app, rule_of, with_rule};
 ghost use Rattle.command_words.specs.Arguments.{fits};
-ghost use Rattle.impose_cli.specs.Command.{apps, booklet_app, common_rules, flag_rule, impose, nup_app, option_rule};
-ghost use Rattle.impose_cli.specs.Command.{positional_rule, required_rule, select_app, spec_app};
+ghost use Rattle.impose_cli.specs.Command.{apps, booklet_app, cards_app, common_rules, count_rule, flag_rule, impose};
+ghost use Rattle.impose_cli.specs.Command.{nup_app, option_rule, positional_rule, required_rule, select_app, spec_app};
+ghost use Rattle.impose_cli.specs.Command.{signature_rule, stack_app};
 
 use clap::{Arg, ArgAction, Command, value_parser};
 use std::alloc::{AllocError, Global};
@@ -39,20 +40,23 @@ fn subcommands<'a>(alloc: Global) -> Result<Vec<Command<'a>>, AllocError>
 {
     let nup = nup(alloc)?;
     let booklet = booklet(alloc)?;
+    let cards = cards(alloc)?;
+    let stack = stack(alloc)?;
     let select = select(alloc)?;
     let spec = spec(alloc)?;
-    Ok(vec![in alloc; nup, booklet, select, spec]?)
+    Ok(vec![in alloc; nup, booklet, cards, stack, select, spec]?)
 }
 
 fn nup<'a>(alloc: Global) -> Result<Command<'a>, AllocError>
     ensures { IfOk result (λ c. app_of c ≡ nup_app) }
 {
-    let count = required(alloc, "count", "N")
-        .value_parser(value_parser!(u32).range(1..=1_024))
-        .help("How many pages, from 1 to 1024");
     let about = "Several pages on each sheet, as large as they fit";
     let own = vec![in alloc;
-        count,
+        count(alloc),
+        margin(alloc),
+        gap(alloc),
+        trim(alloc),
+        rtl(alloc),
         pages(alloc),
         odd(alloc),
         even(alloc),
@@ -61,17 +65,57 @@ fn nup<'a>(alloc: Global) -> Result<Command<'a>, AllocError>
     subcommand(alloc, "nup", about, own)
 }
 
+fn cards<'a>(alloc: Global) -> Result<Command<'a>, AllocError>
+    ensures { IfOk result (λ c. app_of c ≡ cards_app) }
+{
+    let about = "Each page several times on a sheet, to be cut";
+    let own = vec![in alloc;
+        count(alloc),
+        margin(alloc),
+        gap(alloc),
+        trim(alloc),
+        rtl(alloc),
+        pages(alloc),
+        odd(alloc),
+        even(alloc),
+        reverse(alloc),
+    ]?;
+    subcommand(alloc, "cards", about, own)
+}
+
+fn stack<'a>(alloc: Global) -> Result<Command<'a>, AllocError>
+    ensures { IfOk result (λ c. app_of c ≡ stack_app) }
+{
+    let duplex = flag(alloc, "duplex").help("For sheets that are printed on both sides");
+    let about =
+        "Several pages on each sheet: cut the pile, lay its parts on one another, and the pages run on";
+    let own = vec![in alloc;
+        count(alloc),
+        duplex,
+        margin(alloc),
+        gap(alloc),
+        trim(alloc),
+        rtl(alloc),
+        pages(alloc),
+        odd(alloc),
+        even(alloc),
+        reverse(alloc),
+    ]?;
+    subcommand(alloc, "stack", about, own)
+}
+
 fn booklet<'a>(alloc: Global) -> Result<Command<'a>, AllocError>
     ensures { IfOk result (λ c. app_of c ≡ booklet_app) }
 {
-    let signature = option(alloc, "signature", "SIDES")
-        .value_parser(value_parser!(u32).range(4..=1_000_000))
-        .help("Leaves of so many sides, a multiple of four [default: all pages]");
     let long_edge = flag(alloc, "long-edge").help("For printers that flip on the long edge");
     let about = "A booklet, to be printed on both sides, folded and stapled";
     let own = vec![in alloc;
-        signature,
+        signature(alloc),
         long_edge,
+        margin(alloc),
+        gap(alloc),
+        trim(alloc),
+        rtl(alloc),
         pages(alloc),
         odd(alloc),
         even(alloc),
@@ -91,6 +135,48 @@ fn select<'a>(alloc: Global) -> Result<Command<'a>, AllocError>
 
 const RANGES_HELP: &str =
     "Pages, as 7, 3-9, 9-3, 5- or _1 (the last), blank for an empty one, with commas between them";
+
+fn count<'a>(alloc: Global) -> Arg<'a>
+    ensures { rule_of result ≡ count_rule }
+{
+    required(alloc, "count", "N")
+        .value_parser(value_parser!(u32).range(1..=1_024))
+        .help("How many pages, from 1 to 1024")
+}
+
+fn signature<'a>(alloc: Global) -> Arg<'a>
+    ensures { rule_of result ≡ signature_rule }
+{
+    option(alloc, "signature", "SIDES")
+        .value_parser(value_parser!(u32).range(4..=1_000_000))
+        .help("Leaves of so many sides, a multiple of four [default: all pages]")
+}
+
+fn margin<'a>(alloc: Global) -> Arg<'a>
+    ensures { rule_of result ≡ option_rule (codes "margin") }
+{
+    option(alloc, "margin", "LENGTH").help("Keep so much free along each edge of a sheet, as 5mm")
+}
+
+fn gap<'a>(alloc: Global) -> Arg<'a>
+    ensures { rule_of result ≡ option_rule (codes "gap") }
+{
+    option(alloc, "gap", "LENGTH").help("Keep so much free between pages")
+}
+
+fn trim<'a>(alloc: Global) -> Arg<'a>
+    ensures { rule_of result ≡ option_rule (codes "trim") }
+{
+    option(alloc, "trim", "LENGTH").help(
+        "Take each page as smaller by so much along each side, so that it is printed larger",
+    )
+}
+
+fn rtl<'a>(alloc: Global) -> Arg<'a>
+    ensures { rule_of result ≡ flag_rule (codes "rtl") }
+{
+    flag(alloc, "rtl").help("From the right to the left; a booklet is bound at the right")
+}
 
 fn pages<'a>(alloc: Global) -> Arg<'a>
     ensures { rule_of result ≡ option_rule (codes "pages") }

@@ -4,18 +4,20 @@ ghost use Rattle.clap.specs.Words.{fault_of, first_of, found_of, is_simple, rows
 ghost use Rattle.impose_cli.specs.Command.{impose};
 ghost use Rattle.impose_cli.specs.Words.{AsksFor, Entered, ParseRefuses, Reads, Refuses, RefusesFound};
 ghost use Rattle.impose_cli.specs.Words.{RefusesArguments, border_found, file_asked, is_outfile, paper_id};
-ghost use Rattle.impose_cli.specs.Words.{ChoosesBy, ranges_id, part_by as of_both, size_found};
+ghost use Rattle.impose_cli.specs.Words.{ChoosesBy, SpacesBy, length_found, length_id, ranges_id, part_by as of_both};
+ghost use Rattle.impose_cli.specs.Words.{size_found};
+ghost use Rattle.impose_cli.specs.Spacings.{keeps_room};
 ghost use Rattle.impose_cli.specs.Sizing.{ReadsSizes, RefusesBorder, RefusesChoice, RefusesOutfile, RefusesSize};
-ghost use Rattle.impose_cli.specs.Sizing.{RefusesSizes};
+ghost use Rattle.impose_cli.specs.Sizing.{RefusesLength, RefusesSizes, RefusesSpacing};
 
 use crate::arguments::command;
-use crate::fault::{CommandFault, PaperOption};
-use crate::request::{Layout, PageChoice, Request};
+use crate::fault::{CommandFault, LengthOption, PaperOption};
+use crate::request::{Layout, PageChoice, Request, Spacing};
 use crate::sizes::size_named;
 use clap::ArgMatches;
 use clap::error::ErrorKind;
 use command_words::{border_named, is_set, number_of, owned, text_of};
-use lengths::{Grains, Paper, a4};
+use lengths::{Grains, Paper, a4, length_named};
 use rows::Part;
 use std::alloc::Global;
 
@@ -24,8 +26,8 @@ use std::alloc::Global;
 ///
 /// Words that the command doesn't take are `Words`, with clap's message, and so is a call for help or for the version.
 /// Among words that it takes, the first of these is the fault: a paper that there isn't, after `--paper`, then after
-/// `--sheet`; a border that is no length, or below zero; what the subcommand's own arguments can't be together; odd and
-/// even entries together; an OUTFILE that begins with a minus sign.
+/// `--sheet`; a border that is no length, or below zero; what the subcommand's own arguments can't be together; a margin, a
+/// gap or a trim that is no length; odd and even entries together; an OUTFILE that begins with a minus sign.
 #[tactic(auto, using(crate::proofs::Commands::impose_is_simple))]
 pub fn read_command(alloc: Global, words: &[String]) -> Result<Request, CommandFault>
     // The command takes the words, and the request is what it finds among them.
@@ -78,6 +80,10 @@ fn request_of(alloc: Global, name: &str, found: &ArgMatches<'_>) -> Result<Reque
         Ok(layout) => layout,
         Err(fault) => return Err(fault),
     };
+    let spacing = match spacing_of(alloc, &layout, found) {
+        Ok(spacing) => spacing,
+        Err(fault) => return Err(fault),
+    };
     let choice = match choice_of(alloc, &layout, found) {
         Ok(choice) => choice,
         Err(fault) => return Err(fault),
@@ -89,6 +95,7 @@ fn request_of(alloc: Global, name: &str, found: &ArgMatches<'_>) -> Result<Reque
     };
     Ok(Request {
         layout,
+        spacing,
         choice,
         page_paper: sizes.page_paper,
         home_paper: a4(),
@@ -184,6 +191,10 @@ fn layout_of(alloc: Global, name: &str, found: &ArgMatches<'_>) -> Result<Layout
         nup_of(found)
     } else if name == "booklet" {
         booklet_of(found)
+    } else if name == "cards" {
+        cards_of(found)
+    } else if name == "stack" {
+        stack_of(found)
     } else if name == "select" {
         selection_of(found)
     } else if name == "spec" {
@@ -199,6 +210,29 @@ fn nup_of(found: &ArgMatches<'_>) -> Result<Layout, CommandFault>
 {
     match number_of(found, "count") {
         Some(count) => Ok(Layout::NUp(count)),
+        None => Err(CommandFault::Lacking),
+    }
+}
+
+fn cards_of(found: &ArgMatches<'_>) -> Result<Layout, CommandFault>
+    ensures read { IfOk result (AsksFor (codes "cards") (rows_of (found_of found.now))) }
+    ensures refused { IfErr result (RefusesArguments (codes "cards") (rows_of (found_of found.now))) }
+{
+    match number_of(found, "count") {
+        Some(count) => Ok(Layout::Cards(count)),
+        None => Err(CommandFault::Lacking),
+    }
+}
+
+fn stack_of(found: &ArgMatches<'_>) -> Result<Layout, CommandFault>
+    ensures read { IfOk result (AsksFor (codes "stack") (rows_of (found_of found.now))) }
+    ensures refused { IfErr result (RefusesArguments (codes "stack") (rows_of (found_of found.now))) }
+{
+    match number_of(found, "count") {
+        Some(count) => Ok(Layout::Stack {
+            count,
+            duplex: is_set(found, "duplex"),
+        }),
         None => Err(CommandFault::Lacking),
     }
 }
@@ -239,6 +273,66 @@ fn spec_of(alloc: Global, found: &ArgMatches<'_>) -> Result<Layout, CommandFault
     }
 }
 
+/// What is kept free on the sheets of the layout.
+fn spacing_of(
+    alloc: Global,
+    layout: &Layout,
+    found: &ArgMatches<'_>,
+) -> Result<Spacing, CommandFault>
+    ensures read { IfOk result (SpacesBy (keeps_room layout.now) (rows_of (found_of found.now))) }
+    ensures refused { IfErr result (RefusesSpacing (rows_of (found_of found.now))) }
+{
+    if !layout.keeps_room() {
+        return Ok(Spacing::none());
+    }
+    let margin = match length_of(alloc, found, LengthOption::Margin) {
+        Ok(margin) => margin,
+        Err(fault) => return Err(fault),
+    };
+    let gap = match length_of(alloc, found, LengthOption::Gap) {
+        Ok(gap) => gap,
+        Err(fault) => return Err(fault),
+    };
+    match length_of(alloc, found, LengthOption::Trim) {
+        Ok(trim) => Ok(Spacing {
+            margin,
+            gap,
+            trim,
+            right_to_left: is_set(found, "rtl"),
+        }),
+        Err(fault) => Err(fault),
+    }
+}
+
+/// The length that an option names; 0 if it isn't there.
+fn length_of(
+    alloc: Global,
+    found: &ArgMatches<'_>,
+    option: LengthOption,
+) -> Result<Grains, CommandFault>
+    ensures read { IfOk result (λ length. length_found option (rows_of (found_of found.now)) ≡ Some length) }
+    ensures refused { IfErr result (RefusesLength option (rows_of (found_of found.now))) }
+{
+    match text_of(found, length_name(option)) {
+        None => Ok(Spacing::none().margin),
+        Some(text) => match length_named(&a4(), text.as_bytes()) {
+            Some(length) => Ok(length),
+            None => Err(CommandFault::BadLength(option, String::from_str(alloc, text)?)),
+        },
+    }
+}
+
+/// The name of the option's argument.
+fn length_name(option: LengthOption) -> &'static str
+    ensures { result.now ≡ length_id option }
+{
+    match option {
+        LengthOption::Margin => "margin",
+        LengthOption::Gap => "gap",
+        LengthOption::Trim => "trim",
+    }
+}
+
 /// Which pages of the document are laid out so, and in which order.
 fn choice_of(
     alloc: Global,
@@ -249,7 +343,8 @@ fn choice_of(
     ensures refused { IfErr result (RefusesChoice (rows_of (found_of found.now))) }
 {
     match layout {
-        Layout::NUp(_) | Layout::Booklet { .. } => choice_by(alloc, "pages", found),
+        Layout::NUp(_) | Layout::Cards(_) => choice_by(alloc, "pages", found),
+        Layout::Stack { .. } | Layout::Booklet { .. } => choice_by(alloc, "pages", found),
         Layout::Selection => choice_by(alloc, "ranges", found),
         Layout::Spec(_) => Ok(PageChoice::whole()),
     }

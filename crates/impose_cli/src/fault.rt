@@ -14,6 +14,14 @@ pub enum PaperOption {
     Sheet,
 }
 
+/// The option that names a length.
+#[derive(Clone, Copy, Debug, PartialEq, Eq)]
+pub enum LengthOption {
+    Margin,
+    Gap,
+    Trim,
+}
+
 /// Why a command line is refused.
 #[derive(Debug, Drop)]
 pub enum CommandFault {
@@ -27,6 +35,8 @@ pub enum CommandFault {
     UnknownPaper(PaperOption, String),
     /// The value of `--border`, this text, is no length above zero, nor zero.
     BadBorder(String),
+    /// The option's value, this text, is no length.
+    BadLength(LengthOption, String),
     /// A signature of so many sides, which is no multiple of four.
     BadSignature(u32),
     /// Both `--odd` and `--even` are there.

@@ -1,15 +1,19 @@
 //! How a layout lays a row of pages on sheets.
-ghost use Rattle.std.specs.Prelude.{◌≡◌, ◌<◌, IfErr, IfOk, IfSome, OnOk, None, Some, option_map};
+ghost use Rattle.std.specs.Prelude.{◌≡◌, ◌<◌, ◌≤◌, IfErr, IfOk, IfSome, OnOk, None, Some, option_map};
+ghost use Rattle.layouts.specs.Cells.{size};
+ghost use Rattle.layouts.specs.Fitted.{setting_of};
+ghost use Rattle.layouts.specs.Refusals.{why_not_arranged};
 ghost use Rattle.rows.specs.Sewing.{MayBeSewn, signing_of};
 ghost use Rattle.row_runs.specs.Sheets.{MayBeLaid};
 ghost use Rattle.impose_cli.specs.Refusals.{RefusesLaying, RefusesSides};
+ghost use Rattle.impose_cli.specs.Spacings.{arrangement_in};
 ghost use Rattle.impose_cli.specs.RowTasks.{laying_in, sheet_paper_in, signing_in, why_not_laid};
 ghost use Rattle.impose_cli.specs.declared.request.Layout.TheVariants as layout;
 
 use crate::fault::Fault;
-use crate::request::Layout;
+use crate::request::{Layout, Spacing};
 use imposer::RunError;
-use layouts::{Arrangement, Binding, Cells, Papers, Setting};
+use layouts::{Papers, Setting};
 use lengths::Paper;
 use row_runs::Laying;
 use rows::Signing;
@@ -28,15 +32,22 @@ pub(crate) fn papers_for(layout: &Layout, named: Option<Paper>, page: Paper) -> 
 }
 
 /// How the layout lays pages on sheets; None if it is a specification, which isn't laid so.
-pub(crate) fn laying_for(layout: &Layout, papers: &Papers) -> Result<Option<Laying>, Fault>
-    ensures laying { IfOk result (λ laying. laying ≡ laying_in layout.now papers.now.page papers.now.sheet) }
+pub(crate) fn laying_for(
+    layout: &Layout,
+    spacing: &Spacing,
+    papers: &Papers,
+) -> Result<Option<Laying>, Fault>
+    ensures laying { IfOk result (λ laying.
+        laying ≡ laying_in layout.now spacing.now papers.now.page papers.now.sheet) }
     ensures may_be { IfOk result (λ laying. IfSome laying MayBeLaid) }
-    ensures possible { OnOk result (why_not_laid layout.now papers.now.page papers.now.sheet ≡ None) }
-    ensures refused { IfErr result (RefusesLaying layout.now papers.now.page papers.now.sheet) }
+    ensures possible { OnOk result (why_not_laid layout.now spacing.now papers.now.page papers.now.sheet ≡ None) }
+    ensures refused { IfErr result (RefusesLaying layout.now spacing.now papers.now.page papers.now.sheet) }
 {
     match layout {
-        Layout::NUp(count) => cells_for(*count, papers),
-        Layout::Booklet { long_edge, .. } => halves_for(papers, *long_edge),
+        Layout::NUp(count) => nup_laying(*count, spacing, papers),
+        Layout::Cards(count) => cards_laying(*count, spacing, papers),
+        Layout::Stack { count, duplex } => stack_laying(*count, *duplex, spacing, papers),
+        Layout::Booklet { long_edge, .. } => booklet_laying(*long_edge, spacing, papers),
         Layout::Selection => Ok(Some(Laying::AsTheyAre {
             blank: papers.sheet,
         })),
@@ -44,29 +55,96 @@ pub(crate) fn laying_for(layout: &Layout, papers: &Papers) -> Result<Option<Layi
     }
 }
 
-fn cells_for(count: u32, papers: &Papers) -> Result<Option<Laying>, Fault>
-    ensures laying { IfOk result (λ laying. laying ≡ laying_in (layout.NUp count) papers.now.page papers.now.sheet) }
+fn nup_laying(count: u32, spacing: &Spacing, papers: &Papers) -> Result<Option<Laying>, Fault>
+    ensures laying { IfOk result (λ laying.
+        laying ≡ laying_in (layout.NUp count) spacing.now papers.now.page papers.now.sheet) }
     ensures may_be { IfOk result (λ laying. IfSome laying MayBeLaid) }
-    ensures possible { OnOk result (why_not_laid (layout.NUp count) papers.now.page papers.now.sheet ≡ None) }
-    ensures refused { IfErr result (RefusesLaying (layout.NUp count) papers.now.page papers.now.sheet) }
+    ensures possible { OnOk result (why_not_laid (layout.NUp count) spacing.now papers.now.page papers.now.sheet ≡ None) }
+    ensures refused { IfErr result (RefusesLaying (layout.NUp count) spacing.now papers.now.page papers.now.sheet) }
 {
-    match Setting::of(papers, &Arrangement::plain(Cells::AtLeast(count))) {
+    match cells_for(count, spacing, papers) {
         Ok(setting) => Ok(Some(Laying::Grid {
             setting,
             cells: count,
         })),
+        Err(fault) => Err(fault),
+    }
+}
+
+fn cards_laying(count: u32, spacing: &Spacing, papers: &Papers) -> Result<Option<Laying>, Fault>
+    ensures laying { IfOk result (λ laying.
+        laying ≡ laying_in (layout.Cards count) spacing.now papers.now.page papers.now.sheet) }
+    ensures may_be { IfOk result (λ laying. IfSome laying MayBeLaid) }
+    ensures possible { OnOk result (why_not_laid (layout.Cards count) spacing.now papers.now.page papers.now.sheet ≡ None) }
+    ensures refused { IfErr result (RefusesLaying (layout.Cards count) spacing.now papers.now.page papers.now.sheet) }
+{
+    match cells_for(count, spacing, papers) {
+        Ok(setting) => Ok(Some(Laying::Cards {
+            setting,
+            cells: count,
+        })),
+        Err(fault) => Err(fault),
+    }
+}
+
+fn stack_laying(
+    count: u32,
+    duplex: bool,
+    spacing: &Spacing,
+    papers: &Papers,
+) -> Result<Option<Laying>, Fault>
+    ensures laying { IfOk result (λ laying.
+        laying ≡ laying_in (layout.Stack count duplex) spacing.now papers.now.page papers.now.sheet) }
+    ensures may_be { IfOk result (λ laying. IfSome laying MayBeLaid) }
+    ensures possible { OnOk result
+        (why_not_laid (layout.Stack count duplex) spacing.now papers.now.page papers.now.sheet ≡ None) }
+    ensures refused { IfErr result
+        (RefusesLaying (layout.Stack count duplex) spacing.now papers.now.page papers.now.sheet) }
+{
+    match cells_for(count, spacing, papers) {
+        Ok(setting) => if duplex {
+            Ok(Some(Laying::Leaves { setting }))
+        } else {
+            Ok(Some(Laying::Stack {
+                setting,
+                cells: count,
+            }))
+        },
+        Err(fault) => Err(fault),
+    }
+}
+
+/// So many cells or more, with what is kept free.
+fn cells_for(count: u32, spacing: &Spacing, papers: &Papers) -> Result<Setting, Fault>
+    ensures made { IfOk result (λ t.
+        t ≡ setting_of papers.now.page papers.now.sheet (arrangement_in spacing.now count)) }
+    ensures some { IfOk result (λ t. 0 < count) }
+    ensures cells { IfOk result (λ t. count ≤ size t.grid) }
+    ensures possible { OnOk result
+        (why_not_arranged papers.now.page papers.now.sheet (arrangement_in spacing.now count) ≡ None) }
+    ensures refused { IfErr result
+        (RefusesLaying (layout.NUp count) spacing.now papers.now.page papers.now.sheet) }
+{
+    match Setting::of(papers, &spacing.arrangement(count)) {
+        Ok(setting) => Ok(setting),
         Err(error) => Err(Fault::Layout(error)),
     }
 }
 
-fn halves_for(papers: &Papers, long_edge: bool) -> Result<Option<Laying>, Fault>
+fn booklet_laying(
+    long_edge: bool,
+    spacing: &Spacing,
+    papers: &Papers,
+) -> Result<Option<Laying>, Fault>
     ensures laying { IfOk result (λ laying.
-        laying ≡ laying_in (layout.Booklet None long_edge) papers.now.page papers.now.sheet) }
+        laying ≡ laying_in (layout.Booklet None long_edge) spacing.now papers.now.page papers.now.sheet) }
     ensures may_be { IfOk result (λ laying. IfSome laying MayBeLaid) }
-    ensures possible { OnOk result (why_not_laid (layout.Booklet None long_edge) papers.now.page papers.now.sheet ≡ None) }
-    ensures refused { IfErr result (RefusesLaying (layout.Booklet None long_edge) papers.now.page papers.now.sheet) }
+    ensures possible { OnOk result
+        (why_not_laid (layout.Booklet None long_edge) spacing.now papers.now.page papers.now.sheet ≡ None) }
+    ensures refused { IfErr result
+        (RefusesLaying (layout.Booklet None long_edge) spacing.now papers.now.page papers.now.sheet) }
 {
-    match Setting::of_binding(papers, &Binding::plain(long_edge)) {
+    match Setting::of_binding(papers, &spacing.binding(long_edge)) {
         Ok(setting) => Ok(Some(Laying::Booklet {
             setting,
             turned_backs: long_edge,

@@ -19,12 +19,12 @@ mod sizes;
 mod task;
 
 pub use command::read_command;
-pub use fault::{CommandFault, Fault, PaperOption};
+pub use fault::{CommandFault, Fault, LengthOption, PaperOption};
 pub use messages::{command_text, fault_status, fault_text, note_text, report_text};
 pub use mistakes::words_text;
 pub use printed::printed_task;
 pub use program::{Done, Ended, impose};
-pub use request::{Layout, PageChoice, Request};
+pub use request::{Layout, PageChoice, Request, Spacing};
 pub use row_task::run_request;
 pub use sizes::size_named;
 pub use task::{Finished, PaperOrigin, Task, check_layout, task_for};

@@ -3,7 +3,7 @@ ghost use Rattle.std.specs.Prelude.{◌≡◌};
 ghost use Rattle.impose_cli.specs.Statuses.{fault_status as status_of_fault, words_status as status_of_words};
 
 use crate::caret::{caret_below, group_place, item_place, large_place};
-use crate::fault::{CommandFault, Fault, PaperOption};
+use crate::fault::{CommandFault, Fault, LengthOption, PaperOption};
 use crate::mistakes::looks_like_file;
 use crate::request::{Layout, PageChoice, Request};
 use crate::shown::shown_word;
@@ -161,7 +161,8 @@ pub fn fault_text(
         Fault::Sheets(error) => String::from_str(alloc, sheets_message(error)),
         Fault::NoSpecification => String::from_str(
             alloc,
-            "--print-spec: no specification says a selection, nor --pages, --odd, --even or --reverse; leave it out",
+            "--print-spec: no specification says a selection, cards or a stack, nor --pages, --odd, --even or --reverse; \
+            leave it out",
         ),
         Fault::NoSuchPage { place, pages } => {
             let message = format!(in alloc;
@@ -298,6 +299,12 @@ pub fn command_text(alloc: Global, fault: &CommandFault) -> Result<String, Alloc
                 "bad width '{text}' after --border: give a length as 1pt, .5mm or .02in"
             )
         }
+        CommandFault::BadLength(option, text) => {
+            let option = length_option(*option);
+            let text = shown_word(alloc, text.as_str())?;
+            let text = text.as_str();
+            format!(in alloc; "bad length '{text}' after {option}: give it as 5mm, .2in or 14pt")
+        }
         CommandFault::BadSignature(sides) => {
             let below = sides - sides % 4;
             let above = below.saturating_add(4);
@@ -320,6 +327,14 @@ pub fn command_text(alloc: Global, fault: &CommandFault) -> Result<String, Alloc
             )
         }
         CommandFault::NoMemory => String::from_str(alloc, "out of memory"),
+    }
+}
+
+fn length_option(option: LengthOption) -> &'static str {
+    match option {
+        LengthOption::Margin => "--margin",
+        LengthOption::Gap => "--gap",
+        LengthOption::Trim => "--trim",
     }
 }
 
@@ -372,6 +387,13 @@ fn ranges_of(request: Option<&Request>) -> &str {
     }
 }
 
+fn is_selection(request: Option<&Request>) -> bool {
+    match request {
+        Some(request) => matches!(request.layout, Layout::Selection),
+        None => false,
+    }
+}
+
 /// What is said of ranges that name no row.
 fn row_text(
     alloc: Global,
@@ -379,10 +401,11 @@ fn row_text(
     request: Option<&Request>,
 ) -> Result<String, AllocError> {
     let message = match error {
-        RowError::NotARange(_) if looks_like_file(ranges_of(request)) => String::from_str(
-            alloc,
-            "page ranges: they stand before the file, and 1- are all pages: impose select 1- in.ps out.ps",
-        )?,
+        RowError::NotARange(_) if is_selection(request) && looks_like_file(ranges_of(request)) =>
+            String::from_str(
+                alloc,
+                "page ranges: they stand before the file, and 1- are all pages: impose select 1- in.ps out.ps",
+            )?,
         RowError::NotARange(at) => format!(in alloc;
             "page ranges: no range at byte {at}; write them as 7, 3-9, 5-, _1 (the last) or blank, with commas \
             between them"

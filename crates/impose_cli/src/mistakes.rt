@@ -85,14 +85,27 @@ fn tip(kind: ErrorKind, words: &[String]) -> Option<&'static str> {
     }
     match kind {
         ErrorKind::UnknownArgument => tip_on_unknown(command, behind),
-        ErrorKind::ValueValidation | ErrorKind::InvalidValue | ErrorKind::MissingRequiredArgument =>
-            tip_on_argument(command),
+        ErrorKind::ValueValidation | ErrorKind::InvalidValue | ErrorKind::MissingRequiredArgument
+            if !lacks_value(behind) => tip_on_argument(command),
         _ => None,
     }
 }
 
+/// Whether the last word is an option, whose value may be missing.
+fn lacks_value(behind: &[String]) -> bool {
+    match behind {
+        [.., last] => last.as_str().starts_with("--"),
+        [] => false,
+    }
+}
+
 fn is_command(word: &str) -> bool {
-    word == "nup" || word == "booklet" || word == "select" || word == "spec"
+    word == "nup"
+        || word == "booklet"
+        || word == "cards"
+        || word == "stack"
+        || word == "select"
+        || word == "spec"
 }
 
 /// The first word is no command.
@@ -112,6 +125,10 @@ fn tip_on_command(word: &str) -> Option<&'static str> {
 fn tip_on_argument(command: &str) -> Option<&'static str> {
     if command == "nup" {
         Some("the number of pages stands behind nup, as in: impose nup 2 in.ps out.ps")
+    } else if command == "cards" {
+        Some("the number of pages stands behind cards, as in: impose cards 8 in.ps out.ps")
+    } else if command == "stack" {
+        Some("the number of pages stands behind stack, as in: impose stack 2 in.ps out.ps")
     } else if command == "booklet" {
         Some("a signature is a number of sides, as in: impose booklet --signature 16 in.ps out.ps")
     } else if command == "select" {
@@ -131,7 +148,7 @@ fn tip_on_unknown(command: &str, behind: &[String]) -> Option<&'static str> {
             );
         }
         if begins_with_minus_and_digit(word) {
-            return Some(tip_on_negative(command));
+            return Some(tip_on_negative(command, behind));
         }
         if word.starts_with("-") && looks_like_file(word) {
             return Some(
@@ -153,15 +170,20 @@ fn begins_with_minus_and_digit(word: &str) -> bool {
     }
 }
 
-fn tip_on_negative(command: &str) -> &'static str {
-    if command == "nup" {
+fn tip_on_negative(command: &str, behind: &[String]) -> &'static str {
+    if behind.iter().any(|word| word.as_str() == "--pages") {
+        TIP_ON_RANGES
+    } else if command == "nup" || command == "cards" || command == "stack" {
         "the number of pages has no sign, as in: impose nup 2 in.ps out.ps"
     } else if command == "spec" {
         "a specification that begins with a minus is written with its modulo: 1:-0"
     } else {
-        "a range begins with the number of a page: 1-3 are the first three"
+        TIP_ON_RANGES
     }
 }
+
+const TIP_ON_RANGES: &str =
+    "a range begins with the number of a page: 1-3 are the first three, and _3- the last three";
 
 /// Whether a word is more likely the name of a file than anything else.
 pub(crate) fn looks_like_file(word: &str) -> bool {

@@ -2,7 +2,9 @@
 ghost use Rattle.std.specs.Prelude.{◌≡◌, option_map, string_bytes, true};
 ghost use Rattle.rows.specs.Choices.{choice_of};
 ghost use Rattle.impose_cli.specs.Choices.{choice_in, is_whole};
+ghost use Rattle.impose_cli.specs.Spacings.{arrangement_in, binding_in, keeps_room, nothing_kept};
 
+use layouts::{Arrangement, Binding, Cells, Order, Run, Turned};
 use lengths::{Grains, Paper};
 use rows::{Choice, Part};
 
@@ -11,6 +13,14 @@ use rows::{Choice, Part};
 pub enum Layout {
     /// So many pages on each sheet.
     NUp(u32),
+    /// Each page so many times on a sheet.
+    Cards(u32),
+    /// So many pages on each sheet, so that the parts of the sheets, cut and laid on one another, are in order; on both
+    /// sides if it is a duplex one.
+    Stack {
+        count: u32,
+        duplex: bool,
+    },
     /// Two pages on each side of a sheet, to be folded; in signatures of so many sides, or in one.
     Booklet {
         signature: Option<u32>,
@@ -20,6 +30,78 @@ pub enum Layout {
     Selection,
     /// By a page specification of pstops.
     Spec(String),
+}
+
+impl Layout {
+    /// Whether it keeps room free if it is asked to.
+    pub fn keeps_room(&self) -> bool
+        ensures { result ≡ keeps_room self.now }
+    {
+        match self {
+            Layout::NUp(_) | Layout::Cards(_) | Layout::Stack { .. } | Layout::Booklet { .. } =>
+                true,
+            Layout::Selection | Layout::Spec(_) => false,
+        }
+    }
+}
+
+/// What is kept free on sheets, and on which side one begins to read.
+#[derive(Clone, Copy, Debug, PartialEq, Eq)]
+pub struct Spacing {
+    /// Kept free along each edge of a sheet.
+    pub margin: Grains,
+    /// Kept free between pages; in a booklet half of it on each side of the fold.
+    pub gap: Grains,
+    /// A page counts as smaller by this along each of its sides; what is there may reach over its neighbours.
+    pub trim: Grains,
+    /// Pages stand from the right to the left, and a booklet is bound at the right.
+    pub right_to_left: bool,
+}
+
+impl Spacing {
+    /// Nothing is kept free, and one begins to read at the left.
+    pub fn none() -> Spacing
+        ensures { result ≡ nothing_kept }
+    {
+        let plain = Binding::plain(false);
+        Spacing {
+            margin: plain.margin,
+            gap: plain.gap,
+            trim: plain.trim,
+            right_to_left: false,
+        }
+    }
+
+    /// So many cells or more, with this kept free.
+    pub fn arrangement(&self, count: u32) -> Arrangement
+        ensures { result ≡ arrangement_in self.now count }
+    {
+        Arrangement {
+            cells: Cells::AtLeast(count),
+            margin: self.margin,
+            gap: self.gap,
+            order: Order {
+                run: Run::Rows,
+                right_to_left: self.right_to_left,
+                turned: Turned::Upright,
+            },
+            scale: None,
+            trim: self.trim,
+        }
+    }
+
+    /// The halves of a sheet, with this kept free.
+    pub fn binding(&self, long_edge: bool) -> Binding
+        ensures { result ≡ binding_in self.now long_edge }
+    {
+        Binding {
+            margin: self.margin,
+            gap: self.gap,
+            right_to_left: self.right_to_left,
+            trim: self.trim,
+            long_edge,
+        }
+    }
 }
 
 /// Which pages are imposed, and in which order.
@@ -77,6 +159,8 @@ fn ranges_of(ranges: &Option<String>) -> Option<&[u8]>
 #[derive(Debug, Drop)]
 pub struct Request {
     pub layout: Layout,
+    /// What is kept free; nothing for a selection or a specification.
+    pub spacing: Spacing,
     /// Which pages are laid out; those of a specification are all.
     pub choice: PageChoice,
     /// The paper of the pages, if it is named.

@@ -99,7 +99,7 @@ fn row_task(alloc: Global, request: &Request, input: Vec<u8>) -> Result<RowTask,
     }
     let (page_paper, origin) = paper_of_pages(request, input.as_slice());
     let papers = papers_for(&request.layout, request.sheet_paper, page_paper);
-    let laying = match laying_for(&request.layout, &papers) {
+    let laying = match laying_for(&request.layout, &request.spacing, &papers) {
         Ok(Some(laying)) => laying,
         Ok(None) => unreachable!(),
         Err(fault) => return Err(fault),

@@ -3,9 +3,10 @@ ghost use Rattle.std.specs.Prelude.{◌≡◌, ◌⊎◌, ℕ, List, ◌<◌, �
 ghost use Rattle.std.specs.Io.KnownBytes.{Appends};
 ghost use Rattle.rules.specs.Output.{output};
 ghost use Rattle.rules.specs.Run.{most_pages};
-ghost use Rattle.layouts.specs.Grids.{leaves, n_up, plain, plain_binding};
-ghost use Rattle.layouts.specs.Laws.{IsArranged, IsBound};
-ghost use Rattle.layouts.specs.declared.arrangement.Cells.TheVariants.{AtLeast};
+ghost use Rattle.layouts.specs.Grids.{bound};
+ghost use Rattle.layouts.specs.Laws.{IsBound};
+ghost use Rattle.layouts.specs.Refusals.{why_not_bound};
+ghost use Rattle.layouts.specs.declared.error.ArrangementError.{ArrangementError};
 ghost use Rattle.sheet_writer.specs.Sinks.{IsCountable};
 ghost use Rattle.imposer.specs.Runs.{Accepted, FailedIn, HasWritten, IsRefusal, Reports, frame_of};
 ghost use Rattle.impose_cli.specs.Faults.{of_document as document_fault, of_other_input, without_memory};
@@ -15,15 +16,16 @@ ghost use Rattle.impose_cli.specs.Refusals.{RefusesDocument, RefusesLayout, Refu
 ghost use Rattle.impose_cli.specs.Endings.{EndsBySpec};
 ghost use Rattle.impose_cli.specs.Unread.{IsPossible, IsSpecification, RefusesSpecification, RefusesUnread};
 ghost use Rattle.impose_cli.specs.declared.request.Layout.TheVariants as layout;
+ghost use Rattle.impose_cli.specs.declared.fault.Fault.TheVariants as faults;
 
 use crate::fault::Fault;
 use crate::laying::{laying_for, papers_for};
-use crate::request::{Layout, Request};
+use crate::request::{Layout, Request, Spacing};
 use document_paper::{Comment, document_paper};
 use dsc::{Document, DscError};
 use guard::put_guard;
 use imposer::{Open, Options, Report, RunError, Sink, Workers, run};
-use layouts::{Arrangement, Binding, Cells, Papers, arrange, bind};
+use layouts::{Binding, Papers, arrange, bind};
 use lengths::Paper;
 use pagespec::{Spec, read_spec, write_spec};
 use std::alloc::{AllocError, Global};
@@ -72,15 +74,17 @@ pub(crate) const WORKERS: Workers = Workers {
 /// The checks of a layout that don't ask for the document, so that a mistake is found before a byte is read: those of a
 /// specification, and if the paper of the pages is named those of pages on sheets.
 pub fn check_layout(alloc: Global, request: &Request) -> Result<(), Fault>
-    ensures possible { OnOk result (IsPossible request.now.layout request.now.page_paper request.now.sheet_paper) }
-    ensures refused { IfErr result (RefusesUnread request.now.layout request.now.page_paper request.now.sheet_paper) }
+    ensures possible { OnOk result
+        (IsPossible request.now.layout request.now.spacing request.now.page_paper request.now.sheet_paper) }
+    ensures refused { IfErr result
+        (RefusesUnread request.now.layout request.now.spacing request.now.page_paper request.now.sheet_paper) }
 {
     match (&request.layout, &request.page_paper) {
         (Layout::Spec(specs), _) => check_spec(alloc, specs.as_str()),
         (_, None) => Ok(()),
         (layout, Some(page_paper)) => {
             let papers = papers_for(layout, request.sheet_paper, *page_paper);
-            match laying_for(layout, &papers) {
+            match laying_for(layout, &request.spacing, &papers) {
                 Ok(_) => Ok(()),
                 Err(fault) => Err(fault),
             }
@@ -114,7 +118,11 @@ pub fn task_for(alloc: Global, request: &Request, input: Vec<u8>) -> Result<Task
     }
     let (page_paper, origin) = paper_of_pages(request, input.as_slice());
     let sheet_paper = *paper_of_sheets(&request.sheet_paper, &page_paper);
-    let (spec, sides) = match placing(alloc, &request.layout, &page_paper, &sheet_paper, pages) {
+    let papers = Papers {
+        page: page_paper,
+        sheet: sheet_paper,
+    };
+    let (spec, sides) = match placing(alloc, &request.layout, &request.spacing, &papers, pages) {
         Ok(placed) => placed,
         Err(fault) => return Err(fault),
     };
@@ -220,30 +228,26 @@ type Placed = (String, Option<u32>);
 fn placing(
     alloc: Global,
     layout: &Layout,
-    page_paper: &Paper,
-    sheet_paper: &Paper,
+    spacing: &Spacing,
+    papers: &Papers,
     pages: u32,
 ) -> Result<Placed, Fault>
     requires { pages ≤ most_pages }
     ensures placed { IfOk result (λ placed.
-        IsPlaced layout.now page_paper.now sheet_paper.now pages (string_bytes placed.0) placed.1) }
+        IsPlaced layout.now spacing.now papers.now.page papers.now.sheet pages (string_bytes placed.0) placed.1) }
     ensures refused { IfErr result (λ f.
-        (f ≡ without_memory) ⊎ RefusesLayout layout.now page_paper.now sheet_paper.now f) }
+        (f ≡ without_memory) ⊎ RefusesLayout layout.now spacing.now papers.now.page papers.now.sheet f) }
 {
-    let papers = Papers {
-        page: *page_paper,
-        sheet: *sheet_paper,
-    };
     match layout {
-        Layout::NUp(count) => nup_placing(alloc, *count, &papers),
+        Layout::NUp(count) => nup_placing(alloc, *count, spacing, papers),
         Layout::Booklet {
             signature,
             long_edge,
         } => {
             let sides = signature.unwrap_or(in_fours(pages));
-            booklet_placing(alloc, &papers, *long_edge, sides)
+            booklet_placing(alloc, &spacing.binding(*long_edge), papers, sides)
         }
-        Layout::Selection => Err(Fault::NoSpecification),
+        Layout::Cards(_) | Layout::Stack { .. } | Layout::Selection => Err(Fault::NoSpecification),
         Layout::Spec(specs) => match String::from_str(alloc, specs.as_str()) {
             Ok(text) => Ok((text, None)),
             Err(_) => Err(Fault::no_memory()),
@@ -251,14 +255,17 @@ fn placing(
     }
 }
 
-fn nup_placing(alloc: Global, count: u32, papers: &Papers) -> Result<Placed, Fault>
+fn nup_placing(
+    alloc: Global,
+    count: u32,
+    spacing: &Spacing,
+    papers: &Papers,
+) -> Result<Placed, Fault>
     ensures placed { IfOk result (λ placed.
-        (IsWritten (n_up papers.now.page papers.now.sheet count) (string_bytes placed.0)
-        × IsArranged papers.now.page papers.now.sheet (plain (AtLeast count)) (n_up papers.now.page papers.now.sheet count))
-        × (placed.1 ≡ None)) }
-    ensures refused { IfErr result (RefusesLayout (layout.NUp count) papers.now.page papers.now.sheet) }
+        IsPlaced (layout.NUp count) spacing.now papers.now.page papers.now.sheet 0 (string_bytes placed.0) placed.1) }
+    ensures refused { IfErr result (RefusesLayout (layout.NUp count) spacing.now papers.now.page papers.now.sheet) }
 {
-    match arrange(alloc, papers, &Arrangement::plain(Cells::AtLeast(count))) {
+    match arrange(alloc, papers, &spacing.arrangement(count)) {
         Ok(spec) => written(alloc, &spec, None),
         Err(error) => Err(Fault::from(error)),
     }
@@ -266,18 +273,18 @@ fn nup_placing(alloc: Global, count: u32, papers: &Papers) -> Result<Placed, Fau
 
 fn booklet_placing(
     alloc: Global,
+    binding: &Binding,
     papers: &Papers,
-    long_edge: bool,
     sides: u32,
 ) -> Result<Placed, Fault>
     ensures placed { IfOk result (λ placed.
-        (IsWritten (leaves papers.now.page papers.now.sheet long_edge) (string_bytes placed.0)
-        × IsBound papers.now.page papers.now.sheet (plain_binding long_edge)
-        (leaves papers.now.page papers.now.sheet long_edge))
+        (IsWritten (bound papers.now.page papers.now.sheet binding.now) (string_bytes placed.0)
+        × IsBound papers.now.page papers.now.sheet binding.now (bound papers.now.page papers.now.sheet binding.now))
         × (placed.1 ≡ Some sides)) }
-    ensures refused { IfErr result (RefusesLayout (layout.Booklet None long_edge) papers.now.page papers.now.sheet) }
+    ensures refused { IfErr result (λ f. (f ≡ without_memory) ⊎ ((e : ArrangementError)
+        × (f ≡ faults.Layout e) × (why_not_bound papers.now.page papers.now.sheet binding.now ≡ Some e))) }
 {
-    match bind(alloc, papers, &Binding::plain(long_edge)) {
+    match bind(alloc, papers, binding) {
         Ok(spec) => written(alloc, &spec, Some(sides)),
         Err(error) => Err(Fault::from(error)),
     }

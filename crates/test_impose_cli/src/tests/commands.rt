@@ -1,6 +1,6 @@
 //! Command lines as they are typed, and what each asks for.
 use super::read;
-use impose_cli::{CommandFault, Layout, PaperOption, Request, size_named};
+use impose_cli::{CommandFault, Layout, LengthOption, PaperOption, Request, Spacing, size_named};
 use lengths::{Grains, Paper, paper_by_name};
 use rows::Part;
 use std::process::Abort;
@@ -110,6 +110,29 @@ fn selections(rt: HostRuntime) -> Result<(), Fail> {
     );
     let request = read(rt.alloc(), "spec 2:0,1 in.ps")?;
     assert!(rt; matches!(&request.layout, Layout::Spec(spec) if spec.as_str() == "2:0,1"));
+    Ok(())
+}
+
+#[test]
+fn cards_stacks_and_what_is_kept_free(rt: HostRuntime) -> Result<(), Fail> {
+    assert!(rt; matches!(read(rt.alloc(), "cards 8 in.ps")?.layout, Layout::Cards(8)));
+    assert!(rt;
+        matches!(
+            read(rt.alloc(), "stack 2 --duplex in.ps")?.layout,
+            Layout::Stack {
+                count: 2,
+                duplex: true,
+            }
+        )
+    );
+    assert_eq!(rt; read(rt.alloc(), "select 1-")?.spacing, Spacing::none());
+    let spacing = read(rt.alloc(), "nup 2 --margin 1cm --gap=2mm --trim .5in --rtl")?.spacing;
+    assert_eq!(rt; Some(spacing.margin), Grains::new(3_600_000_000_000));
+    assert_eq!(rt; Some(spacing.gap), Grains::new(720_000_000_000));
+    assert_eq!(rt; Some(spacing.trim), Grains::new(4_572_000_000_000));
+    assert!(rt; spacing.right_to_left);
+    let refused = read(rt.alloc(), "booklet --gap x --trim y");
+    assert!(rt; matches!(refused, Err(CommandFault::BadLength(LengthOption::Gap, _))));
     Ok(())
 }
 

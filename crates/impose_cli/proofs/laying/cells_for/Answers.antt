@@ -1,17 +1,15 @@
 use Rattle.std.proofs.Common.{◌≡◌, ◌∙◌, ap, subst, refl, None, Some}
 use Rattle.layouts.specs.Fitted.{setting_of}
 use Rattle.layouts.specs.Refusals.{why_not_arranged}
-use Rattle.row_runs.specs.declared.asked.Laying.TheVariants as laying
 use Rattle.impose_cli.proofs.laying.cells_for.Goals as goal
 
-pub returns-in-Ok-clause-laying : goal.returns-in-Ok-clause-laying
-returns-in-Ok-clause-laying c =
-    ap (λ t. Some (laying.Grid t c.args.count)) (c.in-Ok.ensures.made ∙ ap (setting_of c.args.papers.now.page c.args.papers.now.sheet) c.plain.ensures)
+pub returns-in-Ok-clause-made : goal.returns-in-Ok-clause-made
+returns-in-Ok-clause-made c = c.in-Ok.ensures.made ∙ ap (setting_of c.args.papers.now.page c.args.papers.now.sheet) c.arrangement.ensures
 
 pub returns-in-Ok-clause-possible : goal.returns-in-Ok-clause-possible
 returns-in-Ok-clause-possible c =
-    subst (λ a. why_not_arranged c.args.papers.now.page c.args.papers.now.sheet a ≡ None) c.plain.ensures c.in-Ok.ensures.possible
+    subst (λ a. why_not_arranged c.args.papers.now.page c.args.papers.now.sheet a ≡ None) c.arrangement.ensures c.in-Ok.ensures.possible
 
 pub returns-in-Err-clause-refused : goal.returns-in-Err-clause-refused
 returns-in-Err-clause-refused c =
-    (c.in-Err.error, refl, subst (λ a. why_not_arranged c.args.papers.now.page c.args.papers.now.sheet a ≡ Some c.in-Err.error) c.plain.ensures c.in-Err.ensures.refused)
+    (c.in-Err.error, refl, subst (λ a. why_not_arranged c.args.papers.now.page c.args.papers.now.sheet a ≡ Some c.in-Err.error) c.arrangement.ensures c.in-Err.ensures.refused)

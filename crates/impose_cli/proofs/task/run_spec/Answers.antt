@@ -7,16 +7,20 @@ pub returns-in-Err : goal.returns-in-Err
 returns-in-Err g c = record { ended = inl (record { refused = inl c.in-Err.ensures.refused; unwritten = (stays _, refl) }) }
 
 pub returns-in-Err-run_task : goal.returns-in-Err-run_task
-returns-in-Err-run_task g c = record { ended = inr (record {
-  task = c.in-Ok.task;
-  is_task = c.in-Ok.ensures.is_task;
-  error = c.in-Err-run_task.error;
-  is_run = refl;
-  refused = c.in-Err-run_task.ensures.refused;
-  written = c.in-Err-run_task.ensures.written;
-  failed = c.in-Err-run_task.ensures.failed;
-}) }
+returns-in-Err-run_task g c = record {
+  ended = inr (record {
+    task = c.in-Ok.task;
+    is_task = c.in-Ok.ensures.is_task;
+    error = c.in-Err-run_task.error;
+    is_run = refl;
+    refused = c.in-Err-run_task.ensures.refused;
+    written = c.in-Err-run_task.ensures.written;
+    failed = c.in-Err-run_task.ensures.failed;
+  });
+}
 
 pub returns : goal.returns
-returns g c = record { ended =
-    (finishes c.args.request.now c.args.input.items c.in-Ok.task _ _ c.in-Ok-run_task.report c.requires.spec c.in-Ok.ensures.is_task c.in-Ok-run_task.ensures.finished, c.in-Ok-run_task.ensures.steady) }
+returns g c = record {
+  ended =
+      (finishes c.args.request.now c.args.input.items c.in-Ok.task _ _ c.in-Ok-run_task.report c.requires.spec c.in-Ok.ensures.is_task c.in-Ok-run_task.ensures.finished, c.in-Ok-run_task.ensures.steady);
+}

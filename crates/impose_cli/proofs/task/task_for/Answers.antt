@@ -27,5 +27,5 @@ returns-in-Err-placing-clause-refused c =
     let request = c.args.request.now in
     let found : c.paper_of_pages-page_paper.result ≡ page_paper_found request.page_paper request.home_paper c.args.input.items = rw c.as_slice-2.ensures.value at c.paper_of_pages-page_paper.ensures in
     let refused = rw c.paper_of_sheets.ensures at c.in-Err-placing.ensures.refused in
-    let there = subst (λ (p : Paper × PaperOrigin). (c.in-Err-placing.fault ≡ without_memory) ⊎ RefusesLayout request.layout p.0 (sheet_paper_found request.sheet_paper p.0) c.in-Err-placing.fault) found refused in
+    let there = subst (λ (p : Paper × PaperOrigin). (c.in-Err-placing.fault ≡ without_memory) ⊎ RefusesLayout request.layout request.spacing p.0 (sheet_paper_found request.sheet_paper p.0) c.in-Err-placing.fault) found refused in
     inr (c.in-Ok.pages, rw c.as_slice.ensures.value at c.in-Ok.ensures.counted, inr there)
