@@ -592,6 +592,14 @@ fn arranged_text(alloc: Global, arrangement: &Arrangement) -> Result<String, Fai
     }
 }
 
+/// Four cells or more, in this order.
+fn four_in(order: Order) -> Option<Arrangement> {
+    Some(Arrangement {
+        order,
+        ..plain(Cells::AtLeast(4))?
+    })
+}
+
 #[test]
 fn orders_of_four_pages(rt: HostRuntime) -> Result<(), Fail> {
     for (run, right_to_left, turned, wanted) in [
@@ -638,12 +646,12 @@ fn orders_of_four_pages(rt: HostRuntime) -> Result<(), Fail> {
             "4:0@.5+1@.5(0,421)+2@.5(297.5,0)+3@.5(297.5,421)",
         ),
     ] {
-        let mut four = plain(Cells::AtLeast(4)).expect(&rt, "an arrangement");
-        four.order = Order {
+        let four = four_in(Order {
             run,
             right_to_left,
             turned,
-        };
+        });
+        let four = four.expect(&rt, "an arrangement");
         assert_eq!(rt; arranged_text(rt.alloc(), &four)?.as_str(), wanted);
     }
     Ok(())
