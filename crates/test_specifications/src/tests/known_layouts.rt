@@ -592,12 +592,12 @@ fn arranged_text(alloc: Global, arrangement: &Arrangement) -> Result<String, Fai
     }
 }
 
-/// Four cells or more, in this order.
-fn four_in(order: Order) -> Option<Arrangement> {
-    Some(Arrangement {
-        order,
-        ..plain(Cells::AtLeast(4))?
-    })
+/// The text of a sheet of four pages in this order.
+fn four_pages(alloc: Global, order: Order) -> Result<String, Fail> {
+    match plain(Cells::AtLeast(4)) {
+        Some(four) => arranged_text(alloc, &Arrangement { order, ..four }),
+        None => Ok(format!(in alloc; "no arrangement")?),
+    }
 }
 
 #[test]
@@ -646,13 +646,12 @@ fn orders_of_four_pages(rt: HostRuntime) -> Result<(), Fail> {
             "4:0@.5+1@.5(0,421)+2@.5(297.5,0)+3@.5(297.5,421)",
         ),
     ] {
-        let four = four_in(Order {
+        let order = Order {
             run,
             right_to_left,
             turned,
-        });
-        let four = four.expect(&rt, "an arrangement");
-        assert_eq!(rt; arranged_text(rt.alloc(), &four)?.as_str(), wanted);
+        };
+        assert_eq!(rt; four_pages(rt.alloc(), order)?.as_str(), wanted);
     }
     Ok(())
 }
