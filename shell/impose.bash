@@ -5,20 +5,23 @@ _impose_commands='nup booklet select spec help'
 _impose_papers='a0 a1 a2 a3 a4 a5 a6 b4 b5 b6 letter legal tabloid ledger statement executive folio quarto 10x14'
 _impose_options_of() {
     local all='--paper --sheet --border --unguarded --print-spec --quiet --help -p -q -h'
+    local parts='--odd --even --reverse'
     case "$1" in
         '') echo '--help --version -h -V' ;;
-        nup | spec) echo "$all" ;;
-        booklet) echo "--signature --long-edge $all" ;;
-        select) echo "--odd --even $all" ;;
+        nup) echo "--pages $parts $all" ;;
+        booklet) echo "--signature --long-edge --pages $parts $all" ;;
+        select) echo "$parts $all" ;;
+        spec) echo "$all" ;;
     esac
 }
 
-# The values of an option; its status is 1 for one that takes none.
+# The values of an option, if some can be offered; its status is 1 for one that takes none.
 _impose_values_of() {
     case "$1" in
         --paper | --sheet | -p) echo "$_impose_papers" ;;
         --border) echo '.5pt 1pt .5mm' ;;
         --signature) echo '4 8 12 16 20 24 28 32' ;;
+        --pages) ;;
         *) return 1 ;;
     esac
 }

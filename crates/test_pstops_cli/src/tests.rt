@@ -7,10 +7,7 @@ use pstops_cli::{ReadFault, ReadSource, read_command, read_input};
 use std::alloc::{AllocError, Global};
 use std::io::{self, ErrorKind, Read};
 use std::test::Fail;
-
-/// One page.
-const ONE_PAGE: &str =
-    "%!PS-Adobe-3.0\n%%Pages: 1\n%%EndComments\n%%Page: 1 1\n(0) pop\nshowpage\n%%Trailer\n%%EOF\n";
+use test_tools::ONE_PAGE;
 
 /// The words of a command, each a `String`.
 fn words_of(alloc: Global, words: &[&str]) -> Result<Vec<String>, AllocError> {

@@ -1,4 +1,4 @@
-//! What the trials share: documents, specifications, options, and a gathering.
+//! What the trials share: options, large documents, a run with its report, and a gathering.
 ghost use Rattle.std.specs.Prelude.{◌<◌};
 ghost use Rattle.imposer.specs.Workers.{AreWorkers};
 
@@ -10,26 +10,26 @@ mod refused_puts;
 mod sinks;
 mod windows;
 
-use gather_table::GatherTable;
-use handover::{Ready, Shelf};
-use imposer::{Gathered, Job, MemorySink, Open, Options, Workers, gather};
-use lengths::{Paper, paper_by_name};
+use dsc::Document;
+use gather_table::{GatherTable, Seat};
+use handover::{Pass, Ready, Shelf};
+use imposer::{Gathered, Job, MemorySink, Open, Options, Report, RunError, Workers, gather, run};
+use lengths::a4;
+use pagespec::read_spec;
+use sheet_plan::Plan;
 use std::alloc::{AllocError, Global};
-use std::process::Abort;
 use std::sync::Wait;
+use std::test::Fail;
 use std::thread::Threads;
+use test_tools::{TWO_UP, refuse};
 
-/// Two pages side by side, turned to the left.
-const TWO_UP: &str = "2:0L@.7(21cm,0)+1L@.7(21cm,14.85cm)";
-
-fn a4(rt: &impl Abort) -> Paper {
-    paper_by_name("a4").expect(rt, "a4 is a paper")
-}
+/// How many shares a whole seat has, and a whole pass.
+const WHOLE: u64 = 4_294_967_296;
 
 /// A4 without a border and without signatures, and so many workers.
-fn workers(rt: &impl Abort, preparers: u32, imposers: u32) -> Options {
+fn workers(preparers: u32, imposers: u32) -> Options {
     Options {
-        paper: a4(rt),
+        paper: a4(),
         border: None,
         sides: None,
         workers: Workers {
@@ -39,33 +39,117 @@ fn workers(rt: &impl Abort, preparers: u32, imposers: u32) -> Options {
     }
 }
 
-/// A document of so many pages, each of which pops its number.
-fn document_of(alloc: Global, pages: u32) -> Result<String, AllocError> {
-    let mut text = format!(in alloc; "%!PS-Adobe-3.0\n%%Pages: {pages}\n%%EndComments\n")?;
-    for page in 0..pages {
-        let number = page.saturating_add(1);
-        let lines = format!(in alloc; "%%Page: {number} {number}\n({page}) pop\nshowpage\n")?;
+/// A document, what is asked of its pages, and how many preparers and imposers run.
+#[derive(Drop)]
+struct Trial<'a> {
+    document: &'a str,
+    items: &'a str,
+    counts: (u32, u32),
+}
+
+/// Runs into a sink with ample room: the sink with what was written, and the report.
+fn ran<R: Threads + Wait + Sync>(
+    rt: &R,
+    alloc: Global,
+    document: &str,
+    items: &str,
+    options: &Options,
+) -> Result<(MemorySink, Report), RunError> {
+    let mut sink = MemorySink::new(alloc, 100_000, 100_000, 1_000)?;
+    let input = document.as_bytes();
+    let report = run(rt, alloc, input, items, options, &Open {}, &mut sink)?;
+    Ok((sink, report))
+}
+
+/// What a run answers, and how many bytes it has written, into a sink with room for a thousand.
+fn answered<R: Threads + Wait + Sync>(
+    rt: &R,
+    alloc: Global,
+    document: &str,
+    items: &str,
+    options: &Options,
+) -> Result<(Result<Report, RunError>, usize), AllocError> {
+    let mut sink = MemorySink::new(alloc, 1_000, 1_000, 100)?;
+    let input = document.as_bytes();
+    let answer = run(rt, alloc, input, items, options, &Open {}, &mut sink);
+    let written = sink.bytes().len();
+    Ok((answer, written))
+}
+
+/// What is told of a run whose workers made all sheets.
+fn report_of(pages: u32, sheets: u32, born: u32, bytes: u64) -> Report {
+    Report {
+        pages,
+        sheets,
+        born,
+        swept: 0,
+        bytes,
+    }
+}
+
+/// So many pages of so many lines of nine bytes.
+fn large_pages(alloc: Global, pages: u32, lines: usize) -> Result<String, AllocError> {
+    let lines = "% a line\n".repeat(alloc, lines)?;
+    let mut text = String::from_str(alloc, "%!PS-Adobe-3.0\n")?;
+    for page in 1..=pages {
+        let heading = format!(in alloc; "%%Page: {page} {page}\n")?;
+        text.push_str(&heading)?;
         text.push_str(&lines)?;
     }
-    text.push_str("%%Trailer\n%%EOF\n")?;
     Ok(text)
 }
 
-/// Makes what a gathering needs, and gathers the job.
-fn gather_job<'d, R: Threads + Wait + Sync>(
+/// What came of a gathering: what it answers, whether the token of a page was left without a receipt, and the shares of
+/// the seat and of the pass that came back, if they did.
+#[derive(Drop)]
+struct Gathering {
+    outcome: Result<Report, RunError>,
+    is_unshelved: bool,
+    shares: Option<(u64, u64)>,
+}
+
+/// Gathers the pages of a document, two a sheet. The growth of the gathering with this number is refused, if one is given.
+fn gather_pairs<R: Threads + Wait + Sync>(
     rt: &R,
     alloc: Global,
-    job: &Job<'_, 'd>,
+    document: &str,
     workers: Workers,
+    refused: Option<u32>,
     sink: &mut MemorySink,
-) -> Result<Gathered<'d>, AllocError>
+) -> Result<Gathering, Fail>
+    requires workers { AreWorkers workers }
+    requires countable { sink.old.failures < 10 }
+{
+    let spec = read_spec(alloc, TWO_UP)?;
+    let document = Document::read(alloc, document.as_bytes())?;
+    let plan = Plan::new(alloc, &spec, document.pages())?;
+    let job = Job::new(&plan, &document, a4(), None);
+    Ok(gather_job(rt, alloc, &job, workers, refused, sink)?)
+}
+
+/// Makes what a gathering needs, and gathers the job.
+fn gather_job<R: Threads + Wait + Sync>(
+    rt: &R,
+    alloc: Global,
+    job: &Job<'_, '_>,
+    workers: Workers,
+    refused: Option<u32>,
+    sink: &mut MemorySink,
+) -> Result<Gathering, AllocError>
     requires workers { AreWorkers workers }
     requires countable { sink.old.failures < 10 }
 {
     let (table, seat) = GatherTable::new(alloc, job.plan())?;
     let shelf = Shelf::new(alloc)?;
     let (ready, pass) = Ready::new(alloc, job.sheets().max(1))?;
-    Ok(gather(
+    if let Some(number) = refused {
+        refuse(alloc, number);
+    }
+    let Gathered {
+        outcome,
+        unshelved,
+        tokens,
+    } = gather(
         rt,
         alloc,
         job,
@@ -77,5 +161,18 @@ fn gather_job<'d, R: Threads + Wait + Sync>(
         workers,
         &Open {},
         sink,
-    ))
+    );
+    Ok(Gathering {
+        outcome,
+        is_unshelved: unshelved.is_some(),
+        shares: shares_of(tokens),
+    })
+}
+
+/// The shares of a seat and of a pass, if they are there.
+fn shares_of(tokens: Option<(Seat, Pass)>) -> Option<(u64, u64)> {
+    match tokens {
+        Some((seat, pass)) => Some((seat.share(), pass.share())),
+        None => None,
+    }
 }

@@ -4,10 +4,10 @@ ghost use Rattle.rules.specs.Sheets.{layout};
 ghost use Rattle.gather_table.specs.Shared.{IsSeatOf};
 ghost use Rattle.handover.specs.Passes.{IsPassOf};
 
-use super::a4;
 use dsc::Document;
 use gather_table::{GatherTable, Seat};
 use handover::{Pass, Prepared, Ready, Shelf};
+use lengths::a4;
 use pagespec::read_spec;
 use run_steps::{
     Answers, DeliverError, Delivered, Delivery, ImposeError, Imposed, deliver, impose, is_complete,
@@ -40,7 +40,7 @@ pub(super) trait Task<R, A> {
 
 /// Does the task with a caller that gathers this document by this specification, with room for so many sheets in the
 /// queue.
-pub(super) fn with_caller<A, R: Abort, T: Task<R, A>>(
+pub(super) fn with_caller<A, R, T: Task<R, A>>(
     rt: &R,
     alloc: Global,
     text: &str,
@@ -54,7 +54,7 @@ pub(super) fn with_caller<A, R: Abort, T: Task<R, A>>(
     with_job(
         rt,
         alloc,
-        &Job::new(&plan, &document, a4(rt), None),
+        &Job::new(&plan, &document, a4(), None),
         room,
         task,
     )

@@ -1,10 +1,10 @@
 //! Each page of a document is delivered more than once, by one caller and by several at once: each sheet is completed
 //! once.
 use super::callers::{Caller, assert_imposed, caller_of, two_others};
-use super::{a4, document_of};
 use dsc::Document;
 use gather_table::{Closing, GatherTable, Published, Reply};
 use handover::{Ready, Shelf};
+use lengths::a4;
 use pagespec::read_spec;
 use run_steps::Delivered;
 use sheet_plan::Plan;
@@ -15,6 +15,7 @@ use std::sync::Wait;
 use std::test::Fail;
 use std::thread;
 use std::thread::Threads;
+use test_tools::document_of;
 
 /// What a caller was told of a page that stands in one slot.
 #[derive(Clone, Copy, Debug)]
@@ -327,7 +328,7 @@ fn deliver_document<R: Threads + Wait + Sync + Abort>(
     let plan = Plan::new(alloc, &spec, document.pages())?;
     let sheets = pages / slots.max(1);
     assert_eq!(rt; (document.pages(), plan.sheets()), (pages, sheets));
-    let job = Job::new(&plan, &document, a4(rt), None);
+    let job = Job::new(&plan, &document, a4(), None);
     Ok(deliver_job(rt, alloc, &job, slots as usize, callers)?)
 }
 

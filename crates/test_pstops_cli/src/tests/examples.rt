@@ -1,7 +1,6 @@
 //! The worked examples: words, inputs, lines and requests.
 mod commands;
 
-use super::ONE_PAGE;
 use commands::read;
 use dsc::DscError;
 use imposer::{MemorySink, RunError};
@@ -11,81 +10,46 @@ use pstops_cli::{
     run_request,
 };
 use sheet_plan::PlanError;
-use std::alloc::AllocError;
+use std::alloc::{AllocError, Global};
 use std::io::{self, ErrorKind, Read};
 use std::process::Abort;
 use std::str;
 use std::test::Fail;
-
-pub const ONE_SHEET: &str = "%!PS-Adobe-3.0\n\
-     %%Pages: 1\n\
-     %%EndComments\n\
-     %%Page: 1 1\n\
-     userdict /ImposeSave save put\n\
-     userdict /showpage {} put\n\
-     [1 0 0 1 0 0] concat\n\
-     newpath 0 0 moveto 595 0 lineto 595 842 lineto 0 842 lineto closepath clip newpath\n\
-     (0) pop\n\
-     showpage\n\
-     ImposeSave restore\n\
-     showpage\n\
-     %%Trailer\n\
-     %%EOF\n";
-
-pub const TWO_PAGES: &str = "%!PS-Adobe-3.0\n\
-     %%Pages: 2\n\
-     %%EndComments\n\
-     %%Page: 1 1\n\
-     (0) pop\n\
-     showpage\n\
-     %%Page: 2 2\n\
-     (1) pop\n\
-     showpage\n\
-     %%Trailer\n\
-     %%EOF\n";
-
-pub const TWO_PAGES_ON_A_SHEET: &str = "%!PS-Adobe-3.0\n\
-     %%Pages: 1\n\
-     %%EndComments\n\
-     %%Page: 1 1\n\
-     userdict /ImposeSave save put\n\
-     userdict /showpage {} put\n\
-     [0 0.7 -0.7 0 595.27559 0] concat\n\
-     newpath 0 0 moveto 595 0 lineto 595 842 lineto 0 842 lineto closepath clip newpath\n\
-     (0) pop\n\
-     showpage\n\
-     ImposeSave restore\n\
-     userdict /ImposeSave save put\n\
-     userdict /showpage {} put\n\
-     [0 0.7 -0.7 0 595.27559 420.94488] concat\n\
-     newpath 0 0 moveto 595 0 lineto 595 842 lineto 0 842 lineto closepath clip newpath\n\
-     (1) pop\n\
-     showpage\n\
-     ImposeSave restore\n\
-     showpage\n\
-     %%Trailer\n\
-     %%EOF\n";
-
-pub const TWO_UP: &str = "2:0L@.7(21cm,0)+1L@.7(21cm,14.85cm)";
+use test_tools::{
+    ONE_PAGE, TWO_PAGES, TWO_UP, UNMOVED, border, document_with, one_up_output, placed_on, sheet,
+    two_up_output,
+};
 
 const TWO_UP_BY_MANY_WORKERS: &str = "-j16 -k 16 2:0L@.7(21cm,0)+1L@.7(21cm,14.85cm)";
 
-const ONE_SHEET_WITH_A_BORDER: &str = "%!PS-Adobe-3.0\n\
-     %%Pages: 1\n\
-     %%EndComments\n\
-     %%Page: 1 1\n\
-     userdict /ImposeSave save put\n\
-     userdict /showpage {} put\n\
-     [1 0 0 1 0 0] concat\n\
-     newpath 0 0 moveto 595.27559 0 lineto 595.27559 841.88976 lineto 0 841.88976 lineto closepath clip newpath\n\
-     gsave 1 setlinewidth newpath 0 0 moveto 595.27559 0 lineto 595.27559 841.88976 lineto 0 841.88976 lineto \
-     closepath stroke grestore\n\
-     (0) pop\n\
-     showpage\n\
-     ImposeSave restore\n\
-     showpage\n\
-     %%Trailer\n\
-     %%EOF\n";
+/// What is written in a run.
+#[derive(Clone, Copy)]
+enum Output {
+    Nothing,
+    OneSheet,
+    /// With a border, on a paper that is given by its lengths.
+    BorderedSheet,
+    Pair,
+}
+
+impl Output {
+    fn text(self, alloc: Global) -> Result<String, AllocError> {
+        match self {
+            Output::Nothing => Ok(String::new(alloc)),
+            Output::OneSheet => one_up_output(alloc, ""),
+            Output::BorderedSheet => bordered_sheet(alloc),
+            Output::Pair => two_up_output(alloc, 1),
+        }
+    }
+}
+
+fn bordered_sheet(alloc: Global) -> Result<String, AllocError> {
+    let sides = ("595.27559", "841.88976");
+    let mut body = border(alloc, sides, "1")?;
+    body.push_str("(0) pop\nshowpage\n")?;
+    let page = placed_on(alloc, sides, UNMOVED, &body)?;
+    document_with(alloc, 1, &sheet(alloc, 1, &page)?)
+}
 
 #[test]
 fn an_input_is_read_whole(rt: HostRuntime) -> Result<(), Fail> {
@@ -231,44 +195,45 @@ fn each_fault_of_a_run_has_its_line(rt: HostRuntime) -> Result<(), Fail> {
     Ok(())
 }
 
+const REFUSED_SPECIFICATIONS: [(SpecError, &str); 9] = [
+    (SpecError::TooLong, "pstops: specification: too long\n"),
+    (
+        SpecError::Syntax(7),
+        "pstops: specification: syntax error at byte 7\n",
+    ),
+    (
+        SpecError::TooLarge,
+        "pstops: specification: number too large\n",
+    ),
+    (
+        SpecError::ModuloZero,
+        "pstops: specification: modulo is zero\n",
+    ),
+    (
+        SpecError::PageOutOfBlock(12),
+        "pstops: specification: item 12: page number not below modulo\n",
+    ),
+    (
+        SpecError::ScaleZero(0),
+        "pstops: specification: item 0: scale not above zero\n",
+    ),
+    (
+        SpecError::Repeated(3),
+        "pstops: specification: item 3: modifier repeated\n",
+    ),
+    (
+        SpecError::TooManySlots(4),
+        "pstops: specification: group 4: too many items\n",
+    ),
+    (
+        SpecError::TooManyGroups,
+        "pstops: specification: too many groups\n",
+    ),
+];
+
 #[test]
 fn each_refused_specification_has_its_line(rt: HostRuntime) -> Result<(), Fail> {
-    let specifications = [
-        (SpecError::TooLong, "pstops: specification: too long\n"),
-        (
-            SpecError::Syntax(7),
-            "pstops: specification: syntax error at byte 7\n",
-        ),
-        (
-            SpecError::TooLarge,
-            "pstops: specification: number too large\n",
-        ),
-        (
-            SpecError::ModuloZero,
-            "pstops: specification: modulo is zero\n",
-        ),
-        (
-            SpecError::PageOutOfBlock(12),
-            "pstops: specification: item 12: page number not below modulo\n",
-        ),
-        (
-            SpecError::ScaleZero(0),
-            "pstops: specification: item 0: scale not above zero\n",
-        ),
-        (
-            SpecError::Repeated(3),
-            "pstops: specification: item 3: modifier repeated\n",
-        ),
-        (
-            SpecError::TooManySlots(4),
-            "pstops: specification: group 4: too many items\n",
-        ),
-        (
-            SpecError::TooManyGroups,
-            "pstops: specification: too many groups\n",
-        ),
-    ];
-    for (error, line) in specifications {
+    for (error, line) in REFUSED_SPECIFICATIONS {
         assert_line(&rt, Fault::Run(RunError::Spec(error)), 1, line)?;
     }
     let no_memory = Fault::Run(RunError::Spec(SpecError::NoMemory));
@@ -328,53 +293,59 @@ fn each_refused_plan_has_its_line(rt: HostRuntime) -> Result<(), Fail> {
 }
 
 // A command line, an input, the exit status, the line on standard error and the output.
-type Run = (&'static str, &'static str, u8, &'static str, &'static str);
+type Run = (&'static str, &'static str, u8, &'static str, Output);
 
 const RUNS: [Run; 8] = [
-    ("-q 0", ONE_PAGE, 0, "", ONE_SHEET),
+    ("-q 0", ONE_PAGE, 0, "", Output::OneSheet),
     (
         "0",
         ONE_PAGE,
         0,
         "pstops: pages 1, sheets 1, bytes 273\n",
-        ONE_SHEET,
+        Output::OneSheet,
     ),
     (
         TWO_UP,
         TWO_PAGES,
         0,
         "pstops: pages 2, sheets 1, bytes 503\n",
-        TWO_PAGES_ON_A_SHEET,
+        Output::Pair,
     ),
     (
         TWO_UP_BY_MANY_WORKERS,
         TWO_PAGES,
         0,
         "pstops: pages 2, sheets 1, bytes 503\n",
-        TWO_PAGES_ON_A_SHEET,
+        Output::Pair,
     ),
     (
         "-w21cm -h29.7cm -d1 0 -q",
         ONE_PAGE,
         0,
         "",
-        ONE_SHEET_WITH_A_BORDER,
+        Output::BorderedSheet,
     ),
     (
         "2:2 -q",
         ONE_PAGE,
         1,
         "pstops: specification: item 0: page number not below modulo\n",
-        "",
+        Output::Nothing,
     ),
     (
         "2:2",
         ONE_PAGE,
         1,
         "pstops: specification: item 0: page number not below modulo\n",
-        "",
+        Output::Nothing,
     ),
-    ("0", "", 1, "pstops: input is not PostScript\n", ""),
+    (
+        "0",
+        "",
+        1,
+        "pstops: input is not PostScript\n",
+        Output::Nothing,
+    ),
 ];
 
 #[test]
@@ -385,7 +356,11 @@ fn command_lines_and_their_runs(rt: HostRuntime) -> Result<(), Fail> {
         let answer = run_request(&rt, rt.alloc(), &request, input.as_bytes(), &mut sink);
         assert_eq!(rt; str::from_utf8(answer.1.as_slice()), Ok(line));
         assert_eq!(rt; answer.0, status, "at {words}");
-        assert_eq!(rt; str::from_utf8(sink.bytes()), Ok(output));
+        assert_eq!(rt;
+            sink.bytes(),
+            output.text(rt.alloc())?.as_bytes(),
+            "at {words}"
+        );
     }
     Ok(())
 }
@@ -415,13 +390,17 @@ fn a_sink_that_fails_after_a_hundred_bytes(rt: HostRuntime) -> Result<(), Fail> 
         Ok("pstops: cannot write output\n")
     );
     assert_eq!(rt; status, 3);
-    assert_eq!(rt; ONE_SHEET.len(), 273);
-    assert_eq!(rt; sink.bytes(), &ONE_SHEET.as_bytes()[..100]);
+    let output = one_up_output(rt.alloc(), "")?;
+    assert_eq!(rt; output.len(), 273);
+    assert_eq!(rt; sink.bytes().len(), 100);
+    assert!(rt; output.as_bytes().starts_with(sink.bytes()));
     Ok(())
 }
 
 #[test]
 fn two_pages_on_a_sheet_into_a_sink_that_fails(rt: HostRuntime) -> Result<(), Fail> {
+    let output = two_up_output(rt.alloc(), 1)?;
+    assert_eq!(rt; output.len(), 503);
     for words in [TWO_UP, TWO_UP_BY_MANY_WORKERS] {
         let request = read(rt.alloc(), words)?;
         let mut sink = MemorySink::new(rt.alloc(), 100, 1000, 1000)?;
@@ -437,8 +416,8 @@ fn two_pages_on_a_sheet_into_a_sink_that_fails(rt: HostRuntime) -> Result<(), Fa
             Ok("pstops: cannot write output\n")
         );
         assert_eq!(rt; status, 3, "at {words}");
-        assert_eq!(rt; TWO_PAGES_ON_A_SHEET.len(), 503);
-        assert_eq!(rt; sink.bytes(), &TWO_PAGES_ON_A_SHEET.as_bytes()[..100]);
+        assert_eq!(rt; sink.bytes().len(), 100);
+        assert!(rt; output.as_bytes().starts_with(sink.bytes()));
     }
     Ok(())
 }

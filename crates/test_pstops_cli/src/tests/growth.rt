@@ -1,5 +1,5 @@
 //! Single calls in which each growth is refused in turn, as `crates/test_refused_growth` does it for the crates below.
-use super::{ONE_PAGE, words_of};
+use super::words_of;
 use dsc::DscError;
 use imposer::{MemorySink, RunError};
 use pagespec::SpecError;
@@ -12,22 +12,7 @@ use std::process::Abort;
 use std::sync::Wait;
 use std::test::Fail;
 use std::thread::Threads;
-
-/// More trials than a call has growths.
-const MOST: u32 = 5_000;
-
-/// What asks for so many bytes speaks to the library of `checks/refuse.c`, if it is there. No machine has them.
-const ASKED: usize = 1 << 62;
-
-/// From now on the growth with this number is refused, counted from 1.
-fn refuse(alloc: Global, number: u32) {
-    drop(Vec::<u8>::with_capacity(alloc, ASKED + number as usize));
-}
-
-/// Whether one was refused since. No further one is.
-fn has_refused(alloc: Global) -> bool {
-    Vec::<u8>::with_capacity(alloc, ASKED).is_ok()
-}
+use test_tools::{MOST_GROWTHS, ONE_PAGE, has_refused, refuse};
 
 /// The words of a command with every option.
 const WORDS: &[&str] = &[
@@ -106,7 +91,7 @@ fn make_line<R: Abort>(
 #[test]
 fn commands_and_inputs(rt: HostRuntime) -> Result<(), Fail> {
     let mut calls = [true; 3];
-    for number in 1..MOST {
+    for number in 1..MOST_GROWTHS {
         for (call, goes_on) in calls.iter_mut().enumerate() {
             if *goes_on {
                 *goes_on = match call {
@@ -143,7 +128,7 @@ fn lines(rt: HostRuntime) {
     ];
     for (fault, wanted) in &faults {
         let mut goes_on = true;
-        for number in 1..MOST {
+        for number in 1..MOST_GROWTHS {
             goes_on = goes_on && make_line(&rt, rt.alloc(), number, fault, *wanted);
         }
         assert!(rt; !goes_on, "{}", wanted.1);
@@ -189,7 +174,7 @@ fn requests(rt: HostRuntime) -> Result<(), Fail> {
     let (status, _) = run_request(&rt, rt.alloc(), &request, ONE_PAGE.as_bytes(), &mut sink);
     assert_eq!(rt; (status, sink.bytes().len()), (0, 273));
     let mut unrefused = 0u32;
-    for number in 1..MOST {
+    for number in 1..MOST_GROWTHS {
         if unrefused < 4 {
             let is_refused = run_refused(&rt, rt.alloc(), number, &request, sink.bytes())?;
             unrefused = if is_refused {

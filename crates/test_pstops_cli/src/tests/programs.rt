@@ -1,6 +1,5 @@
 //! The whole program over a world in memory: what it reads, what it creates and writes, and how it ends.
-use super::examples::{ONE_SHEET, TWO_PAGES, TWO_PAGES_ON_A_SHEET, TWO_UP};
-use super::{ONE_PAGE, words_of};
+use super::words_of;
 use pstops_cli::{Ended, pstops};
 use std::alloc::{AllocError, Global};
 use std::io::{ErrorKind, Write};
@@ -11,6 +10,7 @@ use std::sync::atomic::Ordering::SeqCst;
 use std::test::Fail;
 use std::thread::Threads;
 use std::{io, str};
+use test_tools::{ONE_PAGE, TWO_PAGES, TWO_UP, one_up_output, two_up_output, with_lines};
 use test_world::{InMemory, Takes, Written};
 use world::tell;
 
@@ -73,20 +73,21 @@ fn name_of(output: &Written) -> Option<&str> {
 
 #[test]
 fn sheets_stand_under_the_name_that_is_asked_for(rt: HostRuntime) -> Result<(), Fail> {
+    let one = one_up_output(rt.alloc(), "")?;
     let words = ["-q", "0", "in.ps", "out.ps"];
     let opened = AtomicU32::new(0);
     let end = ended(&rt, rt.alloc(), &words, ONE_PAGE, AMPLE, &opened)?;
     assert_told(&rt, &end, 0, "");
-    assert_created(&rt, &end, Some("out.ps"), ONE_SHEET);
+    assert_created(&rt, &end, Some("out.ps"), &one);
     let words = [TWO_UP, "in.ps"];
     let end = ended(&rt, rt.alloc(), &words, TWO_PAGES, AMPLE, &opened)?;
     assert_told(&rt, &end, 0, "pstops: pages 2, sheets 1, bytes 503\n");
-    assert_created(&rt, &end, None, TWO_PAGES_ON_A_SHEET);
+    assert_created(&rt, &end, None, &two_up_output(rt.alloc(), 1)?);
     // Both may be one file.
     let words = ["-q", "0", "in.ps", "in.ps"];
     let end = ended(&rt, rt.alloc(), &words, ONE_PAGE, AMPLE, &opened)?;
     assert_told(&rt, &end, 0, "");
-    assert_created(&rt, &end, Some("in.ps"), ONE_SHEET);
+    assert_created(&rt, &end, Some("in.ps"), &one);
     Ok(())
 }
 
@@ -126,14 +127,15 @@ fn mistakes_in_the_words_are_told_before_an_input_is_opened(rt: HostRuntime) -> 
 // What a call doesn't take comes again in the next one, and the report has the bytes that were taken.
 #[test]
 fn an_output_that_takes_a_few_bytes_in_a_call(rt: HostRuntime) -> Result<(), Fail> {
+    let output = one_up_output(rt.alloc(), "")?;
     let words = ["0", "in.ps", "out.ps"];
-    let line = format!(in rt.alloc(); "pstops: pages 1, sheets 1, bytes {}\n", ONE_SHEET.len())?;
+    let line = format!(in rt.alloc(); "pstops: pages 1, sheets 1, bytes {}\n", output.len())?;
     for most in [1usize, 2, 7, 100, 272, 273, 274] {
         let takes = Takes::Pieces(most);
         let opened = AtomicU32::new(0);
         let end = ended(&rt, rt.alloc(), &words, ONE_PAGE, takes, &opened)?;
         assert_told(&rt, &end, 0, &line);
-        assert_created(&rt, &end, Some("out.ps"), ONE_SHEET);
+        assert_created(&rt, &end, Some("out.ps"), &output);
     }
     Ok(())
 }
@@ -157,7 +159,7 @@ fn a_report_that_is_not_taken_changes_no_status(rt: HostRuntime) -> Result<(), F
     let words = ["0", "in.ps", "out.ps"];
     let opened = AtomicU32::new(0);
     let end = ended(&rt, rt.alloc(), &words, ONE_PAGE, AMPLE, &opened)?;
-    assert_created(&rt, &end, Some("out.ps"), ONE_SHEET);
+    assert_created(&rt, &end, Some("out.ps"), &one_up_output(rt.alloc(), "")?);
     assert_eq!(rt; tell(&mut Closed {}, end.line.as_slice(), end.status), 0);
     let end = ended(&rt, rt.alloc(), &words, ONE_PAGE, Takes::Nothing, &opened)?;
     assert_eq!(rt; tell(&mut Closed {}, end.line.as_slice(), end.status), 3);
@@ -188,7 +190,7 @@ fn an_output_that_cannot_be_created_or_flushed(rt: HostRuntime) -> Result<(), Fa
     assert_none_created(&rt, &end);
     let end = ended(&rt, rt.alloc(), &words, ONE_PAGE, Takes::NoFlush, &opened)?;
     assert_told(&rt, &end, 3, CANNOT_WRITE);
-    assert_created(&rt, &end, Some("out.ps"), ONE_SHEET);
+    assert_created(&rt, &end, Some("out.ps"), &one_up_output(rt.alloc(), "")?);
     Ok(())
 }
 
@@ -218,32 +220,18 @@ fn assert_cut_off<R: Threads + Wait + Abort + Sync>(
 
 #[test]
 fn a_writer_that_fails_at_any_byte(rt: HostRuntime) -> Result<(), Fail> {
+    let output = one_up_output(rt.alloc(), "")?;
     for most in 0..=274usize {
-        assert_cut_off(&rt, rt.alloc(), ONE_PAGE, ONE_SHEET, most)?;
+        assert_cut_off(&rt, rt.alloc(), ONE_PAGE, &output, most)?;
     }
     Ok(())
-}
-
-/// A document of one page, or its sheet, with so many lines in the page.
-fn with_lines(alloc: Global, text: &str, lines: usize) -> Result<String, AllocError> {
-    let mut long = String::new(alloc);
-    let (before, behind) = match text.split_once("(0) pop\n") {
-        Some(parts) => parts,
-        None => (text, ""),
-    };
-    long.push_str(before)?;
-    for _ in 0..lines {
-        long.push_str("(0) pop\n")?;
-    }
-    long.push_str(behind)?;
-    Ok(long)
 }
 
 // More than what is written at once, so that a write fails before the run is over.
 #[test]
 fn a_writer_that_fails_within_a_long_sheet(rt: HostRuntime) -> Result<(), Fail> {
     let document = with_lines(rt.alloc(), ONE_PAGE, 5_000)?;
-    let sheet = with_lines(rt.alloc(), ONE_SHEET, 5_000)?;
+    let sheet = with_lines(rt.alloc(), &one_up_output(rt.alloc(), "")?, 5_000)?;
     assert_eq!(rt; sheet.len(), 273 + 4_999 * 8);
     for most in [
         0,

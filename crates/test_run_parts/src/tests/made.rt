@@ -1,35 +1,21 @@
 //! The text of a sheet that was made: pages with papers of their own, and lines at its start and at its end.
 use dsc::Document;
-use lengths::{Number, Paper, paper_by_name};
+use lengths::{Number, Paper, a4, paper_by_name};
 use pagespec::{Item, Measure, Turn};
 use sheet_plan::{MadeSheets, MadeSlot, Plan};
 use sheet_text::{Dress, Job, Lines, SheetLines, sheet_text};
-use std::alloc::Global;
+use std::alloc::{AllocError, Global};
 use std::process::Abort;
 use std::test::Fail;
-
-const TWO_PAGES: &str = "%!PS-Adobe-3.0\n%%Pages: 2\n%%EndComments\n\
-    %%Page: 1 1\n(0) pop\nshowpage\n%%Page: 2 2\n(1) pop\nshowpage\n%%Trailer\n%%EOF\n";
+use test_tools::{TWO_PAGES, UNMOVED, page_body, placed, placed_on, sheet};
 
 /// The second page on A4, a blank, and the first page on A5.
-const MADE_SHEET: &str = "%%Page: 1 1\n\
-    %%PageMedia: x\n\
-    userdict /ImposeSave save put\n\
-    userdict /showpage {} put\n\
-    [1 0 0 1 0 0] concat\n\
-    newpath 0 0 moveto 595 0 lineto 595 842 lineto 0 842 lineto closepath clip newpath\n\
-    (1) pop\n\
-    showpage\n\
-    ImposeSave restore\n\
-    userdict /ImposeSave save put\n\
-    userdict /showpage {} put\n\
-    [1 0 0 1 0 0] concat\n\
-    newpath 0 0 moveto 420 0 lineto 420 595 lineto 0 595 lineto closepath clip newpath\n\
-    (0) pop\n\
-    showpage\n\
-    ImposeSave restore\n\
-    % end\n\
-    showpage\n";
+fn made_sheet(alloc: Global) -> Result<String, AllocError> {
+    let first = placed(alloc, UNMOVED, &page_body(alloc, 1)?)?;
+    let last = placed_on(alloc, ("420", "595"), UNMOVED, &page_body(alloc, 0)?)?;
+    let pages = format!(in alloc; "%%PageMedia: x\n{first}{last}% end\n")?;
+    sheet(alloc, 1, &pages)
+}
 
 /// The item that leaves a page as it is.
 fn as_it_is() -> Item {
@@ -94,11 +80,11 @@ fn text_of_sheet<R: Abort>(
 
 #[test]
 fn a_sheet_that_was_made(rt: HostRuntime) -> Result<(), Fail> {
-    let a4 = paper_by_name("a4").expect(&rt, "a4 is a paper");
     let a5 = paper_by_name("a5").expect(&rt, "a5 is a paper");
-    let sheets = one_sheet(rt.alloc(), a4, a5)?;
+    let sheets = one_sheet(rt.alloc(), a4(), a5)?;
     let dress = two_lines(rt.alloc())?;
     let text = text_of_sheet(&rt, rt.alloc(), &sheets, &dress)?;
-    assert_eq!(rt; text.as_slice(), MADE_SHEET.as_bytes());
+    let wanted = made_sheet(rt.alloc())?;
+    assert_eq!(rt; text.as_slice(), wanted.as_bytes());
     Ok(())
 }

@@ -9,6 +9,7 @@ use std::process::Abort;
 use std::sync::{Mutex, Wait};
 use std::test::Fail;
 use std::thread;
+use std::thread::Threads;
 
 /// Whether a page has this number, these bytes, and this body.
 fn is_page(found: &Prepared<'_>, page: u32, raw: &[u8], body: &[u8]) -> bool {
@@ -187,6 +188,31 @@ fn take_until<R: Wait>(
     Ok(())
 }
 
+// Two threads put a hundred sheets each.
+fn put_by_two<R: Threads + Wait + Sync>(rt: &R, low: Worker<'_>, high: Worker<'_>) {
+    thread::join(
+        rt,
+        move || put_all(rt, low, 0..100),
+        move || put_all(rt, high, 100..200),
+    );
+}
+
+// Two threads take two hundred sheets.
+fn take_by_two<R: Threads + Wait + Sync>(
+    rt: &R,
+    one: Worker<'_>,
+    two: Worker<'_>,
+    taken: &Mutex<Vec<u32>>,
+) -> Result<(), AllocError> {
+    let (first, second) = thread::join(
+        rt,
+        move || take_until(rt, one, taken, 200),
+        move || take_until(rt, two, taken, 200),
+    );
+    first?;
+    second
+}
+
 #[test]
 fn no_sheet_is_lost_or_doubled(rt: HostRuntime) -> Result<(), Fail> {
     let (queue, mut pass) = Ready::new(rt.alloc(), 4)?;
@@ -210,25 +236,12 @@ fn no_sheet_is_lost_or_doubled(rt: HostRuntime) -> Result<(), Fail> {
     let list = Mutex::new(Vec::new(rt.alloc()));
     let taken = &list;
     let shared = &rt;
-    let (_, (one, two)) = thread::join(
+    let (_, answer) = thread::join(
         &rt,
-        move || {
-            thread::join(
-                shared,
-                move || put_all(shared, low, 0..100),
-                move || put_all(shared, high, 100..200),
-            )
-        },
-        move || {
-            thread::join(
-                shared,
-                move || take_until(shared, one, taken, 200),
-                move || take_until(shared, two, taken, 200),
-            )
-        },
+        move || put_by_two(shared, low, high),
+        move || take_by_two(shared, one, two, taken),
     );
-    one?;
-    two?;
+    answer?;
     let mut sheets = list.into_inner();
     sheets.sort()?;
     assert_eq!(rt; sheets.len(), 200);

@@ -9,6 +9,7 @@ use pagespec::{Spec, read_spec};
 use sheet_plan::Plan;
 use std::alloc::Global;
 use std::marker::{Brand, PhantomData};
+use std::ops::Range;
 use std::process::Abort;
 use std::test::Fail;
 use std::thread;
@@ -317,48 +318,87 @@ pub(super) fn plan_of<'s, R: Abort>(rt: &R, alloc: Global, spec: &'s Spec, pages
     plan
 }
 
+// A publish of a page is answered so.
+fn publishes<R: Abort, C: Calls>(rt: &R, table: &mut C, page: u32, index: u32, reply: Published) {
+    assert_eq!(rt; table.publish(page, index), Some(reply), "page {page}");
+}
+
+// A mark of a slot of the first sheet is answered so.
+fn marks<R: Abort, C: Calls>(rt: &R, table: &mut C, slot: u16, reply: Option<Reply>) {
+    assert_eq!(rt; table.mark(0, slot), reply, "slot {slot}");
+}
+
+// A closing of a group of the first sheet is answered so.
+fn closes<R: Abort, C: Calls>(rt: &R, table: &mut C, group: u8, closing: Option<Closing>) {
+    assert_eq!(rt; table.close_group(0, group), closing, "group {group}");
+}
+
+// A look at the first sheet shows this much of it missing.
+fn lacks<R: Abort, C: Calls>(rt: &R, table: &mut C, left: u64) {
+    assert_eq!(rt; table.look(0), Some(left));
+}
+
+// A look at a group of the first sheet shows this much of it missing; None if there is no such group.
+fn group_lacks<R: Abort, C: Calls>(rt: &R, table: &mut C, group: u8, left: Option<u64>) {
+    assert_eq!(rt; table.look_group(0, group), left, "group {group}");
+}
+
+// A look-up of a page finds this index, or none.
+fn is_found<R: Abort, C: Calls>(rt: &R, table: &mut C, page: u32, index: Option<u32>) {
+    assert_eq!(rt; table.page_at(page), Some(index), "page {page}");
+}
+
 // One sheet with two pages: the calls of one caller, and what each answers.
 fn brings_two_pages<R: Abort, C: Calls>(rt: &R, table: &mut C) {
-    assert_eq!(rt; table.publish(0, 5), Some(Published::Stored));
-    assert_eq!(rt; table.mark(0, 0), Some(Reply::Fresh));
-    assert_eq!(rt; table.mark(0, 0), Some(Reply::Repeated));
-    assert_eq!(rt; table.publish(0, 9), Some(Published::Held(5)));
-    assert_eq!(rt; table.look(0), Some(2));
-    assert_eq!(rt; table.page_at(1), Some(None));
-    assert_eq!(rt; table.publish(1, 4_294_967_295), Some(Published::Stored));
-    assert_eq!(rt; table.mark(0, 1), Some(Reply::Completing));
-    assert_eq!(rt; table.look(0), Some(0));
-    assert_eq!(rt; table.page_at(0), Some(Some(5)));
-    assert_eq!(rt; table.page_at(1), Some(Some(4_294_967_295)));
-    assert_eq!(rt; table.mark(0, 1), Some(Reply::Repeated));
+    publishes(rt, table, 0, 5, Published::Stored);
+    marks(rt, table, 0, Some(Reply::Fresh));
+    marks(rt, table, 0, Some(Reply::Repeated));
+    publishes(rt, table, 0, 9, Published::Held(5));
+    lacks(rt, table, 2);
+    is_found(rt, table, 1, None);
+    publishes(rt, table, 1, 4_294_967_295, Published::Stored);
+    marks(rt, table, 1, Some(Reply::Completing));
+    lacks(rt, table, 0);
+    is_found(rt, table, 0, Some(5));
+    is_found(rt, table, 1, Some(4_294_967_295));
+    marks(rt, table, 1, Some(Reply::Repeated));
+}
+
+// The page comes to the first sheet, of which so much is missing.
+fn stores_the_page<R: Abort, C: Calls>(rt: &R, table: &mut C, left: u64) {
+    lacks(rt, table, left);
+    publishes(rt, table, 0, 0, Published::Stored);
 }
 
 // One sheet with a blank slot and a page.
 fn brings_a_page_beside_a_blank<R: Abort, C: Calls>(rt: &R, table: &mut C) {
-    assert_eq!(rt; table.look(0), Some(2));
-    assert_eq!(rt; table.publish(0, 0), Some(Published::Stored));
-    assert_eq!(rt; table.mark(0, 1), Some(Reply::Completing));
-    assert_eq!(rt; table.mark(0, 1), Some(Reply::Repeated));
-    assert_eq!(rt; table.look(0), Some(0));
+    stores_the_page(rt, table, 2);
+    marks(rt, table, 1, Some(Reply::Completing));
+    marks(rt, table, 1, Some(Reply::Repeated));
+    lacks(rt, table, 0);
+}
+
+// Marks these slots of the first sheet, none of which fills a group.
+fn marks_each<R: Abort, C: Calls>(rt: &R, table: &mut C, slots: Range<u16>) {
+    for slot in slots {
+        marks(rt, table, slot, Some(Reply::Fresh));
+    }
 }
 
 // One sheet with a page in each of its 65 slots, so one of two groups.
 fn brings_a_page_to_65_slots<R: Abort, C: Calls>(rt: &R, table: &mut C) {
-    assert_eq!(rt; table.look(0), Some(3));
-    assert_eq!(rt; table.publish(0, 0), Some(Published::Stored));
-    for slot in 0..63 {
-        assert_eq!(rt; table.mark(0, slot), Some(Reply::Fresh), "slot {slot}");
-    }
-    assert_eq!(rt; table.mark(0, 63), Some(Reply::Fills(0)));
-    assert_eq!(rt; table.look_group(0, 0), Some(0));
-    assert_eq!(rt; table.look(0), Some(3));
-    assert_eq!(rt; table.close_group(0, 0), Some(Closing::Closed));
-    assert_eq!(rt; table.close_group(0, 0), Some(Closing::Again));
-    assert_eq!(rt; table.look(0), Some(2));
-    assert_eq!(rt; table.mark(0, 64), Some(Reply::Fills(1)));
-    assert_eq!(rt; table.close_group(0, 1), Some(Closing::Completing));
-    assert_eq!(rt; table.look(0), Some(0));
-    assert_eq!(rt; table.mark(0, 64), Some(Reply::Repeated));
+    stores_the_page(rt, table, 3);
+    marks_each(rt, table, 0..63);
+    marks(rt, table, 63, Some(Reply::Fills(0)));
+    group_lacks(rt, table, 0, Some(0));
+    lacks(rt, table, 3);
+    closes(rt, table, 0, Some(Closing::Closed));
+    closes(rt, table, 0, Some(Closing::Again));
+    lacks(rt, table, 2);
+    marks(rt, table, 64, Some(Reply::Fills(1)));
+    closes(rt, table, 1, Some(Closing::Completing));
+    lacks(rt, table, 0);
+    marks(rt, table, 64, Some(Reply::Repeated));
 }
 
 // Marks the slots of a group of the first sheet one after the other: the last one fills it. `missing` is what a look at
@@ -366,81 +406,65 @@ fn brings_a_page_to_65_slots<R: Abort, C: Calls>(rt: &R, table: &mut C) {
 fn fills_group<R: Abort, C: Calls>(rt: &R, table: &mut C, group: u8, slots: u16, missing: u64) {
     let first = 64 * u16::from(group);
     let last = first.saturating_add(slots.saturating_sub(1));
-    assert_eq!(rt; table.look_group(0, group), Some(missing), "group {group}");
-    for slot in first..last {
-        assert_eq!(rt; table.mark(0, slot), Some(Reply::Fresh), "slot {slot}");
-    }
     let highest = 1u64 << slots.saturating_sub(1).min(63);
-    assert_eq!(rt; table.look_group(0, group), Some(highest), "group {group}");
-    assert_eq!(rt; table.close_group(0, group), None, "group {group}");
-    assert_eq!(rt;
-        table.mark(0, last),
-        Some(Reply::Fills(group)),
-        "slot {last}"
-    );
-    assert_eq!(rt; table.look_group(0, group), Some(0), "group {group}");
-    assert_eq!(rt; table.mark(0, last), Some(Reply::Repeated), "slot {last}");
+    group_lacks(rt, table, group, Some(missing));
+    marks_each(rt, table, first..last);
+    group_lacks(rt, table, group, Some(highest));
+    closes(rt, table, group, None);
+    marks(rt, table, last, Some(Reply::Fills(group)));
+    group_lacks(rt, table, group, Some(0));
+    marks(rt, table, last, Some(Reply::Repeated));
 }
 
 // Closes a group of the first sheet, which is full. `left` is what a look at the sheet shows then.
 fn closes_group<R: Abort, C: Calls>(rt: &R, table: &mut C, group: u8, closing: Closing, left: u64) {
-    assert_eq!(rt; table.close_group(0, group), Some(closing), "group {group}");
-    assert_eq!(rt; table.look(0), Some(left), "group {group}");
-    assert_eq!(rt;
-        table.close_group(0, group),
-        Some(Closing::Again),
-        "group {group}"
-    );
+    closes(rt, table, group, Some(closing));
+    lacks(rt, table, left);
+    closes(rt, table, group, Some(Closing::Again));
 }
 
 // A sheet of 64 slots has no groups: its last mark completes it.
 fn brings_a_page_to_64_slots<R: Abort, C: Calls>(rt: &R, table: &mut C) {
-    assert_eq!(rt; table.look(0), Some(ALL));
-    assert_eq!(rt; table.look_group(0, 0), None);
-    assert_eq!(rt; table.publish(0, 0), Some(Published::Stored));
-    for slot in 0..63 {
-        assert_eq!(rt; table.mark(0, slot), Some(Reply::Fresh), "slot {slot}");
-    }
-    assert_eq!(rt; table.look(0), Some(1 << 63));
-    assert_eq!(rt; table.mark(0, 63), Some(Reply::Completing));
-    assert_eq!(rt; table.look(0), Some(0));
-    assert_eq!(rt; table.close_group(0, 0), None);
-    assert_eq!(rt; table.mark(0, 64), None);
+    group_lacks(rt, table, 0, None);
+    stores_the_page(rt, table, ALL);
+    marks_each(rt, table, 0..63);
+    lacks(rt, table, 1 << 63);
+    marks(rt, table, 63, Some(Reply::Completing));
+    lacks(rt, table, 0);
+    closes(rt, table, 0, None);
+    marks(rt, table, 64, None);
 }
 
 // 128 slots are two whole groups. They are filled and closed from the last one on.
 fn brings_a_page_to_128_slots<R: Abort, C: Calls>(rt: &R, table: &mut C) {
-    assert_eq!(rt; table.look(0), Some(3));
-    assert_eq!(rt; table.look_group(0, 2), None);
-    assert_eq!(rt; table.publish(0, 0), Some(Published::Stored));
+    group_lacks(rt, table, 2, None);
+    stores_the_page(rt, table, 3);
     fills_group(rt, table, 1, 64, ALL);
     closes_group(rt, table, 1, Closing::Closed, 1);
     fills_group(rt, table, 0, 64, ALL);
-    assert_eq!(rt; table.look(0), Some(1));
+    lacks(rt, table, 1);
     closes_group(rt, table, 0, Closing::Completing, 0);
-    assert_eq!(rt; table.mark(0, 128), None);
+    marks(rt, table, 128, None);
 }
 
 // 129 slots are two whole groups and one of a single slot. All are filled before the first is closed.
 fn brings_a_page_to_129_slots<R: Abort, C: Calls>(rt: &R, table: &mut C) {
-    assert_eq!(rt; table.look(0), Some(7));
-    assert_eq!(rt; table.look_group(0, 3), None);
-    assert_eq!(rt; table.publish(0, 0), Some(Published::Stored));
-    fills_group(rt, table, 0, 64, ALL);
-    fills_group(rt, table, 2, 1, 1);
-    fills_group(rt, table, 1, 64, ALL);
-    assert_eq!(rt; table.look(0), Some(7));
+    group_lacks(rt, table, 3, None);
+    stores_the_page(rt, table, 7);
+    for (group, slots, missing) in [(0, 64, ALL), (2, 1, 1), (1, 64, ALL)] {
+        fills_group(rt, table, group, slots, missing);
+    }
+    lacks(rt, table, 7);
     closes_group(rt, table, 1, Closing::Closed, 5);
     closes_group(rt, table, 2, Closing::Closed, 1);
     closes_group(rt, table, 0, Closing::Completing, 0);
-    assert_eq!(rt; table.mark(0, 128), Some(Reply::Repeated));
-    assert_eq!(rt; table.mark(0, 129), None);
+    marks(rt, table, 128, Some(Reply::Repeated));
+    marks(rt, table, 129, None);
 }
 
 // 4,095 slots are 63 whole groups and one of 63 slots.
 fn brings_a_page_to_4095_slots<R: Abort, C: Calls>(rt: &R, table: &mut C) {
-    assert_eq!(rt; table.look(0), Some(ALL));
-    assert_eq!(rt; table.publish(0, 0), Some(Published::Stored));
+    stores_the_page(rt, table, ALL);
     let mut left = ALL;
     for group in 0..63u8 {
         fills_group(rt, table, group, 64, ALL);
@@ -450,22 +474,21 @@ fn brings_a_page_to_4095_slots<R: Abort, C: Calls>(rt: &R, table: &mut C) {
     assert_eq!(rt; left, 1 << 63);
     fills_group(rt, table, 63, 63, ALL >> 1);
     closes_group(rt, table, 63, Closing::Completing, 0);
-    assert_eq!(rt; table.mark(0, 4_095), None);
+    marks(rt, table, 4_095, None);
 }
 
 // One sheet with 64 blank slots and then a page.
 fn brings_a_page_behind_a_blank_group<R: Abort, C: Calls>(rt: &R, table: &mut C) {
-    assert_eq!(rt; table.look(0), Some(2));
-    assert_eq!(rt; table.publish(0, 0), Some(Published::Stored));
-    assert_eq!(rt; table.mark(0, 64), Some(Reply::Fills(1)));
-    assert_eq!(rt; table.close_group(0, 1), Some(Closing::Completing));
+    stores_the_page(rt, table, 2);
+    marks(rt, table, 64, Some(Reply::Fills(1)));
+    closes(rt, table, 1, Some(Closing::Completing));
 }
 
 // One sheet with a page in each of its 4,096 slots.
 fn shows_64_groups<R: Abort, C: Calls>(rt: &R, table: &mut C) {
-    assert_eq!(rt; table.look(0), Some(ALL));
-    assert_eq!(rt; table.look_group(0, 63), Some(ALL));
-    assert_eq!(rt; table.look_group(0, 64), None);
+    lacks(rt, table, ALL);
+    group_lacks(rt, table, 63, Some(ALL));
+    group_lacks(rt, table, 64, None);
 }
 
 // The calls of one caller.

@@ -85,10 +85,9 @@ fn rooms_of_one<R: Abort>(
 
 #[test]
 fn a_text_that_is_used_again_keeps_its_room(rt: HostRuntime) -> Result<(), Fail> {
-    let a4 = paper_by_name("a4").expect(&rt, "a4 is a paper");
     let likely = 64 + ONE_PAGE.len() + 512;
     for before in [0usize, 1, 100, 500, 600, 660, 700, 10_000] {
-        let (had, has) = rooms_of_one(&rt, rt.alloc(), a4, before)?;
+        let (had, has) = rooms_of_one(&rt, rt.alloc(), a4(), before)?;
         // Memory that is too small may be doubled.
         if has < had || has > had.max(2 * likely) {
             panic!(rt; "{has} bytes of room, where {had} were");

@@ -2,7 +2,7 @@
 //! and one that makes the sheets on its caller's thread doesn't come to them.
 ghost use Rattle.std.specs.Prelude.{None};
 
-use super::{document_of, workers};
+use super::workers;
 use imposer::{Gate, Look, Open, Report, RunError, Sink, SinkFault, Step, run};
 use std::alloc::Global;
 use std::process::Abort;
@@ -12,6 +12,7 @@ use std::sync::atomic::Ordering::SeqCst;
 use std::test::Fail;
 use std::thread;
 use std::thread::Threads;
+use test_tools::document_of;
 
 /// How often a wait yields before it runs out.
 const YIELDS: u32 = 20_000_000;
@@ -92,7 +93,7 @@ impl Sink for Everything {
 
 /// Sixteen pages on sixteen sheets by so many workers of each kind, which all meet at these steps: how many were
 /// entered, which, and how many waits ran out.
-fn run_barrier<R: Threads + Wait + Abort + Sync>(
+fn run_barrier<R: Threads + Wait + Sync>(
     rt: &R,
     alloc: Global,
     steps: Steps,
@@ -106,7 +107,7 @@ fn run_barrier<R: Threads + Wait + Abort + Sync>(
         run_out: AtomicUsize::new(0),
     };
     let text = document_of(alloc, PAGES)?;
-    let options = workers(rt, count, count);
+    let options = workers(count, count);
     let mut sink = Everything {};
     let report = run(rt, alloc, text.as_bytes(), "0", &options, &gate, &mut sink)?;
     let entered = gate.entered.load(SeqCst);
@@ -141,13 +142,13 @@ fn as_many_imposers_run_as_were_asked_for(rt: HostRuntime) -> Result<(), Fail> {
 }
 
 /// How many sheets of a run on one page were made at the end.
-fn swept_of_one<R: Threads + Wait + Abort + Sync>(
+fn swept_of_one<R: Threads + Wait + Sync>(
     rt: &R,
     alloc: Global,
     text: &str,
     count: u32,
 ) -> Result<u32, RunError> {
-    let options = workers(rt, count, count);
+    let options = workers(count, count);
     let mut sink = Everything {};
     let report = run(
         rt,
@@ -305,7 +306,7 @@ impl<'w> Sink for OneSheet<'w> {
 
 /// One page on one sheet: how many sheets were made at the end, how many looks had begun as the page's sheet was found,
 /// and how many waits ran out.
-fn run_late<R: Threads + Wait + Abort + Sync>(
+fn run_late<R: Threads + Wait + Sync>(
     rt: &R,
     alloc: Global,
     look: Look,
@@ -313,7 +314,7 @@ fn run_late<R: Threads + Wait + Abort + Sync>(
 ) -> Result<(u32, usize, usize), RunError> {
     let gate = Late::new(look, side);
     let text = document_of(alloc, 1)?;
-    let options = workers(rt, 1, 1);
+    let options = workers(1, 1);
     let mut sink = OneSheet {
         late: &gate,
         calls: 0,

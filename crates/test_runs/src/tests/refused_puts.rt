@@ -2,12 +2,12 @@
 //! the others are imposed without waiting for it.
 ghost use Rattle.std.specs.Prelude.{◌<◌};
 
-use super::windows::large_pages;
-use super::{TWO_UP, a4};
+use super::windows::six_pages;
 use dsc::Document;
 use gather_table::GatherTable;
 use handover::{Ready, Shelf};
 use imposer::{Gate, Gathered, Job, MemorySink, Report, Step, Workers, gather};
+use lengths::a4;
 use pagespec::read_spec;
 use sheet_plan::Plan;
 use std::alloc::Global;
@@ -18,6 +18,7 @@ use std::sync::atomic::Ordering::SeqCst;
 use std::test::Fail;
 use std::thread;
 use std::thread::Threads;
+use test_tools::TWO_UP;
 
 /// How often a wait yields before it runs out.
 const YIELDS: u32 = 20_000_000;
@@ -79,11 +80,11 @@ fn gather_with<R: Threads + Wait + Abort + Sync>(
     requires room { 0 < room }
     requires countable { sink.old.failures < 10 }
 {
-    let text = large_pages(alloc)?;
+    let text = six_pages(alloc)?;
     let spec = read_spec(alloc, TWO_UP)?;
     let document = Document::read(alloc, text.as_bytes())?;
     let plan = Plan::new(alloc, &spec, document.pages())?;
-    let job = Job::new(&plan, &document, a4(rt), None);
+    let job = Job::new(&plan, &document, a4(), None);
     let gate = FirstSheetByTheSecond {
         even: AtomicU32::new(0),
         odd: AtomicU32::new(0),

@@ -2,7 +2,7 @@
 ghost use Rattle.std.specs.Prelude.{None};
 ghost use Rattle.sheet_writer.specs.Sinks.{IsCountable};
 
-use super::{TWO_UP, document_of, workers};
+use super::workers;
 use imposer::{MemorySink, Open, Report, RunError, Sink, SinkFault, WriteSink, run};
 use std::alloc::Global;
 use std::io::{self, ErrorKind, Write};
@@ -10,6 +10,7 @@ use std::process::Abort;
 use std::sync::Wait;
 use std::test::Fail;
 use std::thread::Threads;
+use test_tools::{TWO_PAGES, TWO_UP, two_up_output};
 
 /// The numbers of preparers and of imposers.
 const COUNTS: [(u32, u32); 2] = [(1, 1), (2, 3)];
@@ -17,12 +18,8 @@ const COUNTS: [(u32, u32); 2] = [(1, 1), (2, 3)];
 /// How many bytes are taken a call.
 const PER_CALL: usize = 7;
 
-/// What is wanted of two pages.
-const PAIR: &str =
-    "%!PS-Adobe-3.0\n%%Pages: 1\n%%EndComments\n%%Page: 1 1\nuserdict /ImposeSave save put\nuserdict /showpage {} put\n[0 0.7 -0.7 0 595.27559 0] concat\nnewpath 0 0 moveto 595 0 lineto 595 842 lineto 0 842 lineto closepath clip newpath\n(0) pop\nshowpage\nImposeSave restore\nuserdict /ImposeSave save put\nuserdict /showpage {} put\n[0 0.7 -0.7 0 595.27559 420.94488] concat\nnewpath 0 0 moveto 595 0 lineto 595 842 lineto 0 842 lineto closepath clip newpath\n(1) pop\nshowpage\nImposeSave restore\nshowpage\n%%Trailer\n%%EOF\n";
-
 /// Two pages on a sheet.
-fn impose_pair<R: Threads + Wait + Abort + Sync, S: Sink>(
+fn impose_pair<R: Threads + Wait + Sync, S: Sink>(
     rt: &R,
     alloc: Global,
     counts: (u32, u32),
@@ -30,9 +27,9 @@ fn impose_pair<R: Threads + Wait + Abort + Sync, S: Sink>(
 ) -> Result<Report, RunError>
     requires countable { IsCountable (S.seen sink.old) }
 {
-    let options = workers(rt, counts.0, counts.1);
-    let text = document_of(alloc, 2)?;
-    run(rt, alloc, text.as_bytes(), TWO_UP, &options, &Open {}, sink)
+    let options = workers(counts.0, counts.1);
+    let input = TWO_PAGES.as_bytes();
+    run(rt, alloc, input, TWO_UP, &options, &Open {}, sink)
 }
 
 /// With a sink that takes seven bytes a call and fails behind so many calls: how many bytes it has, and how many the
@@ -41,11 +38,12 @@ fn written_behind<R: Threads + Wait + Abort + Sync>(
     rt: &R,
     alloc: Global,
     counts: (u32, u32),
+    pair: &str,
     calls: u64,
 ) -> Result<(usize, u64), Fail> {
     let mut sink = MemorySink::new(alloc, 1_000, PER_CALL, calls)?;
     let answer = impose_pair(rt, alloc, counts, &mut sink);
-    assert!(rt; PAIR.as_bytes().starts_with(sink.bytes()));
+    assert!(rt; pair.as_bytes().starts_with(sink.bytes()));
     match answer {
         Ok(report) => Ok((sink.bytes().len(), report.bytes)),
         Err(RunError::Write { written }) => Ok((sink.bytes().len(), written)),
@@ -59,10 +57,11 @@ fn calls_needed<R: Threads + Wait + Abort + Sync>(
     alloc: Global,
     counts: (u32, u32),
 ) -> Result<u64, Fail> {
+    let pair = two_up_output(alloc, 1)?;
     for calls in 0..200u64 {
-        let (taken, written) = written_behind(rt, alloc, counts, calls)?;
+        let (taken, written) = written_behind(rt, alloc, counts, &pair, calls)?;
         assert_eq!(rt; taken as u64, written);
-        if taken == PAIR.len() {
+        if taken == pair.len() {
             return Ok(calls);
         }
     }

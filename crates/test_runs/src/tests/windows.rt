@@ -2,7 +2,7 @@
 //! turn is near, unless the sheet that is written next may never come.
 ghost use Rattle.std.specs.Prelude.{None};
 
-use super::workers;
+use super::{Trial, large_pages, workers};
 use imposer::{Gate, Open, Report, RunError, Sink, SinkFault, Step, run};
 use std::alloc::{AllocError, Global};
 use std::process::Abort;
@@ -32,16 +32,8 @@ const BACKWARD: &str = "-0";
 const BLANK_LAST: &str = "7:0,1,2,3,4,5,6";
 
 /// Six pages of comments.
-pub(super) fn large_pages(alloc: Global) -> Result<String, AllocError> {
-    let mut text = String::from_str(alloc, "%!PS-Adobe-3.0\n")?;
-    let lines = "% a line\n".repeat(alloc, PAGE_LEN / 9 + 1)?;
-    for page in 1..=PAGES {
-        let heading = format!(in alloc; "%%Page: {page} {page}\n")?;
-        text.push_str(&heading)?;
-        text.push_str(&lines)?;
-    }
-    text.push_str("%%Trailer\n")?;
-    Ok(text)
+pub(super) fn six_pages(alloc: Global) -> Result<String, AllocError> {
+    large_pages(alloc, PAGES as u32, PAGE_LEN / 9 + 1)
 }
 
 /// What a run's threads tell each other here.
@@ -147,12 +139,10 @@ impl<'w> Gate for FirstSheetLast<'w> {
 }
 
 /// Runs with this gate and a sink with so much room.
-fn run_into<R: Threads + Wait + Abort + Sync, G: Gate + Sync>(
+fn run_into<R: Threads + Wait + Sync, G: Gate + Sync>(
     rt: &R,
     alloc: Global,
-    input: &str,
-    items: &str,
-    counts: (u32, u32),
+    trial: &Trial<'_>,
     words: &Words,
     room: usize,
     gate: &G,
@@ -162,12 +152,12 @@ fn run_into<R: Threads + Wait + Abort + Sync, G: Gate + Sync>(
         room,
         failures: 0,
     };
-    let options = workers(rt, counts.0, counts.1);
+    let options = workers(trial.counts.0, trial.counts.1);
     run(
         rt,
         alloc,
-        input.as_bytes(),
-        items,
+        trial.document.as_bytes(),
+        trial.items,
         &options,
         gate,
         &mut sink,
@@ -178,13 +168,11 @@ fn run_into<R: Threads + Wait + Abort + Sync, G: Gate + Sync>(
 fn assert_first_last<R: Threads + Wait + Abort + Sync>(
     rt: &R,
     alloc: Global,
-    input: &str,
-    items: &str,
+    trial: &Trial<'_>,
     sheets: u32,
-    counts: (u32, u32),
 ) -> Result<(), RunError> {
     let words = Words::new();
-    let first_page = if items == BACKWARD {
+    let first_page = if trial.items == BACKWARD {
         PAGES as u32 - 1
     } else {
         0
@@ -192,9 +180,9 @@ fn assert_first_last<R: Threads + Wait + Abort + Sync>(
     let gate = FirstSheetLast {
         words: &words,
         first_page,
-        window: (counts.1 as usize).max(2),
+        window: (trial.counts.1 as usize).max(2),
     };
-    let report = run_into(rt, alloc, input, items, counts, &words, usize::MAX, &gate)?;
+    let report = run_into(rt, alloc, trial, &words, usize::MAX, &gate)?;
     assert_eq!(rt; words.run_out.load(SeqCst), 0);
     assert_eq!(rt; words.too_early.load(SeqCst), 0);
     assert_eq!(rt; words.imposed.load(SeqCst), sheets as usize);
@@ -205,11 +193,16 @@ fn assert_first_last<R: Threads + Wait + Abort + Sync>(
 // The page of the first sheet has a preparer of its own, or it is the last one of the only preparer.
 #[test]
 fn no_sheet_is_imposed_far_before_its_turn(rt: HostRuntime) -> Result<(), Fail> {
-    let input = large_pages(rt.alloc())?;
+    let document = six_pages(rt.alloc())?;
     for imposers in [1, 2, 4] {
-        assert_first_last(&rt, rt.alloc(), &input, FORWARD, 6, (6, imposers))?;
-        assert_first_last(&rt, rt.alloc(), &input, BACKWARD, 6, (6, imposers))?;
-        assert_first_last(&rt, rt.alloc(), &input, BACKWARD, 6, (1, imposers))?;
+        for (items, preparers) in [(FORWARD, 6), (BACKWARD, 6), (BACKWARD, 1)] {
+            let trial = Trial {
+                document: &document,
+                items,
+                counts: (preparers, imposers),
+            };
+            assert_first_last(&rt, rt.alloc(), &trial, 6)?;
+        }
     }
     Ok(())
 }
@@ -217,9 +210,14 @@ fn no_sheet_is_imposed_far_before_its_turn(rt: HostRuntime) -> Result<(), Fail> 
 // It is on the queue before all others.
 #[test]
 fn a_sheet_without_a_page_waits_for_its_turn(rt: HostRuntime) -> Result<(), Fail> {
-    let input = large_pages(rt.alloc())?;
+    let document = six_pages(rt.alloc())?;
     for imposers in [1, 2, 4] {
-        assert_first_last(&rt, rt.alloc(), &input, BLANK_LAST, 7, (6, imposers))?;
+        let trial = Trial {
+            document: &document,
+            items: BLANK_LAST,
+            counts: (6, imposers),
+        };
+        assert_first_last(&rt, rt.alloc(), &trial, 7)?;
     }
     Ok(())
 }
@@ -238,21 +236,17 @@ fn assert_stopped<R: Abort>(rt: &R, answer: Result<Report, RunError>, words: &Wo
 
 #[test]
 fn no_turn_is_waited_for_behind_a_failed_write(rt: HostRuntime) -> Result<(), Fail> {
-    let input = large_pages(rt.alloc())?;
+    let document = six_pages(rt.alloc())?;
     for counts in [(1, 1), (2, 2), (6, 4)] {
         for items in [FORWARD, BACKWARD] {
+            let trial = Trial {
+                document: &document,
+                items,
+                counts,
+            };
             for room in [0, 500_000, 1_500_000] {
                 let words = Words::new();
-                let answer = run_into(
-                    &rt,
-                    rt.alloc(),
-                    &input,
-                    items,
-                    counts,
-                    &words,
-                    room,
-                    &Open {},
-                );
+                let answer = run_into(&rt, rt.alloc(), &trial, &words, room, &Open {});
                 assert_stopped(&rt, answer, &words, room);
             }
         }
@@ -301,25 +295,20 @@ impl<'w> Gate for FailureFirst<'w> {
 // The only preparer delivers the first sheet's page first, so an imposer takes that sheet first.
 #[test]
 fn sheets_are_under_way_as_the_sink_fails(rt: HostRuntime) -> Result<(), Fail> {
-    let input = large_pages(rt.alloc())?;
+    let document = six_pages(rt.alloc())?;
     for waits in [Waits::BeforeSheet, Waits::BehindSheet] {
         for imposers in [1, 2, 4] {
             let words = Words::new();
+            let trial = Trial {
+                document: &document,
+                items: FORWARD,
+                counts: (1, imposers),
+            };
             let gate = FailureFirst {
                 words: &words,
                 waits,
             };
-            let counts = (1, imposers);
-            let answer = run_into(
-                &rt,
-                rt.alloc(),
-                &input,
-                FORWARD,
-                counts,
-                &words,
-                100_000,
-                &gate,
-            );
+            let answer = run_into(&rt, rt.alloc(), &trial, &words, 100_000, &gate);
             assert_stopped(&rt, answer, &words, 100_000);
         }
     }

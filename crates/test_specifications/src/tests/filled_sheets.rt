@@ -102,9 +102,10 @@ fn pages_of_several_papers(rt: HostRuntime) -> Result<(), Fail> {
     ] {
         let paper = paper(width, height).expect(&rt, "a paper");
         let item = setting.item(&paper, 1).ok().expect(&rt, "an item");
+        let (x, y) = item.offset;
         assert_eq!(rt; item.scale.billionths(), scale);
-        assert_eq!(rt; item.offset.0.number.billionths(), right);
-        assert_eq!(rt; item.offset.1.number.billionths(), up);
+        assert_eq!(rt; x.number.billionths(), right);
+        assert_eq!(rt; y.number.billionths(), up);
     }
     Ok(())
 }

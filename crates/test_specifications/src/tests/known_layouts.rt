@@ -592,6 +592,14 @@ fn arranged_text(alloc: Global, arrangement: &Arrangement) -> Result<String, Fai
     }
 }
 
+/// The text of a sheet of four pages in this order.
+fn four_pages(alloc: Global, order: Order) -> Result<String, Fail> {
+    match plain(Cells::AtLeast(4)) {
+        Some(four) => arranged_text(alloc, &Arrangement { order, ..four }),
+        None => Ok(format!(in alloc; "no arrangement")?),
+    }
+}
+
 #[test]
 fn orders_of_four_pages(rt: HostRuntime) -> Result<(), Fail> {
     for (run, right_to_left, turned, wanted) in [
@@ -638,13 +646,12 @@ fn orders_of_four_pages(rt: HostRuntime) -> Result<(), Fail> {
             "4:0@.5+1@.5(0,421)+2@.5(297.5,0)+3@.5(297.5,421)",
         ),
     ] {
-        let mut four = plain(Cells::AtLeast(4)).expect(&rt, "an arrangement");
-        four.order = Order {
+        let order = Order {
             run,
             right_to_left,
             turned,
         };
-        assert_eq!(rt; arranged_text(rt.alloc(), &four)?.as_str(), wanted);
+        assert_eq!(rt; four_pages(rt.alloc(), order)?.as_str(), wanted);
     }
     Ok(())
 }

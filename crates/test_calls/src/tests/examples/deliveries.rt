@@ -1,5 +1,4 @@
 //! A page is delivered: what the table, the queue and the shelf answer.
-use super::ONE_PAGE;
 use crate::tests::callers::{Caller, Task, assert_imposed, with_caller};
 use gather_table::{Published, Reply};
 use run_steps::{Answers, Delivered};
@@ -7,6 +6,7 @@ use std::alloc::{AllocError, Global};
 use std::process::Abort;
 use std::sync::Wait;
 use std::test::Fail;
+use test_tools::ONE_PAGE;
 
 fn assert_answers<R: Abort>(
     rt: &R,

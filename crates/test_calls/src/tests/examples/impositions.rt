@@ -4,11 +4,10 @@ ghost use Rattle.rules.specs.Sheets.{layout};
 ghost use Rattle.gather_table.specs.History.{IsComplete};
 ghost use Rattle.gather_table.specs.Shared.{IsSeatOf};
 
-use super::{ONE_PAGE, TWO_PAGES};
-use crate::tests::a4;
 use dsc::Document;
 use gather_table::{GatherTable, Published, Reply, Seat};
 use handover::{Prepared, Shelf};
+use lengths::a4;
 use pagespec::read_spec;
 use run_steps::{ImposeError, Imposed, impose, is_complete};
 use sheet_plan::Plan;
@@ -17,6 +16,7 @@ use std::alloc::{AllocError, Global};
 use std::process::Abort;
 use std::sync::Wait;
 use std::test::Fail;
+use test_tools::{ONE_PAGE, TWO_PAGES};
 
 // Publishes the page of the first slot, if it has one, and marks that slot. None if a look doesn't show the sheet
 // complete.
@@ -95,7 +95,7 @@ fn impose_first<R: Abort + Wait>(
     let spec = read_spec(alloc, "0")?;
     let document = Document::read(alloc, TWO_PAGES.as_bytes())?;
     let plan = Plan::new(alloc, &spec, document.pages())?;
-    let job = Job::new(&plan, &document, a4(rt), None);
+    let job = Job::new(&plan, &document, a4(), None);
     impose_page(rt, alloc, &plan, &job, page)
 }
 
@@ -138,7 +138,7 @@ fn a_sheet_without_pages_needs_no_shelf(rt: HostRuntime) -> Result<(), Fail> {
     let document = Document::read(rt.alloc(), ONE_PAGE.as_bytes())?;
     let plan = Plan::new(rt.alloc(), &spec, document.pages())?;
     assert!(rt; 0 < plan.sheets());
-    let job = Job::new(&plan, &document, a4(&rt), None);
+    let job = Job::new(&plan, &document, a4(), None);
     let Some(answer) = impose_untouched(rt.alloc(), &plan, &job)? else {
         panic!(rt; "the sheet is not complete");
     };

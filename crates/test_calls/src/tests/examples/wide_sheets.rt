@@ -1,10 +1,9 @@
 //! Pages are delivered to a sheet of over 64 slots, by one thread and by two.
-use super::ONE_PAGE;
-use crate::tests::a4;
 use crate::tests::callers::{Caller, Task, assert_imposed, caller_of, two_others, with_caller};
 use dsc::Document;
 use gather_table::{Closing, GatherTable, Published, Reply};
 use handover::{Ready, Shelf};
+use lengths::a4;
 use pagespec::read_spec;
 use run_steps::Delivered;
 use sheet_plan::Plan;
@@ -15,15 +14,7 @@ use std::sync::Wait;
 use std::test::Fail;
 use std::thread;
 use std::thread::Threads;
-
-/// A sheet with the first page in so many slots.
-fn first_page_times(alloc: Global, slots: u32) -> Result<String, Fail> {
-    let mut text = format!(in alloc; "0")?;
-    for _ in 1..slots {
-        text.push_str("+0")?;
-    }
-    Ok(text)
-}
+use test_tools::{ONE_PAGE, same_items};
 
 /// Of 65 slots: the first 63 fill nothing, the last of the first group fills it, and the one of the second group that.
 fn assert_fills<R: Abort>(rt: &R, delivered: &Delivered<'_>) {
@@ -92,7 +83,7 @@ impl<R: Wait + Abort> Task<R, ()> for CompleteByClosing {
 
 #[test]
 fn the_last_closing_completes_a_sheet(rt: HostRuntime) -> Result<(), Fail> {
-    let items = first_page_times(rt.alloc(), 65)?;
+    let items = same_items(rt.alloc(), "0", 65)?;
     with_caller(&rt, rt.alloc(), ONE_PAGE, &items, 1, &CompleteByClosing {})
 }
 
@@ -191,9 +182,9 @@ fn complete_by_two<R: Threads + Wait + Sync + Abort>(
 
 #[test]
 fn two_threads_complete_a_wide_sheet_once(rt: HostRuntime) -> Result<(), Fail> {
-    let items = first_page_times(rt.alloc(), 65)?;
+    let items = same_items(rt.alloc(), "0", 65)?;
     let spec = read_spec(rt.alloc(), &items)?;
     let document = Document::read(rt.alloc(), ONE_PAGE.as_bytes())?;
     let plan = Plan::new(rt.alloc(), &spec, document.pages())?;
-    complete_by_two(&rt, rt.alloc(), &Job::new(&plan, &document, a4(&rt), None))
+    complete_by_two(&rt, rt.alloc(), &Job::new(&plan, &document, a4(), None))
 }

@@ -1,7 +1,5 @@
 //! Pages that are delivered, and sheets that are imposed.
 use super::super::callers::{Caller, Task, with_caller};
-use super::super::document_of;
-use super::{MOST, has_refused, refuse};
 use gather_table::{Closing, Published, Reply};
 use handover::Prepared;
 use run_steps::{DeliverError, Delivered, ImposeError};
@@ -10,6 +8,7 @@ use std::alloc::{AllocError, Global};
 use std::process::Abort;
 use std::sync::Wait;
 use std::test::Fail;
+use test_tools::{MOST_GROWTHS, document_of, has_refused, refuse, same_items};
 
 /// Delivers a page. If a growth is refused, the page comes back, and table and queue answer as before; then it is
 /// delivered with memory.
@@ -112,7 +111,7 @@ fn impose_again<R: Abort>(
     let index = caller.page_at(0);
     let first = impose_first(rt, alloc, number, caller)?;
     assert_eq!(rt; (caller.look(0), caller.page_at(0)), (Some(0), index));
-    let Some(second) = impose_first(rt, alloc, MOST, caller)? else {
+    let Some(second) = impose_first(rt, alloc, MOST_GROWTHS, caller)? else {
         panic!(rt; "refused with memory");
     };
     assert!(rt; second.as_slice() == text.as_slice());
@@ -172,21 +171,19 @@ fn complete_sheet<R: Wait + Abort>(
     rt: &R,
     alloc: Global,
     number: u32,
-    slots: usize,
+    slots: u32,
 ) -> Result<bool, Fail> {
     let text = document_of(alloc, 1)?;
-    let mut items = String::from_str(alloc, "0")?;
-    for _ in 1..slots {
-        items.push_str("+0")?;
-    }
+    let items = same_items(alloc, "0", slots)?;
+    let slots = slots as usize;
     with_caller(rt, alloc, &text, &items, 1, &Refused { number, slots })
 }
 
 #[test]
 fn pages_and_sheets(rt: HostRuntime) -> Result<(), Fail> {
-    for slots in [1usize, 2, 64, 65] {
+    for slots in [1, 2, 64, 65] {
         let mut goes_on = true;
-        for number in 1..MOST {
+        for number in 1..MOST_GROWTHS {
             goes_on = goes_on && complete_sheet(&rt, rt.alloc(), number, slots)?;
         }
         assert!(rt; !goes_on, "{slots} slots");

@@ -168,41 +168,43 @@ fn numbers_that_are_refused(rt: HostRuntime) {
     }
 }
 
-// A point is 127,000,000,000 grains, and a centimetre 3,600,000,000,000.
+// Options, and the sides of the paper and the width of the border that they ask for. A point is 127,000,000,000 grains, and
+// a centimetre 3,600,000,000,000.
+const PAPERS: [(&str, i128, i128, i128); 12] = [
+    ("0", 75_565_000_000_000, 106_934_000_000_000, 0),
+    (
+        "-w21cm -h29.7cm -d1 0",
+        75_600_000_000_000,
+        106_920_000_000_000,
+        127_000_000_000,
+    ),
+    (
+        "-w 595 -h 842pt -d 1mm 0",
+        75_565_000_000_000,
+        106_934_000_000_000,
+        360_000_000_000,
+    ),
+    // -w and -h replace a side of the paper, also if they stand before its name.
+    (
+        "-h1in -p LETTER 0",
+        77_724_000_000_000,
+        9_144_000_000_000,
+        0,
+    ),
+    ("-p a5 -w .5in 0", 4_572_000_000_000, 75_565_000_000_000, 0),
+    ("-pa5 0", 53_340_000_000_000, 75_565_000_000_000, 0),
+    ("-p A5 0", 53_340_000_000_000, 75_565_000_000_000, 0),
+    ("-qpa5 0", 53_340_000_000_000, 75_565_000_000_000, 0),
+    ("-d0 0", 75_565_000_000_000, 106_934_000_000_000, 0),
+    ("-d-0cm 0", 75_565_000_000_000, 106_934_000_000_000, 0),
+    // An equals sign behind the letter isn't part of the value.
+    ("-p=a5 0", 53_340_000_000_000, 75_565_000_000_000, 0),
+    ("-w=21 0", 2_667_000_000_000, 106_934_000_000_000, 0),
+];
+
 #[test]
 fn papers_and_borders(rt: HostRuntime) -> Result<(), Fail> {
-    let rows = [
-        ("0", 75_565_000_000_000, 106_934_000_000_000, 0),
-        (
-            "-w21cm -h29.7cm -d1 0",
-            75_600_000_000_000,
-            106_920_000_000_000,
-            127_000_000_000,
-        ),
-        (
-            "-w 595 -h 842pt -d 1mm 0",
-            75_565_000_000_000,
-            106_934_000_000_000,
-            360_000_000_000,
-        ),
-        // -w and -h replace a side of the paper, also if they stand before its name.
-        (
-            "-h1in -p LETTER 0",
-            77_724_000_000_000,
-            9_144_000_000_000,
-            0,
-        ),
-        ("-p a5 -w .5in 0", 4_572_000_000_000, 75_565_000_000_000, 0),
-        ("-pa5 0", 53_340_000_000_000, 75_565_000_000_000, 0),
-        ("-p A5 0", 53_340_000_000_000, 75_565_000_000_000, 0),
-        ("-qpa5 0", 53_340_000_000_000, 75_565_000_000_000, 0),
-        ("-d0 0", 75_565_000_000_000, 106_934_000_000_000, 0),
-        ("-d-0cm 0", 75_565_000_000_000, 106_934_000_000_000, 0),
-        // An equals sign behind the letter isn't part of the value.
-        ("-p=a5 0", 53_340_000_000_000, 75_565_000_000_000, 0),
-        ("-w=21 0", 2_667_000_000_000, 106_934_000_000_000, 0),
-    ];
-    for (line, width, height, border) in rows {
+    for (line, width, height, border) in PAPERS {
         let options = read(rt.alloc(), line)?.options;
         assert_eq!(rt; options.paper.width().get(), width, "at {line}");
         assert_eq!(rt; options.paper.height().get(), height, "at {line}");

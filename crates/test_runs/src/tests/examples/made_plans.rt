@@ -2,30 +2,40 @@
 ghost use Rattle.std.specs.Prelude.{◌≡◌};
 ghost use Rattle.sheet_writer.specs.Sinks.{IsCountable};
 
-use super::TWO_PAGES;
 use dsc::Document;
 use imposer::{Dress, Job, Lines, MemorySink, Open, Report, SheetLines, Sink, Workers, run_plan};
 use lengths::{Number, Paper, paper_by_name};
 use pagespec::{Item, Measure, Turn};
 use sheet_plan::{MadeSheets, MadeSlot, Plan};
-use std::alloc::Global;
+use std::alloc::{AllocError, Global};
 use std::process::Abort;
 use std::sync::Wait;
 use std::test::Fail;
 use std::thread::Threads;
+use test_tools::{A4_SIDES, TWO_PAGES, UNMOVED, page_body, placed_on, sheet};
 
 /// The second page on A4 and the first on A5, each on a sheet, and a line at each of the three places.
-const DRESSED: &str = "%!PS-Adobe-3.0\n%%Pages: 2\n%%DocumentMedia: x\n%%EndComments\n\
-    %%Page: 1 1\n%%PageMedia: x\nuserdict /ImposeSave save put\nuserdict /showpage {} put\n[1 0 0 1 0 0] concat\n\
-    newpath 0 0 moveto 595 0 lineto 595 842 lineto 0 842 lineto closepath clip newpath\n\
-    (1) pop\nshowpage\nImposeSave restore\n% end\nshowpage\n\
-    %%Page: 2 2\n%%PageMedia: x\nuserdict /ImposeSave save put\nuserdict /showpage {} put\n[1 0 0 1 0 0] concat\n\
-    newpath 0 0 moveto 420 0 lineto 420 595 lineto 0 595 lineto closepath clip newpath\n\
-    (0) pop\nshowpage\nImposeSave restore\n% end\nshowpage\n\
-    %%Trailer\n%%EOF\n";
+fn dressed_output(alloc: Global) -> Result<String, AllocError> {
+    let first = dressed_sheet(alloc, 1, A4_SIDES)?;
+    let second = dressed_sheet(alloc, 2, ("420", "595"))?;
+    format!(in alloc;
+        "%!PS-Adobe-3.0\n%%Pages: 2\n%%DocumentMedia: x\n%%EndComments\n{first}{second}%%Trailer\n%%EOF\n"
+    )
+}
+
+/// The sheet with this number, of one page on this paper.
+fn dressed_sheet(alloc: Global, number: u32, paper: (&str, &str)) -> Result<String, AllocError> {
+    let body = page_body(alloc, 2u32.saturating_sub(number))?;
+    let page = placed_on(alloc, paper, UNMOVED, &body)?;
+    sheet(
+        alloc,
+        number,
+        &format!(in alloc; "%%PageMedia: x\n{page}% end\n")?,
+    )
+}
 
 /// A page as it is, on this paper.
-fn placed(page: u32, paper: Paper) -> MadeSlot {
+fn placed_page(page: u32, paper: Paper) -> MadeSlot {
     MadeSlot::Placed {
         page,
         item: Item {
@@ -42,8 +52,8 @@ fn placed(page: u32, paper: Paper) -> MadeSlot {
 /// Each page on a sheet of its own paper, backwards.
 fn two_sheets(alloc: Global, first: Paper, second: Paper) -> Result<MadeSheets, Fail> {
     let mut sheets = MadeSheets::new(alloc);
-    sheets.push(&first, &[placed(1, first)])?;
-    sheets.push(&second, &[placed(0, second)])?;
+    sheets.push(&first, &[placed_page(1, first)])?;
+    sheets.push(&second, &[placed_page(0, second)])?;
     Ok(sheets)
 }
 
@@ -92,7 +102,8 @@ fn sheets_that_were_made(rt: HostRuntime) -> Result<(), Fail> {
     let dress = lines(rt.alloc())?;
     let mut sink = MemorySink::new(rt.alloc(), 1_000, 1_000, 100)?;
     let report = run_dressed(&rt, rt.alloc(), &sheets, &dress, &mut sink)?;
-    assert_eq!(rt; sink.bytes(), DRESSED.as_bytes());
+    let wanted = dressed_output(rt.alloc())?;
+    assert_eq!(rt; sink.bytes(), wanted.as_bytes());
     assert_eq!(rt; (report.pages, report.sheets, report.born), (2, 2, 0));
     Ok(())
 }

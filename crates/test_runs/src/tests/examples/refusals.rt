@@ -1,8 +1,7 @@
 //! What is refused first, and how a refusal reads.
-use super::ONE_PAGE;
-use crate::tests::{TWO_UP, workers};
+use crate::tests::{answered, workers};
 use dsc::DscError;
-use imposer::{MemorySink, Open, RunError, run};
+use imposer::RunError;
 use pagespec::SpecError;
 use sheet_plan::PlanError;
 use std::alloc::Global;
@@ -10,6 +9,7 @@ use std::process::Abort;
 use std::sync::Wait;
 use std::test::Fail;
 use std::thread::Threads;
+use test_tools::{ONE_PAGE, TWO_UP};
 
 /// Why a run is refused.
 fn refuse<R: Threads + Wait + Abort + Sync>(
@@ -19,18 +19,9 @@ fn refuse<R: Threads + Wait + Abort + Sync>(
     spec: &str,
     counts: (u32, u32),
 ) -> Result<RunError, Fail> {
-    let options = workers(rt, counts.0, counts.1);
-    let mut sink = MemorySink::new(alloc, 1_000, 1_000, 100)?;
-    let answer = run(
-        rt,
-        alloc,
-        input.as_bytes(),
-        spec,
-        &options,
-        &Open {},
-        &mut sink,
-    );
-    assert!(rt; sink.bytes().is_empty());
+    let options = workers(counts.0, counts.1);
+    let (answer, written) = answered(rt, alloc, input, spec, &options)?;
+    assert_eq!(rt; written, 0);
     match answer {
         Ok(_) => panic!(rt; "nothing is refused"),
         Err(error) => Ok(error),

@@ -1,40 +1,22 @@
 //! Runs in signatures.
-use super::{FIVE_PAGES, ONE_PAGE};
-use crate::tests::workers;
-use imposer::{MemorySink, Open, Options, Report, RunError, run};
-use std::process::Abort;
+use crate::tests::{ran, report_of, workers};
+use imposer::{MemorySink, Open, Options, RunError, run};
 use std::test::Fail;
+use test_tools::{ONE_PAGE, document_of};
 
-fn in_signatures(rt: &impl Abort, sides: u32) -> Options {
+fn in_signatures(sides: u32) -> Options {
     Options {
         sides: Some(sides),
-        ..workers(rt, 2, 3)
+        ..workers(2, 3)
     }
 }
 
 /// Three of the eight sides of two leaves are blank.
 #[test]
 fn five_pages_on_two_leaves(rt: HostRuntime) -> Result<(), Fail> {
-    let mut sink = MemorySink::new(rt.alloc(), 2_000, 2_000, 100)?;
-    let report = run(
-        &rt,
-        rt.alloc(),
-        FIVE_PAGES.as_bytes(),
-        "0",
-        &in_signatures(&rt, 4),
-        &Open {},
-        &mut sink,
-    )?;
-    assert_eq!(rt;
-        report,
-        Report {
-            pages: 5,
-            sheets: 8,
-            born: 3,
-            swept: 0,
-            bytes: 1_204
-        }
-    );
+    let document = document_of(rt.alloc(), 5)?;
+    let (sink, report) = ran(&rt, rt.alloc(), &document, "0", &in_signatures(4))?;
+    assert_eq!(rt; report, report_of(5, 8, 3, 1_204));
     let last = "%%Page: 7 7\nshowpage\n%%Page: 8 8\nshowpage\n%%Trailer\n%%EOF\n";
     assert!(rt; sink.bytes().ends_with(last.as_bytes()));
     Ok(())
@@ -57,7 +39,7 @@ fn numbers_of_sides_that_no_signature_has(rt: HostRuntime) -> Result<(), Fail> {
             rt.alloc(),
             document.as_bytes(),
             spec,
-            &in_signatures(&rt, sides),
+            &in_signatures(sides),
             &Open {},
             &mut sink,
         );

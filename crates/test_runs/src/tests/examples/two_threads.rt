@@ -1,17 +1,16 @@
 //! Gates at which threads wait for each other: a run on one thread would never come past them.
 ghost use Rattle.std.specs.Prelude.{◌<◌, None};
 
-use super::TWO_PAGES;
 use crate::tests::workers;
 use imposer::{Gate, Look, MemorySink, Report, RunError, Sink, SinkFault, Step, run};
 use std::alloc::Global;
-use std::process::Abort;
 use std::sync::Wait;
 use std::sync::atomic::AtomicUsize;
 use std::sync::atomic::Ordering::SeqCst;
 use std::test::Fail;
 use std::thread;
 use std::thread::Threads;
+use test_tools::TWO_PAGES;
 
 /// How often a wait yields before it runs out.
 const YIELDS: u32 = 20_000_000;
@@ -65,7 +64,7 @@ impl Gate for Meeting {
 }
 
 /// Two pages on two sheets, if these steps meet: how many of them were entered, and how many waits ran out.
-fn run_meeting<R: Threads + Wait + Abort + Sync>(
+fn run_meeting<R: Threads + Wait + Sync>(
     rt: &R,
     alloc: Global,
     pair: Pair,
@@ -78,7 +77,7 @@ fn run_meeting<R: Threads + Wait + Abort + Sync>(
         run_out: AtomicUsize::new(0),
     };
     let mut sink = MemorySink::new(alloc, 1_000, 1_000, 100)?;
-    let options = workers(rt, preparers, imposers);
+    let options = workers(preparers, imposers);
     let input = TWO_PAGES.as_bytes();
     let report = run(rt, alloc, input, "0", &options, &gate, &mut sink)?;
     Ok((report, gate.entered.load(SeqCst), gate.run_out.load(SeqCst)))
@@ -142,7 +141,7 @@ impl<'w> Gate for Written<'w> {
 }
 
 /// Two pages on two sheets, the second page behind the first sheet: how many waits ran out.
-fn run_written<R: Threads + Wait + Abort + Sync>(
+fn run_written<R: Threads + Wait + Sync>(
     rt: &R,
     alloc: Global,
 ) -> Result<(Report, usize), RunError> {
@@ -154,7 +153,7 @@ fn run_written<R: Threads + Wait + Abort + Sync>(
     let mut sink = CountingSink {
         accepted: &accepted,
     };
-    let options = workers(rt, 1, 1);
+    let options = workers(1, 1);
     let input = TWO_PAGES.as_bytes();
     let report = run(rt, alloc, input, "0", &options, &gate, &mut sink)?;
     Ok((report, gate.run_out.load(SeqCst)))
@@ -197,16 +196,13 @@ impl Gate for Told {
 }
 
 /// Two pages on two sheets: what the gate was told.
-fn run_told<R: Threads + Wait + Abort + Sync>(
-    rt: &R,
-    alloc: Global,
-) -> Result<(usize, usize), RunError> {
+fn run_told<R: Threads + Wait + Sync>(rt: &R, alloc: Global) -> Result<(usize, usize), RunError> {
     let gate = Told {
         before: AtomicUsize::new(0),
         after: AtomicUsize::new(0),
     };
     let mut sink = MemorySink::new(alloc, 1_000, 1_000, 100)?;
-    let options = workers(rt, 2, 2);
+    let options = workers(2, 2);
     let input = TWO_PAGES.as_bytes();
     run(rt, alloc, input, "0", &options, &gate, &mut sink)?;
     Ok((gate.before.load(SeqCst), gate.after.load(SeqCst)))
@@ -254,7 +250,7 @@ impl Gate for Looks {
 type Counts = [usize; 2];
 
 /// Two pages on two sheets: how many looks the gate was told of before them, and of how many after them.
-fn run_looks<R: Threads + Wait + Abort + Sync>(
+fn run_looks<R: Threads + Wait + Sync>(
     rt: &R,
     alloc: Global,
 ) -> Result<(Counts, Counts), RunError> {
@@ -263,7 +259,7 @@ fn run_looks<R: Threads + Wait + Abort + Sync>(
         after: [AtomicUsize::new(0), AtomicUsize::new(0)],
     };
     let mut sink = MemorySink::new(alloc, 1_000, 1_000, 100)?;
-    let options = workers(rt, 2, 2);
+    let options = workers(2, 2);
     let input = TWO_PAGES.as_bytes();
     run(rt, alloc, input, "0", &options, &gate, &mut sink)?;
     let Looks { before, after } = gate;
