@@ -1,14 +1,13 @@
 -- What was written for a request is a document again.
-use Rattle.std.proofs.Common.{◌≤◌, ◌<◌, ◌≡◌, ◌∙◌, ℕ, ◌++◌, List, ap, drop, length, subst, sym, inl, inr, true, false, Bool, None, Result, Ok, Err, refl}
+use Rattle.std.proofs.Common.{◌≤◌, ◌<◌, ◌≡◌, ◌∙◌, ℕ, ◌++◌, List, ap, drop, length, subst, sym, inl, inr, true, false, Bool, None, Result, Ok, refl}
 use Rattle.std.specs.Prelude.{Some, nat_lt}
 use Rattle.std.proofs.Math.Seq.{drop-append_seam}
 use Rattle.std.proofs.lemmas.Bool.{ltb-false}
 use Rattle.rules.specs.Admissible.{most_slots}
 use Rattle.rules.specs.Output.{output}
 use Rattle.rules.specs.Run.{most_input_bytes, most_pages, most_sheets, refuse_if}
-use Rattle.rules.specs.Parts.{NestedUnit}
 use Rattle.made_sheets.specs.Made.{MadeSheet}
-use Rattle.made_sheets.specs.MadePlans.{MadeFault, MadeTooManyPages, MadeTooManySheets, made_plan_of}
+use Rattle.made_sheets.specs.MadePlans.{MadeTooManyPages, MadeTooManySheets, made_plan_of}
 use Rattle.imposed_again.proofs.Again.{imposed_again, trailer_shuts}
 use Rattle.imposed_again.proofs.MadeAgain.{made_is_document}
 use Rattle.page_papers.specs.Told.{telling}

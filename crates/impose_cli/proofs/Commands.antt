@@ -1,5 +1,5 @@
 -- A command with subcommands, read off what they are made of.
-use Rattle.std.proofs.Common.{◌≡◌, ◌∙◌, ap, refl, sym, true, false, Bool, map, List, [], ◌∷◌, not, ◌&&◌, is_some}
+use Rattle.std.proofs.Common.{◌≡◌, ◌∙◌, ap, refl, sym, true, false, Bool, map, List, [], ◌∷◌, not, ◌&&◌}
 use Rattle.std.specs.Prelude.{codes}
 use Rattle.std.specs.List.{fold, list_all}
 use Rattle.clap.specs.Words.{AddsInTurn, AddsSubcommand, App, app_of, is_simple, new_app, with_subcommand}

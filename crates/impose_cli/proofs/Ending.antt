@@ -1,6 +1,6 @@
 -- What comes of a task that was run.
 use Rattle.std.proofs.Common.{◌≡◌, ◌∙◌, ℕ, ap, sym, subst, refl, List, Option, Some, None, Ok}
-use Rattle.std.specs.Prelude.{length, string_bytes}
+use Rattle.std.specs.Prelude.{length}
 use Rattle.std.specs.Io.KnownBytes.{Appends, Keeps}
 use Rattle.rules.specs.Papers.{Paper}
 use Rattle.rules.specs.Admissible.{Takes, most_slots}

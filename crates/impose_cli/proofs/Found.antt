@@ -8,7 +8,7 @@ use Rattle.clap.specs.declared.parser.matches.ArgMatches.TheViews.{out-ArgMatche
 use Rattle.rules.specs.Papers.{Paper}
 use Rattle.lengths.specs.Lengths.{a4, length_named}
 use Rattle.impose_cli.specs.declared.request.Request.{Request}
-use Rattle.impose_cli.specs.Words.{AreBefore, AsksFor, ChoosesBy, Entered, Enters, HasChoice, HasLayout, HasPapers, HasSizes, HasSpacing, NamesNoLength, SpacesBy, length_found, length_id, ParseRefuses, Reads, Refuses, RefusesFound, RefusesArguments, border_found, ranges_id, size_found}
+use Rattle.impose_cli.specs.Words.{AreBefore, AsksFor, ChoosesBy, Entered, Enters, HasLayout, HasSizes, HasSpacing, NamesNoLength, SpacesBy, length_found, length_id, ParseRefuses, Reads, Refuses, RefusesFound, RefusesArguments, ranges_id, size_found}
 use Rattle.impose_cli.specs.Sizing.{ReadsSizes, RefusesBorder, RefusesChoice, RefusesLength, RefusesOutfile, RefusesSize, RefusesSizes, RefusesSpacing}
 use Rattle.impose_cli.specs.declared.request.Layout.{Layout}
 use Rattle.impose_cli.specs.declared.request.PageChoice.{PageChoice}
@@ -16,7 +16,6 @@ use Rattle.impose_cli.specs.declared.request.Spacing.{Spacing}
 use Rattle.impose_cli.specs.Spacings.{keeps_room}
 use Rattle.impose_cli.specs.declared.fault.LengthOption.{LengthOption}
 use Rattle.impose_cli.specs.declared.fault.LengthOption.TheVariants.{Margin, Gap, Trim}
-use Rattle.impose_cli.specs.declared.fault.PaperOption.{PaperOption}
 use Rattle.impose_cli.specs.declared.fault.PaperOption.TheVariants.{Paper as OfPages, Sheet as OfSheets}
 use Rattle.impose_cli.specs.declared.fault.CommandFault.{CommandFault}
 use Rattle.impose_cli.specs.declared.fault.CommandFault.TheVariants as fault

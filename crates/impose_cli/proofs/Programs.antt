@@ -1,6 +1,6 @@
 -- What comes of a request that was run into an output.
-use Rattle.std.proofs.Common.{◌≡◌, ℕ, List, [], Bool, true, false, Option, Some, None, Result, Ok, Err, inl, inr, subst, sym}
-use Rattle.std.specs.Prelude.{◌⊎◌, if◌then◌else◌, is_some, option_map, string_bytes}
+use Rattle.std.proofs.Common.{◌≡◌, ℕ, List, [], Bool, true, false, Option, Some, None, Result, Ok, Err, inl, inr, subst}
+use Rattle.std.specs.Prelude.{◌⊎◌, if◌then◌else◌, option_map, string_bytes}
 use Rattle.std.specs.Io.KnownBytes.{Appends, Keeps}
 use Rattle.std.proofs.KnownBytes.{Appends-kept}
 use Rattle.world.specs.Outputs.{IsFrontOf, told_if}
@@ -11,12 +11,11 @@ use Rattle.row_runs.specs.declared.run.RowJob.{RowJob}
 use Rattle.imposer.specs.declared.outcome.Report.{Report}
 use Rattle.impose_cli.specs.RowTasks.{FinishesRow}
 use Rattle.input.specs.Input.{IsFirst, most_bytes}
-use Rattle.impose_cli.specs.Programs.{BreaksOff, CarriesOut, Gives, IsReading, IsSaidAs, IsSaidOf, Prints, RunsInto}
+use Rattle.impose_cli.specs.Programs.{CarriesOut, Gives, IsReading, IsSaidOf, Prints, RunsInto}
 use Rattle.impose_cli.specs.Programs.{TakesInput}
 use Rattle.impose_cli.specs.Unread.{IsPossible, RefusesUnread}
 use Rattle.impose_cli.specs.Tasks.{FinishesSpec, IsTask}
 use Rattle.impose_cli.specs.declared.fault.Fault.{Fault}
-use Rattle.impose_cli.specs.declared.fault.Fault.TheVariants as fault
 use Rattle.impose_cli.specs.declared.program.Done.{Done}
 use Rattle.impose_cli.specs.declared.program.Done.TheVariants as done
 use Rattle.impose_cli.specs.declared.request.Request.{Request}

@@ -1,5 +1,5 @@
 -- What comes of a task with a row, and of a request.
-use Rattle.std.proofs.Common.{◌≡◌, ◌∙◌, ap, sym, refl, inl, inr, List, ℕ, Option, Some, Result, Ok, Err, IfOk}
+use Rattle.std.proofs.Common.{◌∙◌, ap, sym, refl, inl, inr, List, ℕ, Option, Some, Result, Ok, Err, IfOk}
 use Rattle.std.specs.Prelude.{option_map}
 use Rattle.rules.specs.Run.{document_of}
 use Rattle.rows.specs.Sewing.{signing_of}

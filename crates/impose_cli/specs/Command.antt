@@ -1,6 +1,6 @@
 -- The command line: impose nup N, impose booklet, impose cards N, impose stack N, impose select RANGES or impose spec
 -- SPECS, with [OPTIONS] [INFILE [OUTFILE]].
-use Rattle.std.specs.Prelude.{ℕ, pos, true, false, List, [], ◌∷◌, map, Some, codes}
+use Rattle.std.specs.Prelude.{ℕ, pos, true, List, [], ◌∷◌, Some, codes}
 use Rattle.std.specs.List.{fold}
 use Rattle.rules.specs.Signatures.{most_sides}
 use Rattle.layouts.specs.Refusals.{most_on_sheet}

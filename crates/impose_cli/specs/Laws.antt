@@ -1,6 +1,6 @@
 -- What holds of what impose wrote.
 use Rattle.std.proofs.Common.{inl, inr}
-use Rattle.std.specs.Prelude.{◌≡◌, ◌⊎◌, ℕ, ℤ, ◌<◌, ◌≤◌, List, ◌++◌, length, Option, Some, None, Ok}
+use Rattle.std.specs.Prelude.{◌≡◌, ℕ, ℤ, ◌<◌, ◌≤◌, List, ◌++◌, length, Option, Some, Ok}
 use Rattle.rules.specs.Parts.{NestedUnit, page_run, pages, trailer}
 use Rattle.rules.specs.Sheets.{Slot, sheets}
 use Rattle.rules.specs.Output.{Frame}
@@ -12,7 +12,6 @@ use Rattle.imposed_again.specs.Again.{IsAgain, depth_behind, sheet_texts}
 use Rattle.imposed_again.specs.MadeAgain.{IsMadeAgain, made_texts}
 use Rattle.page_papers.specs.Told.{telling}
 use Rattle.impose_cli.specs.Tasks.{FinishesSpec, frame_used}
-use Rattle.impose_cli.specs.RowTasks.{FinishesRow}
 use Rattle.impose_cli.specs.Endings.{Finishes}
 use Rattle.impose_cli.specs.declared.request.Request.{Request}
 use Rattle.impose_cli.specs.declared.task.Finished.{Finished}

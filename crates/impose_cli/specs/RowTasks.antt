@@ -1,7 +1,6 @@
 -- What is imposed of a row of pages, and how: a request for a document, if its layout lays rows on sheets.
-use Rattle.std.specs.Prelude.{◌≡◌, ⊤, ℕ, Bool, true, false, List, length, replicate, Option, Some, None, Ok, IfSome, option_map}
+use Rattle.std.specs.Prelude.{◌≡◌, ⊤, ℕ, Bool, true, false, List, replicate, Option, Some, None, Ok, IfSome, option_map}
 use Rattle.rules.specs.Papers.{Paper}
-use Rattle.rules.specs.Parts.{NestedUnit, pages}
 use Rattle.rules.specs.Run.{document_of}
 use Rattle.made_sheets.specs.Choice.{Signing, InOne, OfSides}
 use Rattle.rows.specs.Choices.{choice_of}

@@ -1,5 +1,5 @@
 -- What is imposed, and how: a request for a document.
-use Rattle.std.specs.Prelude.{◌≡◌, ℕ, ◌+◌, ◌*◌, ◌/◌, Bool, true, false, if◌then◌else◌, unwrap_or, List, length, Option}
+use Rattle.std.specs.Prelude.{◌≡◌, ℕ, ◌+◌, ◌*◌, ◌/◌, Bool, true, if◌then◌else◌, unwrap_or, List, length, Option}
 use Rattle.std.specs.Prelude.{Some, None, Ok, string_bytes}
 use Rattle.rules.specs.Papers.{Paper}
 use Rattle.rules.specs.Specification.{Spec, canonical}

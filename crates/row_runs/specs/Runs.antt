@@ -1,5 +1,5 @@
 -- What the answers of a run on a row mean.
-use Rattle.std.specs.Prelude.{◌≡◌, ◌⊎◌, ⊤, ℕ, ◌+◌, ◌≤◌, List, length, take, Option, IsOk, Ok}
+use Rattle.std.specs.Prelude.{◌≡◌, ◌⊎◌, ℕ, ◌+◌, List, length, Option, IsOk, Ok}
 use Rattle.std.specs.Io.KnownBytes.{Appends, Keeps}
 use Rattle.rules.specs.Parts.{pages}
 use Rattle.made_sheets.specs.Made.{MadeSheet}

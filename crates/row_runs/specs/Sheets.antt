@@ -1,5 +1,5 @@
 -- The sheets that are asked for.
-use Rattle.std.specs.Prelude.{◌≡◌, ⊤, ℕ, ◌<◌, ◌≤◌, List, length, IsOk, IfSome, Ok, Result, option_map}
+use Rattle.std.specs.Prelude.{◌≡◌, ⊤, ℕ, ◌<◌, ◌≤◌, List, IsOk, IfSome, Ok, Result, option_map}
 use Rattle.rules.specs.Papers.{Paper}
 use Rattle.made_sheets.specs.Made.{MadeSheet}
 use Rattle.made_sheets.specs.Rows.{Row}

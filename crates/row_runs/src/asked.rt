@@ -22,18 +22,34 @@ use std::alloc::{AllocError, Global};
 #[derive(Clone, Copy, Debug, PartialEq, Eq)]
 pub enum Laying {
     /// Each page as it is, on a sheet of its own paper, and each blank on a sheet of this one.
-    AsTheyAre { blank: Paper },
+    AsTheyAre {
+        blank: Paper,
+    },
     /// In so many cells of a sheet, from cell to cell and from sheet to sheet.
-    Grid { setting: Setting, cells: u32 },
+    Grid {
+        setting: Setting,
+        cells: u32,
+    },
     /// Each page in so many cells of a sheet.
-    Cards { setting: Setting, cells: u32 },
+    Cards {
+        setting: Setting,
+        cells: u32,
+    },
     /// In so many cells of a sheet, from sheet to sheet and from cell to cell.
-    Stack { setting: Setting, cells: u32 },
+    Stack {
+        setting: Setting,
+        cells: u32,
+    },
     /// The same on both sides of leaves, in all cells.
-    Leaves { setting: Setting },
+    Leaves {
+        setting: Setting,
+    },
     /// Two entries on each side of leaves, for a row in signatures; for printers that flip a sheet about its longer edge
     /// the backs are turned by half.
-    Booklet { setting: Setting, turned_backs: bool },
+    Booklet {
+        setting: Setting,
+        turned_backs: bool,
+    },
 }
 
 /// What is imposed of a document, and how: which pages, in signatures or not, laid so on sheets.

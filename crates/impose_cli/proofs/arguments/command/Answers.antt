@@ -1,10 +1,8 @@
 use Rattle.std.proofs.Common.{◌≡◌, ◌∙◌, ap, ap₂, codes, true}
-use Rattle.std.specs.Prelude.{Some}
 use Rattle.std.proofs.lemmas.Result.{IfOk-weaker}
 use Rattle.std.specs.List.{fold, list_all}
 use Rattle.clap.specs.Words.{app_of, new_app, with_subcommand}
 use Rattle.clap.specs.Simple.{app_of_fields, on_top}
-use Rattle.clap.specs.declared.builder.command.Command.{Command, Command-F}
 use Rattle.impose_cli.specs.Command.{with_top}
 use Rattle.impose_cli.proofs.Commands.{apps_are_plain, impose_is_made, is_plain, subcommands_app}
 use Rattle.impose_cli.proofs.arguments.command.Goals as goal

@@ -1,9 +1,7 @@
-use Rattle.std.proofs.Common.{◌≡◌, ◌∙◌, List, ℕ, map, sym, inl}
+use Rattle.std.proofs.Common.{◌∙◌, map, sym, inl}
 use Rattle.std.specs.Prelude.{string_bytes}
 use Rattle.std.proofs.lemmas.Result.{IfErr-weaker, IfOk-weaker}
-use Rattle.clap.specs.Words.{Row, Text, fault_of, found_of, rows_of, subcommand_of}
-use Rattle.clap.specs.declared.parser.matches.ArgMatches.{ArgMatches}
-use Rattle.impose_cli.specs.Command.{impose}
+use Rattle.clap.specs.Words.{found_of, rows_of}
 use Rattle.impose_cli.specs.Words.{Enters}
 use Rattle.impose_cli.proofs.Found.{met, refuses_parse, refuses_words, unmet}
 use Rattle.impose_cli.proofs.command.read_command.Goals as goal

@@ -1,4 +1,3 @@
-use Rattle.std.proofs.Common.{◌≡◌}
 use Rattle.clap.specs.Words.{found_of, rows_of}
 use Rattle.impose_cli.proofs.Found.{refuses_arguments, refuses_choice, refuses_outfile, refuses_sizes, refuses_spacing}
 use Rattle.impose_cli.proofs.command.request_of.Goals as goal

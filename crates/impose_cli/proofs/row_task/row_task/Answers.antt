@@ -1,4 +1,4 @@
-use Rattle.std.proofs.Common.{◌≡◌, ◌∙◌, refl, sym, inl, inr, false, rules}
+use Rattle.std.proofs.Common.{◌≡◌, refl, inl, inr, false, rules}
 use Rattle.sheet_text.specs.Jobs.{is_border}
 use Rattle.impose_cli.specs.Tasks.{HasPages}
 use Rattle.impose_cli.proofs.row_task.row_task.Goals as goal

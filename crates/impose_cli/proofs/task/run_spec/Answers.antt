@@ -1,5 +1,4 @@
-use Rattle.std.proofs.Common.{◌≡◌, inl, inr, refl, ℕ, List, Option, Some, None}
-use Rattle.std.specs.Io.KnownBytes.{Keeps}
+use Rattle.std.proofs.Common.{inl, inr, refl}
 use Rattle.impose_cli.proofs.Ending.{finishes, stays}
 use Rattle.impose_cli.proofs.task.run_spec.Goals as goal
 
