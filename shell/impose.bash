@@ -1,15 +1,17 @@
 # bash completion for impose and impose-pdf: commands, options, names of papers, files. No function of others is needed.
 
 # The words that can stand in a place; `checks/options` compares them with `impose --help`.
-_impose_commands='nup booklet select spec help'
+_impose_commands='nup booklet cards stack select spec help'
 _impose_papers='a0 a1 a2 a3 a4 a5 a6 b4 b5 b6 letter legal tabloid ledger statement executive folio quarto 10x14'
 _impose_options_of() {
     local all='--paper --sheet --border --unguarded --print-spec --quiet --help -p -q -h'
     local parts='--odd --even --reverse'
+    local laid="--margin --gap --trim --rtl --pages $parts"
     case "$1" in
         '') echo '--help --version -h -V' ;;
-        nup) echo "--pages $parts $all" ;;
-        booklet) echo "--signature --long-edge --pages $parts $all" ;;
+        nup | cards) echo "$laid $all" ;;
+        booklet) echo "--signature --long-edge $laid $all" ;;
+        stack) echo "--duplex $laid $all" ;;
         select) echo "$parts $all" ;;
         spec) echo "$all" ;;
     esac
@@ -20,6 +22,7 @@ _impose_values_of() {
     case "$1" in
         --paper | --sheet | -p) echo "$_impose_papers" ;;
         --border) echo '.5pt 1pt .5mm' ;;
+        --margin | --gap | --trim) echo '2mm 5mm 1cm' ;;
         --signature) echo '4 8 12 16 20 24 28 32' ;;
         --pages) ;;
         *) return 1 ;;
@@ -67,7 +70,7 @@ _impose() {
         case "$command:$number" in
             help:0) COMPREPLY=($(compgen -W "$_impose_commands" -- "$cur")) ;;
             help:*) ;;
-            nup:0) COMPREPLY=($(compgen -W '1 2 4 6 8 9 16' -- "$cur")) ;;
+            nup:0 | cards:0 | stack:0) COMPREPLY=($(compgen -W '1 2 4 6 8 9 16' -- "$cur")) ;;
             select:0 | spec:0) ;;
             *) _impose_files "${patterns[@]}" ;;
         esac
