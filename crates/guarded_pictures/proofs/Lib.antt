@@ -18,6 +18,7 @@ pub mod SheetsOfSheets
 pub mod Taking
 pub mod Nests
 pub mod Documents
+pub mod Imposed
 pub mod OwnShowpage
 pub mod TwoRuns
 pub mod Examples

@@ -8,3 +8,4 @@ pub mod NamedPapers
 pub mod Pages
 pub mod OwnShowpage
 pub mod SheetsOfSheets
+pub mod Imposed

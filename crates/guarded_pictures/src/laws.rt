@@ -1,6 +1,7 @@
 //! Laws of the guard, run by a machine. The functions do nothing.
 ghost use Rattle.guarded_pictures.specs.Behind.{GuardDefines};
 ghost use Rattle.guarded_pictures.specs.ByItself.{ByItselfAsTheOperators};
+ghost use Rattle.guarded_pictures.specs.Imposed.{MadeDocumentIsShown};
 ghost use Rattle.guarded_pictures.specs.NamedPapers.{PaperIsNothing, PapersAreLeft};
 ghost use Rattle.guarded_pictures.specs.OwnShowpage.{OwnPageIsPlaced, OwnSheetsArePrinted, OwnShowpageIsShown};
 ghost use Rattle.guarded_pictures.specs.Pages.{GuardIsEnough, GuardedDocumentIsShown, GuardedPageIsPlaced};
@@ -137,6 +138,12 @@ pub fn stays_guarded()
 /// placed.
 pub fn guarded_document_is_shown()
     ensures { GuardedDocumentIsShown }
+{}
+
+/// A machine prints of what impose makes of a document on sheets of one paper, by whatever layout, what the document's
+/// pages paint by themselves, placed.
+pub fn made_document_is_shown()
+    ensures { MadeDocumentIsShown }
 {}
 
 /// A placed page of a document with a showpage of its own paints on the sheet what it paints by itself, placed.

@@ -1,0 +1,30 @@
+-- What impose makes of a guarded document on sheets of one paper, by whatever layout.
+use Rattle.std.specs.Prelude.{◌≡◌, ℕ, ◌≤◌, List, [], ◌∷◌, true, length, Option, Ok, ℤ}
+use Rattle.rules.specs.Papers.{Paper}
+use Rattle.rules.specs.Parts.{NestedUnit, preamble, bytes_of}
+use Rattle.rules.specs.Run.{document_of, most_input_bytes}
+use Rattle.made_sheets.specs.Made.{MadeSheet}
+use Rattle.dsc.specs.Units.{units_of}
+use Rattle.guard.specs.Guard.{guarded}
+use Rattle.page_papers.specs.Told.{telling}
+use Rattle.pictures.specs.Machine.{State, Painting}
+use Rattle.pictures.specs.Kept.{preamble_comments_apart}
+use Rattle.pictures.specs.Imposed.{frame_of, OnMadeSheets, MadeIsPrinted}
+use Rattle.guarded_pictures.specs.Pages.{GuardedPreambleRuns, GuardedPagePaints}
+
+-- all sheets have this paper
+abbrev pub AreOn : Paper → List MadeSheet → Type 0
+AreOn paper [] = Unit {0}
+AreOn paper (sheet ∷ all) = (sheet.paper ≡ paper) × AreOn paper all
+
+-- What impose writes of made sheets of one paper, with the lines by which they tell it, and with the guard put in: the
+-- document's own pages are shown, each on its own paper, under the premises of a specification's sheets: a law
+abbrev pub MadeDocumentIsShown : Type 0
+MadeDocumentIsShown =
+    (sheet : Option Paper) (border : Option ℤ) (paper : Paper) (all : List MadeSheet) (text : List ℕ)
+    (us : List NestedUnit) (picture : ℕ → List Painting) (s : State)
+    → AreOn paper all → document_of text ≡ Ok us → length (guarded sheet text) ≤ most_input_bytes
+    → preamble_comments_apart (units_of (guarded sheet text)) ≡ true
+    → GuardedPreambleRuns (bytes_of (preamble (units_of (guarded sheet text)))) s
+    → OnMadeSheets (λ own p. GuardedPagePaints (frame_of border own) us s p (picture p)) all
+    → MadeIsPrinted border (telling all) all (units_of (guarded sheet text)) picture s
