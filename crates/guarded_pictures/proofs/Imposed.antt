@@ -79,7 +79,7 @@ one_told p sheet all h =
     ap (λ q. papers_told (q ∷ papers all)) h.0
     ∙ ap (λ told. if nat_lt most_told (length told) then covering_all (p ∷ papers all) ∷ [] else told) (none_else p all h.1)
 
-telling_is_quiet : (p : Paper) (all : List MadeSheet) → AreOn p all → IsQuiet (telling all)
+pub telling_is_quiet : (p : Paper) (all : List MadeSheet) → AreOn p all → IsQuiet (telling all)
 telling_is_quiet p [] h = record { header = refl; start = λ s paper. refl; finish = λ s paper. refl }
 telling_is_quiet p (sheet ∷ all) h = subst (λ told. IsQuiet (telling_of told)) (sym (one_told p sheet all h)) (one_is_quiet p)
 

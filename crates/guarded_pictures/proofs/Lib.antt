@@ -20,5 +20,6 @@ pub mod Nests
 pub mod Documents
 pub mod Imposed
 pub mod OwnShowpage
+pub mod ImposedOwn
 pub mod TwoRuns
 pub mod Examples

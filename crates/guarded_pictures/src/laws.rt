@@ -2,6 +2,7 @@
 ghost use Rattle.guarded_pictures.specs.Behind.{GuardDefines};
 ghost use Rattle.guarded_pictures.specs.ByItself.{ByItselfAsTheOperators};
 ghost use Rattle.guarded_pictures.specs.Imposed.{MadeDocumentIsShown};
+ghost use Rattle.guarded_pictures.specs.ImposedOwn.{OwnMadeDocumentIsShown};
 ghost use Rattle.guarded_pictures.specs.NamedPapers.{PaperIsNothing, PapersAreLeft};
 ghost use Rattle.guarded_pictures.specs.OwnShowpage.{OwnPageIsPlaced, OwnSheetsArePrinted, OwnShowpageIsShown};
 ghost use Rattle.guarded_pictures.specs.Pages.{GuardIsEnough, GuardedDocumentIsShown, GuardedPageIsPlaced};
@@ -159,6 +160,11 @@ pub fn own_sheets_are_printed()
 /// A machine prints of what impose makes of such a document, sheet by sheet, what its pages paint by themselves, placed.
 pub fn own_showpage_is_shown()
     ensures { OwnShowpageIsShown }
+{}
+
+/// And so it prints what impose makes of such a document on sheets of one paper, by whatever layout.
+pub fn own_made_document_is_shown()
+    ensures { OwnMadeDocumentIsShown }
 {}
 
 /// Behind the guard's text the state is one in which sheets of sheets can be placed.
