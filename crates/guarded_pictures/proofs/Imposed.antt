@@ -1,9 +1,9 @@
 -- What a machine prints of made sheets of a guarded document.
-use Rattle.std.specs.Prelude.{Option, Some, Ok, codes, slice_index_or, flat_map, if◌then◌else◌, nat_lt, ℤ}
+use Rattle.std.specs.Prelude.{Option, Ok, codes, slice_index_or, flat_map, if◌then◌else◌, nat_lt, ℤ}
 use Rattle.std.specs.List.{list_any}
 use Rattle.std.specs.Ordering.{int_eq}
 use Rattle.std.proofs.lemmas.Bool.Decides.{Decides-int_eq}
-use Rattle.std.proofs.Common.{◌≡◌, ℕ, refl, ap, ◌∙◌, sym, subst, Bool, true, false, ◌&&◌, ◌||◌, List, [], ◌∷◌, ◌++◌, map, length}
+use Rattle.std.proofs.Common.{◌≡◌, ℕ, refl, ap, ◌∙◌, sym, subst, true, false, ◌||◌, List, [], ◌∷◌, ◌++◌, map, length}
 use Rattle.rules.specs.Numbers.{points_text}
 use Rattle.rules.specs.Papers.{Paper}
 use Rattle.rules.specs.Parts.{NestedUnit, preamble, bytes_of}
@@ -16,7 +16,7 @@ use Rattle.dsc.specs.Units.{units_of}
 use Rattle.guard.specs.Guard.{guarded}
 use Rattle.guard.proofs.TheGuard.{guard_stays}
 use Rattle.page_papers.specs.Own.{covering_all}
-use Rattle.page_papers.specs.Told.{telling, telling_of, papers_told, different_from, most_told, is_told_alike, in_print, size_text, box_line, medium_text, medium_line}
+use Rattle.page_papers.specs.Told.{telling, telling_of, papers_told, different_from, most_told, is_told_alike, in_print, size_text, box_line, medium_line}
 use Rattle.pictures.specs.Objects.{Token}
 use Rattle.pictures.specs.Machine.{State, Painting, Runs}
 use Rattle.pictures.specs.Scanner.{tokens, IsComplete}

@@ -1,5 +1,5 @@
 -- What a machine prints of made sheets.
-use Rattle.std.specs.Prelude.{Option, Some, Ok, codes, decimal, flat_map, if◌then◌else◌, ℤ}
+use Rattle.std.specs.Prelude.{Option, Some, codes, decimal, flat_map, if◌then◌else◌, ℤ}
 use Rattle.std.specs.List.{enumerate_from}
 use Rattle.std.proofs.Common.{◌≡◌, ℕ, ◌+◌, refl, ap, ◌∙◌, sym, subst, Bool, true, false, not, ◌&&◌, ◌||◌, ◌==◌, true≢false, eqb-true, List, [], ◌∷◌, ◌++◌, map, append_assoc, append-nil, length}
 use Rattle.rules.specs.Bytes.{line, line_feed, space, tab, carriage_return}

@@ -6,7 +6,7 @@ use Rattle.std.proofs.Common.{◌≡◌, ℕ, suc, refl, ap, ◌∙◌, sym, sub
 use Rattle.rules.specs.Bytes.{line, line_feed}
 use Rattle.rules.specs.Units.{TextUnit, FaultyBlock, cut, is_end, AreUnits, ◌>>=◌}
 use Rattle.rules.specs.Parts.{NestedUnit, nested, nested_from, depth_after, is_outermost_line, begins_page, up_to, preamble, bytes_of}
-use Rattle.rules.specs.Filters.{continues, kept, kept_after, drops_in_header, drops_in_page, with_count, preamble_text, ended, prepared}
+use Rattle.rules.specs.Filters.{continues, kept, kept_after, drops_in_header, drops_in_page, with_count, ended, prepared}
 use Rattle.rules.specs.Run.{DocumentFault, NoPages, InputTooManyPages, InputTooLong, NotPostScript, of_block, refuse_if, with_pages, document_of}
 use Rattle.rules.specs.Output.{body_text}
 use Rattle.made_sheets.specs.Dress.{lines_text}
@@ -18,7 +18,7 @@ use Rattle.pictures.specs.Scanner.{Reading, Between, InComment, scan_from, behin
 use Rattle.pictures.specs.Scanner as Scanner
 use Rattle.pictures.specs.Kept.{reading_behind, is_between, has_form_feed, goes, apart_at, comments_apart, apart_in, first_is_complete, preamble_comments_apart, KeptRunsAlike, PreambleRunsAlike}
 use Rattle.pictures.proofs.Tests.{by_test, first, second}
-use Rattle.pictures.proofs.Scanned.{scan_behind, complete_join}
+use Rattle.pictures.proofs.Scanned.{scan_behind}
 use Rattle.pictures.proofs.LinesRead.{begins, more_begins, header_begins, body_begins, HasNone, unit_read}
 use Rattle.pictures.proofs.NumberTokens.{Reads, reads_join}
 use Rattle.pictures.proofs.Output.{count_line}

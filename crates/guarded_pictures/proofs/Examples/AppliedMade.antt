@@ -1,15 +1,14 @@
 -- The law on sheets of one paper, at the guarded document of two pages: both pages on one sheet, in the other order, and the
 -- first one on a second sheet, beside a blank place, twice as large as the paper of the pages.
-use Rattle.std.proofs.Common.{ℕ, ◌≡◌, List, [], ◌∷◌, refl, Some, None, true, false, arith}
+use Rattle.std.proofs.Common.{◌≡◌, List, [], ◌∷◌, refl, None, false, arith}
 use Rattle.std.specs.Prelude.{codes, ℤ, pos, ◌*ℤ◌}
 use Rattle.std.specs.Fmt.{digits}
 use Rattle.rules.specs.Papers.{Paper, Pt, points}
 use Rattle.rules.specs.Specification.{Item, Upright}
-use Rattle.made_sheets.specs.Made.{MadeSlot, Blank, Placed, MadeSheet}
+use Rattle.made_sheets.specs.Made.{Blank, Placed, MadeSheet}
 use Rattle.dsc.specs.Units.{units_of}
 use Rattle.guard.specs.Guard.{guarded}
 use Rattle.page_papers.specs.Told.{telling}
-use Rattle.pictures.specs.Scanner.{tokens}
 use Rattle.pictures.specs.Imposed.{is_comment_line, MadeIsPrinted}
 use Rattle.guarded_pictures.proofs.Imposed.{made_document_is_shown}
 use Rattle.guarded_pictures.proofs.Examples.Applied.{paper, text, us, behind, preamble_runs, picture, first_page, second_page}
