@@ -3,7 +3,7 @@ use Rattle.std.specs.Prelude.{Option, Ok, codes, slice_index_or, flat_map, if◌
 use Rattle.std.specs.List.{list_any}
 use Rattle.std.specs.Ordering.{int_eq}
 use Rattle.std.proofs.lemmas.Bool.Decides.{Decides-int_eq}
-use Rattle.std.proofs.Common.{◌≡◌, ℕ, refl, ap, ◌∙◌, sym, subst, true, false, ◌||◌, List, [], ◌∷◌, ◌++◌, map, length}
+use Rattle.std.proofs.Common.{◌≡◌, ℕ, refl, ap, ◌∙◌, sym, subst, true, false, ◌||◌, List, [], ◌∷◌, ◌++◌, map, length, ◌≤◌, arith}
 use Rattle.rules.specs.Numbers.{points_text}
 use Rattle.rules.specs.Papers.{Paper}
 use Rattle.rules.specs.Parts.{NestedUnit, preamble, bytes_of}
@@ -32,7 +32,7 @@ use Rattle.pictures.proofs.Kept.{dressed_runs_alike}
 use Rattle.pictures.proofs.Imposed.{comments_read, points_stay, stay_both, made_cut, on_made_sheets}
 use Rattle.guarded_pictures.specs.Shelter.{PaintsSheltered}
 use Rattle.guarded_pictures.specs.Pages.{GuardedPreambleRuns, GuardedPagePaints, outline_of}
-use Rattle.guarded_pictures.specs.Imposed.{AreOn, MadeDocumentIsShown}
+use Rattle.guarded_pictures.specs.Imposed.{AreOn, AreToldAsOne, OnePaperIsToldAsOne, MadeDocumentIsShown}
 use Rattle.guarded_pictures.proofs.Sheets.{AllPlace, AllSheetsPlace, sheets_run}
 use Rattle.guarded_pictures.proofs.Documents.{BodyPlaces, body_places}
 
@@ -79,9 +79,17 @@ one_told p sheet all h =
     ap (λ q. papers_told (q ∷ papers all)) h.0
     ∙ ap (λ told. if nat_lt most_told (length told) then covering_all (p ∷ papers all) ∷ [] else told) (none_else p all h.1)
 
-pub telling_is_quiet : (p : Paper) (all : List MadeSheet) → AreOn p all → IsQuiet (telling all)
-telling_is_quiet p [] h = record { header = refl; start = λ s paper. refl; finish = λ s paper. refl }
-telling_is_quiet p (sheet ∷ all) h = subst (λ told. IsQuiet (telling_of told)) (sym (one_told p sheet all h)) (one_is_quiet p)
+pub one_paper_is_told_as_one : OnePaperIsToldAsOne
+one_paper_is_told_as_one p [] h = omega arith
+one_paper_is_told_as_one p (sheet ∷ all) h = subst (λ told. length told ≤ 1) (sym (one_told p sheet all h)) (omega arith)
+
+told_is_quiet : (told : List Paper) → length told ≤ 1 → IsQuiet (telling_of told)
+told_is_quiet [] few = record { header = refl; start = λ s paper. refl; finish = λ s paper. refl }
+told_is_quiet (p ∷ []) few = one_is_quiet p
+told_is_quiet (p ∷ q ∷ more) few = absurd (omega (arith, few))
+
+pub telling_is_quiet : (all : List MadeSheet) → AreToldAsOne all → IsQuiet (telling all)
+telling_is_quiet all few = told_is_quiet (papers_told (papers all)) few
 
 -- What is said of slots, said of what they show.
 
@@ -127,9 +135,9 @@ made_is_shown border dress all text us picture s q d apart (complete, run, nothi
 
 -- the pages are those of the document without the guard
 pub made_document_is_shown : MadeDocumentIsShown
-made_document_is_shown sheet border paper all text us picture s on d few apart run h =
+made_document_is_shown sheet border all text us picture s on d few apart run h =
     let stays = guard_stays sheet text us d few in
     let sheets : List (List ℕ) → Type 0 = λ ps. OnMadeSheets (λ own p. IsComplete (slice_index_or ps p []) × (page_comments_apart (slice_index_or ps p []) ≡ true)
     × PaintsSheltered [] s (outline_of (frame_of border own)) (tokens (slice_index_or ps p [])) (picture p)) all in
-    made_is_shown border (telling all) all (guarded sheet text) (units_of (guarded sheet text)) picture s (telling_is_quiet paper all on) stays.0 apart run
+    made_is_shown border (telling all) all (guarded sheet text) (units_of (guarded sheet text)) picture s (telling_is_quiet all on) stays.0 apart run
     (subst sheets (sym stays.1.same_pages) h)

@@ -132,9 +132,9 @@ shown_whole border dress all text us picture d s q doc apart (complete, run, not
     (own_sheets_are_printed d s shown last own nothing_painted (begins_sheets border us picture all has) (made_sheets_own border us picture d s all h)))))
 
 pub own_made_document_is_shown : OwnMadeDocumentIsShown
-own_made_document_is_shown sheet border paper all text us picture d s on doc few apart run has h =
+own_made_document_is_shown sheet border all text us picture d s on doc few apart run has h =
     let stays = guard_stays sheet text us doc few in
     let sheets : List (List ℕ) → Type 0 = λ ps. OnMadeSheetsFrom (λ t own p. IsComplete (slice_index_or ps p []) × (page_comments_apart (slice_index_or ps p []) ≡ true)
     × PaintsSheltered [] t (outline_of (frame_of border own)) (tokens (slice_index_or ps p [])) (picture p)) d s all in
-    shown_whole border (telling all) all (guarded sheet text) (units_of (guarded sheet text)) picture d s (telling_is_quiet paper all on) stays.0 apart run has
+    shown_whole border (telling all) all (guarded sheet text) (units_of (guarded sheet text)) picture d s (telling_is_quiet all on) stays.0 apart run has
     (subst sheets (sym stays.1.same_pages) h)

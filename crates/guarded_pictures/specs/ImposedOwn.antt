@@ -1,4 +1,4 @@
--- What impose makes, on sheets of one paper, of a document that has a showpage of its own.
+-- What impose makes, on sheets that are told as one paper, of a document that has a showpage of its own.
 use Rattle.std.specs.Prelude.{◌≡◌, ℕ, ◌≤◌, Bool, true, false, ◌||◌, List, [], ◌∷◌, length, Option, Ok, ℤ}
 use Rattle.rules.specs.Papers.{Paper}
 use Rattle.rules.specs.Parts.{NestedUnit, preamble, bytes_of}
@@ -17,7 +17,7 @@ use Rattle.pictures.specs.Imposed.{frame_of, made_pictures, OnMadeSlot}
 use Rattle.guarded_pictures.specs.Lines.{with_asking}
 use Rattle.guarded_pictures.specs.Pages.{GuardedPagePaints}
 use Rattle.guarded_pictures.specs.OwnShowpage.{OwnPreambleRuns}
-use Rattle.guarded_pictures.specs.Imposed.{AreOn}
+use Rattle.guarded_pictures.specs.Imposed.{AreToldAsOne}
 
 -- the state behind the pages of these slots, and of these sheets
 abbrev pub made_slot_after : ℕ → MadeSlot → State → State
@@ -58,9 +58,9 @@ FirstMadeHasAPage (sheet ∷ all) = any_placed sheet.slots ≡ true
 -- a machine prints, sheet by sheet, the pictures of the document's pages, placed, if the first sheet has a page: a law
 abbrev pub OwnMadeDocumentIsShown : Type 0
 OwnMadeDocumentIsShown =
-    (sheet : Option Paper) (border : Option ℤ) (paper : Paper) (all : List MadeSheet) (text : List ℕ)
-    (us : List NestedUnit) (picture : ℕ → List Painting) (d : ℕ) (s : State)
-    → AreOn paper all → document_of text ≡ Ok us → length (guarded sheet text) ≤ most_input_bytes
+    (sheet : Option Paper) (border : Option ℤ) (all : List MadeSheet) (text : List ℕ) (us : List NestedUnit)
+    (picture : ℕ → List Painting) (d : ℕ) (s : State)
+    → AreToldAsOne all → document_of text ≡ Ok us → length (guarded sheet text) ≤ most_input_bytes
     → preamble_comments_apart (units_of (guarded sheet text)) ≡ true
     → OwnPreambleRuns d (bytes_of (preamble (units_of (guarded sheet text)))) s → FirstMadeHasAPage all
     → OnMadeSheetsFrom (λ t own p. GuardedPagePaints (frame_of border own) us t p (picture p)) d s all

@@ -1,7 +1,7 @@
 //! Laws of the guard, run by a machine. The functions do nothing.
 ghost use Rattle.guarded_pictures.specs.Behind.{GuardDefines};
 ghost use Rattle.guarded_pictures.specs.ByItself.{ByItselfAsTheOperators};
-ghost use Rattle.guarded_pictures.specs.Imposed.{MadeDocumentIsShown};
+ghost use Rattle.guarded_pictures.specs.Imposed.{MadeDocumentIsShown, OnePaperIsToldAsOne};
 ghost use Rattle.guarded_pictures.specs.ImposedOwn.{OwnMadeDocumentIsShown};
 ghost use Rattle.guarded_pictures.specs.NamedPapers.{PaperIsNothing, PapersAreLeft};
 ghost use Rattle.guarded_pictures.specs.OwnShowpage.{OwnPageIsPlaced, OwnSheetsArePrinted, OwnShowpageIsShown};
@@ -141,8 +141,13 @@ pub fn guarded_document_is_shown()
     ensures { GuardedDocumentIsShown }
 {}
 
-/// A machine prints of what impose makes of a document on sheets of one paper, by whatever layout, what the document's
-/// pages paint by themselves, placed.
+/// Sheets of one paper are told as one, in the header alone.
+pub fn one_paper_is_told_as_one()
+    ensures { OnePaperIsToldAsOne }
+{}
+
+/// A machine prints of what impose makes of a document on sheets that are told as one paper, by whatever layout, what the
+/// document's pages paint by themselves, placed.
 pub fn made_document_is_shown()
     ensures { MadeDocumentIsShown }
 {}
@@ -162,7 +167,7 @@ pub fn own_showpage_is_shown()
     ensures { OwnShowpageIsShown }
 {}
 
-/// And so it prints what impose makes of such a document on sheets of one paper, by whatever layout.
+/// And so it prints what impose makes of such a document on sheets that are told as one paper, by whatever layout.
 pub fn own_made_document_is_shown()
     ensures { OwnMadeDocumentIsShown }
 {}
