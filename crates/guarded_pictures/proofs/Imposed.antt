@@ -93,7 +93,7 @@ telling_is_quiet all few = told_is_quiet (papers_told (papers all)) few
 
 -- What is said of slots, said of what they show.
 
-abbrev Bodies : Option ℤ → List NestedUnit → (ℕ → List Painting) → State → Paper → ℕ → Type 0
+abbrev pub Bodies : Option ℤ → List NestedUnit → (ℕ → List Painting) → State → Paper → ℕ → Type 0
 Bodies border us picture s own p = BodyPlaces (frame_of border own) us s p (picture p)
 
 slot_places : (border : Option ℤ) (us : List NestedUnit) (picture : ℕ → List Painting) (s : State) (slot : MadeSlot) (xs : List Shown) → OnMadeSlot (Bodies border us picture s) slot → AllPlace s xs
@@ -112,18 +112,16 @@ sheets_place : (border : Option ℤ) (us : List NestedUnit) (picture : ℕ → L
 sheets_place border us picture s [] h = tt
 sheets_place border us picture s (sheet ∷ all) h = (slots_place border us picture s sheet.slots h.0, sheets_place border us picture s all h.1)
 
--- an accepted document in whose preamble the guard has run
-made_is_shown : (border : Option ℤ) (dress : Dress) (all : List MadeSheet) (text : List ℕ) (us : List NestedUnit) (picture : ℕ → List Painting) (s : State)
+-- the output is printed if what is kept of each page is placed
+pub made_bodies_are_shown : (border : Option ℤ) (dress : Dress) (all : List MadeSheet) (text : List ℕ) (us : List NestedUnit) (picture : ℕ → List Painting) (s : State)
     → IsQuiet dress → document_of text ≡ Ok us → preamble_comments_apart us ≡ true → GuardedPreambleRuns (bytes_of (preamble us)) s
-    → OnMadeSheets (λ own p. GuardedPagePaints (frame_of border own) us s p (picture p)) all → MadeIsPrinted border dress all us picture s
-made_is_shown border dress all text us picture s q d apart (complete, run, nothing_left, nothing_painted, nothing_printed, guard) h =
+    → OnMadeSheets (Bodies border us picture s) all → MadeIsPrinted border dress all us picture s
+made_bodies_are_shown border dress all text us picture s q d apart (complete, run, nothing_left, nothing_painted, nothing_printed, guard) bodies =
     let begun : List ℕ = dressed_preamble (length all) dress.header us in
     let shown : List (List Shown) = map (made_sheet_shown border us picture) all in
     let last : List Token = tokens (trailer_text us) in
     let more : List Token = sheets_tokens shown ++ last in
     let same = dressed_runs_alike (length all) dress.header text us (comments_read dress.header q.header) d apart complete in
-    let bodies : OnMadeSheets (Bodies border us picture s) all =
-    on_made_sheets (λ own p. GuardedPagePaints (frame_of border own) us s p (picture p)) (Bodies border us picture s) (λ own p x. body_places (frame_of border own) us s guard p (picture p) x) all h in
     let whole : OnMadeSheets (λ own p. IsComplete (body_of_page us p)) all =
     on_made_sheets (Bodies border us picture s) (λ own p. IsComplete (body_of_page us p)) (λ own p x. x.0) all bodies in
     let end : State = record s { left = last; sheets = made_pictures border us picture s all } in
@@ -132,6 +130,14 @@ made_is_shown border dress all text us picture s q d apart (complete, run, nothi
     (runs_with_more more (started (tokens begun)) s (subst (λ ts. Runs false (started ts) s) (sym same.0) run))
     (subst (λ l. Runs false (record s { left = l ++ more }) end) (sym nothing_left)
     (sheets_run s shown last guard nothing_painted (sheets_place border us picture s all bodies))))
+
+-- an accepted document in whose preamble the guard has run
+made_is_shown : (border : Option ℤ) (dress : Dress) (all : List MadeSheet) (text : List ℕ) (us : List NestedUnit) (picture : ℕ → List Painting) (s : State)
+    → IsQuiet dress → document_of text ≡ Ok us → preamble_comments_apart us ≡ true → GuardedPreambleRuns (bytes_of (preamble us)) s
+    → OnMadeSheets (λ own p. GuardedPagePaints (frame_of border own) us s p (picture p)) all → MadeIsPrinted border dress all us picture s
+made_is_shown border dress all text us picture s q d apart run h =
+    made_bodies_are_shown border dress all text us picture s q d apart run
+    (on_made_sheets (λ own p. GuardedPagePaints (frame_of border own) us s p (picture p)) (Bodies border us picture s) (λ own p x. body_places (frame_of border own) us s run.5 p (picture p) x) all h)
 
 -- the pages are those of the document without the guard
 pub made_document_is_shown : MadeDocumentIsShown

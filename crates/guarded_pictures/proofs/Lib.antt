@@ -22,4 +22,5 @@ pub mod Imposed
 pub mod OwnShowpage
 pub mod ImposedOwn
 pub mod TwoRuns
+pub mod TwoMadeRuns
 pub mod Examples

@@ -11,3 +11,4 @@ pub mod OwnShowpage
 pub mod SheetsOfSheets
 pub mod Imposed
 pub mod ImposedOwn
+pub mod TwoMadeRuns

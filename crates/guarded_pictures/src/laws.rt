@@ -11,6 +11,7 @@ ghost use Rattle.guarded_pictures.specs.Pages.{ShelterCommutes, StaysGuarded};
 ghost use Rattle.guarded_pictures.specs.SheetsOfSheets.{SheetIsComposed, SheetIsPlaced, SheetsOfSheetsArePrinted};
 ghost use Rattle.guarded_pictures.specs.SheetsOfSheets.{NestsArePrinted, SheetsAreTakenWithin};
 ghost use Rattle.guarded_pictures.specs.SheetsOfSheets.{GuardTakesSheets, StaysTakingSheets, TwoRunsAreShown};
+ghost use Rattle.guarded_pictures.specs.TwoMadeRuns.{TwoMadeRunsAreShown};
 ghost use Rattle.guarded_pictures.specs.Lines.{AskingShows, AsksUserdict, ClipIsThePages, DefaultIsThePages};
 ghost use Rattle.guarded_pictures.specs.Lines.{DeviceIsLeft, GraphicsAreThePages, GuardedTwice, LoadedShowpage};
 ghost use Rattle.guarded_pictures.specs.Lines.{MatrixIsThePages, OuterIsKept, PageIsLeft, SaveSaves, ShowpageStaysAName};
@@ -200,6 +201,11 @@ pub fn sheets_of_sheets_are_printed()
 /// A machine prints of what impose makes of a run's output the sheets of that run, placed.
 pub fn two_runs_are_shown()
     ensures { TwoRunsAreShown }
+{}
+
+/// And so it prints what impose makes of what it wrote, by whatever layouts, on sheets that are told as one paper.
+pub fn two_made_runs_are_shown()
+    ensures { TwoMadeRunsAreShown }
 {}
 
 /// Where sheets can be placed, they can be placed within a page.

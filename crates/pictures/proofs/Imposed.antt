@@ -93,7 +93,7 @@ stay_both (x ∷ a) b e f =
 
 -- The tokens of made sheets.
 
-abbrev AreComplete : List NestedUnit → Paper → ℕ → Type 0
+abbrev pub AreComplete : List NestedUnit → Paper → ℕ → Type 0
 AreComplete us paper p = IsComplete (body_of_page us p)
 
 made_slot_read : (border : Option ℤ) (us : List NestedUnit) (picture : ℕ → List Painting) (slot : MadeSlot) → OnMadeSlot (AreComplete us) slot
@@ -112,7 +112,7 @@ made_slots_read border us picture (slot ∷ slots) h =
     (made_slot_read border us picture slot h.0)
     (made_slots_read border us picture slots h.1))
 
-made_sheet_read : (border : Option ℤ) (dress : Dress) (us : List NestedUnit) (picture : ℕ → List Painting) → IsQuiet dress → (k : ℕ) (sheet : MadeSheet) → OnMadeSlots (AreComplete us) sheet.slots
+pub made_sheet_read : (border : Option ℤ) (dress : Dress) (us : List NestedUnit) (picture : ℕ → List Painting) → IsQuiet dress → (k : ℕ) (sheet : MadeSheet) → OnMadeSlots (AreComplete us) sheet.slots
     → Reads Between (made_sheet_text border dress (pages us) k sheet) (sheet_tokens (map (λ x. x.placed) (made_sheet_shown border us picture sheet))) Between
 made_sheet_read border dress us picture q k sheet h =
     let header : List ℕ = line (codes "%%Page: " ++ decimal (k + 1) ++ codes " " ++ decimal (k + 1)) in
@@ -160,7 +160,7 @@ on_made_slot : (P Q : Paper → ℕ → Type 0) → ((paper : Paper) (p : ℕ) �
 on_made_slot P Q f Blank h = tt
 on_made_slot P Q f (Placed p item paper) h = f paper p h
 
-on_made_slots : (P Q : Paper → ℕ → Type 0) → ((paper : Paper) (p : ℕ) → P paper p → Q paper p) → (slots : List MadeSlot) → OnMadeSlots P slots → OnMadeSlots Q slots
+pub on_made_slots : (P Q : Paper → ℕ → Type 0) → ((paper : Paper) (p : ℕ) → P paper p → Q paper p) → (slots : List MadeSlot) → OnMadeSlots P slots → OnMadeSlots Q slots
 on_made_slots P Q f [] h = tt
 on_made_slots P Q f (slot ∷ slots) h = (on_made_slot P Q f slot h.0, on_made_slots P Q f slots h.1)
 
