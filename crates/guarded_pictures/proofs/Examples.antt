@@ -4,5 +4,6 @@ pub mod NotCured
 pub mod Applied
 pub mod AppliedMade
 pub mod AppliedTwice
+pub mod AppliedMadeTwice
 pub mod AppliedNests
 pub mod AppliedOwn

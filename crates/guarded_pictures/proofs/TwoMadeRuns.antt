@@ -1,5 +1,5 @@
 -- What a machine prints of two runs of impose, one on what the other wrote.
-use Rattle.std.specs.Prelude.{Option, Some, Ok, nat_lt, slice_index_or, flat_map, ℤ}
+use Rattle.std.specs.Prelude.{Option, Some, nat_lt, slice_index_or, flat_map, ℤ}
 use Rattle.std.specs.List.{enumerate_from}
 use Rattle.std.proofs.Common.{◌≡◌, ℕ, ◌<◌, ◌≤◌, refl, ap, ◌∙◌, sym, subst, true, List, [], ◌∷◌, ◌++◌, map, length, arith}
 use Rattle.std.proofs.lemmas.Bool.{ltb-true, ltb-false}
@@ -20,7 +20,6 @@ use Rattle.guard.specs.Guard.{guarded}
 use Rattle.guard.proofs.TheGuard.{guard_stays}
 use Rattle.page_papers.specs.Told.{telling}
 use Rattle.page_papers.proofs.Tame.{telling_is_tame}
-use Rattle.pictures.specs.Objects.{Token}
 use Rattle.pictures.specs.Machine.{State, Painting}
 use Rattle.pictures.specs.Scanner.{tokens, IsComplete}
 use Rattle.pictures.specs.Sheets.{Shown, sheet_picture, sheet_tokens}

@@ -14,13 +14,13 @@ use Rattle.guarded_pictures.proofs.Imposed.{one_paper_is_told_as_one, made_docum
 use Rattle.guarded_pictures.proofs.Examples.Applied.{paper, text, us, behind, preamble_runs, picture, first_page, second_page}
 
 -- moved by so many points to the right
-abbrev stands : (x : ℤ) → Item
+abbrev pub stands : (x : ℤ) → Item
 stands x = record { page = 0; from_end = false; turn = Upright; scale = pos 1_000_000_000; x = record { number = x *ℤ pos 1_000_000_000; unit = Pt }; y = record { number = pos 0; unit = Pt } }
 
-abbrev wide : Paper
+abbrev pub wide : Paper
 wide = points 400 300
 
-abbrev own : Paper
+abbrev pub own : Paper
 own = points 200 300
 
 abbrev all : List MadeSheet
