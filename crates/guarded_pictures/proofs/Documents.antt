@@ -32,7 +32,7 @@ abbrev pub BodyPlaces : Frame → List NestedUnit → State → ℕ → List Pai
 BodyPlaces frame us s p picture =
     IsComplete (body_of_page us p) × ((item : Item) → Places s (record { placed = record { numbers = numbers_of frame item; body = tokens (body_of_page us p) }; picture = picture }))
 
-body_places : (frame : Frame) (us : List NestedUnit) (s : State) (g : IsGuarded s) (p : ℕ) (picture : List Painting) → GuardedPagePaints frame us s p picture → BodyPlaces frame us s p picture
+pub body_places : (frame : Frame) (us : List NestedUnit) (s : State) (g : IsGuarded s) (p : ℕ) (picture : List Painting) → GuardedPagePaints frame us s p picture → BodyPlaces frame us s p picture
 body_places frame us s g p picture (complete, apart, h) =
     let alike = kept_runs_alike (page_of us p) apart complete in (
       alike.1,

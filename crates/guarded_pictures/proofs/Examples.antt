@@ -2,6 +2,8 @@
 pub mod Guarded
 pub mod NotCured
 pub mod Applied
+pub mod AppliedMade
 pub mod AppliedTwice
+pub mod AppliedMadeTwice
 pub mod AppliedNests
 pub mod AppliedOwn

@@ -18,6 +18,9 @@ pub mod SheetsOfSheets
 pub mod Taking
 pub mod Nests
 pub mod Documents
+pub mod Imposed
 pub mod OwnShowpage
+pub mod ImposedOwn
 pub mod TwoRuns
+pub mod TwoMadeRuns
 pub mod Examples

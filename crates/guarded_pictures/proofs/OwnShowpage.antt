@@ -305,7 +305,7 @@ abbrev Paints : Frame → List NestedUnit → (ℕ → List Painting) → State 
 Paints frame us picture t p = GuardedPagePaints frame us t p (picture p)
 
 -- what is said of slots, said of what they show
-slot_own : (frame : Frame) (us : List NestedUnit) (picture : ℕ → List Painting) (d : ℕ) (s : State) (page : Option ℕ) (item : Item) (xs : List Shown)
+pub slot_own : (frame : Frame) (us : List NestedUnit) (picture : ℕ → List Painting) (d : ℕ) (s : State) (page : Option ℕ) (item : Item) (xs : List Shown)
     → OnSlot (Paints frame us picture (with_asking d s)) page → AllPaintOwn d (slot_after d page s) xs → AllPaintOwn d s (shown_slot frame us picture page item ++ xs)
 slot_own frame us picture d s None item xs h k = k
 slot_own frame us picture d s (Some p) item xs (complete, apart, h) k =
@@ -354,7 +354,7 @@ begins_sheets : (frame : Frame) (us : List NestedUnit) (picture : ℕ → List P
 begins_sheets frame us picture [] h = tt
 begins_sheets frame us picture (slots ∷ more) h = begins_slots frame us picture slots (map (shown_sheet frame us picture) more) h
 
-slot_complete : (frame : Frame) (us : List NestedUnit) (picture : ℕ → List Painting) (t : State) (page : Option ℕ) → OnSlot (Paints frame us picture t) page → OnSlot (λ p. IsComplete (body_of_page us p)) page
+pub slot_complete : (frame : Frame) (us : List NestedUnit) (picture : ℕ → List Painting) (t : State) (page : Option ℕ) → OnSlot (Paints frame us picture t) page → OnSlot (λ p. IsComplete (body_of_page us p)) page
 slot_complete frame us picture t None h = tt
 slot_complete frame us picture t (Some p) (complete, apart, h) = (kept_runs_alike (page_of us p) apart complete).1
 

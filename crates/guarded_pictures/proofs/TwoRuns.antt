@@ -41,19 +41,19 @@ on_sheet P (slots ∷ more) zero h = h.0
 on_sheet P (slots ∷ more) (suc p) h = on_sheet P more p h.1
 
 -- what is kept of a page within
-abbrev BodyPaintsWithin : (inner : Frame) → List NestedUnit → (outer : Frame) → State → ℕ → List Painting → Type 0
+abbrev pub BodyPaintsWithin : (inner : Frame) → List NestedUnit → (outer : Frame) → State → ℕ → List Painting → Type 0
 BodyPaintsWithin inner us outer s p picture =
     IsComplete (body_of_page us p)
     × ((item : Item) → PaintsSheltered (page_round [] s (numbers_of outer item) ∷ []) (page_begun [] s (numbers_of outer item)) (outline_of inner) (tokens (body_of_page us p)) picture)
 
-body_paints : (inner : Frame) (us : List NestedUnit) (outer : Frame) (s : State) (p : ℕ) (picture : List Painting) → PagePaintsWithin inner us outer s p picture → BodyPaintsWithin inner us outer s p picture
+pub body_paints : (inner : Frame) (us : List NestedUnit) (outer : Frame) (s : State) (p : ℕ) (picture : List Painting) → PagePaintsWithin inner us outer s p picture → BodyPaintsWithin inner us outer s p picture
 body_paints inner us outer s p picture (complete, apart, h) =
     let alike = kept_runs_alike (page_of us p) apart complete in (
       alike.1,
       λ item. subst (λ ts. PaintsSheltered (page_round [] s (numbers_of outer item) ∷ []) (page_begun [] s (numbers_of outer item)) (outline_of inner) ts picture) (sym alike.0) (h item),
     )
 
-slot_within : (inner : Frame) (us : List NestedUnit) (outer : Frame) (picture : ℕ → List Painting) (s : State) (at : Item) (page : Option ℕ) (item : Item) (xs : List Shown)
+pub slot_within : (inner : Frame) (us : List NestedUnit) (outer : Frame) (picture : ℕ → List Painting) (s : State) (at : Item) (page : Option ℕ) (item : Item) (xs : List Shown)
     → OnSlot (λ p. BodyPaintsWithin inner us outer s p (picture p)) page
     → AllSheltered (page_round [] s (numbers_of outer at) ∷ []) (page_begun [] s (numbers_of outer at)) xs
     → AllSheltered (page_round [] s (numbers_of outer at) ∷ []) (page_begun [] s (numbers_of outer at)) (shown_slot inner us picture page item ++ xs)
@@ -88,13 +88,13 @@ texts_counted : (frame : Frame) (texts : List (List ℕ)) (all : List (List Slot
 texts_counted frame texts all = length-map (enumerate_from 0 all) (λ (k, slots). sheet_text frame texts k slots) ∙ length-enumerate_from 0 all
 
 -- a text that is read to its end has these tokens
-read_is : (text : List ℕ) (ts : List Token) → Reads Between text ts Between → (tokens text ≡ ts) × IsComplete text
+pub read_is : (text : List ℕ) (ts : List Token) → Reads Between text ts Between → (tokens text ≡ ts) × IsComplete text
 read_is text ts e = (ap (λ x. x.0 ++ ended x.1) e ∙ append-nil ts, ap (λ x. x.1) e)
 
 -- Each page of the second document is placed.
 
 -- a number that no page has stands for an empty text
-empty_places : (s : State) (n : Numbers) → TakesSheets [] s → Places s (record { placed = record { numbers = n; body = [] }; picture = [] })
+pub empty_places : (s : State) (n : Numbers) → TakesSheets [] s → Places s (record { placed = record { numbers = n; body = [] }; picture = [] })
 empty_places s n t =
     page_places [] s (record { placed = record { numbers = n; body = [] }; picture = [] }) t.takes
     (record { end = sheltered [] s (outline_tokens n) []; run = (zero, refl); leaves = sheet_leaves [] s n [] s.painted s.sheets t; picture_is = refl })

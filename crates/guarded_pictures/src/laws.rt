@@ -1,6 +1,8 @@
 //! Laws of the guard, run by a machine. The functions do nothing.
 ghost use Rattle.guarded_pictures.specs.Behind.{GuardDefines};
 ghost use Rattle.guarded_pictures.specs.ByItself.{ByItselfAsTheOperators};
+ghost use Rattle.guarded_pictures.specs.Imposed.{MadeDocumentIsShown, OnePaperIsToldAsOne};
+ghost use Rattle.guarded_pictures.specs.ImposedOwn.{OwnMadeDocumentIsShown};
 ghost use Rattle.guarded_pictures.specs.NamedPapers.{PaperIsNothing, PapersAreLeft};
 ghost use Rattle.guarded_pictures.specs.OwnShowpage.{OwnPageIsPlaced, OwnSheetsArePrinted, OwnShowpageIsShown};
 ghost use Rattle.guarded_pictures.specs.Pages.{GuardIsEnough, GuardedDocumentIsShown, GuardedPageIsPlaced};
@@ -9,6 +11,7 @@ ghost use Rattle.guarded_pictures.specs.Pages.{ShelterCommutes, StaysGuarded};
 ghost use Rattle.guarded_pictures.specs.SheetsOfSheets.{SheetIsComposed, SheetIsPlaced, SheetsOfSheetsArePrinted};
 ghost use Rattle.guarded_pictures.specs.SheetsOfSheets.{NestsArePrinted, SheetsAreTakenWithin};
 ghost use Rattle.guarded_pictures.specs.SheetsOfSheets.{GuardTakesSheets, StaysTakingSheets, TwoRunsAreShown};
+ghost use Rattle.guarded_pictures.specs.TwoMadeRuns.{TwoMadeRunsAreShown};
 ghost use Rattle.guarded_pictures.specs.Lines.{AskingShows, AsksUserdict, ClipIsThePages, DefaultIsThePages};
 ghost use Rattle.guarded_pictures.specs.Lines.{DeviceIsLeft, GraphicsAreThePages, GuardedTwice, LoadedShowpage};
 ghost use Rattle.guarded_pictures.specs.Lines.{MatrixIsThePages, OuterIsKept, PageIsLeft, SaveSaves, ShowpageStaysAName};
@@ -139,6 +142,17 @@ pub fn guarded_document_is_shown()
     ensures { GuardedDocumentIsShown }
 {}
 
+/// Sheets of one paper are told as one, in the header alone.
+pub fn one_paper_is_told_as_one()
+    ensures { OnePaperIsToldAsOne }
+{}
+
+/// A machine prints of what impose makes of a document on sheets that are told as one paper, by whatever layout, what the
+/// document's pages paint by themselves, placed.
+pub fn made_document_is_shown()
+    ensures { MadeDocumentIsShown }
+{}
+
 /// A placed page of a document with a showpage of its own paints on the sheet what it paints by itself, placed.
 pub fn own_page_is_placed()
     ensures { OwnPageIsPlaced }
@@ -152,6 +166,11 @@ pub fn own_sheets_are_printed()
 /// A machine prints of what impose makes of such a document, sheet by sheet, what its pages paint by themselves, placed.
 pub fn own_showpage_is_shown()
     ensures { OwnShowpageIsShown }
+{}
+
+/// And so it prints what impose makes of such a document on sheets that are told as one paper, by whatever layout.
+pub fn own_made_document_is_shown()
+    ensures { OwnMadeDocumentIsShown }
 {}
 
 /// Behind the guard's text the state is one in which sheets of sheets can be placed.
@@ -182,6 +201,11 @@ pub fn sheets_of_sheets_are_printed()
 /// A machine prints of what impose makes of a run's output the sheets of that run, placed.
 pub fn two_runs_are_shown()
     ensures { TwoRunsAreShown }
+{}
+
+/// And so it prints what impose makes of what it wrote, by whatever layouts, on sheets that are told as one paper.
+pub fn two_made_runs_are_shown()
+    ensures { TwoMadeRunsAreShown }
 {}
 
 /// Where sheets can be placed, they can be placed within a page.

@@ -2,21 +2,25 @@
 use Rattle.std.specs.Prelude.{Result, Ok, Err, flat_map, if◌then◌else◌, codes, decimal, nat_eq, cond}
 use Rattle.std.specs.List.{starts_with}
 use Rattle.std.proofs.lemmas.List.Sums.{take_while-cons}
-use Rattle.std.proofs.Common.{◌≡◌, ℕ, suc, refl, ap, ◌∙◌, sym, subst, Bool, true, false, not, ◌&&◌, ◌||◌, ◌==◌, ◌<◌, List, [], ◌∷◌, ◌++◌, append-nil, true≢false, arith, length, drop, ◌⊎◌, inl, inr, ⊎_elim}
+use Rattle.std.proofs.Common.{◌≡◌, ℕ, suc, refl, ap, ◌∙◌, sym, subst, Bool, true, false, not, ◌&&◌, ◌||◌, ◌==◌, ◌<◌, List, [], ◌∷◌, ◌++◌, append_assoc, append-nil, true≢false, arith, length, drop, ◌⊎◌, inl, inr, ⊎_elim}
 use Rattle.rules.specs.Bytes.{line, line_feed}
 use Rattle.rules.specs.Units.{TextUnit, FaultyBlock, cut, is_end, AreUnits, ◌>>=◌}
 use Rattle.rules.specs.Parts.{NestedUnit, nested, nested_from, depth_after, is_outermost_line, begins_page, up_to, preamble, bytes_of}
-use Rattle.rules.specs.Filters.{continues, kept, kept_after, drops_in_header, drops_in_page, with_count, preamble_text, ended, prepared}
+use Rattle.rules.specs.Filters.{continues, kept, kept_after, drops_in_header, drops_in_page, with_count, ended, prepared}
 use Rattle.rules.specs.Run.{DocumentFault, NoPages, InputTooManyPages, InputTooLong, NotPostScript, of_block, refuse_if, with_pages, document_of}
 use Rattle.rules.specs.Output.{body_text}
+use Rattle.made_sheets.specs.Dress.{lines_text}
+use Rattle.made_sheets.specs.MadeOutput.{with_lines, dressed_preamble}
 use Rattle.rules.proofs.Whole.{units_make_text}
 use Rattle.rules.proofs.CutUnits.{cut_is_units, same_ok, apart_results, none_below}
+use Rattle.pictures.specs.Objects.{Token}
 use Rattle.pictures.specs.Scanner.{Reading, Between, InComment, scan_from, behind, tokens, IsComplete}
 use Rattle.pictures.specs.Scanner as Scanner
-use Rattle.pictures.specs.Kept.{reading_behind, is_between, has_form_feed, goes, apart_at, comments_apart, apart_in, first_is_complete, KeptRunsAlike, PreambleRunsAlike}
+use Rattle.pictures.specs.Kept.{reading_behind, is_between, has_form_feed, goes, apart_at, comments_apart, apart_in, first_is_complete, preamble_comments_apart, KeptRunsAlike, PreambleRunsAlike}
 use Rattle.pictures.proofs.Tests.{by_test, first, second}
-use Rattle.pictures.proofs.Scanned.{scan_behind, complete_join}
+use Rattle.pictures.proofs.Scanned.{scan_behind}
 use Rattle.pictures.proofs.LinesRead.{begins, more_begins, header_begins, body_begins, HasNone, unit_read}
+use Rattle.pictures.proofs.NumberTokens.{Reads, reads_join}
 use Rattle.pictures.proofs.Output.{count_line}
 
 -- a complete text, and another behind it
@@ -206,28 +210,61 @@ document_lines text us e =
     let z = cut_of text us e in
     subst AreLines z.2 (nested_lines 0 text z.0 ((cut_is_units text z.0).0 z.1))
 
+-- the text ends between tokens, so it is these tokens
+complete_is : (a : List ℕ) → IsComplete a → Reads Between a (scan_from Between a).0 Between
+complete_is a e = ap (λ r. ((scan_from Between a).0, r)) e
+
+-- what is put behind the first unit has no tokens
+put_same : (put : List ℕ) (u : NestedUnit) (us : List NestedUnit) → Reads Between put [] Between → first_is_complete (u ∷ us) ≡ true
+    → scan_from Between ((u.unit.bytes ++ put) ++ bytes_of us) ≡ scan_from Between (bytes_of (u ∷ us))
+put_same put u us none e =
+    let a : List ℕ = u.unit.bytes in
+    let ts : List Token = (scan_from Between a).0 in
+    let rest : List ℕ = bytes_of us in
+    let first_read : Reads Between a ts Between = complete_is a (between_is (reading_behind Between a) e) in
+    scan_behind Between (a ++ put) rest
+    ∙ ap (λ x. behind x.0 (scan_from x.1 rest)) (reads_join Between Between Between a put ts [] first_read none)
+    ∙ ap (λ l. behind l (scan_from Between rest)) (append-nil ts)
+    ∙ sym (scan_behind Between a rest ∙ ap (λ x. behind x.0 (scan_from x.1 rest)) first_read)
+
+-- lines that are put there, with the count of sheets before them
+lines_same : (sheets : ℕ) (lines : List (List ℕ)) (ks : List NestedUnit) → Reads Between (lines_text lines) [] Between → first_is_complete ks ≡ true
+    → scan_from Between (with_lines sheets lines ks) ≡ scan_from Between (bytes_of ks)
+lines_same sheets lines [] none e = refl
+lines_same sheets lines (u ∷ ks) none e =
+    let count : List ℕ = line (codes "%%Pages: " ++ decimal sheets) in
+    ap (λ l. scan_from Between (l ++ bytes_of ks)) (append_assoc u.unit.bytes count (lines_text lines))
+    ∙ put_same (count ++ lines_text lines) u ks (reads_join Between Between Between count (lines_text lines) [] [] (count_line sheets) none) e
+
 count_same : (sheets : ℕ) (ks : List NestedUnit) → first_is_complete ks ≡ true → scan_from Between (with_count sheets ks) ≡ scan_from Between (bytes_of ks)
 count_same sheets [] e = refl
-count_same sheets (u ∷ ks) e =
-    let a : List ℕ = u.unit.bytes in
-    let m : List ℕ = line (codes "%%Pages: " ++ decimal sheets) in
-    let complete : IsComplete a = between_is (reading_behind Between a) e in
-    let both : scan_from Between (a ++ m) ≡ behind (scan_from Between a).0 ([], Between) =
-    complete_then a m complete ∙ ap (behind (scan_from Between a).0) (count_line sheets) in
-    complete_then (a ++ m) (bytes_of ks) (complete_join a m complete (ap (λ x. x.1) (count_line sheets)))
-    ∙ ap (λ x. behind x.0 (scan_from Between (bytes_of ks))) both
-    ∙ ap (λ ts. behind ts (scan_from Between (bytes_of ks))) (append-nil (scan_from Between a).0)
-    ∙ sym (complete_then a (bytes_of ks) complete)
+count_same sheets (u ∷ ks) e = put_same (line (codes "%%Pages: " ++ decimal sheets)) u ks (count_line sheets) e
 
-pub preamble_runs_alike : PreambleRunsAlike
-preamble_runs_alike sheets text us e a c =
+-- a preamble whose first part is read as what is kept of the document's is run as the document's
+abbrev RunsAlike : List ℕ → List NestedUnit → Type 0
+RunsAlike first us = (tokens (ended first) ≡ tokens (bytes_of (preamble us))) × IsComplete (ended first)
+
+begun_alike : (first_text text : List ℕ) (us : List NestedUnit) → document_of text ≡ Ok us → preamble_comments_apart us ≡ true → IsComplete (bytes_of (preamble us))
+    → (first_is_complete (kept drops_in_header (preamble us)) ≡ true → scan_from Between first_text ≡ scan_from Between (bytes_of (kept drops_in_header (preamble us))))
+    → RunsAlike first_text us
+begun_alike first_text text us e a c f =
     let all : List NestedUnit = preamble us in
     let some : List NestedUnit = kept drops_in_header all in
     let apart : Bool = comments_apart false drops_in_header Between all in
     let same : scan_from Between (bytes_of some) ≡ scan_from Between (bytes_of all) =
     kept_same drops_in_header false Between all header_begins (lines_up_to begins_page us (document_lines text us e)) (first apart (first_is_complete some) a) c in
-    let counted : scan_from Between (with_count sheets some) ≡ scan_from Between (bytes_of all) =
-    count_same sheets some (second apart (first_is_complete some) a) ∙ same in
-    let read : scan_from Between (preamble_text sheets us) ≡ scan_from Between (bytes_of all) =
-    with_end (with_count sheets some) (ap (λ x. x.1) counted ∙ c) ∙ counted in
+    let begun : scan_from Between first_text ≡ scan_from Between (bytes_of all) = f (second apart (first_is_complete some) a) ∙ same in
+    let read : scan_from Between (ended first_text) ≡ scan_from Between (bytes_of all) =
+    with_end first_text (ap (λ x. x.1) begun ∙ c) ∙ begun in
     (ap (λ x. x.0 ++ Scanner.ended x.1) read, ap (λ x. x.1) read ∙ c)
+
+pub preamble_runs_alike : PreambleRunsAlike
+preamble_runs_alike sheets text us e a c =
+    begun_alike (with_count sheets (kept drops_in_header (preamble us))) text us e a c (count_same sheets (kept drops_in_header (preamble us)))
+
+-- and so does one that has lines without tokens in its header
+pub dressed_runs_alike : (sheets : ℕ) (lines : List (List ℕ)) (text : List ℕ) (us : List NestedUnit) → Reads Between (lines_text lines) [] Between → document_of text ≡ Ok us
+    → preamble_comments_apart us ≡ true → IsComplete (bytes_of (preamble us))
+    → (tokens (dressed_preamble sheets lines us) ≡ tokens (bytes_of (preamble us))) × IsComplete (dressed_preamble sheets lines us)
+dressed_runs_alike sheets lines text us none e a c =
+    begun_alike (with_lines sheets lines (kept drops_in_header (preamble us))) text us e a c (lines_same sheets lines (kept drops_in_header (preamble us)) none)

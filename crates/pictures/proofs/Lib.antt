@@ -18,6 +18,7 @@ pub mod Shifted
 pub mod Names
 pub mod Unaware
 pub mod Own
+pub mod Imposed
 pub mod EndsOnce
 pub mod DocumentRun
 pub mod Examples

@@ -30,7 +30,7 @@ comment_digits [] h = refl
 comment_digits (d ∷ ds) h =
     ap (λ b. behind [] (scan_from (if b then Between else InComment) ds)) h.0.4 ∙ ap (behind []) (comment_digits ds h.1)
 
-page_line : (n : ℕ) → Reads Between (line (codes "%%Page: " ++ decimal n ++ codes " " ++ decimal n)) [] Between
+pub page_line : (n : ℕ) → Reads Between (line (codes "%%Page: " ++ decimal n ++ codes " " ++ decimal n)) [] Between
 page_line n =
     let start : List ℕ = codes "%%Page: " in
     let d : List ℕ = decimal n in
@@ -56,10 +56,10 @@ complete_read text e =
     let x : List Token × Reading = scan_from Between text in
     ap (λ r. (x.0, r)) e ∙ ap (λ ts. (ts, Between)) (sym (append-nil x.0) ∙ ap (λ r. x.0 ++ ended r) (sym e))
 
-abbrev placed_of : List Shown → List Token
+abbrev pub placed_of : List Shown → List Token
 placed_of xs = flat_map placed_tokens (map (λ x. x.placed) xs)
 
-slot_read : (frame : Frame) (us : List NestedUnit) (picture : ℕ → List Painting) (page : Option ℕ) (item : Item) → OnSlot (λ p. IsComplete (body_of_page us p)) page
+pub slot_read : (frame : Frame) (us : List NestedUnit) (picture : ℕ → List Painting) (page : Option ℕ) (item : Item) → OnSlot (λ p. IsComplete (body_of_page us p)) page
     → Reads Between (slot_text frame (pages us) page item) (placed_of (shown_slot frame us picture page item)) Between
 slot_read frame us picture None item h = refl
 slot_read frame us picture (Some p) item h =
@@ -72,7 +72,7 @@ slot_read frame us picture (Some p) item h =
     (reads_join Between Between Between (opening_text frame item) (body_of_page us p) (saving_tokens ++ placing) body (opening_read frame item) (complete_read (body_of_page us p) h))
     refl)
 
-placed_append : (xs ys : List Shown) → placed_of (xs ++ ys) ≡ placed_of xs ++ placed_of ys
+pub placed_append : (xs ys : List Shown) → placed_of (xs ++ ys) ≡ placed_of xs ++ placed_of ys
 placed_append xs ys = ap (flat_map placed_tokens) (map-append (λ x. x.placed) xs ys) ∙ flat_map-append placed_tokens (map (λ x. x.placed) xs) (map (λ x. x.placed) ys)
 
 slots_read : (frame : Frame) (us : List NestedUnit) (picture : ℕ → List Painting) (slots : List Slot) → OnSlots (λ p. IsComplete (body_of_page us p)) slots

@@ -266,7 +266,7 @@ nothing_behind s at operands dictionaries saves save_name restore_name = record 
 pub own_picture : OwnPicture
 own_picture s body picture p q = (prints s body picture p q, paints s body picture p q)
 
-page_paints : (us : List NestedUnit) (s : State) (p : ℕ) (picture : List Painting) → IsPlainGround s → PagePrints us s p picture → PagePaints us s p picture
+pub page_paints : (us : List NestedUnit) (s : State) (p : ℕ) (picture : List Painting) → IsPlainGround s → PagePrints us s p picture → PagePaints us s p picture
 page_paints us s p picture g (complete, apart, q) =
     let alike = kept_runs_alike (page_of us p) apart complete in
     (alike.1, subst (λ ts. PaintsAlone s ts picture) (sym alike.0) (paints s (tokens (page_of us p)) picture g q))

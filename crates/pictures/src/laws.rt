@@ -1,6 +1,7 @@
 //! Laws of the machine and of what it paints. The functions do nothing.
 ghost use Rattle.pictures.specs.DocumentRun.{PagesArePrinted};
 ghost use Rattle.pictures.specs.Documents.{OpeningIsCut, OutputIsPrinted};
+ghost use Rattle.pictures.specs.Imposed.{MadeSheetsShowThePages};
 ghost use Rattle.pictures.specs.Kept.{KeptRunsAlike, PreambleRunsAlike};
 ghost use Rattle.pictures.specs.Readings.{PointsArePut, ReadingFollows};
 ghost use Rattle.pictures.specs.Unaware.{OwnPicture, SheetsShowTheDocument, SheetsShowThePages};
@@ -80,4 +81,9 @@ pub fn kept_runs_alike()
 /// The tokens of an output's preamble are those of the document's.
 pub fn preamble_runs_alike()
     ensures { PreambleRunsAlike }
+{}
+
+/// A machine prints of made sheets, written with no added lines but comments, what the document's own pages print, placed.
+pub fn made_sheets_show_the_pages()
+    ensures { MadeSheetsShowThePages }
 {}

@@ -24,14 +24,14 @@ paper = Some (points 200 300)
 
 -- the first page resets, its clip again while there is a path, and prints by a procedure that was bound; the second takes back
 -- what it didn't push
-abbrev text : List ℕ
+abbrev pub text : List ℕ
 text = document_with (codes "/e {showpage} bind def") (codes "initgraphics 0 0 moveto 9 9 lineto initclip stroke e" ∷ (codes "grestore " ++ stroke) ∷ [])
 
 abbrev pub units_found : Result (List NestedUnit) DocumentFault → List NestedUnit
 units_found (Ok us) = us
 units_found (Err e) = []
 
-abbrev us : List NestedUnit
+abbrev pub us : List NestedUnit
 us = units_found (document_of text)
 
 -- behind the preamble
@@ -41,7 +41,7 @@ behind = defined (in_userdict (codes "e") (Procedure (Name (codes "showpage") �
 pub guarded_behind : IsGuarded behind
 guarded_behind = stays_guarded (behind_guard paper []) (in_userdict (codes "e") (Procedure (Name (codes "showpage") ∷ []))) (guard_is_enough paper []) refl
 
-preamble_runs : GuardedPreambleRuns (bytes_of (preamble (units_of (guarded paper text)))) behind
+pub preamble_runs : GuardedPreambleRuns (bytes_of (preamble (units_of (guarded paper text)))) behind
 unfolding digits
 preamble_runs = (refl, (264, refl), refl, refl, refl, guarded_behind)
 
@@ -57,10 +57,10 @@ abbrev end : ℕ → State
 end zero = at_most 12 (sheltered [] behind (outline_of frame) (tokens (page_of us 0)))
 end (suc p) = at_most 9 (sheltered [] behind (outline_of frame) (tokens (page_of us 1)))
 
-abbrev picture : ℕ → List Painting
+abbrev pub picture : ℕ → List Painting
 picture p = (end p).painted
 
-first_page : GuardedPagePaints frame us behind 0 (picture 0)
+pub first_page : GuardedPagePaints frame us behind 0 (picture 0)
 unfolding digits
 first_page = (
   refl,
@@ -73,7 +73,7 @@ first_page = (
   },
 )
 
-second_page : GuardedPagePaints frame us behind 1 (picture 1)
+pub second_page : GuardedPagePaints frame us behind 1 (picture 1)
 unfolding digits
 second_page = (
   refl,

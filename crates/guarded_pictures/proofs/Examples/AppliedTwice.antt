@@ -17,10 +17,10 @@ use Rattle.guarded_pictures.proofs.Placed.{takes_pages}
 use Rattle.guarded_pictures.proofs.TwoRuns.{two_runs_are_shown}
 use Rattle.guarded_pictures.proofs.Examples.Applied.{paper, units_found, behind, guarded_behind, end_of}
 
-abbrev text : List ℕ
+abbrev pub text : List ℕ
 text = guarded paper (document_with (codes "/e {showpage} bind def") (codes "initgraphics 0 0 moveto 9 9 lineto initclip stroke e" ∷ []))
 
-abbrev us : List NestedUnit
+abbrev pub us : List NestedUnit
 us = units_found (document_of text)
 
 abbrev again : List NestedUnit
@@ -48,10 +48,10 @@ abbrev end : Item → State
 end item = at_most (round item) 12 (begun item)
 
 -- within another page it paints what it paints outside all
-abbrev picture : ℕ → List Painting
+abbrev pub picture : ℕ → List Painting
 picture p = (at_most [] 12 (sheltered [] behind (outline_of frame) (tokens (page_of us 0)))).painted
 
-page_paints : PagePaintsWithin frame us frame behind 0 (picture 0)
+pub page_paints : PagePaintsWithin frame us frame behind 0 (picture 0)
 unfolding digits
 page_paints = (
   refl,

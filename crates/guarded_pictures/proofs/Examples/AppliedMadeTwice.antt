@@ -1,0 +1,35 @@
+-- The law over two runs on made sheets, at the document of one page: the sheet of the first run stands twice on the one of the second.
+use Rattle.std.proofs.Common.{List, [], ◌∷◌, refl, None, arith}
+use Rattle.std.specs.Prelude.{pos}
+use Rattle.std.specs.Fmt.{digits}
+use Rattle.rules.specs.Parts.{NestedUnit, preamble, bytes_of}
+use Rattle.made_sheets.specs.Made.{Placed, MadeSheet}
+use Rattle.page_papers.specs.Told.{telling}
+use Rattle.pictures.specs.Imposed.{MadeIsPrinted}
+use Rattle.guarded_pictures.specs.Pages.{GuardedPreambleRuns}
+use Rattle.guarded_pictures.specs.TwoMadeRuns.{written_again, made_run_picture}
+use Rattle.guarded_pictures.proofs.Imposed.{one_paper_is_told_as_one}
+use Rattle.guarded_pictures.proofs.TwoMadeRuns.{two_made_runs_are_shown}
+use Rattle.guarded_pictures.proofs.Examples.Applied.{paper, behind, guarded_behind}
+use Rattle.guarded_pictures.proofs.Examples.AppliedMade.{stands, wide, own}
+use Rattle.guarded_pictures.proofs.Examples.AppliedTwice.{text, us, picture, takes_sheets, page_paints}
+
+abbrev inner : List MadeSheet
+inner = record { paper = own; slots = Placed 0 (stands (pos 50)) own ∷ [] } ∷ []
+
+abbrev outer : List MadeSheet
+outer = record { paper = wide; slots = Placed 0 (stands (pos 0)) own ∷ Placed 0 (stands (pos 200)) own ∷ [] } ∷ []
+
+abbrev again : List NestedUnit
+again = written_again paper None inner us
+
+preamble_runs : GuardedPreambleRuns (bytes_of (preamble again)) behind
+unfolding digits
+preamble_runs = (refl, (271, refl), refl, refl, refl, guarded_behind)
+
+-- so the sheet of the second run shows that of the first one, twice
+shown : MadeIsPrinted None (telling outer) outer again (made_run_picture None us picture behind inner) behind
+unfolding digits
+shown =
+    two_made_runs_are_shown paper None None inner outer text us picture behind (one_paper_is_told_as_one own inner (refl, tt)) (one_paper_is_told_as_one wide outer (refl, tt)) refl refl (omega arith) (omega arith) (omega arith) (omega arith) refl preamble_runs takes_sheets
+    ((refl, (refl, tt)), tt) (((page_paints, tt), ((page_paints, tt), tt)), tt)
