@@ -4,4 +4,4 @@
 mod fields;
 mod media;
 
-pub use media::{Comment, document_paper};
+pub use media::{Comment, box_paper, comment_value, document_paper, media_paper};

@@ -1,7 +1,7 @@
 //! The paper that a document is made for, as its header comments tell it.
-ghost use Rattle.std.specs.Prelude.{◌≡◌, ◌++◌, ◌∷◌, [], option_and_then, option_map, codes, None};
+ghost use Rattle.std.specs.Prelude.{◌≡◌, ◌++◌, ◌∷◌, [], option_and_then, option_map, codes, None, MatchOption, true, false};
 ghost use Rattle.rules.specs.Bytes.{colon};
-ghost use Rattle.rules.specs.Units.{content_of, is_comment};
+ghost use Rattle.rules.specs.Units.{content_of, fields, is_comment};
 ghost use Rattle.dsc.specs.Fields.{fields_in};
 ghost use Rattle.document_paper.specs.Media as meaning;
 
@@ -90,14 +90,26 @@ fn value_of<'t>(header: &'t [u8], key: &[u8], with_colon: &[u8]) -> Option<&'t [
     let mut rest = header;
     while !rest.is_empty() {
         let content = first_content(rest);
-        if is_comment_of(content, key, with_colon) {
-            let (_, value) = content.split_at(with_colon.len());
+        if let Some(value) = comment_value(content, key, with_colon) {
             return Some(value);
         }
         let (_, others) = rest.split_at(line_end_after(rest, content.len()));
         rest = others;
     }
     None
+}
+
+/// What stands behind the colon, if a line with this content is a comment with this key.
+pub fn comment_value<'t>(content: &'t [u8], key: &[u8], with_colon: &[u8]) -> Option<&'t [u8]>
+    requires { with_colon.now ≡ key.now ++ colon ∷ [] }
+    ensures { MatchOption result (is_comment key.now content.now ≡ false) (λ value.
+        (is_comment key.now content.now ≡ true) × (fields content.now ≡ fields_in value.now)) }
+{
+    if !is_comment_of(content, key, with_colon) {
+        return None;
+    }
+    let (_, value) = content.split_at(with_colon.len());
+    Some(value)
 }
 
 /// Whether it is a comment with this key and a colon behind it.
@@ -109,7 +121,7 @@ fn is_comment_of(content: &[u8], key: &[u8], with_colon: &[u8]) -> bool
 }
 
 /// The paper of a medium: its name, its width, its height, and more.
-fn media_paper(value: &[u8]) -> Option<Paper>
+pub fn media_paper(value: &[u8]) -> Option<Paper>
     ensures { result ≡ meaning.media_paper (fields_in value.now) }
 {
     let (_, rest) = next_field(value)?;
@@ -119,7 +131,7 @@ fn media_paper(value: &[u8]) -> Option<Paper>
 }
 
 /// The paper of a box that begins at 0 0: left, bottom, right, top, and more.
-fn box_paper(value: &[u8]) -> Option<Paper>
+pub fn box_paper(value: &[u8]) -> Option<Paper>
     ensures { result ≡ meaning.box_paper (fields_in value.now) }
 {
     let (left, rest) = next_field(value)?;
