@@ -4,6 +4,8 @@
 
 mod bodies;
 mod body_starts;
+mod boxes;
+mod comments;
 mod document;
 mod errors;
 mod fields;
@@ -18,6 +20,8 @@ mod units;
 mod walk;
 
 pub use bodies::Body;
+pub use boxes::trailer_box;
+pub use comments::comment_value;
 pub use document::Document;
 pub use errors::DscError;
 pub use fields::next_field;

@@ -5,8 +5,8 @@ ghost use Rattle.document_paper.specs.Media.{contents};
 ghost use Rattle.page_papers.specs.Comments.{continued, media, medium_in, paper_of_medium};
 ghost use Rattle.own_papers.specs.Named.{media_of};
 
-use document_paper::{comment_value, media_paper};
-use dsc::{first_content, line_end_after, next_field};
+use document_paper::media_paper;
+use dsc::{comment_value, first_content, line_end_after, next_field};
 use lengths::Paper;
 use std::alloc::{AllocError, Global};
 use std::marker::Model;

@@ -6,8 +6,7 @@ ghost use Rattle.dsc.specs.Header.{is_header};
 ghost use Rattle.document_paper.specs.Media.{comment_fields};
 ghost use Rattle.page_papers.specs.Comments.{head_of, is_in_head};
 
-use document_paper::comment_value;
-use dsc::{first_content, key_of, line_end_after};
+use dsc::{comment_value, first_content, key_of, line_end_after};
 
 /// What stands behind the colon of the first comment with this key, in the run of comments at the front.
 pub(crate) fn value_in_head<'t>(text: &'t [u8], key: &[u8], with_colon: &[u8]) -> Option<&'t [u8]>
