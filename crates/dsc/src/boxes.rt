@@ -42,8 +42,20 @@ fn next_part(part: Part, meaning: Meaning) -> Part
     ensures { result ≡ part_after part meaning.is_page meaning.is_trailer }
 {
     match part {
-        Part::Preamble => { if meaning.is_page { Part::Pages } else { Part::Preamble } }
-        Part::Pages => { if meaning.is_trailer { Part::Trailer } else { Part::Pages } }
+        Part::Preamble => {
+            if meaning.is_page {
+                Part::Pages
+            } else {
+                Part::Preamble
+            }
+        }
+        Part::Pages => {
+            if meaning.is_trailer {
+                Part::Trailer
+            } else {
+                Part::Pages
+            }
+        }
         Part::Trailer => Part::Trailer,
     }
 }

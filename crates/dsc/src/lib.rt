@@ -26,6 +26,6 @@ pub use document::Document;
 pub use errors::DscError;
 pub use fields::next_field;
 pub use filters::{end_line, prepare};
-pub use header::{first_content, header_len};
+pub use header::{first_content, header_len, is_header};
 pub use keys::key_of;
 pub use lines::{content_end, line_end_after};

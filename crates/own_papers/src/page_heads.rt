@@ -2,11 +2,10 @@
 ghost use Rattle.std.specs.Prelude.{◌≡◌, ◌++◌, ◌∷◌, [], option_map, length};
 ghost use Rattle.rules.specs.Bytes.{colon};
 ghost use Rattle.dsc.specs.Fields.{fields_in};
-ghost use Rattle.dsc.specs.Header.{is_header};
 ghost use Rattle.document_paper.specs.Media.{comment_fields};
 ghost use Rattle.page_papers.specs.Comments.{head_of, is_in_head};
 
-use dsc::{comment_value, first_content, key_of, line_end_after};
+use dsc::{comment_value, first_content, is_header, key_of, line_end_after};
 
 /// What stands behind the colon of the first comment with this key, in the run of comments at the front.
 pub(crate) fn value_in_head<'t>(text: &'t [u8], key: &[u8], with_colon: &[u8]) -> Option<&'t [u8]>
@@ -35,19 +34,5 @@ fn is_in_head(content: &[u8]) -> bool
     ensures { result ≡ is_in_head content.now }
 {
     let key = key_of(content);
-    is_header(content)
-        && (!key.starts_with(b"%%Begin") || key == b"%%BeginPageSetup".as_slice())
-}
-
-/// Whether a line with this content begins with a percent sign and a byte that prints.
-fn is_header(content: &[u8]) -> bool
-    ensures { result ≡ is_header content.now }
-{
-    match content.split_first() {
-        None => false,
-        Some((first, rest)) => match rest.split_first() {
-            None => false,
-            Some((second, _)) => *first == b'%' && (33 <= *second && *second <= 126),
-        },
-    }
+    is_header(content) && (!key.starts_with(b"%%Begin") || key == b"%%BeginPageSetup".as_slice())
 }
