@@ -1,12 +1,12 @@
 -- The comments of a header, a line at a time.
-use Rattle.std.specs.Prelude.{if◌then◌else◌, Option, Some}
-use Rattle.std.proofs.Common.{Bool, true, false, ◌&&◌, ◌||◌, ◌≡◌, ℕ, zero, suc, ◌+◌, ◌<◌, List, [], ◌∷◌, length, drop, refl, ap, arith, ◌∙◌}
-use Rattle.std.specs.Str.{bytes_eq}
-use Rattle.std.proofs.lemmas.Slice.Eq.{bytes_eq-Decides}
-use Rattle.rules.specs.Units.{content_of, fields, has_key, is_comment, key, line_len}
+use Rattle.std.specs.Prelude.{if◌then◌else◌, Option, Some, map, filter, codes}
+use Rattle.std.proofs.Common.{Bool, true, false, ◌≡◌, ℕ, zero, suc, ◌+◌, ◌<◌, List, [], ◌∷◌, length, drop, refl, ap, arith, ◌∙◌}
+use Rattle.rules.specs.Parts.{NestedUnit, is_outermost_line, trailer}
+use Rattle.rules.specs.Units.{content_of, fields, is_comment, line_len}
+use Rattle.dsc.proofs.Cases.{by_test}
 use Rattle.dsc.proofs.LineByLine.{by_line}
-use Rattle.dsc.specs.Fields.{fields_in}
-use Rattle.document_paper.specs.Media.{comment_fields, contents, contents_of}
+use Rattle.dsc.specs.TrailerBoxes.{box_among, trailer_box}
+use Rattle.document_paper.specs.Media.{comment_fields, contents, contents_of, trailer_lines}
 
 no_lines : (k : ℕ) → contents_of k [] ≡ contents_of 0 []
 no_lines zero = refl
@@ -29,17 +29,14 @@ found_behind name [] l is = absurd (omega (arith, l))
 found_behind name (b ∷ bs) l is =
     ap (comment_fields name) (contents_step b bs) ∙ ap (choose name (content_of (b ∷ bs)) (contents (drop (line_len (b ∷ bs)) (b ∷ bs)))) is
 
-left_of : (a b : Bool) → (a && b) ≡ true → a ≡ true
-left_of true b e = refl
-left_of false b e = cc
+-- the box of the trailer is that of its lines
+box_in_lines : (us : List NestedUnit) → box_among us ≡ comment_fields (codes "%%BoundingBox") (map (λ u. u.unit.content) (filter is_outermost_line us))
+box_in_lines [] = refl
+box_in_lines (u ∷ us) = by_test (is_outermost_line u)
+    (λ out. rw out (by_test (is_comment (codes "%%BoundingBox") u.unit.content)
+    (λ is. rw is refl)
+    (λ isnt. rw isnt (box_in_lines us))))
+    (λ within. rw within (box_in_lines us))
 
-one_of_two : (a : Bool) → (a || false) ≡ true → a ≡ true
-one_of_two true e = refl
-one_of_two false e = cc
-
--- the fields stand behind the key and the colon
-pub fields_are : (name content : List ℕ) → is_comment name content ≡ true → fields content ≡ fields_in (drop (length name + 1) content)
-fields_are name content is =
-    let has = left_of (has_key (name ∷ []) content) _ is in
-    let same : key content ≡ name = (bytes_eq-Decides (key content) name).0 (one_of_two (bytes_eq (key content) name) has) in
-    ap (λ k. fields_in (drop (length k + 1) content)) same
+pub trailer_box_is : (us : List NestedUnit) → trailer_box us ≡ comment_fields (codes "%%BoundingBox") (trailer_lines us)
+trailer_box_is us = box_in_lines (trailer us)

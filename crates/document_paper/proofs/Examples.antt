@@ -134,6 +134,34 @@ first_line = refl
 empty : document_paper [] ≡ None
 empty = refl
 
+-- A box in the trailer.
+
+in_the_trailer : document_paper (codes "%!\n%%BoundingBox: (atend)\n%%Page: 1 1\nx\n%%Trailer\n%%BoundingBox: 0 0 1 2\n") ≡ Some (points 1 2, BoundingBox)
+unfolding number_at
+in_the_trailer = refl
+
+-- it counts only if the header says so
+header_decides : document_paper (codes "%!\n%%BoundingBox: 0 0 1 2\n%%Page: 1 1\nx\n%%Trailer\n%%BoundingBox: 0 0 3 4\n") ≡ Some (points 1 2, BoundingBox)
+unfolding number_at
+header_decides = refl
+
+no_box_in_the_header : document_paper (codes "%!\n%%Page: 1 1\nx\n%%Trailer\n%%BoundingBox: 0 0 3 4\n") ≡ None
+no_box_in_the_header = refl
+
+-- the box of an embedded document isn't the trailer's, nor is one before the trailer
+embedded_in_the_trailer : document_paper (codes "%!\n%%BoundingBox: (atend)\n%%Page: 1 1\n%%BoundingBox: 0 0 5 6\n%%Trailer\n%%BeginDocument: e\n%%BoundingBox: 0 0 3 4\n%%EndDocument\n%%BoundingBox: 0 0 1 2\n")
+    ≡ Some (points 1 2, BoundingBox)
+unfolding number_at
+embedded_in_the_trailer = refl
+
+-- put off for ever
+put_off_again : document_paper (codes "%!\n%%BoundingBox: (atend)\n%%Page: 1 1\nx\n%%Trailer\n%%BoundingBox: (atend)\n%%BoundingBox: 0 0 1 2\n") ≡ None
+put_off_again = refl
+
+-- a text that isn't cut has no trailer
+faulty_data : document_paper (codes "%!\n%%BoundingBox: (atend)\n%%Page: 1 1\nx\n%%Trailer\n%%BoundingBox: 0 0 1 2\n%%BeginData: x\n") ≡ None
+faulty_data = refl
+
 -- Names of papers.
 
 abbrev names_and_box : List ℕ

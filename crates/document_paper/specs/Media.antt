@@ -1,12 +1,15 @@
--- The paper that a document is made for, as its header comments tell it (DSC 3.0, %%DocumentMedia and %%BoundingBox;
--- DSC 2.1, %%DocumentPaperSizes).
+-- The paper that a document is made for, as its comments tell it (DSC 3.0, %%DocumentMedia and %%BoundingBox, and
+-- (atend); DSC 2.1, %%DocumentPaperSizes).
 use Rattle.std.specs.Prelude.{ℕ, zero, suc, ℤ, pos, Bool, false, if◌then◌else◌, option_map, option_and_then}
-use Rattle.std.specs.Prelude.{List, [], ◌∷◌, length, take, drop, codes, Option, Some, None}
+use Rattle.std.specs.Prelude.{List, [], ◌∷◌, length, take, drop, map, filter, codes, Option, Some, None}
 use Rattle.std.specs.Ordering.{int_eq}
+use Rattle.std.specs.Str.{bytes_eq}
 use Rattle.rules.specs.Papers.{Paper, Pt, grains, is_paper}
 use Rattle.rules.specs.Numbers.{is_large}
 use Rattle.rules.specs.Units.{content_of, line_len, is_comment, fields}
+use Rattle.rules.specs.Parts.{NestedUnit, is_outermost_line, trailer}
 use Rattle.dsc.specs.Header.{header_len}
+use Rattle.dsc.specs.Units.{units_of}
 use Rattle.lengths.specs.Lengths.{a4}
 use Rattle.lengths.specs.Reading.{is_empty, number_at}
 use Rattle.paper_names.specs.Names.{paper_named}
@@ -68,6 +71,20 @@ box_paper other = None
 abbrev pub header : List ℕ → List (List ℕ)
 header text = contents (take (header_len text) text)
 
+-- the lines of a document's trailer
+abbrev pub trailer_lines : List NestedUnit → List (List ℕ)
+trailer_lines us = map (λ u. u.unit.content) (filter is_outermost_line (trailer us))
+
+-- the value of a comment in the header stands in the trailer
+abbrev pub is_at_end : List (List ℕ) → Bool
+is_at_end [] = false
+is_at_end (field ∷ more) = bytes_eq field (codes "(atend)")
+
+-- the box of a document, which may stand in its trailer
+abbrev pub box_of : (trailer : List (List ℕ)) → List (List ℕ) → Option Paper
+box_of trailer box =
+    if is_at_end box then option_and_then box_paper (comment_fields (codes "%%BoundingBox") trailer) else box_paper box
+
 -- the paper of the first field that is the name of one
 abbrev pub else_take : Option Paper → Option Paper → Option Paper
 else_take (Some paper) other = Some paper
@@ -78,16 +95,16 @@ first_named [] = None
 first_named (name ∷ more) = else_take (paper_named name) (first_named more)
 
 -- the document's own paper, and which comment tells it: the first of these that does
-abbrev pub or_box : List (List ℕ) → Option Paper → Option (Paper × Comment)
-or_box lines (Some paper) = Some (paper, DocumentPaperSizes)
-or_box lines None = option_map (λ paper. (paper, BoundingBox))
-    (option_and_then box_paper (comment_fields (codes "%%BoundingBox") lines))
+abbrev pub or_box : (lines trailer : List (List ℕ)) → Option Paper → Option (Paper × Comment)
+or_box lines trailer (Some paper) = Some (paper, DocumentPaperSizes)
+or_box lines trailer None = option_map (λ paper. (paper, BoundingBox))
+    (option_and_then (box_of trailer) (comment_fields (codes "%%BoundingBox") lines))
 
-abbrev pub or_named : List (List ℕ) → Option Paper → Option (Paper × Comment)
-or_named lines (Some paper) = Some (paper, DocumentMedia)
-or_named lines None =
-    or_box lines (option_and_then first_named (comment_fields (codes "%%DocumentPaperSizes") lines))
+abbrev pub or_named : (lines trailer : List (List ℕ)) → Option Paper → Option (Paper × Comment)
+or_named lines trailer (Some paper) = Some (paper, DocumentMedia)
+or_named lines trailer None =
+    or_box lines trailer (option_and_then first_named (comment_fields (codes "%%DocumentPaperSizes") lines))
 
 abbrev pub document_paper : List ℕ → Option (Paper × Comment)
-document_paper text = or_named (header text)
+document_paper text = or_named (header text) (trailer_lines (units_of text))
     (option_and_then media_paper (comment_fields (codes "%%DocumentMedia") (header text)))

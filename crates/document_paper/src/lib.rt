@@ -1,7 +1,7 @@
-//! The paper that a document is made for, as its header comments tell it.
+//! The paper that a document is made for, as its comments tell it.
 #![tactic(auto)]
 
 mod fields;
 mod media;
 
-pub use media::{Comment, document_paper};
+pub use media::{Comment, box_paper, document_paper, media_paper};

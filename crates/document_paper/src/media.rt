@@ -1,12 +1,12 @@
-//! The paper that a document is made for, as its header comments tell it.
+//! The paper that a document is made for, as its comments tell it.
 ghost use Rattle.std.specs.Prelude.{◌≡◌, ◌++◌, ◌∷◌, [], option_and_then, option_map, codes, None};
 ghost use Rattle.rules.specs.Bytes.{colon};
-ghost use Rattle.rules.specs.Units.{content_of, is_comment};
 ghost use Rattle.dsc.specs.Fields.{fields_in};
+ghost use Rattle.dsc.specs.Units.{units_of};
 ghost use Rattle.document_paper.specs.Media as meaning;
 
 use crate::fields::{is_zero, points_of};
-use dsc::{first_content, header_len, key_of, line_end_after, next_field};
+use dsc::{comment_value, first_content, header_len, line_end_after, next_field, trailer_box};
 use lengths::{Grains, Paper};
 use paper_names::paper_by_name;
 
@@ -22,24 +22,25 @@ pub enum Comment {
 }
 
 /// The paper of a document, by the width and height of its first `%%DocumentMedia:`, else by the first known name in its
-/// `%%DocumentPaperSizes:`, else by a `%%BoundingBox:` that begins at 0 0, among its header comments (DSC 3.0, 5.2).
+/// `%%DocumentPaperSizes:`, else by a `%%BoundingBox:` that begins at 0 0, among its header comments (DSC 3.0, 5.2). A box
+/// that is `(atend)` is the first `%%BoundingBox:` of the trailer; a text with a faulty data block has no trailer.
 pub fn document_paper(text: &[u8]) -> Option<(Paper, Comment)>
     ensures { result ≡ meaning.document_paper text.now }
 {
     let (header, _) = text.split_at(header_len(text));
     match media_in(header) {
         Some(paper) => Some((paper, Comment::DocumentMedia)),
-        None => named_or_boxed(header),
+        None => named_or_boxed(header, text),
     }
 }
 
 /// The paper of the first known name among the comments, else that of the first box.
-fn named_or_boxed(header: &[u8]) -> Option<(Paper, Comment)>
-    ensures { result ≡ meaning.or_named (meaning.contents header.now) None }
+fn named_or_boxed(header: &[u8], text: &[u8]) -> Option<(Paper, Comment)>
+    ensures { result ≡ meaning.or_named (meaning.contents header.now) (meaning.trailer_lines (units_of text.now)) None }
 {
     match named_in(header) {
         Some(paper) => Some((paper, Comment::DocumentPaperSizes)),
-        None => Some((box_in(header)?, Comment::BoundingBox)),
+        None => Some((box_in(header, text)?, Comment::BoundingBox)),
     }
 }
 
@@ -73,12 +74,42 @@ fn media_in(header: &[u8]) -> Option<Paper>
     media_paper(value_of(header, b"%%DocumentMedia", b"%%DocumentMedia:")?)
 }
 
-/// The paper of the first box among the comments.
-fn box_in(header: &[u8]) -> Option<Paper>
-    ensures { result ≡ option_and_then meaning.box_paper
+/// The paper of the first box among the comments, which may stand in the trailer.
+fn box_in(header: &[u8], text: &[u8]) -> Option<Paper>
+    ensures { result ≡ option_and_then (meaning.box_of (meaning.trailer_lines (units_of text.now)))
         (meaning.comment_fields (codes "%%BoundingBox") (meaning.contents header.now)) }
 {
-    box_paper(value_of(header, b"%%BoundingBox", b"%%BoundingBox:")?)
+    box_told(value_of(header, b"%%BoundingBox", b"%%BoundingBox:")?, text)
+}
+
+/// The paper of a box in the header with this value.
+fn box_told(value: &[u8], text: &[u8]) -> Option<Paper>
+    ensures { result ≡ meaning.box_of (meaning.trailer_lines (units_of text.now)) (fields_in value.now) }
+{
+    if is_at_end(value) {
+        box_in_trailer(text)
+    } else {
+        box_paper(value)
+    }
+}
+
+/// The paper of the first box in the trailer.
+#[tactic(auto, using(crate::proofs::Contents::trailer_box_is))]
+fn box_in_trailer(text: &[u8]) -> Option<Paper>
+    ensures { result ≡ option_and_then meaning.box_paper
+        (meaning.comment_fields (codes "%%BoundingBox") (meaning.trailer_lines (units_of text.now))) }
+{
+    box_paper(trailer_box(text)?)
+}
+
+/// Whether a comment in the header with this value stands in the trailer.
+fn is_at_end(value: &[u8]) -> bool
+    ensures { result ≡ meaning.is_at_end (fields_in value.now) }
+{
+    match next_field(value) {
+        Some((field, _)) => field == b"(atend)".as_slice(),
+        None => false,
+    }
 }
 
 /// What stands behind the colon of the first comment with this key.
@@ -90,8 +121,7 @@ fn value_of<'t>(header: &'t [u8], key: &[u8], with_colon: &[u8]) -> Option<&'t [
     let mut rest = header;
     while !rest.is_empty() {
         let content = first_content(rest);
-        if is_comment_of(content, key, with_colon) {
-            let (_, value) = content.split_at(with_colon.len());
+        if let Some(value) = comment_value(content, key, with_colon) {
             return Some(value);
         }
         let (_, others) = rest.split_at(line_end_after(rest, content.len()));
@@ -100,16 +130,8 @@ fn value_of<'t>(header: &'t [u8], key: &[u8], with_colon: &[u8]) -> Option<&'t [
     None
 }
 
-/// Whether it is a comment with this key and a colon behind it.
-fn is_comment_of(content: &[u8], key: &[u8], with_colon: &[u8]) -> bool
-    requires { with_colon.now ≡ key.now ++ colon ∷ [] }
-    ensures { result ≡ is_comment key.now content.now }
-{
-    key_of(content) == key && content.starts_with(with_colon)
-}
-
 /// The paper of a medium: its name, its width, its height, and more.
-fn media_paper(value: &[u8]) -> Option<Paper>
+pub fn media_paper(value: &[u8]) -> Option<Paper>
     ensures { result ≡ meaning.media_paper (fields_in value.now) }
 {
     let (_, rest) = next_field(value)?;
@@ -119,7 +141,7 @@ fn media_paper(value: &[u8]) -> Option<Paper>
 }
 
 /// The paper of a box that begins at 0 0: left, bottom, right, top, and more.
-fn box_paper(value: &[u8]) -> Option<Paper>
+pub fn box_paper(value: &[u8]) -> Option<Paper>
     ensures { result ≡ meaning.box_paper (fields_in value.now) }
 {
     let (left, rest) = next_field(value)?;

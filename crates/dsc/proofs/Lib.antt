@@ -7,11 +7,13 @@ pub mod Fronts
 pub mod Rows
 pub mod PlainUnits
 pub mod Walking
+pub mod CommentFields
 pub mod FieldRows
 pub mod Headings
 pub mod DataLengths
 pub mod Alone
 pub mod Scans
+pub mod Seeking
 pub mod BodyMarks
 pub mod PartMarks
 pub mod Reading

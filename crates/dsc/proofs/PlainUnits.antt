@@ -1,14 +1,15 @@
 -- Lines that begin with no two percent signs mean nothing.
-use Rattle.std.specs.Prelude.{Ok, codes, map}
+use Rattle.std.specs.Prelude.{Ok, Some, None, codes, map}
 use Rattle.std.specs.List.{starts_with, prefix_len}
 use Rattle.std.specs.Str.{bytes_eq}
 use Rattle.std.proofs.lemmas.Bool.{false≢true}
 use Rattle.std.proofs.lemmas.Slice.Eq.{bytes_eq-Decides}
 use Rattle.std.proofs.Common.{Bool, false, nat_eq, not, ◌||◌, ◌&&◌, ◌==◌, if◌then◌else◌, ◌≡◌, ℕ, ◌+◌, ◌-◌, List, [], ◌∷◌, length, take, refl, ap, arith, length-take, sym, ◌∙◌}
-use Rattle.rules.specs.Units.{TextUnit, is_blank, key, has_key, content_of, line_len, first_unit}
+use Rattle.rules.specs.Units.{TextUnit, is_blank, key, has_key, fields, content_of, line_len, first_unit}
 use Rattle.rules.specs.Parts.{NestedUnit, depth_after, is_outermost_line, begins_page, begins_trailer}
 use Rattle.rules.specs.Filters.{continues}
 use Rattle.dsc.specs.Filters.{drops_of, is_dropped}
+use Rattle.dsc.specs.TrailerBoxes.{box_in}
 use Rattle.dsc.specs.declared.filters.Drops.{Drops}
 use Rattle.dsc.specs.declared.filters.Drops.TheVariants.{PageSetup, DocumentSetup}
 use Rattle.dsc.proofs.Cases.{by_test, and_false}
@@ -60,6 +61,11 @@ plain_page u h =
 
 pub plain_trailer : (u : NestedUnit) → IsPlain u.unit.content → begins_trailer u ≡ false
 plain_trailer u h = ap (λ t. is_outermost_line u && t) (no_keys (codes "Trailer" ∷ codes "EOF" ∷ []) u.unit.content h) ∙ and_false (is_outermost_line u)
+
+pub plain_box : (u : NestedUnit) → IsPlain u.unit.content → box_in u ≡ None
+plain_box u h =
+    ap (λ t. if is_outermost_line u && (t && starts_with nat_eq u.unit.content (codes "%%BoundingBox:")) then Some (fields u.unit.content) else None) (no_keys (codes "BoundingBox" ∷ []) u.unit.content h)
+    ∙ ap (λ t. if t then Some (fields u.unit.content) else None) (and_false (is_outermost_line u))
 
 plain_drops : (drops : Drops) (content : List ℕ) → IsPlain content → drops_of drops content ≡ false
 plain_drops PageSetup content h =

@@ -1,4 +1,4 @@
--- Who asks what the calls promise reads `Units`, `Views`, `Faults`, `Bodies` and `Laws`, in this order; the others are
+-- Who asks what the calls promise reads `Units`, `Views`, `Faults`, `Bodies`, `TrailerBoxes` and `Laws`, in this order; the others are
 -- of parts of the code.
 pub mod Bodies
 pub mod Plain
@@ -13,4 +13,5 @@ pub mod Faults
 pub mod Units
 pub mod Documents
 pub mod Filters
+pub mod TrailerBoxes
 pub mod Header

@@ -1,11 +1,12 @@
 //! A document with its parts.
 ghost use Rattle.std.specs.Prelude.{◌≡◌, ℕ, ◌+◌, ◌-◌, ◌<◌, ◌≤◌, List, [], length, take, drop, slice_index_or};
 ghost use Rattle.std.specs.Prelude.{IfOk, IfErr, IfSome, Ok};
-ghost use Rattle.rules.specs.Parts.{pages};
+ghost use Rattle.rules.specs.Parts.{bytes_of, pages};
 ghost use Rattle.rules.specs.Filters.{preamble_text, trailer_text, prepared};
 ghost use Rattle.rules.specs.Run.{document_of};
 ghost use Rattle.made_sheets.specs.Dress.{lines_text};
 ghost use Rattle.made_sheets.specs.MadeOutput.{dressed_preamble};
+ghost use Rattle.dsc.specs.Units.{units_of};
 ghost use Rattle.dsc.specs.Views.{Gives};
 ghost use Rattle.dsc.specs.Faults.{fault_told, PassedFirstChecks};
 ghost use Rattle.dsc.specs.Laws.{HasBody};
@@ -79,6 +80,14 @@ impl<'d> Document<'d> {
             bodies,
             stop,
         })
+    }
+
+    /// The text that it was read from.
+    pub fn text(&self) -> &'d [u8]
+        ensures text { result.now ≡ bytes_of self.now }
+        ensures units { self.now ≡ units_of result.now }
+    {
+        self.text
     }
 
     /// How many pages there are, from 1 to 1,000,000.

@@ -47,7 +47,7 @@ fn stays(content: &[u8]) -> bool
 }
 
 /// Whether a line with this content begins with a percent sign and a byte that prints.
-fn is_header(content: &[u8]) -> bool
+pub fn is_header(content: &[u8]) -> bool
     ensures { result ≡ is_header content.now }
 {
     match content.split_first() {

@@ -4,6 +4,8 @@
 
 mod bodies;
 mod body_starts;
+mod boxes;
+mod comments;
 mod document;
 mod errors;
 mod fields;
@@ -18,10 +20,12 @@ mod units;
 mod walk;
 
 pub use bodies::Body;
+pub use boxes::trailer_box;
+pub use comments::comment_value;
 pub use document::Document;
 pub use errors::DscError;
 pub use fields::next_field;
 pub use filters::{end_line, prepare};
-pub use header::{first_content, header_len};
+pub use header::{first_content, header_len, is_header};
 pub use keys::key_of;
 pub use lines::{content_end, line_end_after};

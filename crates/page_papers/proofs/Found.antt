@@ -18,10 +18,10 @@ use Rattle.lengths.proofs.Numbers.{number_read}
 use Rattle.seams.specs.Seams.{no_ends}
 use Rattle.seams.proofs.LinesMeet.{go_line, stop_line}
 use Rattle.seams.proofs.Plainly.{no_ends_append, no_ends_decimal}
-use Rattle.document_paper.specs.Media.{comment_fields, media_paper, paper_of, points_at, points_of}
+use Rattle.document_paper.specs.Media.{box_of, comment_fields, media_paper, paper_of, points_at, points_of}
 use Rattle.made_sheets.specs.Made.{Blank, MadeSheet, MadeSlot, Placed}
 use Rattle.made_sheets.specs.MadeOutput.{made_sheet_text, made_slot_text}
-use Rattle.page_papers.specs.Comments.{box_of, else_take, first_named, head_of, media, page_head, told_by_document, told_by_page}
+use Rattle.page_papers.specs.Comments.{else_take, first_named, head_of, media, page_head, told_by_document, told_by_page}
 use Rattle.page_papers.specs.Found.{OneIsFound}
 use Rattle.page_papers.specs.Own.{or_this, own_paper}
 use Rattle.page_papers.specs.Told.{box_line, medium_line, telling_of}

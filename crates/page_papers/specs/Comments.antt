@@ -7,9 +7,8 @@ use Rattle.std.specs.List.{starts_with, slice_split}
 use Rattle.std.specs.Str.{bytes_eq}
 use Rattle.rules.specs.Papers.{Paper}
 use Rattle.rules.specs.Units.{content_of, line_len, key, has_key, is_comment, is_blank, fields}
-use Rattle.rules.specs.Parts.{NestedUnit, is_outermost_line, trailer}
 use Rattle.dsc.specs.Header.{is_header}
-use Rattle.document_paper.specs.Media.{comment_fields, media_paper, box_paper}
+use Rattle.document_paper.specs.Media.{comment_fields, media_paper, box_paper, box_of}
 
 -- the first of two, if there is one, and else the second
 abbrev pub else_take : Option Paper → Option Paper → Option Paper
@@ -34,10 +33,6 @@ head_of (suc most) text =
 -- the head of a page: that run behind its first line; a line has a byte, so there are no more lines than bytes
 abbrev pub page_head : List ℕ → List (List ℕ)
 page_head page = head_of (length page) (drop (line_len page) page)
-
--- the lines of a document's trailer
-abbrev pub trailer_lines : List NestedUnit → List (List ℕ)
-trailer_lines us = map (λ u. u.unit.content) (filter is_outermost_line (trailer us))
 
 -- ---- media
 
@@ -89,16 +84,6 @@ told_by_page known head = by_medium known head (comment_fields (codes "%%PageMed
 abbrev pub first_named : (named : List ℕ → Option Paper) → List (List ℕ) → Option Paper
 first_named named [] = None
 first_named named (name ∷ more) = else_take (named name) (first_named named more)
-
--- the value of a comment in the header stands in the trailer
-abbrev pub is_at_end : List (List ℕ) → Bool
-is_at_end [] = false
-is_at_end (field ∷ more) = bytes_eq field (codes "(atend)")
-
--- the box of a document, which may stand in its trailer
-abbrev pub box_of : (trailer : List (List ℕ)) → List (List ℕ) → Option Paper
-box_of trailer box =
-    if is_at_end box then option_and_then box_paper (comment_fields (codes "%%BoundingBox") trailer) else box_paper box
 
 -- the document's paper: its first medium's; else the first of its papers' names that is known; else its box, if it
 -- begins at 0 0

@@ -5,8 +5,8 @@ use Rattle.std.specs.Prelude.{◌∷◌, ◌++◌, map, fold, filter, Option, So
 use Rattle.std.specs.List.{list_any}
 use Rattle.rules.specs.Papers.{Paper}
 use Rattle.rules.specs.Parts.{NestedUnit, pages}
-use Rattle.document_paper.specs.Media.{header}
-use Rattle.page_papers.specs.Comments.{media, page_head, told_by_document, told_by_page, trailer_lines}
+use Rattle.document_paper.specs.Media.{header, trailer_lines}
+use Rattle.page_papers.specs.Comments.{media, page_head, told_by_document, told_by_page}
 
 -- what is told, and else this
 abbrev pub or_this : Option Paper → Paper → Paper

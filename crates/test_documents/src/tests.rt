@@ -3,3 +3,4 @@ mod documents;
 mod guards;
 mod hostile_documents;
 mod papers;
+mod papers_of_pages;

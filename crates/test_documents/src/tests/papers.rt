@@ -18,6 +18,9 @@ fn comments_tell_the_paper(rt: HostRuntime) {
     );
     assert_eq!(rt; document_paper(b"%!PS\n%%BoundingBox: 0 1 595 842\n"), None);
     assert_eq!(rt; document_paper(b"%!PS\n%%BoundingBox: (atend)\n"), None);
+    let at_end =
+        b"%!PS\n%%BoundingBox: (atend)\n%%Page: 1 1\n%%Trailer\n%%BoundingBox: 0 0 595 842\n";
+    assert_eq!(rt; document_paper(at_end), Some((a4, Comment::BoundingBox)));
     assert_eq!(rt;
         document_paper(b"%!PS\n%%BoundingBox: 0 0 595pt 842\n"),
         None

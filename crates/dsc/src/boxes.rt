@@ -1,0 +1,90 @@
+//! The box that a trailer tells.
+ghost use Rattle.std.specs.Prelude.{◌≡◌, option_map};
+ghost use Rattle.dsc.specs.Fields.{fields_in};
+ghost use Rattle.dsc.specs.Units.{units_of};
+ghost use Rattle.dsc.specs.Views.{unit_of, at_depth};
+ghost use Rattle.dsc.specs.TrailerBoxes.{box_in as told_box, found_after, part_after, trailer_box as box_of_trailer};
+
+use crate::comments::comment_value;
+use crate::keys::Meaning;
+use crate::units::Unit;
+use crate::walk::Walk;
+
+/// A part of a document.
+#[derive(Clone, Copy)]
+pub(crate) enum Part {
+    Preamble,
+    Pages,
+    Trailer,
+}
+
+/// What stands behind the colon of the first `%%BoundingBox:` of the trailer, outside embedded documents and data. None
+/// if the text has a faulty data block.
+pub fn trailer_box(text: &[u8]) -> Option<&[u8]>
+    ensures { option_map (λ value. fields_in value.now) result ≡ box_of_trailer (units_of text.now) }
+{
+    let mut part = Part::Preamble;
+    let mut found = None;
+    let mut walk = Walk::new(text);
+    while !walk.is_done() {
+        let step = match walk.step() {
+            Ok(step) => step,
+            Err(_) => return None,
+        };
+        part = next_part(part, step.meaning);
+        found = found_by(part, found, &step.unit, step.depth);
+    }
+    found
+}
+
+/// The part in which a unit stands, if the one before it stands in this one.
+fn next_part(part: Part, meaning: Meaning) -> Part
+    ensures { result ≡ part_after part meaning.is_page meaning.is_trailer }
+{
+    match part {
+        Part::Preamble => {
+            if meaning.is_page {
+                Part::Pages
+            } else {
+                Part::Preamble
+            }
+        }
+        Part::Pages => {
+            if meaning.is_trailer {
+                Part::Trailer
+            } else {
+                Part::Pages
+            }
+        }
+        Part::Trailer => Part::Trailer,
+    }
+}
+
+/// The box that was found before, and else that of this unit, if it stands in the trailer.
+fn found_by<'d>(
+    part: Part,
+    found: Option<&'d [u8]>,
+    unit: &Unit<'d>,
+    depth: usize,
+) -> Option<&'d [u8]>
+    ensures { option_map (λ value. fields_in value.now) result
+        ≡ found_after part (option_map (λ value. fields_in value.now) found.entry) (at_depth depth (unit_of unit.now)) }
+{
+    if let Some(value) = found {
+        return Some(value);
+    }
+    match part {
+        Part::Trailer => box_in(unit, depth),
+        _ => None,
+    }
+}
+
+/// What stands behind the colon of a `%%BoundingBox:` outside embedded documents.
+fn box_in<'d>(unit: &Unit<'d>, depth: usize) -> Option<&'d [u8]>
+    ensures { option_map (λ value. fields_in value.now) result ≡ told_box (at_depth depth (unit_of unit.now)) }
+{
+    if unit.is_block || depth != 0 {
+        return None;
+    }
+    comment_value(unit.content, b"%%BoundingBox", b"%%BoundingBox:")
+}

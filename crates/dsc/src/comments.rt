@@ -1,0 +1,28 @@
+//! The values of comments.
+ghost use Rattle.std.specs.Prelude.{◌≡◌, ◌++◌, ◌∷◌, [], MatchOption, true, false};
+ghost use Rattle.rules.specs.Bytes.{colon};
+ghost use Rattle.rules.specs.Units.{fields, is_comment};
+ghost use Rattle.dsc.specs.Fields.{fields_in};
+
+use crate::keys::key_of;
+
+/// What stands behind the colon, if a line with this content is a comment with this key.
+pub fn comment_value<'t>(content: &'t [u8], key: &[u8], with_colon: &[u8]) -> Option<&'t [u8]>
+    requires { with_colon.now ≡ key.now ++ colon ∷ [] }
+    ensures { MatchOption result (is_comment key.now content.now ≡ false) (λ value.
+        (is_comment key.now content.now ≡ true) × (fields content.now ≡ fields_in value.now)) }
+{
+    if !is_comment_of(content, key, with_colon) {
+        return None;
+    }
+    let (_, value) = content.split_at(with_colon.len());
+    Some(value)
+}
+
+/// Whether it is a comment with this key and a colon behind it.
+fn is_comment_of(content: &[u8], key: &[u8], with_colon: &[u8]) -> bool
+    requires { with_colon.now ≡ key.now ++ colon ∷ [] }
+    ensures { result ≡ is_comment key.now content.now }
+{
+    key_of(content) == key && content.starts_with(with_colon)
+}

@@ -1,0 +1,4 @@
+pub mod Heads
+pub mod MediaLines
+pub mod Naming
+pub mod DocumentTells

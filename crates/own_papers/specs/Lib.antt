@@ -1,0 +1,2 @@
+-- Media that a document knows, as the code keeps them.
+pub mod Named

@@ -1,0 +1,126 @@
+//! The paper of each page of a document.
+ghost use Rattle.std.specs.Prelude.{◌≡◌, IfOk, None, map, drop, length, codes, option_and_then};
+ghost use Rattle.rules.specs.Parts.{bytes_of, pages};
+ghost use Rattle.rules.specs.Units.{line_len};
+ghost use Rattle.dsc.specs.Units.{units_of};
+ghost use Rattle.paper_names.specs.Names.{paper_named};
+ghost use Rattle.document_paper.specs.Media.{box_paper as box_paper_of, comment_fields, contents, header, trailer_lines};
+ghost use Rattle.page_papers.specs.Comments.{head_of, media, page_head, told_by_document, told_by_page as told};
+ghost use Rattle.page_papers.specs.Own.{or_this, own_papers as papers_of_pages};
+ghost use Rattle.dsc.specs.Fields.{fields_in};
+ghost use Rattle.own_papers.specs.Named.{by_name};
+
+use crate::known_media::KnownMedia;
+use crate::page_heads::value_in_head;
+use document_paper::{box_paper, document_paper};
+use dsc::{Document, first_content, header_len, line_end_after, next_field};
+use lengths::Paper;
+use row_sheets::{PagePapers, PaperList};
+use std::alloc::{AllocError, Global};
+
+/// The papers of a document's pages, in order: the one that is asked for, if one is. Else each page's own: what the page
+/// tells itself, else what its document tells, else the one at home. Refused out of memory alone.
+pub fn own_papers(
+    alloc: Global,
+    document: &Document<'_>,
+    asked: Option<Paper>,
+    home: &Paper,
+) -> Result<PagePapers, AllocError>
+    ensures { IfOk result (λ papers.
+        papers ≡ papers_of_pages asked paper_named home.now (bytes_of document.now) document.now) }
+{
+    match asked {
+        Some(paper) => Ok(PagePapers::one(document.pages(), &paper)),
+        None => Ok(PagePapers::each(told_papers(alloc, document, home)?)),
+    }
+}
+
+/// Each page's own paper.
+fn told_papers(
+    alloc: Global,
+    document: &Document<'_>,
+    home: &Paper,
+) -> Result<PaperList, AllocError>
+    ensures { IfOk result (λ papers.
+        papers ≡ papers_of_pages None paper_named home.now (bytes_of document.now) document.now) }
+{
+    let text = document.text();
+    let (header, _) = text.split_at(header_len(text));
+    each_or(alloc, document, header, &document_or(text, home))
+}
+
+/// The paper that a document tells, and else this one.
+fn document_or(text: &[u8], other: &Paper) -> Paper
+    ensures { result ≡ or_this (told_by_document paper_named (header text.now) (trailer_lines (units_of text.now))) other.now }
+{
+    match document_paper(text) {
+        Some(told) => told.0,
+        None => *other,
+    }
+}
+
+/// What each page tells itself, with the media of these header comments, and else this paper.
+fn each_or(
+    alloc: Global,
+    document: &Document<'_>,
+    header: &[u8],
+    other: &Paper,
+) -> Result<PaperList, AllocError>
+    ensures { IfOk result (λ papers. papers
+        ≡ map (λ page. or_this (told (media (contents header.now)) (page_head page)) other.now) (pages document.now)) }
+{
+    let known = KnownMedia::read(alloc, header)?;
+    let mut papers = PaperList::new(alloc);
+    for page in 0..document.pages() {
+        let paper = page_paper(&known, document.page(page), other);
+        papers.push(&paper)?;
+    }
+    Ok(papers)
+}
+
+/// The paper of a page: what it tells itself, and else this one.
+fn page_paper(known: &KnownMedia<'_>, page: &[u8], other: &Paper) -> Paper
+    ensures { result ≡ or_this (told known.now (page_head page.now)) other.now }
+{
+    match told_by_page(known, page) {
+        Some(paper) => paper,
+        None => *other,
+    }
+}
+
+/// The paper that a page tells in the comments behind its first line: by its `%%PageMedia:`, if it has one, and else by a
+/// `%%PageBoundingBox:` that begins at 0 0.
+fn told_by_page(known: &KnownMedia<'_>, page: &[u8]) -> Option<Paper>
+    ensures { result ≡ told known.now (page_head page.now) }
+{
+    let head = behind_first_line(page);
+    match value_in_head(head, b"%%PageMedia", b"%%PageMedia:") {
+        Some(value) => named_paper(known, value),
+        None => boxed_paper(head),
+    }
+}
+
+/// The paper of the medium that the first field names.
+fn named_paper(known: &KnownMedia<'_>, value: &[u8]) -> Option<Paper>
+    ensures { result ≡ by_name known.now (fields_in value.now) }
+{
+    let (name, _) = next_field(value)?;
+    known.paper_of(name)
+}
+
+/// The paper that a page's box tells, in the comments behind its first line.
+fn boxed_paper(head: &[u8]) -> Option<Paper>
+    ensures { result ≡ option_and_then box_paper_of
+        (comment_fields (codes "%%PageBoundingBox") (head_of (length head.now) head.now)) }
+{
+    box_paper(value_in_head(head, b"%%PageBoundingBox", b"%%PageBoundingBox:")?)
+}
+
+/// What stands behind the first line.
+fn behind_first_line(text: &[u8]) -> &[u8]
+    ensures { result.now ≡ drop (line_len text.now) text.now }
+{
+    let content = first_content(text);
+    let (_, behind) = text.split_at(line_end_after(text, content.len()));
+    behind
+}

@@ -1,0 +1,91 @@
+//! Documents, and the papers of their pages.
+use dsc::{Document, comment_value, trailer_box};
+use lengths::{Paper, paper_by_name};
+use own_papers::own_papers;
+use std::alloc::Global;
+use std::process::Abort;
+use std::test::Fail;
+
+/// As pdftops writes it: pages name media that the header tells.
+const BY_MEDIA: &[u8] = b"%!PS\n%%DocumentMedia: A 595 842 0 () ()\n%%+ B 842 1191 0 () ()\n%%Page: 1 1\n%%PageMedia: B\nx\n%%Page: 2 2\nx\n%%Page: 3 3\n%%PageMedia: C\n%%PageBoundingBox: 0 0 842 1191\nx\n";
+
+/// As cairo writes it: in the page's setup, with a box of what is painted. The second page has a box alone.
+const BY_BOX: &[u8] = b"%!PS\n%%DocumentMedia: A 595 842 0 () ()\n%%Page: 1 1\n%%BeginPageSetup\n%%PageMedia: A\n%%PageBoundingBox: 0 0 842 1191\n%%EndPageSetup\nx\n%%Page: 2 2\n%%PageBoundingBox: 0 0 842 1191\nx\n%%Page: 3 3\n%%PageBoundingBox: (atend)\nx\n%%PageBoundingBox: 0 0 842 1191\n";
+
+/// A document whose box stands in its trailer, and not in the document in it.
+const AT_END: &[u8] = b"%!PS\n%%BoundingBox: (atend)\n%%Page: 1 1\nx\n%%Trailer\n%%BeginDocument: e\n%%BoundingBox: 0 0 1 2\n%%EndDocument\n%%BoundingBox: 0 0 842 1191\n%%EOF\n";
+
+/// A paper by its name.
+fn named(rt: &impl Abort, name: &str) -> Paper {
+    paper_by_name(name).expect(rt, "a paper of this name")
+}
+
+/// The paper of a page, for a home of letter.
+fn paper_at(
+    rt: &impl Abort,
+    alloc: Global,
+    text: &[u8],
+    asked: Option<Paper>,
+    page: u32,
+) -> Result<Option<Paper>, Fail> {
+    let document = Document::read(alloc, text)?;
+    let papers = own_papers(alloc, &document, asked, &named(rt, "letter"))?;
+    match papers.paper_of(page) {
+        Some(paper) => Ok(Some(*paper)),
+        None => Ok(None),
+    }
+}
+
+#[test]
+fn a_page_names_its_medium(rt: HostRuntime) -> Result<(), Fail> {
+    let alloc = rt.alloc();
+    let a4 = Some(named(&rt, "a4"));
+    let a3 = Some(named(&rt, "a3"));
+    assert_eq!(rt; paper_at(&rt, alloc, BY_MEDIA, None, 0)?, a3);
+    assert_eq!(rt; paper_at(&rt, alloc, BY_MEDIA, None, 1)?, a4);
+    assert_eq!(rt; paper_at(&rt, alloc, BY_MEDIA, None, 2)?, a4);
+    assert_eq!(rt; paper_at(&rt, alloc, BY_MEDIA, None, 3)?, None);
+    Ok(())
+}
+
+#[test]
+fn a_box_is_a_paper_if_no_medium_is_named(rt: HostRuntime) -> Result<(), Fail> {
+    let alloc = rt.alloc();
+    let a4 = Some(named(&rt, "a4"));
+    let a3 = Some(named(&rt, "a3"));
+    assert_eq!(rt; paper_at(&rt, alloc, BY_BOX, None, 0)?, a4);
+    assert_eq!(rt; paper_at(&rt, alloc, BY_BOX, None, 1)?, a3);
+    assert_eq!(rt; paper_at(&rt, alloc, BY_BOX, None, 2)?, a4);
+    Ok(())
+}
+
+#[test]
+fn the_document_tells_its_paper_at_its_end(rt: HostRuntime) -> Result<(), Fail> {
+    let alloc = rt.alloc();
+    assert_eq!(rt; paper_at(&rt, alloc, AT_END, None, 0)?, Some(named(&rt, "a3")));
+    Ok(())
+}
+
+#[test]
+fn the_paper_asked_for_and_the_one_at_home(rt: HostRuntime) -> Result<(), Fail> {
+    let alloc = rt.alloc();
+    let a5 = Some(named(&rt, "a5"));
+    assert_eq!(rt; paper_at(&rt, alloc, BY_MEDIA, a5, 2)?, a5);
+    let plain = b"%!PS\n%%Page: 1 1\nx\n";
+    assert_eq!(rt; paper_at(&rt, alloc, plain, None, 0)?, Some(named(&rt, "letter")));
+    Ok(())
+}
+
+#[test]
+fn comments_have_values(rt: HostRuntime) -> Result<(), Fail> {
+    assert_eq!(rt; trailer_box(AT_END), Some(b" 0 0 842 1191".as_slice()));
+    assert_eq!(rt; trailer_box(BY_BOX), None);
+    assert_eq!(rt;
+        comment_value(b"%%Title: a b", b"%%Title", b"%%Title:"),
+        Some(b" a b".as_slice())
+    );
+    assert_eq!(rt; comment_value(b"%%Titles: a", b"%%Title", b"%%Title:"), None);
+    let document = Document::read(rt.alloc(), AT_END)?;
+    assert_eq!(rt; document.text(), AT_END);
+    Ok(())
+}
