@@ -2,6 +2,7 @@ mod Runs
 mod Behind
 mod Inside
 mod Leaves
+mod Creeping
 mod Tiles
 mod Examples
 mod Filling

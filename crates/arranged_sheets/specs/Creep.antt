@@ -1,14 +1,24 @@
 -- Leaves that creep: in a folded signature the inner leaves stick out, so what stands on them is moved towards the fold.
 -- All here is this project's own rules.
-use Rattle.std.specs.Prelude.{◌≡◌, ℕ, ◌+◌, ◌-◌, ◌*◌, ◌/◌, ◌<◌, ◌≤◌, ℤ, pos, ◌+ℤ◌, ◌-ℤ◌, ◌*ℤ◌, ◌≤ℤ◌, Bool, true}
-use Rattle.std.specs.Prelude.{◌==◌, if◌then◌else◌, nat_le, nat_abs}
+use Rattle.std.specs.Prelude.{◌≡◌, ◌⊎◌, ℕ, ◌+◌, ◌-◌, ◌*◌, ◌/◌, ◌%◌, ◌<◌, ◌≤◌, ℤ, pos, ◌+ℤ◌, ◌-ℤ◌, ◌*ℤ◌, neg_ℤ, ◌≤ℤ◌}
+use Rattle.std.specs.Prelude.{Bool, true, false, ◌==◌, if◌then◌else◌, nat_le, nat_abs, List, map, length, Option, Some, None}
+use Rattle.std.specs.List.{range_with_len}
 use Rattle.rules.specs.Papers.{Paper, Pt}
 use Rattle.rules.specs.Specification.{Item}
 use Rattle.rules.specs.Placement.{Point}
+use Rattle.rules.specs.Sheets.{blocks}
+use Rattle.made_sheets.specs.Made.{MadeSlot, Blank, Placed, MadeSheet}
+use Rattle.made_sheets.specs.Rows.{Row}
+use Rattle.layouts.specs.declared.error.ArrangementError.{ArrangementError}
+use Rattle.layouts.specs.declared.error.ArrangementError.TheVariants as why
+use Rattle.layouts.specs.declared.setting.Setting.{Setting}
 use Rattle.layouts.specs.Placed.{Room, fine, stands, IsOfPage}
 use Rattle.layouts.specs.Cells.{item_in, slack_x, whole}
 use Rattle.layouts.specs.Grids.{beside, leaf_order}
 use Rattle.layouts.specs.Laws.{IsPaper, HasPlace}
+use Rattle.layouts.specs.Refusals.{first_of}
+use Rattle.layouts.specs.Fitted.{fitted, fitted_back, scale_on, why_not_fitted}
+use Rattle.arranged_sheets.specs.Filled.{Filling, is_turned, grid_entry}
 
 -- how far leaf i of m is moved, in 10^-5 of a point; leaf 0 is the outermost, and one leaf alone doesn't creep
 abbrev pub creep_of : (creep leaves i : ℕ) → ℕ
@@ -76,3 +86,62 @@ CreepKeepsSides = (page : Paper) (room : Room) (right_to_left : Bool) (s creep :
     → HasPlace page room (beside true) s → may_creep page room s creep ≡ true
     → KeepsSides page room (leaf_item page room right_to_left s creep (if right_to_left then 1 else 0))
     (leaf_item page room right_to_left s creep (if right_to_left then 0 else 1))
+
+-- ---- booklets that creep
+
+-- how far the pages of side s are moved, if signatures have so many leaves: each has a front and a back, and the first one
+-- is the outermost
+abbrev pub creep_on : (creep leaves s : ℕ) → ℕ
+creep_on creep leaves s = creep_of creep leaves (s / 2 % leaves)
+
+-- on a sheet that is turned by half the fold is on a page's other side
+abbrev pub up_to_fold : (right_to_left by_half : Bool) → (k creep : ℕ) → ℤ
+up_to_fold right_to_left false k creep = to_fold right_to_left k creep
+up_to_fold right_to_left true k creep = neg_ℤ (to_fold right_to_left k creep)
+
+-- a page of this paper in half k of a leaf that creeps so far
+abbrev pub creeping : Setting → (by_half : Bool) → (page : Paper) → (k creep : ℕ) → Item
+creeping t by_half page k creep =
+    moved_up (up_to_fold t.order.right_to_left by_half k creep) (if by_half then fitted_back t page k else fitted t page k)
+
+-- an entry of a row there
+abbrev pub creeping_slot : Filling → (by_half : Bool) → (k creep : ℕ) → Option ℕ → MadeSlot
+creeping_slot f by_half k creep None = Blank
+creeping_slot f by_half k creep (Some page) =
+    let paper = f.paper_of page in Placed page (creeping f.setting by_half paper k creep) paper
+
+-- so many sides of leaves that creep so far, in signatures of so many leaves
+abbrev pub creeping_sides : Filling → (turned_backs : Bool) → (creep leaves sheets : ℕ) → Row → List MadeSheet
+creeping_sides f turned_backs creep leaves sheets row = map (λ s. record {
+  paper = f.setting.room.paper;
+  slots = map (λ k. creeping_slot f (is_turned turned_backs s) k (creep_on creep leaves s) (grid_entry 2 row s k))
+      (range_with_len 0 2);
+}) (range_with_len 0 sheets)
+
+-- those of a booklet, as `booklet_sheets`
+abbrev pub creeping_sheets : Filling → (turned_backs : Bool) → (creep leaves : ℕ) → Row → List MadeSheet
+creeping_sheets f turned_backs creep leaves row =
+    creeping_sides f turned_backs creep leaves (blocks 2 (length row)) row
+
+-- the cells are the two halves of a sheet
+abbrev pub AreHalves : Setting → Type 0
+AreHalves t = (t.grid ≡ beside true) × (t.order ≡ leaf_order t.order.right_to_left)
+
+abbrev pub or_else : (one other : Option ArrangementError) → Option ArrangementError
+or_else None other = other
+or_else (Some e) other = Some e
+
+-- why a page can't stand in a half that creeps so far: as it can't stand there at all, or as it would cross the fold
+abbrev pub why_not_creeping : Setting → (page : Paper) → (creep : ℕ) → Option ArrangementError
+why_not_creeping t page creep =
+    or_else (why_not_fitted t page) (first_of (may_creep page t.room (scale_on t page) creep) why.CreepOverFold None)
+
+-- this is why the entry can't stand there
+abbrev pub IsRefusedCreep : Filling → (creep : ℕ) → (entry : Option ℕ) → ArrangementError → Type 0
+IsRefusedCreep f creep entry e =
+    (page : ℕ) × (entry ≡ Some page) × (why_not_creeping f.setting (f.paper_of page) creep ≡ Some e)
+
+-- it is out of memory, or the reason for a page on one of the sides
+abbrev pub IsRefusedCreeping : Filling → (creep leaves : ℕ) → Row → ArrangementError → Type 0
+IsRefusedCreeping f creep leaves row e = (e ≡ why.NoMemory)
+    ⊎ ((s k : ℕ) × (k < 2) × IsRefusedCreep f (creep_on creep leaves s) (grid_entry 2 row s k) e)

@@ -215,7 +215,7 @@ fn cells_in(setting: &Setting) -> Result<u32, ArrangementError>
 }
 
 /// How many blocks of so many the entries of a row take.
-fn blocks_of(row: &[Option<u32>], entries: u64) -> Result<u32, ArrangementError>
+pub fn blocks_of(row: &[Option<u32>], entries: u64) -> Result<u32, ArrangementError>
     requires { 0 < entries }
     ensures value { IfOk result (λ n. n ≡ blocks entries (length row.now)) }
     ensures refused { IfErr result (λ error. error ≡ ArrangementError.NoMemory) }
@@ -271,7 +271,7 @@ fn slots_in(
         (entry_in shape setting.now row.now s c)) (range_with_len 0 shape.cells)) }
     ensures refused { IfErr result (IsRefusedFor (filling setting.now papers.now) row.now) }
 {
-    let by_half = is_turned(shape, s);
+    let by_half = is_turned(shape.turned_backs, s);
     let mut slots = Vec::new(alloc);
     for c in 0..shape.cells {
         let entry = entry_at(row, place(shape, setting, s, c));
@@ -288,10 +288,10 @@ fn slots_in(
 }
 
 /// Whether this sheet is turned by half.
-fn is_turned(shape: Shape, s: u32) -> bool
-    ensures { result ≡ is_turned_on shape.turned_backs s }
+pub fn is_turned(turned_backs: bool, s: u32) -> bool
+    ensures { result ≡ is_turned_on turned_backs s }
 {
-    shape.turned_backs && s % 2 == 1
+    turned_backs && s % 2 == 1
 }
 
 /// An entry of a row in a cell of a sheet that is turned by half, or isn't.
@@ -325,7 +325,7 @@ fn slot_in(
 }
 
 /// The paper of a page.
-fn paper_of(setting: &Setting, papers: &[Paper], page: u32) -> Paper
+pub fn paper_of(setting: &Setting, papers: &[Paper], page: u32) -> Paper
     ensures { result ≡ (filling setting.now papers.now).paper_of page }
 {
     if (page as usize) < papers.len() {
@@ -392,7 +392,7 @@ fn read_sides(setting: &Setting) -> (u32, u32)
 }
 
 /// An entry of the row; behind its end all is blank.
-fn entry_at(row: &[Option<u32>], place: u128) -> Option<u32>
+pub fn entry_at(row: &[Option<u32>], place: u128) -> Option<u32>
     ensures { result ≡ entry_of row.now place }
 {
     if place < row.len() as u128 {

@@ -1,10 +1,12 @@
-//! Sheets that are made of a row, papers and an arrangement: grids of pages of several sizes, cards, stacks, leaves that
-//! creep, posters. Of the last two there are definitions and laws alone.
+//! Sheets that are made of a row, papers and an arrangement: grids of pages of several sizes, cards, stacks, booklets,
+//! also of leaves that creep, posters.
 #![tactic(auto)]
 
+mod creep;
 mod fill;
 pub mod laws;
 mod poster;
 
+pub use creep::{Creep, creeping_booklet_sheets};
 pub use fill::{booklet_sheets, card_sheets, grid_sheets, leaf_sheets, stack_sheets};
 pub use poster::{Poster, PosterError, poster_sheets};

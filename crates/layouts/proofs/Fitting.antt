@@ -1,6 +1,6 @@
 -- Pages of several papers, each fitted into its cell.
 use Rattle.std.proofs.Common.{arith, rules, ◌≡◌, ◌≢◌, ℕ, suc, zero, ◌*◌, ◌/◌, ◌%◌, ◌<◌, ◌≤◌, Bool, true, false, Option, None, refl, sym, ap, subst, ◌∙◌, [], ◌∷◌}
-use Rattle.std.specs.Prelude.{◌&&◌, ◌==◌, nat_le, nat_abs, if◌then◌else◌, is_none, map}
+use Rattle.std.specs.Prelude.{◌&&◌, ◌==◌, nat_le, nat_abs, if◌then◌else◌, is_none, map, IsTrue}
 use Rattle.std.specs.List.{range_with_len}
 use Rattle.lengths.proofs.Numbers.{same_byte}
 use Rattle.rules.specs.Papers.{Paper}
@@ -17,7 +17,7 @@ use Rattle.layouts.specs.declared.setting.Setting.{Setting}
 use Rattle.layouts.specs.Placed.{Room, IsInside, AreApart}
 use Rattle.layouts.specs.Cells.{Grid, size, scale_in, item_in, run_in, read_rows, row_of, column_of}
 use Rattle.layouts.specs.Grids.{beside, leaf_order, alone, is_same, is_itself, room_of, grid, grid_of, best_grid, best_of, best_formed, scale_for, count_of, rounded_up, rounded_down, arranged, sides_in}
-use Rattle.layouts.specs.Refusals.{first_of, is_count, are_reached, is_length, is_shown, why_no_scale, why_not_arranged, why_not_bound, folds_short}
+use Rattle.layouts.specs.Refusals.{first_of, is_count, are_reached, is_length, is_shown, is_near, why_no_scale, why_not_arranged, why_not_bound, folds_short}
 use Rattle.layouts.specs.Laws.{IsPaper, HasPlace, IsExact, IsHalfTurnOf, IsInMiddle, cell_at, ComesInRun, ComesInRunBefore, IsNotTiny, Allows, IsChosen}
 use Rattle.layouts.specs.Fitted.{is_whole, scale_on, fitted, fitted_back, setting_of, binding_setting_of, why_no_scale_on, why_not_fitted, IsFitted, FittedStands, FittedIsApart, FittedIsInOrder, ArrangedIsFitted, HaveOneFold, halves, BoundIsFitted}
 use Rattle.layouts.proofs.Folds.{fold, in_middle as fold_in_middle, fold_on_sheet, lies_before, lies_behind, turned_behind, turned_before}
@@ -98,16 +98,14 @@ whole_fitted t page k is on within h =
 
 pub record HasScale (t : Setting) (page : Paper) : Type 0 where
   pub place : HasPlace page t.room t.grid (scale_on t page)
-  pub reasons : why_no_scale t.room (scale_on t page) (scale_in page t.room t.grid) ≡ None
+  pub near : IsTrue (is_near t.room (scale_on t page))
 
 pub has_scale : (t : Setting) (page : Paper) → why_no_scale_on t page ≡ None → HasScale t page
 has_scale t page h =
     let one = passed (are_reached page && are_reached t.room.paper) why.SideTooLong (first_of (is_shown page t.room) why.NothingLeftOfPage (why_no_scale t.room (scale_on t page) (scale_in page t.room t.grid))) h in
     let two = passed (is_shown page t.room) why.NothingLeftOfPage (why_no_scale t.room (scale_on t page) (scale_in page t.room t.grid)) one.1 in
-    record {
-      place = place page t.room t.grid (scale_on t page) two.0 (good_scale t.room (scale_on t page) (scale_in page t.room t.grid) two.1);
-      reasons = two.1;
-    }
+    let good = good_scale t.room (scale_on t page) (scale_in page t.room t.grid) two.1 in
+    record { place = place page t.room t.grid (scale_on t page) two.0 good; near = good.near }
 
 pub cell_fitted : (t : Setting) (page : Paper) (k : ℕ) → IsPaper page → IsPaper t.room.paper → k < size t.grid → why_no_scale_on t page ≡ None
     → IsFitted t page k (item_in page t.room t.grid t.order (scale_on t page) k)

@@ -65,6 +65,9 @@ pub enum ArrangementError {
     /// Pages of the scale that is asked for are larger than the cells.
     #[error("pages of this scale are larger than their cells")]
     ScaleTooLarge,
+    /// Pages of a leaf that creeps would cross the fold.
+    #[error("there is no room at the fold for leaves to creep so far")]
+    CreepOverFold,
     /// A growth was refused.
     #[error("out of memory")]
     NoMemory,

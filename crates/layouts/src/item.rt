@@ -54,7 +54,7 @@ fn distance(from: i64, to: i64) -> Measure
 }
 
 /// Half of what a scaled side leaves of its cell, in 10^-5 of a point.
-fn slack(cell: u64, side: u64, scale: u64) -> u128
+pub fn slack(cell: u64, side: u64, scale: u64) -> u128
     ensures { result ≡ slack_of cell side scale }
 {
     (1_270_000_000_000_000 * u128::from(cell)).saturating_sub(u128::from(scale) * u128::from(side))

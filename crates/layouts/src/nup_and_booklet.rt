@@ -71,6 +71,7 @@ fn as_layout_error(error: ArrangementError) -> LayoutError
         | ArrangementError::NothingLeftOfPage
         | ArrangementError::NoRoom
         | ArrangementError::ScaleOutOfRange
-        | ArrangementError::ScaleTooLarge => LayoutError::ScaleOutOfRange,
+        | ArrangementError::ScaleTooLarge
+        | ArrangementError::CreepOverFold => LayoutError::ScaleOutOfRange,
     }
 }

@@ -1,7 +1,7 @@
 //! Pages of several papers in the cells of one grid.
 ghost use Rattle.std.specs.Prelude.{◌≡◌, ◌<◌, ◌≤◌, pos, IfOk, IfErr, OnOk, Some, None, false};
 ghost use Rattle.pagespec.specs.Items.{item_of};
-ghost use Rattle.layouts.specs.Cells.{size, scale_in as scale_of};
+ghost use Rattle.layouts.specs.Cells.{size, scale_in as scale_of, slack_x};
 ghost use Rattle.layouts.specs.Grids.{count_of};
 ghost use Rattle.layouts.specs.Refusals.{why_not_arranged, why_not_bound};
 ghost use Rattle.layouts.specs.Fitted.{is_whole as is_whole_on, scale_on, fitted, fitted_back, setting_of, binding_setting_of};
@@ -17,9 +17,9 @@ use super::arranging::{
 use super::best::grid_of;
 use super::error::ArrangementError;
 use super::grid::Grid;
-use super::item::{Layout, number, whole_page};
+use super::item::{Layout, number, slack, whole_page};
 use super::room::Room;
-use super::scale::scale_in;
+use super::scale::{cells, counted, scale_in};
 use lengths::{Number, Paper};
 use pagespec::Item;
 
@@ -124,6 +124,22 @@ impl Setting {
             Ok(scale) => Ok(number(scale)),
             Err(error) => Err(error),
         }
+    }
+
+    /// What a page of this paper leaves free of the width of its cell at each end, in 10^-5 of a point.
+    pub fn slack(&self, page_paper: &Paper) -> Result<u128, ArrangementError>
+        ensures value { IfOk result (λ n. n
+            ≡ slack_x page_paper.now self.now.room self.now.grid (scale_on self.now page_paper.now)) }
+        ensures possible { OnOk result (why_no_scale_on self.now page_paper.now ≡ None) }
+        ensures refused { IfErr result (λ error. why_no_scale_on self.now page_paper.now ≡ Some error) }
+    {
+        let scale = match self.scale_found(page_paper) {
+            Ok(scale) => scale,
+            Err(error) => return Err(error),
+        };
+        let (width, _) = cells(&self.room, self.grid);
+        let counted = counted(&self.room, page_paper.width());
+        Ok(slack(width, counted, scale))
     }
 
     /// A page of this paper in a cell, counted from 0. One page on a sheet of its own paper is left as it is if nothing else

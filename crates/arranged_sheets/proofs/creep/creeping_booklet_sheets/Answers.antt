@@ -1,0 +1,38 @@
+use Rattle.std.proofs.Common.{arith, rules, ◌≡◌, ◌+◌, ◌*◌, ◌++◌, ◌∷◌, []}
+use Rattle.std.specs.Prelude.{map}
+use Rattle.std.specs.List.{range_with_len}
+use Rattle.sheet_plan.specs.OfSheets.{slot_of}
+use Rattle.arranged_sheets.specs.Filled.{is_turned, grid_entry}
+use Rattle.arranged_sheets.specs.Shapes.{filling}
+use Rattle.arranged_sheets.specs.Creep.{creep_on, creeping_slot}
+use Rattle.arranged_sheets.proofs.Filling.{sheet, sheet_more}
+use Rattle.arranged_sheets.proofs.Creeping.{both_slots, entry_is, entry_refused}
+use Rattle.arranged_sheets.proofs.creep.creeping_booklet_sheets.Goals as goal
+
+pub returns-in-Err-creeping_slot-clause-refused : goal.returns-in-Err-creeping_slot-clause-refused
+returns-in-Err-creeping_slot-clause-refused c =
+    let f = filling c.args.setting.now c.args.papers.now in
+    entry_refused f c.args.row.now c.args.creep.innermost c.args.creep.leaves c.loop-s.s 0 c.creep_on-by.result _ c.entry_at.result c.in-Err-creeping_slot.error (omega arith)
+    c.in-Err-creeping_slot.ensures.refused c.creep_on-by.ensures c.entry_at.ensures (omega arith)
+
+pub returns-in-Err-creeping_slot-2-clause-refused : goal.returns-in-Err-creeping_slot-2-clause-refused
+returns-in-Err-creeping_slot-2-clause-refused c =
+    let f = filling c.args.setting.now c.args.papers.now in
+    entry_refused f c.args.row.now c.args.creep.innermost c.args.creep.leaves c.loop-s.s 1 c.creep_on-by.result _ c.entry_at-in-loop-s.result c.in-Err-creeping_slot-2.error (omega arith)
+    c.in-Err-creeping_slot-2.ensures.refused c.creep_on-by.ensures c.entry_at-in-loop-s.ensures (omega arith)
+
+pub loop-s-preserved : goal.loop-s-preserved
+loop-s-preserved c =
+    let t = c.args.setting.now in
+    let f = filling t c.args.papers.now in
+    let row = c.args.row.now in
+    let s = c.loop-s.s in
+    let half = is_turned c.args.turned_backs s in
+    let by = creep_on c.args.creep.innermost c.args.creep.leaves s in
+    let one = slot_of c.in-Ok-creeping_slot.slot in
+    let other = slot_of c.in-Ok-creeping_slot-2.slot in
+    let first = entry_is f row c.is_turned-by_half.result half 0 c.creep_on-by.result by _ (s * 2 + 0) c.entry_at.result one c.in-Ok-creeping_slot.ensures.made c.is_turned-by_half.ensures c.creep_on-by.ensures c.entry_at.ensures (omega arith) in
+    let second = entry_is f row c.is_turned-by_half.result half 1 c.creep_on-by.result by _ (s * 2 + 1) c.entry_at-in-loop-s.result other c.in-Ok-creeping_slot-2.ensures.made c.is_turned-by_half.ensures c.creep_on-by.ensures c.entry_at-in-loop-s.ensures (omega arith) in
+    let e : c.push.new.self ≡ c.loop-s.made ++ sheet t.room.paper (one ∷ other ∷ []) ∷ [] = search rules in
+    sheet_more t.room.paper (λ n. map (λ k. creeping_slot f (is_turned c.args.turned_backs n) k (creep_on c.args.creep.innermost c.args.creep.leaves n) (grid_entry 2 row n k)) (range_with_len 0 2))
+    c.loop-s.made c.push.new.self (one ∷ other ∷ []) s c.loop-s.invariant (both_slots (λ k. creeping_slot f half k by (grid_entry 2 row s k)) one other first second) e

@@ -1,0 +1,198 @@
+//! Booklets whose leaves creep: in a folded signature the inner leaves stick out, so what stands on them is moved towards
+//! the fold.
+ghost use Rattle.std.specs.Prelude.{◌≡◌, ◌+◌, ◌*◌, ◌<◌, ◌≤◌, ◌+ℤ◌, ◌*ℤ◌, pos, nat_abs, IfOk, IfErr, OnOk, Some, None, nat_le};
+ghost use Rattle.rules.specs.Numbers.{greatest_number};
+ghost use Rattle.pagespec.specs.Items.{item_of};
+ghost use Rattle.layouts.specs.Cells.{slack_x};
+ghost use Rattle.layouts.specs.Fitted.{scale_on};
+ghost use Rattle.sheet_plan.specs.OfSheets.{slot_of};
+ghost use Rattle.arranged_sheets.specs.Shapes.{filling};
+ghost use Rattle.arranged_sheets.specs.Creep.{creep_on as creep_on_side, up_to_fold, moved_up as moved_up_by, may_creep};
+ghost use Rattle.arranged_sheets.specs.Creep.{creeping, creeping_slot as creeping_slot_of, creeping_sheets as creeping_of};
+ghost use Rattle.arranged_sheets.specs.Creep.{AreHalves, why_not_creeping, IsRefusedCreep, IsRefusedCreeping};
+
+use super::fill::{blocks_of, entry_at, is_turned, paper_of};
+use layouts::{ArrangementError, Setting};
+use lengths::{Number, Paper, Unit};
+use pagespec::{Item, Measure};
+use sheet_plan::{MadeSheets, MadeSlot};
+use std::alloc::Global;
+
+/// How far the leaves of a signature creep.
+#[derive(Clone, Copy, Debug, PartialEq, Eq)]
+pub struct Creep {
+    /// How far pages of the innermost leaf are moved towards the fold, in 10^-5 of a point. The outermost leaf stays.
+    pub innermost: u64,
+    /// How many leaves a signature has.
+    pub leaves: u32,
+}
+
+/// The sides of a booklet's leaves, as `booklet_sheets` makes them, with each page moved towards the fold as far as its leaf
+/// creeps. It is refused if a page would cross the fold.
+pub fn creeping_booklet_sheets(
+    alloc: Global,
+    setting: &Setting,
+    papers: &[Paper],
+    turned_backs: bool,
+    creep: Creep,
+    row: &[Option<u32>],
+) -> Result<MadeSheets, ArrangementError>
+    requires { AreHalves setting.now }
+    ensures made { IfOk result (λ made. made
+        ≡ creeping_of (filling setting.now papers.now) turned_backs creep.innermost creep.leaves row.now) }
+    ensures refused { IfErr result
+        (IsRefusedCreeping (filling setting.now papers.now) creep.innermost creep.leaves row.now) }
+{
+    let sheets = match blocks_of(row, 2) {
+        Ok(sheets) => sheets,
+        Err(error) => return Err(error),
+    };
+    let mut made = MadeSheets::new(alloc);
+    for s in 0..sheets {
+        let by_half = is_turned(turned_backs, s);
+        let by = creep_on(creep, s);
+        let place = 2 * u128::from(s);
+        let first = match creeping_slot(setting, papers, by_half, by, entry_at(row, place), 0) {
+            Ok(slot) => slot,
+            Err(error) => return Err(error),
+        };
+        let second = match creeping_slot(setting, papers, by_half, by, entry_at(row, place + 1), 1) {
+            Ok(slot) => slot,
+            Err(error) => return Err(error),
+        };
+        match made.push(&setting.room.paper, &[first, second]) {
+            Ok(()) => (),
+            Err(_) => return Err(ArrangementError::NoMemory),
+        }
+    }
+    Ok(made)
+}
+
+/// How far the pages of a side are moved.
+fn creep_on(creep: Creep, s: u32) -> u64
+    ensures { result ≡ creep_on_side creep.innermost creep.leaves s }
+{
+    if creep.leaves <= 1 {
+        return 0;
+    }
+    let leaf = s / 2 % creep.leaves;
+    (u128::from(leaf) * u128::from(creep.innermost) / u128::from(creep.leaves - 1)) as u64
+}
+
+/// An entry of a row in a half of a leaf that creeps so far.
+fn creeping_slot(
+    setting: &Setting,
+    papers: &[Paper],
+    by_half: bool,
+    creep: u64,
+    entry: Option<u32>,
+    cell: u32,
+) -> Result<MadeSlot, ArrangementError>
+    requires halves { AreHalves setting.now }
+    requires cell { cell < 2 }
+    ensures made { IfOk result (λ slot. slot_of slot
+        ≡ creeping_slot_of (filling setting.now papers.now) by_half cell creep entry) }
+    ensures refused { IfErr result (IsRefusedCreep (filling setting.now papers.now) creep entry) }
+{
+    let page = match entry {
+        Some(page) => page,
+        None => return Ok(MadeSlot::Blank),
+    };
+    let paper = paper_of(setting, papers, page);
+    match creeping_item(setting, &paper, by_half, creep, cell) {
+        Ok(item) => Ok(MadeSlot::Placed { page, item, paper }),
+        Err(error) => Err(error),
+    }
+}
+
+/// A page of this paper there.
+fn creeping_item(
+    setting: &Setting,
+    paper: &Paper,
+    by_half: bool,
+    creep: u64,
+    cell: u32,
+) -> Result<Item, ArrangementError>
+    requires halves { AreHalves setting.now }
+    requires cell { cell < 2 }
+    ensures made { IfOk result (λ item. item_of item ≡ creeping setting.now by_half paper.now cell creep) }
+    ensures possible { OnOk result (why_not_creeping setting.now paper.now creep ≡ None) }
+    ensures refused { IfErr result (λ error. why_not_creeping setting.now paper.now creep ≡ Some error) }
+{
+    let slack = match setting.slack(paper) {
+        Ok(slack) => slack,
+        Err(error) => return Err(error),
+    };
+    if !has_room(slack, setting.room.gap, creep) {
+        return Err(ArrangementError::CreepOverFold);
+    }
+    let found = if by_half {
+        setting.back_item(paper, cell)
+    } else {
+        setting.item(paper, cell)
+    };
+    match found {
+        Ok(item) => {
+            let by = towards_fold(setting.order.right_to_left, by_half, cell, creep);
+            Ok(moved_up(item, by))
+        }
+        Err(error) => Err(error),
+    }
+}
+
+/// Whether there is room at the fold for a leaf to creep so far.
+fn has_room(slack: u128, gap: u64, creep: u64) -> bool
+    ensures { result ≡ nat_le (2 * creep) (2 * slack + gap) }
+{
+    2 * u128::from(creep).saturating_sub(slack) <= u128::from(gap)
+}
+
+/// How far up a page is moved that is moved towards the fold.
+fn towards_fold(right_to_left: bool, by_half: bool, cell: u32, creep: u64) -> i64
+    requires { creep < 10_000_000_000 }
+    ensures value { result ≡ up_to_fold right_to_left by_half cell creep }
+    ensures in_range { nat_abs result < 10_000_000_000 }
+{
+    let creep = creep as i64;
+    let is_before = if right_to_left { cell == 1 } else { cell == 0 };
+    let up = if is_before { creep } else { 0 - creep };
+    if by_half { -up } else { up }
+}
+
+/// A page that is moved up by so many 10^-5 of a point; its offset is in points.
+fn moved_up(item: Item, by: i64) -> Item
+    requires by { nat_abs by < 10_000_000_000 }
+    requires reach { nat_abs ((item_of item).y.number +ℤ (pos 10_000 *ℤ by)) ≤ greatest_number }
+    ensures { item_of result ≡ moved_up_by by (item_of item) }
+{
+    let (x, y) = item.offset;
+    match Number::new(sum(y.number.billionths(), in_billionths(by))) {
+        Some(number) => Item {
+            offset: (
+                x,
+                Measure {
+                    number,
+                    unit: Unit::Pt,
+                },
+            ),
+            ..item
+        },
+        None => unreachable!(),
+    }
+}
+
+/// So many 10^-5 of a point, in 10^-9 of a point.
+fn in_billionths(by: i64) -> i64
+    requires { nat_abs by < 10_000_000_000 }
+    ensures { result ≡ pos 10_000 *ℤ by }
+{
+    10_000 * by
+}
+
+/// The sum, which a number can have.
+fn sum(one: i64, other: i64) -> i64
+    requires { nat_abs (one +ℤ other) ≤ greatest_number }
+    ensures { result ≡ one +ℤ other }
+{
+    one + other
+}
