@@ -3,7 +3,7 @@ ghost use Rattle.std.specs.Prelude.{◌≡◌, ℕ, ◌+◌, ◌-◌, ◌<◌, �
 ghost use Rattle.std.specs.Prelude.{IfOk, IfErr, IfSome, Ok};
 ghost use Rattle.rules.specs.Parts.{bytes_of, pages};
 ghost use Rattle.rules.specs.Filters.{preamble_text, trailer_text, prepared};
-ghost use Rattle.rules.specs.Run.{document_of};
+ghost use Rattle.rules.specs.Run.{document_of, most_pages};
 ghost use Rattle.made_sheets.specs.Dress.{lines_text};
 ghost use Rattle.made_sheets.specs.MadeOutput.{dressed_preamble};
 ghost use Rattle.dsc.specs.Units.{units_of};
@@ -93,6 +93,7 @@ impl<'d> Document<'d> {
     /// How many pages there are, from 1 to 1,000,000.
     pub fn pages(&self) -> u32
         ensures count { result ≡ length (pages self.now) }
+        ensures few { result ≤ most_pages }
     {
         self.starts.len() as u32
     }

@@ -1,7 +1,5 @@
 //! A run on a row of a document's pages.
-ghost use Rattle.std.specs.Prelude.{◌≡◌, ◌≤◌, IfErr, IfOk, IsTrue, OnOk, length};
-ghost use Rattle.rules.specs.Parts.{pages};
-ghost use Rattle.rules.specs.Run.{most_pages};
+ghost use Rattle.std.specs.Prelude.{◌≡◌, IfErr, IfOk, IsTrue, OnOk};
 ghost use Rattle.sheet_text.specs.Jobs.{is_border};
 ghost use Rattle.sheet_writer.specs.Sinks.{IsCountable};
 ghost use Rattle.imposer.specs.Workers.{AreWorkers};
@@ -42,8 +40,6 @@ pub fn impose_row<R: Threads + Wait + Sync, G: Gate + Sync, S: Sink>(
     gate: &G,
     sink: &mut S,
 ) -> Result<Report, AskedError>
-    // A document that was read has no more.
-    requires pages { length (pages job.now.document.now) ≤ most_pages }
     requires asked { MayBeAsked job.now.asked }
     requires border { IsTrue (is_border job.now.border) }
     requires workers { AreWorkers job.now.workers }
