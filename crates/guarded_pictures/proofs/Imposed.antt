@@ -32,7 +32,7 @@ use Rattle.pictures.proofs.Kept.{dressed_runs_alike}
 use Rattle.pictures.proofs.Imposed.{comments_read, points_stay, stay_both, made_cut, on_made_sheets}
 use Rattle.guarded_pictures.specs.Shelter.{PaintsSheltered}
 use Rattle.guarded_pictures.specs.Pages.{GuardedPreambleRuns, GuardedPagePaints, outline_of}
-use Rattle.guarded_pictures.specs.Imposed.{AreOn, AreToldAsOne, OnePaperIsToldAsOne, MadeDocumentIsShown}
+use Rattle.guarded_pictures.specs.Imposed.{AreOn, OnePaperIsToldAsOne, TellingIsQuiet, MadeDocumentIsShown}
 use Rattle.guarded_pictures.proofs.Sheets.{AllPlace, AllSheetsPlace, sheets_run}
 use Rattle.guarded_pictures.proofs.Documents.{BodyPlaces, body_places}
 
@@ -88,7 +88,7 @@ told_is_quiet [] few = record { header = refl; start = λ s paper. refl; finish 
 told_is_quiet (p ∷ []) few = one_is_quiet p
 told_is_quiet (p ∷ q ∷ more) few = absurd (omega (arith, few))
 
-pub telling_is_quiet : (all : List MadeSheet) → AreToldAsOne all → IsQuiet (telling all)
+pub telling_is_quiet : TellingIsQuiet
 telling_is_quiet all few = told_is_quiet (papers_told (papers all)) few
 
 -- What is said of slots, said of what they show.

@@ -12,14 +12,12 @@ use Rattle.rules.specs.Filters.{prepared}
 use Rattle.rules.specs.Output.{Frame, body_text}
 use Rattle.made_sheets.specs.Made.{MadeSlot, Blank, Placed, MadeSheet}
 use Rattle.made_sheets.specs.Dress.{Dress}
-use Rattle.made_sheets.specs.MadeOutput.{made_sheet_text}
+use Rattle.made_sheets.specs.MadeOutput.{made_sheet_text, made_output}
 use Rattle.dsc.specs.Units.{units_of}
 use Rattle.imposed_again.specs.MadeAgain.{made_texts}
 use Rattle.imposed_again.proofs.MadeAgain.{made_is_document}
 use Rattle.guard.specs.Guard.{guarded}
 use Rattle.guard.proofs.TheGuard.{guard_stays}
-use Rattle.page_papers.specs.Told.{telling}
-use Rattle.page_papers.proofs.Tame.{telling_is_tame}
 use Rattle.pictures.specs.Machine.{State, Painting}
 use Rattle.pictures.specs.Scanner.{tokens, IsComplete}
 use Rattle.pictures.specs.Sheets.{Shown, sheet_picture, sheet_tokens}
@@ -32,12 +30,12 @@ use Rattle.pictures.proofs.Tests.{by_test}
 use Rattle.guarded_pictures.specs.Shelter.{beginning}
 use Rattle.guarded_pictures.specs.Pages.{AllSheltered}
 use Rattle.guarded_pictures.specs.SheetsOfSheets.{page_round, page_begun, TakesSheets, PagePaintsWithin}
-use Rattle.guarded_pictures.specs.TwoMadeRuns.{written, written_again, empty_sheet, sheet_at, made_run_picture, SheetPaintsWithin, TwoMadeRunsAreShown}
+use Rattle.guarded_pictures.specs.TwoMadeRuns.{written_again, empty_sheet, sheet_at, made_run_picture, SheetPaintsWithin, TwoMadeRunsAreShown}
 use Rattle.guarded_pictures.proofs.Sheets.{Places}
 use Rattle.guarded_pictures.proofs.SheetsOfSheets.{sheet_places}
 use Rattle.guarded_pictures.proofs.Documents.{BodyPlaces}
 use Rattle.guarded_pictures.proofs.TwoRuns.{BodyPaintsWithin, body_paints, slot_within, read_is, empty_places}
-use Rattle.guarded_pictures.proofs.Imposed.{Bodies, telling_is_quiet, made_bodies_are_shown}
+use Rattle.guarded_pictures.proofs.Imposed.{Bodies, made_bodies_are_shown}
 
 -- A sheet that stands on another one.
 
@@ -118,18 +116,18 @@ both_sheets P Q [] h k = tt
 both_sheets P Q (sheet ∷ all) h k = (both_slots P Q sheet.slots h.0 k.0, both_sheets P Q all h.1 k.1)
 
 pub two_made_runs_are_shown : TwoMadeRunsAreShown
-two_made_runs_are_shown sheet border outer_border all outer_all text us picture s one outer_one d shut some few long longer apart run t kept h =
-    let out : List ℕ = written border all us in
-    let again : List NestedUnit = written_again sheet border all us in
+two_made_runs_are_shown sheet border outer_border dress outer_dress all outer_all text us picture s quiet tame outer_quiet d shut some few long longer apart run t kept h =
+    let out : List ℕ = made_output border dress all us in
+    let again : List NestedUnit = written_again sheet border dress all us in
     let shown : ℕ → List Painting = made_run_picture border us picture s all in
-    let read = made_is_document border (telling all) all text us (telling_is_tame all) d some few long in
+    let read = made_is_document border dress all text us tame d some few long in
     let stays = guard_stays sheet out (units_of out) read.0 longer in
-    let same : pages again ≡ made_texts border (telling all) (pages us) all = stays.1.same_pages ∙ read.2 shut in
+    let same : pages again ≡ made_texts border dress (pages us) all = stays.1.same_pages ∙ read.2 shut in
     let Apart : Paper → ℕ → Type 0 = λ own p. page_comments_apart (page_of again p) ≡ true in
     let Paints : Paper → ℕ → Type 0 = SheetPaintsWithin border all us picture outer_border s in
-    made_bodies_are_shown outer_border (telling outer_all) outer_all (guarded sheet out) again shown s (telling_is_quiet outer_all outer_one) stays.0 apart run
+    made_bodies_are_shown outer_border outer_dress outer_all (guarded sheet out) again shown s outer_quiet stays.0 apart run
     (on_made_sheets (λ own p. Apart own p × Paints own p) (Bodies outer_border again shown s)
-    (λ own p x. each_again border (telling all) us (frame_of outer_border own) picture s all again p (telling_is_quiet all one) t
+    (λ own p x. each_again border dress us (frame_of outer_border own) picture s all again p quiet t
     (on_made_slots (λ inner k. PagePaintsWithin (frame_of border inner) us (frame_of outer_border own) s k (picture k)) (Within border us picture (frame_of outer_border own) s)
     (λ inner k y. body_paints (frame_of border inner) us (frame_of outer_border own) s k (picture k) y) (sheet_at all p).slots x.1)
     same x.0)

@@ -9,7 +9,7 @@ use Rattle.guard.specs.Guard.{guarded}
 use Rattle.page_papers.specs.Told.{papers_told, telling}
 use Rattle.pictures.specs.Machine.{State, Painting}
 use Rattle.pictures.specs.Kept.{preamble_comments_apart}
-use Rattle.pictures.specs.Imposed.{frame_of, OnMadeSheets, MadeIsPrinted}
+use Rattle.pictures.specs.Imposed.{IsQuiet, frame_of, OnMadeSheets, MadeIsPrinted}
 use Rattle.guarded_pictures.specs.Pages.{GuardedPreambleRuns, GuardedPagePaints}
 
 -- all sheets have this paper
@@ -24,6 +24,10 @@ AreToldAsOne all = length (papers_told (map (λ sheet. sheet.paper) all)) ≤ 1
 -- sheets of one paper are: a law
 abbrev pub OnePaperIsToldAsOne : Type 0
 OnePaperIsToldAsOne = (paper : Paper) (all : List MadeSheet) → AreOn paper all → AreToldAsOne all
+
+-- and of such sheets the lines that tell their paper are comments: a law
+abbrev pub TellingIsQuiet : Type 0
+TellingIsQuiet = (all : List MadeSheet) → AreToldAsOne all → IsQuiet (telling all)
 
 -- What impose writes of such sheets, with the lines by which they tell their paper, and with the guard put in: the
 -- document's own pages are shown, each on its own paper, under the premises of a specification's sheets: a law

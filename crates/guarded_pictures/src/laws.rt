@@ -1,7 +1,7 @@
 //! Laws of the guard, run by a machine. The functions do nothing.
 ghost use Rattle.guarded_pictures.specs.Behind.{GuardDefines};
 ghost use Rattle.guarded_pictures.specs.ByItself.{ByItselfAsTheOperators};
-ghost use Rattle.guarded_pictures.specs.Imposed.{MadeDocumentIsShown, OnePaperIsToldAsOne};
+ghost use Rattle.guarded_pictures.specs.Imposed.{MadeDocumentIsShown, OnePaperIsToldAsOne, TellingIsQuiet};
 ghost use Rattle.guarded_pictures.specs.ImposedOwn.{OwnMadeDocumentIsShown};
 ghost use Rattle.guarded_pictures.specs.NamedPapers.{PaperIsNothing, PapersAreLeft};
 ghost use Rattle.guarded_pictures.specs.OwnShowpage.{OwnPageIsPlaced, OwnSheetsArePrinted, OwnShowpageIsShown};
@@ -147,6 +147,11 @@ pub fn one_paper_is_told_as_one()
     ensures { OnePaperIsToldAsOne }
 {}
 
+/// The lines by which such sheets tell their paper are comments.
+pub fn telling_is_quiet()
+    ensures { TellingIsQuiet }
+{}
+
 /// A machine prints of what impose makes of a document on sheets that are told as one paper, by whatever layout, what the
 /// document's pages paint by themselves, placed.
 pub fn made_document_is_shown()
@@ -203,7 +208,7 @@ pub fn two_runs_are_shown()
     ensures { TwoRunsAreShown }
 {}
 
-/// And so it prints what impose makes of what it wrote, by whatever layouts, on sheets that are told as one paper.
+/// And so it prints two runs that make sheets by whatever layouts, and add no lines but comments.
 pub fn two_made_runs_are_shown()
     ensures { TwoMadeRunsAreShown }
 {}

@@ -5,10 +5,11 @@ use Rattle.std.specs.Fmt.{digits}
 use Rattle.rules.specs.Parts.{NestedUnit, preamble, bytes_of}
 use Rattle.made_sheets.specs.Made.{Placed, MadeSheet}
 use Rattle.page_papers.specs.Told.{telling}
+use Rattle.page_papers.proofs.Tame.{telling_is_tame}
 use Rattle.pictures.specs.Imposed.{MadeIsPrinted}
 use Rattle.guarded_pictures.specs.Pages.{GuardedPreambleRuns}
 use Rattle.guarded_pictures.specs.TwoMadeRuns.{written_again, made_run_picture}
-use Rattle.guarded_pictures.proofs.Imposed.{one_paper_is_told_as_one}
+use Rattle.guarded_pictures.proofs.Imposed.{one_paper_is_told_as_one, telling_is_quiet}
 use Rattle.guarded_pictures.proofs.TwoMadeRuns.{two_made_runs_are_shown}
 use Rattle.guarded_pictures.proofs.Examples.Applied.{paper, behind, guarded_behind}
 use Rattle.guarded_pictures.proofs.Examples.AppliedMade.{stands, wide, own}
@@ -21,7 +22,7 @@ abbrev outer : List MadeSheet
 outer = record { paper = wide; slots = Placed 0 (stands (pos 0)) own ∷ Placed 0 (stands (pos 200)) own ∷ [] } ∷ []
 
 abbrev again : List NestedUnit
-again = written_again paper None inner us
+again = written_again paper None (telling inner) inner us
 
 preamble_runs : GuardedPreambleRuns (bytes_of (preamble again)) behind
 unfolding digits
@@ -31,5 +32,6 @@ preamble_runs = (refl, (271, refl), refl, refl, refl, guarded_behind)
 shown : MadeIsPrinted None (telling outer) outer again (made_run_picture None us picture behind inner) behind
 unfolding digits
 shown =
-    two_made_runs_are_shown paper None None inner outer text us picture behind (one_paper_is_told_as_one own inner (refl, tt)) (one_paper_is_told_as_one wide outer (refl, tt)) refl refl (omega arith) (omega arith) (omega arith) (omega arith) refl preamble_runs takes_sheets
+    two_made_runs_are_shown paper None None (telling inner) (telling outer) inner outer text us picture behind (telling_is_quiet inner (one_paper_is_told_as_one own inner (refl, tt))) (telling_is_tame inner)
+    (telling_is_quiet outer (one_paper_is_told_as_one wide outer (refl, tt))) refl refl (omega arith) (omega arith) (omega arith) (omega arith) refl preamble_runs takes_sheets
     ((refl, (refl, tt)), tt) (((page_paints, tt), ((page_paints, tt), tt)), tt)
