@@ -81,7 +81,9 @@ one_told p sheet all h =
 
 pub one_paper_is_told_as_one : OnePaperIsToldAsOne
 one_paper_is_told_as_one p [] h = omega arith
-one_paper_is_told_as_one p (sheet ∷ all) h = subst (λ told. length told ≤ 1) (sym (one_told p sheet all h)) (omega arith)
+one_paper_is_told_as_one p (sheet ∷ all) h =
+    let one : length (papers_told (papers (sheet ∷ all))) ≡ 1 = ap length (one_told p sheet all h) in
+    omega (arith, one)
 
 told_is_quiet : (told : List Paper) → length told ≤ 1 → IsQuiet (telling_of told)
 told_is_quiet [] few = record { header = refl; start = λ s paper. refl; finish = λ s paper. refl }
