@@ -1,2 +1,3 @@
--- Media that a document knows, as the code keeps them.
+-- Read in this order: media that a document knows, as the code keeps them; pages that a paper cuts.
 pub mod Named
+pub mod Cuts

@@ -1,5 +1,5 @@
 //! The paper of each page of a document.
-ghost use Rattle.std.specs.Prelude.{◌≡◌, IfOk, None, map, drop, length, codes, option_and_then};
+ghost use Rattle.std.specs.Prelude.{◌≡◌, IfOk, None, map, drop, length, replicate, codes, option_and_then};
 ghost use Rattle.rules.specs.Parts.{bytes_of, pages};
 ghost use Rattle.rules.specs.Units.{line_len};
 ghost use Rattle.dsc.specs.Units.{units_of};
@@ -15,7 +15,6 @@ use crate::page_heads::value_in_head;
 use document_paper::{box_paper, document_paper};
 use dsc::{Document, first_content, header_len, line_end_after, next_field};
 use lengths::Paper;
-use row_sheets::{PagePapers, PaperList};
 use std::alloc::{AllocError, Global};
 
 /// The papers of a document's pages, in order: the one that is asked for, if one is. Else each page's own: what the page
@@ -25,14 +24,23 @@ pub fn own_papers(
     document: &Document<'_>,
     asked: Option<Paper>,
     home: &Paper,
-) -> Result<PagePapers, AllocError>
+) -> Result<Vec<Paper>, AllocError>
     ensures { IfOk result (λ papers.
-        papers ≡ papers_of_pages asked paper_named home.now (bytes_of document.now) document.now) }
+        papers.items ≡ papers_of_pages asked paper_named home.now (bytes_of document.now) document.now) }
 {
     match asked {
-        Some(paper) => Ok(PagePapers::one(document.pages(), &paper)),
-        None => Ok(PagePapers::each(told_papers(alloc, document, home)?)),
+        Some(paper) => one_paper(alloc, document.pages(), paper),
+        None => told_papers(alloc, document, home),
     }
+}
+
+/// So many pages of one paper.
+fn one_paper(alloc: Global, pages: u32, paper: Paper) -> Result<Vec<Paper>, AllocError>
+    ensures { IfOk result (λ papers. papers.items ≡ replicate pages paper) }
+{
+    let mut papers = Vec::new(alloc);
+    papers.resize(pages as usize, paper)?;
+    Ok(papers)
 }
 
 /// Each page's own paper.
@@ -40,9 +48,9 @@ fn told_papers(
     alloc: Global,
     document: &Document<'_>,
     home: &Paper,
-) -> Result<PaperList, AllocError>
+) -> Result<Vec<Paper>, AllocError>
     ensures { IfOk result (λ papers.
-        papers ≡ papers_of_pages None paper_named home.now (bytes_of document.now) document.now) }
+        papers.items ≡ papers_of_pages None paper_named home.now (bytes_of document.now) document.now) }
 {
     let text = document.text();
     let (header, _) = text.split_at(header_len(text));
@@ -65,15 +73,15 @@ fn each_or(
     document: &Document<'_>,
     header: &[u8],
     other: &Paper,
-) -> Result<PaperList, AllocError>
-    ensures { IfOk result (λ papers. papers
+) -> Result<Vec<Paper>, AllocError>
+    ensures { IfOk result (λ papers. papers.items
         ≡ map (λ page. or_this (told (media (contents header.now)) (page_head page)) other.now) (pages document.now)) }
 {
     let known = KnownMedia::read(alloc, header)?;
-    let mut papers = PaperList::new(alloc);
+    let mut papers = Vec::new(alloc);
     for page in 0..document.pages() {
         let paper = page_paper(&known, document.page(page), other);
-        papers.push(&paper)?;
+        papers.push(paper)?;
     }
     Ok(papers)
 }
