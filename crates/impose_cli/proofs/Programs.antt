@@ -55,6 +55,7 @@ kept_spec r input start handed written finished kept h = record {
   takes = h.takes;
   units = h.units;
   taken = h.taken;
+  cut = h.cut;
   plan = h.plan;
   written = Appends-kept start handed written _ h.written kept;
   report = h.report;
@@ -67,10 +68,9 @@ kept_imposed job start handed written report kept h =
 kept_row : (r : Request) (input : List ℕ) (start handed written : Option (List ℕ)) (finished : Finished) → Keeps handed written
     → FinishesRow r input start handed finished → FinishesRow r input start written finished
 kept_row r input start handed written finished kept h = record {
-  pages = h.pages;
-  document = h.document;
   page_paper = h.page_paper;
   job = h.job;
+  papers = h.papers;
   is_job = h.is_job;
   imposes = kept_imposed h.job start handed written finished.report kept h.imposes;
 }

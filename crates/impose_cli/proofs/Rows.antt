@@ -1,14 +1,24 @@
 -- What comes of a task with a row, and of a request.
-use Rattle.std.proofs.Common.{◌∙◌, ap, sym, refl, inl, inr, List, ℕ, Option, Some, Result, Ok, Err, IfOk}
-use Rattle.std.specs.Prelude.{option_map}
+use Rattle.std.proofs.Common.{◌≡◌, ◌⊎◌, ◌∙◌, ap, sym, subst, refl, inl, inr, false, List, ℕ, Option, Some, Result, Ok, Err, IfOk}
+use Rattle.std.specs.Prelude.{length, option_map}
+use Rattle.rules.specs.Papers.{Paper}
+use Rattle.dsc.proofs.Reading.{accepted_cut}
+use Rattle.dsc.proofs.Slices.{text_whole}
+use Rattle.rules.specs.Parts.{NestedUnit, bytes_of, pages}
 use Rattle.rules.specs.Run.{document_of}
 use Rattle.rows.specs.Sewing.{signing_of}
 use Rattle.sheet_writer.specs.Sinks.{SinkView}
 use Rattle.imposer.specs.declared.outcome.Report.{Report}
 use Rattle.row_runs.specs.declared.run.RowJob.{RowJob}
 use Rattle.impose_cli.specs.Endings.{Ends, EndsBySpec, EndsTask, Finishes}
-use Rattle.impose_cli.specs.Refusals.{RefusesRowTask}
-use Rattle.impose_cli.specs.RowTasks.{FinishesRow, ImposesTask, IsJobOf, IsRowJob, IsRowTask}
+use Rattle.own_papers.specs.declared.cuts.Cut.{Cut}
+use Rattle.imposer.specs.declared.outcome.RunError.TheVariants as run
+use Rattle.sheet_text.specs.Jobs.{is_border}
+use Rattle.impose_cli.specs.Faults.{without_memory}
+use Rattle.impose_cli.specs.Tasks.{HasPages, page_paper_found}
+use Rattle.impose_cli.specs.declared.fault.Fault.TheVariants as fault
+use Rattle.impose_cli.specs.Refusals.{RefusesDocument, RefusesLaying, RefusesRowTask, RefusesSides}
+use Rattle.impose_cli.specs.RowTasks.{ArePapersOf, cut_in, papers_in, sheet_paper_in, FinishesRow, ImposesTask, IsJobOf, IsRowJob, IsRowTask}
 use Rattle.impose_cli.specs.declared.fault.Fault.{Fault}
 use Rattle.impose_cli.specs.declared.request.Request.{Request}
 use Rattle.impose_cli.specs.declared.row_task.RowTask.{RowTask}
@@ -18,20 +28,48 @@ use Rattle.impose_cli.proofs.Ending.{stays}
 is_row_job : (r : Request) (input : List ℕ) (t : RowTask) (job : RowJob) → IsRowTask r input t → IsJobOf r t job → IsRowJob r input t.page_paper job
 is_row_job r input t job is of = record {
   document = ap document_of (sym is.text) ∙ of.document;
-  papers = of.papers;
   choice = of.choice;
   signing = ap (option_map signing_of) of.signing ∙ is.signing;
   laying = is.laying ∙ ap Some (sym of.laying);
   border = of.border;
 }
 
+-- an accepted document is the whole of its text
+whole : (input : List ℕ) (us : List NestedUnit) → document_of input ≡ Ok us → bytes_of us ≡ input
+whole input us e = let read = accepted_cut input us e in ap bytes_of (sym read.1) ∙ sym (text_whole input read.0)
+
+pub are_papers : (r : Request) (input : List ℕ) (us : List NestedUnit) (papers : List Paper) (cut : Option Cut) → document_of input ≡ Ok us
+    → papers ≡ papers_in r (bytes_of us) us → cut ≡ cut_in r.page_paper (bytes_of us) us → ArePapersOf r input papers cut
+are_papers r input us papers cut read own cuts = let same = whole input us read in
+    record { units = us; document = read; own = own ∙ ap (λ t. papers_in r t us) same; cut_pages = cuts ∙ ap (λ t. cut_in r.page_paper t us) same }
+
+pub accepted_has_pages : (input : List ℕ) (us : List NestedUnit) → document_of input ≡ Ok us → (n : ℕ) × HasPages input n
+accepted_has_pages input us read = (length (pages us), (us, read, refl))
+
+-- a document whose pages have papers has pages
+pub has_pages : (r : Request) (input : List ℕ) (papers : List Paper) (cut : Option Cut) → ArePapersOf r input papers cut → (n : ℕ) × HasPages input n
+has_pages r input papers cut h = accepted_has_pages input h.units h.document
+
+pub refused_found : (r : Request) (input : List ℕ) (f : Fault) → RefusesDocument input f ⊎ ((n : ℕ) × HasPages input n × (f ≡ without_memory)) → RefusesRowTask r input f
+refused_found r input f h = elim h [ inl refused ↦ inl refused | inr spent ↦ inr (spent.0, spent.1, inr (inr (inr spent.2))) ]
+
+-- why there is no task for a document that is accepted
+abbrev pub RefusesAccepted : Request → (input : List ℕ) → Fault → Type 0
+RefusesAccepted r input f = let page_paper = (page_paper_found r.page_paper r.home_paper input).0 in
+    RefusesLaying r.layout r.spacing page_paper (sheet_paper_in r.layout r.sheet_paper page_paper) f
+    ⊎ (RefusesSides r.layout f
+    ⊎ (((f ≡ fault.Run run.Options) × (is_border r.border ≡ false)) ⊎ (f ≡ without_memory)))
+
+pub refused_after : (r : Request) (input : List ℕ) (papers : List Paper) (cut : Option Cut) (f : Fault) → ArePapersOf r input papers cut → RefusesAccepted r input f
+    → RefusesRowTask r input f
+refused_after r input papers cut f is why = let some = has_pages r input papers cut is in inr (some.0, some.1, why)
+
 pub finishes_row : (r : Request) (input : List ℕ) (t : RowTask) (old new : Option (List ℕ)) (report : Report) → IsRowTask r input t → ImposesTask r t old new report
-    → FinishesRow r input old new (record { report = report; page_paper = t.page_paper; origin = t.origin })
+    → FinishesRow r input old new (record { report = report; page_paper = t.page_paper; origin = t.origin; cut = t.cut })
 finishes_row r input t old new report is h = record {
-  pages = is.pages;
-  document = is.document;
   page_paper = is.page_paper;
   job = h.0;
+  papers = subst (λ ps. ArePapersOf r input ps t.cut) (sym h.1.papers) is.papers;
   is_job = is_row_job r input t h.0 is h.1;
   imposes = h.2;
 }

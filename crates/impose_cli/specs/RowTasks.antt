@@ -1,6 +1,7 @@
 -- What is imposed of a row of pages, and how: a request for a document, if its layout lays rows on sheets.
-use Rattle.std.specs.Prelude.{◌≡◌, ⊤, ℕ, Bool, true, false, List, replicate, Option, Some, None, Ok, IfSome, option_map}
+use Rattle.std.specs.Prelude.{◌≡◌, ⊤, ℕ, Bool, true, false, List, Option, Some, None, Ok, IfSome, option_map}
 use Rattle.rules.specs.Papers.{Paper}
+use Rattle.rules.specs.Parts.{NestedUnit}
 use Rattle.rules.specs.Run.{document_of}
 use Rattle.made_sheets.specs.Choice.{Signing, InOne, OfSides}
 use Rattle.rows.specs.Choices.{choice_of}
@@ -9,7 +10,11 @@ use Rattle.layouts.specs.Fitted.{binding_setting_of, setting_of}
 use Rattle.layouts.specs.Refusals.{why_not_arranged, why_not_bound}
 use Rattle.layouts.specs.declared.setting.Setting.{Setting}
 use Rattle.layouts.specs.declared.error.ArrangementError.{ArrangementError}
-use Rattle.row_runs.specs.Runs.{Imposes, page_count}
+use Rattle.paper_names.specs.Names.{paper_named}
+use Rattle.page_papers.specs.Own.{own_papers}
+use Rattle.own_papers.specs.Cuts.{cut_of}
+use Rattle.own_papers.specs.declared.cuts.Cut.{Cut}
+use Rattle.row_runs.specs.Runs.{Imposes}
 use Rattle.row_runs.specs.Sheets.{MayBeLaid}
 use Rattle.sheet_text.specs.Jobs.{is_border}
 use Rattle.imposer.specs.declared.outcome.Report.{Report}
@@ -19,7 +24,7 @@ use Rattle.row_runs.specs.declared.run.RowJob.{RowJob}
 use Rattle.impose_cli.specs.Choices.{choice_in}
 use Rattle.impose_cli.specs.Spacings.{arrangement_in, binding_in}
 use Rattle.impose_cli.specs.declared.request.Spacing.{Spacing}
-use Rattle.impose_cli.specs.Tasks.{HasPages, page_paper_found, sheet_paper_found, taken_text}
+use Rattle.impose_cli.specs.Tasks.{page_paper_found, sheet_paper_found, taken_text}
 use Rattle.impose_cli.specs.declared.request.Layout.{Layout}
 use Rattle.impose_cli.specs.declared.request.Layout.TheVariants as layout
 use Rattle.impose_cli.specs.declared.request.Request.{Request}
@@ -74,6 +79,22 @@ why_not_laid (layout.Spec specs) s page_paper sheet_paper = None
 abbrev pub text_for : Request → (page_paper : Paper) → (input : List ℕ) → List ℕ
 text_for r page_paper input = taken_text r.is_guarded (sheet_paper_in r.layout r.sheet_paper page_paper) input
 
+-- the papers of the document's pages: the one that is named, and else each page's own
+abbrev pub papers_in : Request → (input : List ℕ) → List NestedUnit → List Paper
+papers_in r input us = own_papers r.page_paper paper_named r.home_paper input us
+
+-- the pages that the named paper cuts: one that tells no paper has the named one
+abbrev pub cut_in : (named : Option Paper) → (input : List ℕ) → List NestedUnit → Option Cut
+cut_in None input us = None
+cut_in (Some named) input us = cut_of named (own_papers None paper_named named input us)
+
+-- the document is accepted, and its pages have these papers, of which the named one cuts these
+pub record ArePapersOf (r : Request) (input : List ℕ) (papers : List Paper) (cut : Option Cut) : Type 0 where
+  pub units : List NestedUnit
+  pub document : document_of input ≡ Ok units
+  pub own : papers ≡ papers_in r input units
+  pub cut_pages : cut ≡ cut_in r.page_paper input units
+
 -- the layout lays rows on sheets
 abbrev pub LaysRows : Layout → Type 0
 LaysRows (layout.Spec specs) = ⊥
@@ -81,8 +102,7 @@ LaysRows other = ⊤
 
 -- the task is what the request asks for with this document
 pub record IsRowTask (r : Request) (input : List ℕ) (t : RowTask) : Type 0 where
-  pub pages : ℕ
-  pub document : HasPages input pages
+  pub papers : ArePapersOf r input t.papers.items t.cut
   pub page_paper : (t.page_paper, t.origin) ≡ page_paper_found r.page_paper r.home_paper input
   pub text : t.text.items ≡ text_for r t.page_paper input
   pub laying : laying_in r.layout r.spacing t.page_paper (sheet_paper_in r.layout r.sheet_paper t.page_paper) ≡ Some t.laying
@@ -94,7 +114,7 @@ pub record IsRowTask (r : Request) (input : List ℕ) (t : RowTask) : Type 0 whe
 -- the job is the run of such a task
 pub record IsJobOf (r : Request) (t : RowTask) (job : RowJob) : Type 0 where
   pub document : document_of t.text.items ≡ Ok job.document.now
-  pub papers : job.papers.now ≡ replicate (page_count job) t.page_paper
+  pub papers : job.papers.now ≡ t.papers.items
   pub choice : choice_of job.asked.choice ≡ choice_in r.choice
   pub signing : job.asked.signing ≡ t.signing
   pub laying : job.asked.laying ≡ t.laying
@@ -103,10 +123,9 @@ pub record IsJobOf (r : Request) (t : RowTask) (job : RowJob) : Type 0 where
 abbrev pub ImposesTask : Request → RowTask → (old new : Option (List ℕ)) → Report → Type 0
 ImposesTask r t old new report = (job : RowJob) × IsJobOf r t job × Imposes job old new report
 
--- the job is what the request asks for with this document, whose pages have this paper
+-- the job is what the request asks for with this document, laid out for pages of this paper
 pub record IsRowJob (r : Request) (input : List ℕ) (page_paper : Paper) (job : RowJob) : Type 0 where
   pub document : document_of (text_for r page_paper input) ≡ Ok job.document.now
-  pub papers : job.papers.now ≡ replicate (page_count job) page_paper
   pub choice : choice_of job.asked.choice ≡ choice_in r.choice
   pub signing : option_map signing_of job.asked.signing ≡ signing_in r.layout
   pub laying : laying_in r.layout r.spacing page_paper (sheet_paper_in r.layout r.sheet_paper page_paper) ≡ Some job.asked.laying
@@ -115,9 +134,8 @@ pub record IsRowJob (r : Request) (input : List ℕ) (page_paper : Paper) (job :
 -- The request was carried out for this document: exactly the output was appended of the sheets on which its layout lays
 -- its row, with the lines by which they tell their papers.
 pub record FinishesRow (r : Request) (input : List ℕ) (old new : Option (List ℕ)) (done : Finished) : Type 0 where
-  pub pages : ℕ
-  pub document : HasPages input pages
   pub page_paper : (done.page_paper, done.origin) ≡ page_paper_found r.page_paper r.home_paper input
   pub job : RowJob
+  pub papers : ArePapersOf r input job.papers.now done.cut
   pub is_job : IsRowJob r input done.page_paper job
   pub imposes : Imposes job old new done.report

@@ -111,6 +111,7 @@ pub record FinishesSpec (r : Request) (input : List ℕ) (old new : Option (List
   pub takes : Takes most_slots text spec
   pub units : List NestedUnit
   pub taken : document_of (taken_text r.is_guarded (sheet_paper_found r.sheet_paper done.page_paper) input) ≡ Ok units
+  pub cut : done.cut ≡ None
   pub plan : plan_in None spec (length (pages units)) ≡ Ok (sheets spec (length (pages units)))
   pub written : Appends old new (output (frame_used r done) None spec units)
   pub report : Reports (frame_used r done) None spec units done.report

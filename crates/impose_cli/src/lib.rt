@@ -20,7 +20,7 @@ mod task;
 
 pub use command::read_command;
 pub use fault::{CommandFault, Fault, LengthOption, PaperOption};
-pub use messages::{command_text, fault_status, fault_text, note_text, report_text};
+pub use messages::{command_text, cut_text, fault_status, fault_text, note_text, report_text};
 pub use mistakes::words_text;
 pub use printed::printed_task;
 pub use program::{Done, Ended, impose};

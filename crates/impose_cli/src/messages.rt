@@ -15,6 +15,7 @@ use dsc::DscError;
 use imposer::{Report, RunError};
 use layouts::ArrangementError;
 use lengths::{Paper, print_points};
+use own_papers::Cut;
 use pagespec::SpecError;
 use paper_names::{PaperError, name_list, read_paper};
 use rows::RowError;
@@ -111,6 +112,34 @@ fn size_text(alloc: Global, paper: &Paper) -> Result<String, AllocError> {
     size.extend_from_slice(b" x ")?;
     print_points(paper.height(), &mut size)?;
     Ok(text_or_empty(alloc, size))
+}
+
+/// What is said of pages that the paper cuts which is named for them.
+pub fn cut_text(alloc: Global, done: &Finished) -> Result<Option<String>, AllocError> {
+    let Some(cut) = done.cut else {
+        return Ok(None);
+    };
+    let pages = cut_pages_text(alloc, &cut)?;
+    let pages = pages.as_str();
+    let own = size_text(alloc, &cut.paper)?;
+    let own = own.as_str();
+    let named = size_text(alloc, &done.page_paper)?;
+    let named = named.as_str();
+    Ok(Some(format!(in alloc; "--paper cuts {pages}: {own} on {named}")?))
+}
+
+/// The pages that are cut, counted from 1.
+fn cut_pages_text(alloc: Global, cut: &Cut) -> Result<String, AllocError> {
+    let first = cut.first.saturating_add(1);
+    let last = cut.last.saturating_add(1);
+    let pages = cut.pages;
+    if pages == 1 {
+        format!(in alloc; "page {first}")
+    } else if pages == last - cut.first {
+        format!(in alloc; "pages {first}-{last}")
+    } else {
+        format!(in alloc; "{pages} pages from {first} to {last}")
+    }
 }
 
 /// What else is said of a finished run, if there is something: that a file named as a PDF isn't one.
@@ -453,6 +482,9 @@ fn layout_message(error: &ArrangementError) -> &'static str {
         }
         ArrangementError::ScaleTooLarge =>
             "pages of this scale are larger than their cells: take a smaller one",
+        ArrangementError::CreepOverFold => {
+            "there is no room at the fold for leaves to creep so far: take a smaller --creep or a larger --gap"
+        }
         ArrangementError::NoMemory => "out of memory",
     }
 }

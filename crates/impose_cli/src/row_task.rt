@@ -1,23 +1,26 @@
 //! Runs of requests: by a specification, or on a row of pages that a layout lays on sheets.
-ghost use Rattle.std.specs.Prelude.{◌≡◌, IfErr, IfOk, IfSome, IsTrue, OnOk, replicate};
+ghost use Rattle.std.specs.Prelude.{◌≡◌, ◌⊎◌, ℕ, IfErr, IfOk, IfSome, IsTrue, OnOk};
+ghost use Rattle.rules.specs.Parts.{bytes_of};
 ghost use Rattle.rows.specs.Sewing.{MayBeSewn};
 ghost use Rattle.row_runs.specs.Sheets.{MayBeLaid};
 ghost use Rattle.sheet_text.specs.Jobs.{is_border};
 ghost use Rattle.sheet_writer.specs.Sinks.{IsCountable};
 ghost use Rattle.impose_cli.specs.Endings.{Ends, EndsTask, Finishes};
-ghost use Rattle.impose_cli.specs.Faults.{of_asked as asked_fault, of_row as row_fault};
-ghost use Rattle.impose_cli.specs.RowTasks.{ImposesTask, IsRowTask, LaysRows};
-ghost use Rattle.impose_cli.specs.Refusals.{RefusesRowTask};
+ghost use Rattle.impose_cli.specs.Faults.{of_asked as asked_fault, of_row as row_fault, without_memory};
+ghost use Rattle.impose_cli.specs.RowTasks.{ArePapersOf, ImposesTask, IsRowTask, LaysRows, cut_in, papers_in as papers_found};
+ghost use Rattle.impose_cli.specs.Refusals.{RefusesDocument, RefusesRowTask};
+ghost use Rattle.impose_cli.specs.Tasks.{HasPages};
 
 use crate::fault::Fault;
 use crate::laying::{laying_for, papers_for, signing_for};
 use crate::request::{Layout, Request};
 use crate::task::{
-    Finished, PaperOrigin, WORKERS, pages_of, paper_of_pages, run_spec, text_to_impose,
+    Finished, PaperOrigin, WORKERS, of_document, paper_of_pages, run_spec, text_to_impose,
 };
 use dsc::Document;
 use imposer::{Open, Report, RunError, Sink};
 use lengths::{Grains, Paper};
+use own_papers::{Cut, cut_by, own_papers};
 use row_runs::{Asked, AskedError, Laying, RowJob, impose_row};
 use rows::{RowError, Signing};
 use std::alloc::{AllocError, Global};
@@ -72,6 +75,7 @@ fn run_row<R: Threads + Wait + Sync, S: Sink>(
         report,
         page_paper: task.page_paper,
         origin: task.origin,
+        cut: task.cut,
     })
 }
 
@@ -82,6 +86,10 @@ pub struct RowTask {
     text: Vec<u8>,
     page_paper: Paper,
     origin: PaperOrigin,
+    /// The papers of its pages.
+    papers: Vec<Paper>,
+    /// The pages that the paper cuts which is named for them.
+    cut: Option<Cut>,
     laying: Laying,
     signing: Option<Signing>,
 }
@@ -93,10 +101,10 @@ fn row_task(alloc: Global, request: &Request, input: Vec<u8>) -> Result<RowTask,
     ensures refused { IfErr result (RefusesRowTask request.now input.items) }
 {
     // The document is read as it came, so that a fault has its place there.
-    match pages_of(alloc, input.as_slice()) {
-        Ok(_) => {}
+    let found = match papers_of(alloc, request, input.as_slice()) {
+        Ok(found) => found,
         Err(fault) => return Err(fault),
-    }
+    };
     let (page_paper, origin) = paper_of_pages(request, input.as_slice());
     let papers = papers_for(&request.layout, request.sheet_paper, page_paper);
     let laying = match laying_for(&request.layout, &request.spacing, &papers) {
@@ -116,10 +124,60 @@ fn row_task(alloc: Global, request: &Request, input: Vec<u8>) -> Result<RowTask,
             text,
             page_paper,
             origin,
+            papers: found.papers,
+            cut: found.cut,
             laying,
             signing,
         }),
         Err(_) => Err(Fault::no_memory()),
+    }
+}
+
+/// The papers of a document's pages.
+#[derive(Drop)]
+struct FoundPapers {
+    papers: Vec<Paper>,
+    /// The pages that the paper cuts which is named for them.
+    cut: Option<Cut>,
+}
+
+/// The papers of the pages of this document, or why it is refused.
+fn papers_of(alloc: Global, request: &Request, input: &[u8]) -> Result<FoundPapers, Fault>
+    ensures found { IfOk result (λ found. ArePapersOf request.now input.now found.papers.items found.cut) }
+    ensures refused { IfErr result (λ f.
+        RefusesDocument input.now f ⊎ ((n : ℕ) × HasPages input.now n × (f ≡ without_memory))) }
+{
+    let document = match Document::read(alloc, input) {
+        Ok(document) => document,
+        Err(error) => return Err(of_document(error, input)),
+    };
+    match papers_in(alloc, request, &document) {
+        Ok(found) => Ok(found),
+        Err(_) => Err(Fault::no_memory()),
+    }
+}
+
+fn papers_in(
+    alloc: Global,
+    request: &Request,
+    document: &Document<'_>,
+) -> Result<FoundPapers, AllocError>
+    ensures papers { IfOk result (λ found.
+        found.papers.items ≡ papers_found request.now (bytes_of document.now) document.now) }
+    ensures cut { IfOk result (λ found.
+        found.cut ≡ cut_in request.now.page_paper (bytes_of document.now) document.now) }
+{
+    let papers = own_papers(alloc, document, request.page_paper, &request.home_paper)?;
+    match request.page_paper {
+        None => Ok(FoundPapers { papers, cut: None }),
+        Some(named) => {
+            // A page that tells no paper has the one that is named, which doesn't cut it.
+            let own = own_papers(alloc, document, None, &named)?;
+            Ok(FoundPapers {
+                papers,
+                cut: cut_by(&named, own.as_slice()),
+            })
+        }
     }
 }
 
@@ -154,13 +212,9 @@ fn impose_task<R: Threads + Wait + Sync, S: Sink>(
         Err(error) => return Err(Fault::Run(RunError::from(error))),
     };
     let pages = document.pages();
-    let papers = match papers_of(alloc, pages, &task.page_paper) {
-        Ok(papers) => papers,
-        Err(_) => return Err(Fault::no_memory()),
-    };
     let job = RowJob {
         document: &document,
-        papers: papers.as_slice(),
+        papers: task.papers.as_slice(),
         asked: Asked {
             choice: request.choice.as_choice(),
             signing: task.signing,
@@ -173,15 +227,6 @@ fn impose_task<R: Threads + Wait + Sync, S: Sink>(
         Ok(report) => Ok(report),
         Err(error) => Err(asked_fault_of(error, pages)),
     }
-}
-
-/// So many pages of one paper.
-fn papers_of(alloc: Global, pages: u32, page_paper: &Paper) -> Result<Vec<Paper>, AllocError>
-    ensures { IfOk result (λ papers. papers.items ≡ replicate pages page_paper.now) }
-{
-    let mut papers = Vec::new(alloc);
-    papers.resize(pages as usize, *page_paper)?;
-    Ok(papers)
 }
 
 /// What an error of the run is for a document with so many pages.

@@ -27,6 +27,7 @@ use guard::put_guard;
 use imposer::{Open, Options, Report, RunError, Sink, Workers, run};
 use layouts::{Binding, Papers, arrange, bind};
 use lengths::Paper;
+use own_papers::Cut;
 use pagespec::{Spec, read_spec, write_spec};
 use std::alloc::{AllocError, Global};
 use std::sync::Wait;
@@ -63,6 +64,8 @@ pub struct Finished {
     pub page_paper: Paper,
     /// Where the paper of the pages was found.
     pub origin: PaperOrigin,
+    /// The pages that the paper cuts which was named for them. By a specification none are told.
+    pub cut: Option<Cut>,
 }
 
 /// As many preparers and imposers as `pstops` has.
@@ -196,7 +199,7 @@ pub(crate) fn pages_of(alloc: Global, input: &[u8]) -> Result<u32, Fault>
 
 /// A document's refusal. What is empty, a PDF, compressed or a job for a printer is called so; and what is too long by
 /// itself, as a guard may make it so later.
-fn of_document(error: DscError, input: &[u8]) -> Fault
+pub(crate) fn of_document(error: DscError, input: &[u8]) -> Fault
     ensures { result ≡ document_fault error input.now }
 {
     match error {
@@ -334,6 +337,7 @@ pub(crate) fn run_spec<R: Threads + Wait + Sync, S: Sink>(
         report,
         page_paper: task.options.paper,
         origin: task.origin,
+        cut: None,
     })
 }
 

@@ -1,7 +1,8 @@
 -- Pages that a paper cuts, one more at a time.
-use Rattle.std.proofs.Common.{Bool, true, false, ◌≡◌, ℕ, ◌+◌, ◌<◌, List, [], ◌∷◌, ◌++◌, length, take, refl, ap, arith, sym, ◌∙◌}
-use Rattle.std.specs.Prelude.{if◌then◌else◌, Option, Some, None, slice_index_or, get_or}
+use Rattle.std.proofs.Common.{Bool, true, false, ◌≡◌, ℕ, suc, ◌+◌, ◌<◌, ◌≤◌, List, [], ◌∷◌, ◌++◌, length, take, refl, ap, arith, sym, ◌∙◌}
+use Rattle.std.specs.Prelude.{if◌then◌else◌, Option, Some, None, IfSome, get_or}
 use Rattle.std.proofs.Math.Seq.{take-suc}
+use Rattle.std.proofs.lemmas.List.{append-nil, length-take-le}
 use Rattle.rules.specs.Papers.{Paper}
 use Rattle.dsc.proofs.Cases.{by_test}
 use Rattle.own_papers.specs.Cuts.{cuts_from, is_cut, last_of, told_of, with_page}
@@ -26,7 +27,7 @@ last_is page (next ∷ more) last = last_is next more last
 
 length_is : {A : Type 0} (xs : List A) (last : A) → length (xs ++ last ∷ []) ≡ length xs + 1
 length_is [] last = refl
-length_is (x ∷ xs) last = ap (λ n. n + 1) (length_is xs last)
+length_is (x ∷ xs) last = let e = length_is xs last in omega (arith, e)
 
 -- pages, and behind them one more
 told_more : (pages : List (ℕ × Paper)) (n : ℕ) (p : Paper) → told_of (pages ++ (n, p) ∷ []) ≡ Some (with_page (told_of pages) n p)
@@ -40,22 +41,37 @@ abbrev pub cut_before : Paper → List Paper → (i : ℕ) → Option Cut
 cut_before paper own i = told_of (cuts_from paper 0 (take i own))
 
 up_to : (paper : Paper) (own : List Paper) (i : ℕ) (d : Paper) → i < length own
-    → cuts_from paper 0 (take (suc i) own) ≡ cuts_from paper 0 (take i own) ++ one_if (is_cut paper (get_or own i d)) i (get_or own i d)
+    → cuts_from paper 0 (take (i + 1) own) ≡ cuts_from paper 0 (take i own) ++ one_if (is_cut paper (get_or own i d)) i (get_or own i d)
 up_to paper own i d l =
-    ap (cuts_from paper 0) (take-suc own i d l)
-    ∙ one_more paper 0 i (take i own) (get_or own i d) (sym (length-take_of-le own i (omega (arith, l))))
+    let next : i + 1 ≡ suc i = omega arith in
+    ap (λ k. cuts_from paper 0 (take k own)) next
+    ∙ ap (cuts_from paper 0) (take-suc own i d l)
+    ∙ one_more paper 0 i (take i own) (get_or own i d) (let e = length-take-le i own (omega (arith, l)) in omega (arith, e))
 
-pub one_cut : (paper : Paper) (own : List Paper) (i : ℕ) (d : Paper) → i < length own → is_cut paper (get_or own i d) ≡ true
-    → cut_before paper own (suc i) ≡ Some (with_page (cut_before paper own i) i (get_or own i d))
-one_cut paper own i d l is =
-    ap told_of (up_to paper own i d l ∙ ap (λ t. cuts_from paper 0 (take i own) ++ one_if t i (get_or own i d)) is)
-    ∙ told_more (cuts_from paper 0 (take i own)) i (get_or own i d)
+few : (cut : Option Cut) (i : ℕ) (p : Paper) → IfSome cut (λ c. c.pages ≤ i) → (with_page cut i p).pages ≤ i + 1
+few None i p h = omega arith
+few (Some c) i p h = omega (arith, h)
 
-pub none_cut : (paper : Paper) (own : List Paper) (i : ℕ) (d : Paper) → i < length own → is_cut paper (get_or own i d) ≡ false
-    → cut_before paper own (suc i) ≡ cut_before paper own i
-none_cut paper own i d l is =
-    ap told_of (up_to paper own i d l ∙ ap (λ t. cuts_from paper 0 (take i own) ++ one_if t i (get_or own i d)) is ∙ nothing (cuts_from paper 0 (take i own)))
-  where
-    nothing : (cs : List (ℕ × Paper)) → cs ++ [] ≡ cs
-    nothing [] = refl
-    nothing (c ∷ cs) = ap (λ ds. c ∷ ds) (nothing cs)
+few_still : (cut : Option Cut) (i : ℕ) → IfSome cut (λ c. c.pages ≤ i) → IfSome cut (λ c. c.pages ≤ i + 1)
+few_still None i h = h
+few_still (Some c) i h = omega (arith, h)
+
+-- a turn of the loop: the next page is cut, or it isn't
+pub one_cut : (paper : Paper) (own : List Paper) (i : ℕ) (p : Paper) (old new : Option Cut) → p ≡ get_or own i p → i < length own
+    → (old ≡ cut_before paper own i) × IfSome old (λ c. c.pages ≤ i) → is_cut paper p ≡ true → new ≡ Some (with_page old i p)
+    → (new ≡ cut_before paper own (i + 1)) × IfSome new (λ c. c.pages ≤ i + 1)
+one_cut paper own i p old new at l h is made = (
+    made ∙ ap (λ c. Some (with_page c i p)) h.0
+    ∙ sym (told_more (cuts_from paper 0 (take i own)) i p)
+    ∙ sym (ap told_of (up_to paper own i p l ∙ ap (λ q. cuts_from paper 0 (take i own) ++ one_if (is_cut paper q) i q) (sym at)
+    ∙ ap (λ t. cuts_from paper 0 (take i own) ++ one_if t i p) is)),
+    rw made (few old i p h.1))
+
+pub none_cut : (paper : Paper) (own : List Paper) (i : ℕ) (p : Paper) (old new : Option Cut) → p ≡ get_or own i p → i < length own
+    → (old ≡ cut_before paper own i) × IfSome old (λ c. c.pages ≤ i) → is_cut paper p ≡ false → new ≡ old
+    → (new ≡ cut_before paper own (i + 1)) × IfSome new (λ c. c.pages ≤ i + 1)
+none_cut paper own i p old new at l h is made = (
+    made ∙ h.0
+    ∙ sym (ap told_of (up_to paper own i p l ∙ ap (λ q. cuts_from paper 0 (take i own) ++ one_if (is_cut paper q) i q) (sym at)
+    ∙ ap (λ t. cuts_from paper 0 (take i own) ++ one_if t i p) is ∙ append-nil (cuts_from paper 0 (take i own)))),
+    rw made (few_still old i h.1))

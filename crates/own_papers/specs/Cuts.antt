@@ -1,5 +1,5 @@
 -- Pages that a paper cuts. All here is this project's own rules.
-use Rattle.std.specs.Prelude.{ℕ, ◌+◌, ◌×◌, Bool, not, ◌&&◌, if◌then◌else◌, List, [], ◌∷◌, length, Option, Some, None}
+use Rattle.std.specs.Prelude.{ℕ, ◌+◌, Bool, not, ◌&&◌, if◌then◌else◌, List, [], ◌∷◌, length, Option, Some, None}
 use Rattle.rules.specs.Papers.{Paper}
 use Rattle.page_papers.specs.Own.{covers, is_near}
 use Rattle.own_papers.specs.declared.cuts.Cut.{Cut}

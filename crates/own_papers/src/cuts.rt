@@ -80,8 +80,8 @@ fn is_near(paper: &Paper, other: &Paper) -> bool
 
 /// By how much two sides differ.
 fn difference(one: i128, other: i128) -> u128
-    requires { IsTrue (is_side one) }
-    requires { IsTrue (is_side other) }
+    requires one { IsTrue (is_side one) }
+    requires other { IsTrue (is_side other) }
     ensures { result ≡ nat_abs (one -ℤ other) }
 {
     (one - other).unsigned_abs()

@@ -1,7 +1,7 @@
 //! Documents, and the papers of their pages.
 use dsc::{Document, comment_value, trailer_box};
 use lengths::{Paper, paper_by_name};
-use own_papers::own_papers;
+use own_papers::{Cut, cut_by, own_papers};
 use std::alloc::Global;
 use std::process::Abort;
 use std::test::Fail;
@@ -30,7 +30,7 @@ fn paper_at(
 ) -> Result<Option<Paper>, Fail> {
     let document = Document::read(alloc, text)?;
     let papers = own_papers(alloc, &document, asked, &named(rt, "letter"))?;
-    match papers.paper_of(page) {
+    match papers.as_slice().get(page as usize) {
         Some(paper) => Ok(Some(*paper)),
         None => Ok(None),
     }
@@ -88,4 +88,23 @@ fn comments_have_values(rt: HostRuntime) -> Result<(), Fail> {
     let document = Document::read(rt.alloc(), AT_END)?;
     assert_eq!(rt; document.text(), AT_END);
     Ok(())
+}
+
+#[test]
+fn pages_that_a_paper_cuts(rt: HostRuntime) {
+    let a3 = named(&rt, "a3");
+    let a4 = named(&rt, "a4");
+    let a5 = named(&rt, "a5");
+    assert_eq!(rt; cut_by(&a4, &[]), None);
+    assert_eq!(rt; cut_by(&a4, &[a5, a4]), None);
+    let cut = Cut {
+        first: 1,
+        last: 3,
+        pages: 2,
+        paper: a3,
+    };
+    assert_eq!(rt; cut_by(&a4, &[a5, a3, a4, a3]), Some(cut));
+    // Letter is 17 points wider than a4, and a4 50 points higher.
+    let letter = named(&rt, "letter");
+    assert!(rt; cut_by(&a4, &[letter]).is_some() && cut_by(&letter, &[a4]).is_some());
 }

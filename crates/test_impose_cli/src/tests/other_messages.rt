@@ -3,11 +3,12 @@ use super::read;
 use document_paper::Comment;
 use dsc::DscError;
 use impose_cli::{
-    Fault, Finished, PaperOrigin, Request, fault_status, fault_text, note_text, report_text,
+    Fault, Finished, PaperOrigin, Request, cut_text, fault_status, fault_text, note_text, report_text,
 };
 use imposer::{Report, RunError};
 use layouts::ArrangementError;
 use lengths::paper_by_name;
+use own_papers::Cut;
 use pagespec::SpecError;
 use rows::RowError;
 use sheet_plan::{MadeError, PlanError};
@@ -195,7 +196,39 @@ fn five_pages(rt: &impl Abort, sheets: u32, origin: PaperOrigin) -> Finished {
         report,
         page_paper: paper_by_name("a4").expect(rt, "a4 is a paper"),
         origin,
+        cut: None,
     }
+}
+
+#[test]
+fn pages_that_are_cut_are_told(rt: HostRuntime) -> Result<(), Fail> {
+    let a3 = paper_by_name("a3").expect(&rt, "a3 is a paper");
+    let rows = [
+        (2, 2, 1, "--paper cuts page 3: 842 x 1191 on 595 x 842"),
+        (2, 16, 15, "--paper cuts pages 3-17: 842 x 1191 on 595 x 842"),
+        (
+            2,
+            16,
+            4,
+            "--paper cuts 4 pages from 3 to 17: 842 x 1191 on 595 x 842",
+        ),
+    ];
+    for (first, last, pages, wanted) in rows {
+        let cut = Cut {
+            first,
+            last,
+            pages,
+            paper: a3,
+        };
+        let done = Finished {
+            cut: Some(cut),
+            ..five_pages(&rt, 3, PaperOrigin::Named)
+        };
+        let text = cut_text(rt.alloc(), &done)?.unwrap_or(String::new(rt.alloc()));
+        assert_eq!(rt; text.as_str(), wanted);
+    }
+    assert_eq!(rt; cut_text(rt.alloc(), &five_pages(&rt, 3, PaperOrigin::Named))?, None);
+    Ok(())
 }
 
 #[test]

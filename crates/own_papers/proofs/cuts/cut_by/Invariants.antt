@@ -1,4 +1,4 @@
-use Rattle.std.proofs.Common.{◌≡◌, ◌×◌, ◌≤◌}
+use Rattle.std.proofs.Common.{◌≡◌, ◌≤◌}
 use Rattle.std.specs.Prelude.{IfSome}
 use Rattle.own_papers.proofs.CutPages.{cut_before}
 use Rattle.own_papers.proofs.cuts.cut_by.Given as goal

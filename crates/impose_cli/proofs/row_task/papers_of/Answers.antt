@@ -1,0 +1,12 @@
+use Rattle.std.proofs.Common.{inl, inr, refl}
+use Rattle.impose_cli.proofs.Rows.{accepted_has_pages, are_papers}
+use Rattle.impose_cli.proofs.row_task.papers_of.Goals as goal
+
+pub returns-in-Err-clause-refused : goal.returns-in-Err-clause-refused
+returns-in-Err-clause-refused c = inl (c.in-Err.error, c.of_document.ensures, c.in-Err.ensures.answer, c.in-Err.ensures.first_checks)
+
+pub returns-in-Ok-papers_in-clause-found : goal.returns-in-Ok-papers_in-clause-found
+returns-in-Ok-papers_in-clause-found c = are_papers c.args.request.now c.args.input.now _ _ _ c.in-Ok.ensures.answer c.in-Ok-papers_in.ensures.papers c.in-Ok-papers_in.ensures.cut
+
+pub returns-clause-refused : goal.returns-clause-refused
+returns-clause-refused c = let some = accepted_has_pages c.args.input.now _ c.in-Ok.ensures.answer in inr (some.0, some.1, c.no_memory.ensures)
