@@ -1,5 +1,5 @@
 -- Leaves that don't creep.
-use Rattle.std.proofs.Common.{arith, rules, ◌≡◌, ℕ, ◌+◌, ◌-◌, ◌*◌, ◌/◌, Bool, true, false, inl, inr, Option, Some, None, List, [], ◌∷◌, refl, sym, ap, ap₂, ◌∙◌}
+use Rattle.std.proofs.Common.{arith, rules, ◌≡◌, ℕ, ◌+◌, ◌-◌, ◌*◌, ◌/◌, ◌%◌, Bool, true, false, inl, inr, Option, Some, None, List, [], ◌∷◌, refl, sym, ap, ap₂, ◌∙◌}
 use Rattle.std.specs.Prelude.{ℤ, pos, neg_ℤ, ◌+ℤ◌, ◌-ℤ◌, nat_le, if◌then◌else◌, map}
 use Rattle.std.specs.List.{range_with_len}
 use Rattle.std.proofs.Math.IntN.{+ℤ_idr}
@@ -17,6 +17,7 @@ use Rattle.arranged_sheets.specs.Filled.{Filling, booklet_sheets, grid_entry, is
 use Rattle.arranged_sheets.specs.Shapes.{IsRefusedFor}
 use Rattle.arranged_sheets.specs.Creep.{AreHalves, IsRefusedCreep, IsRefusedCreeping, NoCreepIsPlain, creep_on, creeping, creeping_sheets, creeping_slot, is_before_fold, may_creep, moved_up, or_else, up_to_fold, why_not_creeping}
 use Rattle.arranged_sheets.proofs.Creeping.{halves, of_halves}
+use Rattle.arranged_sheets.proofs.Filling.{sheet}
 
 same_maps : {X Y : Type 0} (f g : X → Y) (xs : List X) → ((x : X) → f x ≡ g x) → map f xs ≡ map g xs
 same_maps f g [] h = refl
@@ -67,10 +68,10 @@ slot_at_rest f true k (Some page) h = let paper = f.paper_of page in ap (λ i. P
 -- ---- its sheets, and what refuses them
 
 sheets_at_rest : (f : Filling) (turned_backs : Bool) (leaves : ℕ) (row : Row) (sheets : List ℕ) → AreHalves f.setting
-    → map (λ s. record { paper = f.setting.room.paper; slots = map (λ k. creeping_slot f (is_turned turned_backs s) k (creep_on 0 leaves s) (grid_entry 2 row s k)) (range_with_len 0 2) }) sheets
-    ≡ map (λ s. record { paper = f.setting.room.paper; slots = map (λ k. slot_on f (is_turned turned_backs s) k (grid_entry 2 row s k)) (range_with_len 0 2) }) sheets
+    → map (λ s. sheet f.setting.room.paper (map (λ k. creeping_slot f (is_turned turned_backs s) k (creep_on 0 leaves s) (grid_entry 2 row s k)) (range_with_len 0 2))) sheets
+    ≡ map (λ s. sheet f.setting.room.paper (map (λ k. slot_on f (is_turned turned_backs s) k (grid_entry 2 row s k)) (range_with_len 0 2))) sheets
 sheets_at_rest f turned_backs leaves row sheets h =
-    same_maps _ _ sheets (λ s. ap (λ slots. record { paper = f.setting.room.paper; slots = slots })
+    same_maps _ _ sheets (λ s. ap (sheet f.setting.room.paper)
     (same_maps _ _ (range_with_len 0 2) (λ k.
     ap (λ n. creeping_slot f (is_turned turned_backs s) k n (grid_entry 2 row s k)) (no_creep leaves s)
     ∙ slot_at_rest f (is_turned turned_backs s) k (grid_entry 2 row s k) h)))
@@ -89,8 +90,8 @@ not_for_creep t page =
 
 refused_at_rest : (f : Filling) (leaves : ℕ) (row : Row) (e : ArrangementError) → IsRefusedCreeping f 0 leaves row e → IsRefusedFor f row e
 refused_at_rest f leaves row e (inl h) = inl h
-refused_at_rest f leaves row e (inr (s, k, less, page, is, why)) =
-    inr (s * 2 + k, page, is, sym (not_for_creep f.setting (f.paper_of page)) ∙ (ap (why_not_creeping f.setting (f.paper_of page)) (sym (no_creep leaves s)) ∙ why))
+refused_at_rest f leaves row e (inr (s, k, less, h)) =
+    inr (s * 2 + k, (h.0, h.1, sym (not_for_creep f.setting (f.paper_of h.0)) ∙ (ap (why_not_creeping f.setting (f.paper_of h.0)) (sym (no_creep leaves s)) ∙ h.2)))
 
 pub no_creep_is_plain : NoCreepIsPlain
 no_creep_is_plain = λ f turned_backs leaves row h. (sheets_at_rest f turned_backs leaves row _ h, λ e. refused_at_rest f leaves row e)
