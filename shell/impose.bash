@@ -10,7 +10,7 @@ _impose_options_of() {
     case "$1" in
         '') echo '--help --version -h -V' ;;
         nup | cards) echo "$laid $all" ;;
-        booklet) echo "--signature --long-edge $laid $all" ;;
+        booklet) echo "--signature --creep --long-edge $laid $all" ;;
         stack) echo "--duplex $laid $all" ;;
         select) echo "$parts $all" ;;
         spec) echo "$all" ;;
@@ -23,7 +23,8 @@ _impose_values_of() {
         --paper | --sheet | -p) echo "$_impose_papers" ;;
         --border) echo '.5pt 1pt .5mm' ;;
         --margin | --gap | --trim) echo '2mm 5mm 1cm' ;;
-        --signature) echo '4 8 12 16 20 24 28 32' ;;
+        --creep) echo '.5mm 1mm 2mm' ;;
+        --signature) echo 'auto 4 8 12 16 20 24 28 32' ;;
         --pages) ;;
         *) return 1 ;;
     esac

@@ -59,7 +59,7 @@ up_back a t c W h most near = omega (arith, ints, h, most, near)
 
 -- ---- settings whose cells are halves
 
-abbrev halves : (room : Room) (b : Bool) (asked : Option ℤ) → Setting
+abbrev pub halves : (room : Room) (b : Bool) (asked : Option ℤ) → Setting
 halves room b asked = record { room = room; grid = beside true; order = leaf_order b; scale = asked }
 
 halves_are : (t : Setting) → AreHalves t → t ≡ halves t.room t.order.right_to_left t.scale
@@ -68,7 +68,7 @@ halves_are t h =
     ∙ ap (λ o. record { room = t.room; grid = beside true; order = o; scale = t.scale }) h.1
 
 -- what holds of halves holds of such a setting
-of_halves : (P : Setting → Type 0) (t : Setting) → AreHalves t → P (halves t.room t.order.right_to_left t.scale) → P t
+pub of_halves : (P : Setting → Type 0) (t : Setting) → AreHalves t → P (halves t.room t.order.right_to_left t.scale) → P t
 of_halves P t h p = subst P (sym (halves_are t h)) p
 
 at_most : (a b : ℕ) → nat_le a b ≡ true → a ≤ b

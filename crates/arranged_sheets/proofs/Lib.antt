@@ -3,6 +3,7 @@ mod Behind
 mod Inside
 mod Leaves
 mod Creeping
+mod AtRest
 mod Tiles
 mod Examples
 mod Filling

@@ -18,7 +18,8 @@ use Rattle.layouts.specs.Grids.{beside, leaf_order}
 use Rattle.layouts.specs.Laws.{IsPaper, HasPlace}
 use Rattle.layouts.specs.Refusals.{first_of}
 use Rattle.layouts.specs.Fitted.{fitted, fitted_back, scale_on, why_not_fitted}
-use Rattle.arranged_sheets.specs.Filled.{Filling, is_turned, grid_entry}
+use Rattle.arranged_sheets.specs.Filled.{Filling, booklet_sheets, is_turned, grid_entry}
+use Rattle.arranged_sheets.specs.Shapes.{IsRefusedFor}
 
 -- how far leaf i of m is moved, in 10^-5 of a point; leaf 0 is the outermost, and one leaf alone doesn't creep
 abbrev pub creep_of : (creep leaves i : ℕ) → ℕ
@@ -145,3 +146,9 @@ IsRefusedCreep f creep entry e =
 abbrev pub IsRefusedCreeping : Filling → (creep leaves : ℕ) → Row → ArrangementError → Type 0
 IsRefusedCreeping f creep leaves row e = (e ≡ why.NoMemory)
     ⊎ ((s k : ℕ) × (k < 2) × IsRefusedCreep f (creep_on creep leaves s) (grid_entry 2 row s k) e)
+
+-- leaves that don't creep are those of `booklet_sheets`, and are refused for nothing else: a law
+abbrev pub NoCreepIsPlain : Type 0
+NoCreepIsPlain = (f : Filling) (turned_backs : Bool) (leaves : ℕ) (row : Row) → AreHalves f.setting
+    → (creeping_sheets f turned_backs 0 leaves row ≡ booklet_sheets f turned_backs row)
+    × ((e : ArrangementError) → IsRefusedCreeping f 0 leaves row e → IsRefusedFor f row e)

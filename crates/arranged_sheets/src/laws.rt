@@ -1,7 +1,7 @@
 //! Laws of the definitions. The functions do nothing.
 ghost use Rattle.arranged_sheets.specs.Filled.{GridRunsOn, StackRunsOn, DuplexRunsOn, BehindIsMirror};
 ghost use Rattle.arranged_sheets.specs.Filled.{FilledIsInside, FilledIsApart, SidesAreInside, SidesAreApart, BookletIsGrid, BookletKeepsFold};
-ghost use Rattle.arranged_sheets.specs.Creep.{CreepMoves, CreepGrows, CreepKeepsSides};
+ghost use Rattle.arranged_sheets.specs.Creep.{CreepMoves, CreepGrows, CreepKeepsSides, NoCreepIsPlain};
 ghost use Rattle.arranged_sheets.specs.Posters.{PosterCovers, TilesOverlap};
 
 /// The cells of the sheets of a grid, sheet by sheet, are the row.
@@ -67,6 +67,11 @@ pub fn creep_grows()
 /// As long as there is room for it, no leaf that creeps crosses its fold.
 pub fn creep_keeps_sides()
     ensures { CreepKeepsSides }
+{}
+
+/// A booklet whose leaves don't creep is the plain one.
+pub fn no_creep_is_plain()
+    ensures { NoCreepIsPlain }
 {}
 
 /// Each point of a poster's page is shown on a tile.

@@ -6,7 +6,9 @@ use Rattle.lengths.specs.Reading.{number_at}
 use Rattle.rules.specs.Papers.{points}
 use Rattle.guard.specs.Guard.{guarded}
 use Rattle.layouts.specs.declared.error.ArrangementError.TheVariants as layout
+use Rattle.made_sheets.specs.Choice.{InOne as in_one, Auto as by_itself, sides_for}
 use Rattle.rows.specs.declared.choices.Part.TheVariants.{All, Odd, Even}
+use Rattle.rows.specs.declared.sewing.Signing.TheVariants.{InOne, OfSides, Auto}
 use Rattle.dsc.specs.declared.errors.DscError.TheVariants.{NoMemory, NoPages, NotPostScript, TooLong}
 use Rattle.imposer.specs.declared.outcome.RunError.TheVariants as run
 use Rattle.document_paper.specs.declared.media.Comment.TheVariants.{DocumentMedia}
@@ -14,10 +16,11 @@ use Rattle.impose_cli.specs.declared.task.PaperOrigin.TheVariants.{Named, ByComm
 use Rattle.impose_cli.specs.declared.fault.Fault.TheVariants as fault
 use Rattle.impose_cli.specs.declared.fault.CommandFault.TheVariants as command
 use Rattle.paper_names.specs.Names.{papers}
+use Rattle.impose_cli.specs.Signatures.{signing_asked}
 use Rattle.impose_cli.specs.Sizes.{size_named}
-use Rattle.impose_cli.specs.Words.{part_by, file_asked, is_folded, is_outfile}
+use Rattle.impose_cli.specs.Words.{part_by, file_asked, is_outfile}
 use Rattle.impose_cli.specs.Statuses.{words_status, command_status, layout_status, fault_status}
-use Rattle.impose_cli.specs.Tasks.{own_or_home, page_paper_found, sheet_paper_found, taken_text, fours}
+use Rattle.impose_cli.specs.Tasks.{own_or_home, page_paper_found, sheet_paper_found, taken_text}
 use Rattle.impose_cli.specs.Faults.{of_document}
 
 -- Sizes of paper.
@@ -50,12 +53,18 @@ even = refl
 both : part_by true true ≡ None
 both = refl
 
-folded : map is_folded (Some 4 ∷ Some 6 ∷ Some 8 ∷ None ∷ []) ≡ true ∷ false ∷ true ∷ true ∷ []
-folded = refl
+-- Signatures.
+
+signatures : map signing_asked (None ∷ Some (codes "auto") ∷ Some (codes "4") ∷ Some (codes "6") ∷ Some (codes "0") ∷ Some (codes "x") ∷ []) ≡ Some InOne ∷ Some Auto ∷ Some (OfSides 4) ∷ None ∷ None ∷ None ∷ []
+signatures = refl
 
 -- The sides of a booklet in one signature: a multiple of four stays as it is.
-booklets_of_one : map fours (0 ∷ 1 ∷ 3 ∷ 4 ∷ 5 ∷ 8 ∷ []) ≡ 0 ∷ 4 ∷ 4 ∷ 4 ∷ 8 ∷ 8 ∷ []
+booklets_of_one : map (sides_for in_one) (1 ∷ 3 ∷ 4 ∷ 5 ∷ 8 ∷ []) ≡ 4 ∷ 4 ∷ 4 ∷ 8 ∷ 8 ∷ []
 booklets_of_one = refl
+
+-- Up to eight leaves are one signature, nine are two of five, and seventeen three of six.
+booklets_by_themselves : map (sides_for by_itself) (1 ∷ 32 ∷ 33 ∷ 36 ∷ 68 ∷ []) ≡ 4 ∷ 32 ∷ 20 ∷ 20 ∷ 24 ∷ []
+booklets_by_themselves = refl
 
 outfiles : map is_outfile (None ∷ Some (codes "out.ps") ∷ Some (codes "./-q") ∷ Some (codes "-q") ∷ Some (codes "-") ∷ []) ≡ true ∷ true ∷ true ∷ false ∷ false ∷ []
 outfiles = refl
@@ -125,7 +134,7 @@ no_memory = refl
 help_and_version : map words_status (DisplayHelp ∷ DisplayVersion ∷ UnknownArgument ∷ []) ≡ 0 ∷ 0 ∷ 2 ∷ []
 help_and_version = refl
 
-commands : map command_status (command.NoText ∷ command.Lacking ∷ command.BadSignature 6 ∷ command.OddAndEven ∷ command.NoMemory ∷ []) ≡ 2 ∷ 2 ∷ 2 ∷ 2 ∷ 3 ∷ []
+commands : map command_status (command.NoText ∷ command.Lacking ∷ command.OddAndEven ∷ command.NoMemory ∷ []) ≡ 2 ∷ 2 ∷ 2 ∷ 3 ∷ []
 commands = refl
 
 layouts : map layout_status (layout.CellsOutOfRange ∷ layout.NoRoom ∷ layout.FoldOnLongEdge ∷ layout.NoMemory ∷ []) ≡ 1 ∷ 1 ∷ 1 ∷ 3 ∷ []

@@ -15,7 +15,7 @@ use Rattle.impose_cli.specs.declared.request.PageChoice.{PageChoice}
 use Rattle.impose_cli.specs.declared.request.Spacing.{Spacing}
 use Rattle.impose_cli.specs.Spacings.{keeps_room}
 use Rattle.impose_cli.specs.declared.fault.LengthOption.{LengthOption}
-use Rattle.impose_cli.specs.declared.fault.LengthOption.TheVariants.{Margin, Gap, Trim}
+use Rattle.impose_cli.specs.declared.fault.LengthOption.TheVariants.{Margin, Gap, Trim, Creep}
 use Rattle.impose_cli.specs.declared.fault.PaperOption.TheVariants.{Paper as OfPages, Sheet as OfSheets}
 use Rattle.impose_cli.specs.declared.fault.CommandFault.{CommandFault}
 use Rattle.impose_cli.specs.declared.fault.CommandFault.TheVariants as fault
@@ -60,7 +60,7 @@ refuses_parse words fault.OddAndEven h = absurd h
 refuses_parse words (fault.UnknownPaper option text) h = absurd h
 refuses_parse words (fault.BadBorder text) h = absurd h
 refuses_parse words (fault.BadLength option text) h = absurd h
-refuses_parse words (fault.BadSignature sides) h = absurd h
+refuses_parse words (fault.BadSignature text) h = absurd h
 refuses_parse words (fault.OptionAsOutfile text) h = absurd h
 
 pub refuses_words : (words : List Text) (name : Text) (found : List Row) (f : CommandFault) → Enters words name found → RefusesFound name found f → Refuses words f
@@ -72,7 +72,7 @@ refuses_words words name found fault.OddAndEven e h = (name, found, e, h)
 refuses_words words name found (fault.UnknownPaper option text) e h = (name, found, e, h)
 refuses_words words name found (fault.BadBorder text) e h = (name, found, e, h)
 refuses_words words name found (fault.BadLength option text) e h = (name, found, e, h)
-refuses_words words name found (fault.BadSignature sides) e h = (name, found, e, h)
+refuses_words words name found (fault.BadSignature text) e h = (name, found, e, h)
 refuses_words words name found (fault.OptionAsOutfile text) e h = (name, found, e, h)
 
 -- ---- a step behind the others
@@ -90,7 +90,7 @@ refuses_page_paper found (fault.UnknownPaper OfSheets text) h = absurd (unlike h
 refuses_page_paper found fault.NoMemory h = tt
 refuses_page_paper found fault.Lacking h = h
 refuses_page_paper found fault.OddAndEven h = h
-refuses_page_paper found (fault.BadSignature sides) h = h
+refuses_page_paper found (fault.BadSignature text) h = h
 refuses_page_paper found (fault.OptionAsOutfile text) h = h
 refuses_page_paper found (fault.Words error) h = h
 refuses_page_paper found fault.NoText h = h
@@ -106,7 +106,7 @@ refuses_sheet_paper found page_paper (fault.UnknownPaper OfSheets text) p h = (i
 refuses_sheet_paper found page_paper fault.NoMemory p h = tt
 refuses_sheet_paper found page_paper fault.Lacking p h = h
 refuses_sheet_paper found page_paper fault.OddAndEven p h = h
-refuses_sheet_paper found page_paper (fault.BadSignature sides) p h = h
+refuses_sheet_paper found page_paper (fault.BadSignature text) p h = h
 refuses_sheet_paper found page_paper (fault.OptionAsOutfile text) p h = h
 refuses_sheet_paper found page_paper (fault.Words error) p h = h
 refuses_sheet_paper found page_paper fault.NoText p h = h
@@ -119,7 +119,7 @@ refuses_border found page_paper sheet_paper (fault.UnknownPaper option text) p s
 refuses_border found page_paper sheet_paper fault.NoMemory p s h = tt
 refuses_border found page_paper sheet_paper fault.Lacking p s h = h
 refuses_border found page_paper sheet_paper fault.OddAndEven p s h = h
-refuses_border found page_paper sheet_paper (fault.BadSignature sides) p s h = h
+refuses_border found page_paper sheet_paper (fault.BadSignature text) p s h = h
 refuses_border found page_paper sheet_paper (fault.OptionAsOutfile text) p s h = h
 refuses_border found page_paper sheet_paper (fault.Words error) p s h = h
 refuses_border found page_paper sheet_paper fault.NoText p s h = h
@@ -133,7 +133,7 @@ refuses_sizes name found (fault.BadBorder text) h = (h.0, h.1.0, h.1.1)
 refuses_sizes name found fault.NoMemory h = tt
 refuses_sizes name found fault.Lacking h = absurd h
 refuses_sizes name found fault.OddAndEven h = absurd h
-refuses_sizes name found (fault.BadSignature sides) h = absurd h
+refuses_sizes name found (fault.BadSignature text) h = absurd h
 refuses_sizes name found (fault.OptionAsOutfile text) h = absurd h
 refuses_sizes name found (fault.Words error) h = h
 refuses_sizes name found fault.NoText h = h
@@ -147,7 +147,7 @@ pub refuses_arguments : (name : Text) (found : List Row) (page_paper sheet_paper
     → RefusesArguments name found f → RefusesFound name found f
 refuses_arguments name found page_paper sheet_paper border fault.Lacking r h = (has_sizes found page_paper sheet_paper border r, h)
 refuses_arguments name found page_paper sheet_paper border fault.OddAndEven r h = absurd h
-refuses_arguments name found page_paper sheet_paper border (fault.BadSignature sides) r h = (has_sizes found page_paper sheet_paper border r, h)
+refuses_arguments name found page_paper sheet_paper border (fault.BadSignature text) r h = (has_sizes found page_paper sheet_paper border r, h)
 refuses_arguments name found page_paper sheet_paper border fault.NoMemory r h = tt
 refuses_arguments name found page_paper sheet_paper border (fault.Words error) r h = h
 refuses_arguments name found page_paper sheet_paper border fault.NoText r h = h
@@ -175,7 +175,7 @@ refuses_margin found (fault.UnknownPaper option text) h = h
 refuses_margin found (fault.BadBorder text) h = h
 refuses_margin found fault.Lacking h = h
 refuses_margin found fault.OddAndEven h = h
-refuses_margin found (fault.BadSignature sides) h = h
+refuses_margin found (fault.BadSignature text) h = h
 refuses_margin found (fault.OptionAsOutfile text) h = h
 refuses_margin found (fault.Words error) h = h
 refuses_margin found fault.NoText h = h
@@ -187,7 +187,7 @@ refuses_gap found margin (fault.UnknownPaper option text) m h = h
 refuses_gap found margin (fault.BadBorder text) m h = h
 refuses_gap found margin fault.Lacking m h = h
 refuses_gap found margin fault.OddAndEven m h = h
-refuses_gap found margin (fault.BadSignature sides) m h = h
+refuses_gap found margin (fault.BadSignature text) m h = h
 refuses_gap found margin (fault.OptionAsOutfile text) m h = h
 refuses_gap found margin (fault.Words error) m h = h
 refuses_gap found margin fault.NoText m h = h
@@ -199,10 +199,22 @@ refuses_trim found margin gap (fault.UnknownPaper option text) m g h = h
 refuses_trim found margin gap (fault.BadBorder text) m g h = h
 refuses_trim found margin gap fault.Lacking m g h = h
 refuses_trim found margin gap fault.OddAndEven m g h = h
-refuses_trim found margin gap (fault.BadSignature sides) m g h = h
+refuses_trim found margin gap (fault.BadSignature text) m g h = h
 refuses_trim found margin gap (fault.OptionAsOutfile text) m g h = h
 refuses_trim found margin gap (fault.Words error) m g h = h
 refuses_trim found margin gap fault.NoText m g h = h
+
+pub refuses_creep : (found : List Row) (margin gap trim : ℤ) (f : CommandFault) → length_found Margin found ≡ Some margin → length_found Gap found ≡ Some gap → length_found Trim found ≡ Some trim → RefusesLength Creep found f → RefusesSpacing found f
+refuses_creep found margin gap trim (fault.BadLength option text) m g t h = names_none Creep option found (string_bytes text) h.0 h.1 h.2 (is_there _ margin m, is_there _ gap g, is_there _ trim t)
+refuses_creep found margin gap trim fault.NoMemory m g t h = tt
+refuses_creep found margin gap trim (fault.UnknownPaper option text) m g t h = h
+refuses_creep found margin gap trim (fault.BadBorder text) m g t h = h
+refuses_creep found margin gap trim fault.Lacking m g t h = h
+refuses_creep found margin gap trim fault.OddAndEven m g t h = h
+refuses_creep found margin gap trim (fault.BadSignature text) m g t h = h
+refuses_creep found margin gap trim (fault.OptionAsOutfile text) m g t h = h
+refuses_creep found margin gap trim (fault.Words error) m g t h = h
+refuses_creep found margin gap trim fault.NoText m g t h = h
 
 pub refuses_spacing : (name : Text) (found : List Row) (page_paper sheet_paper : Option Paper) (border : Option ℤ) (layout : Layout) (f : CommandFault)
     → ReadsSizes found page_paper sheet_paper border → AsksFor name found layout → RefusesSpacing found f → RefusesFound name found f
@@ -212,7 +224,7 @@ refuses_spacing name found page_paper sheet_paper border layout (fault.UnknownPa
 refuses_spacing name found page_paper sheet_paper border layout (fault.BadBorder text) r a h = absurd h
 refuses_spacing name found page_paper sheet_paper border layout fault.Lacking r a h = absurd h
 refuses_spacing name found page_paper sheet_paper border layout fault.OddAndEven r a h = absurd h
-refuses_spacing name found page_paper sheet_paper border layout (fault.BadSignature sides) r a h = absurd h
+refuses_spacing name found page_paper sheet_paper border layout (fault.BadSignature text) r a h = absurd h
 refuses_spacing name found page_paper sheet_paper border layout (fault.OptionAsOutfile text) r a h = absurd h
 refuses_spacing name found page_paper sheet_paper border layout (fault.Words error) r a h = h
 refuses_spacing name found page_paper sheet_paper border layout fault.NoText r a h = h
@@ -226,7 +238,7 @@ refuses_choice name found page_paper sheet_paper border layout spacing fault.NoM
 refuses_choice name found page_paper sheet_paper border layout spacing (fault.UnknownPaper option text) r a k h = absurd h
 refuses_choice name found page_paper sheet_paper border layout spacing (fault.BadBorder text) r a k h = absurd h
 refuses_choice name found page_paper sheet_paper border layout spacing fault.Lacking r a k h = absurd h
-refuses_choice name found page_paper sheet_paper border layout spacing (fault.BadSignature sides) r a k h = absurd h
+refuses_choice name found page_paper sheet_paper border layout spacing (fault.BadSignature text) r a k h = absurd h
 refuses_choice name found page_paper sheet_paper border layout spacing (fault.OptionAsOutfile text) r a k h = absurd h
 refuses_choice name found page_paper sheet_paper border layout spacing (fault.Words error) r a k h = h
 refuses_choice name found page_paper sheet_paper border layout spacing fault.NoText r a k h = h
@@ -241,7 +253,7 @@ refuses_outfile name found page_paper sheet_paper border layout spacing choice (
 refuses_outfile name found page_paper sheet_paper border layout spacing choice (fault.BadBorder text) r a k o h = absurd h
 refuses_outfile name found page_paper sheet_paper border layout spacing choice fault.Lacking r a k o h = absurd h
 refuses_outfile name found page_paper sheet_paper border layout spacing choice fault.OddAndEven r a k o h = absurd h
-refuses_outfile name found page_paper sheet_paper border layout spacing choice (fault.BadSignature sides) r a k o h = absurd h
+refuses_outfile name found page_paper sheet_paper border layout spacing choice (fault.BadSignature text) r a k o h = absurd h
 refuses_outfile name found page_paper sheet_paper border layout spacing choice (fault.Words error) r a k o h = h
 refuses_outfile name found page_paper sheet_paper border layout spacing choice fault.NoText r a k o h = h
 

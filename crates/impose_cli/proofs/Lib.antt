@@ -1,6 +1,7 @@
 pub mod Commands
 pub mod Found
 pub mod Placing
+pub mod Counted
 pub mod Ending
 pub mod Rows
 pub mod Again

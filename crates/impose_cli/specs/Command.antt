@@ -2,7 +2,6 @@
 -- SPECS, with [OPTIONS] [INFILE [OUTFILE]].
 use Rattle.std.specs.Prelude.{ℕ, pos, true, List, [], ◌∷◌, Some, codes}
 use Rattle.std.specs.List.{fold}
-use Rattle.rules.specs.Signatures.{most_sides}
 use Rattle.layouts.specs.Refusals.{most_on_sheet}
 use Rattle.clap.specs.Words.{App, Rule, Shape, Text, new_app, new_rule, with_rule, with_subcommand}
 use Rattle.clap.specs.Simple.{on_top}
@@ -79,11 +78,9 @@ cards_app = subcommand_app (codes "cards") (count_rule ∷ row_rules)
 abbrev pub stack_app : App
 stack_app = subcommand_app (codes "stack") (count_rule ∷ flag_rule (codes "duplex") ∷ row_rules)
 
-abbrev pub signature_rule : Rule
-signature_rule = ranged 4 most_sides (option_rule (codes "signature"))
-
 abbrev pub booklet_app : App
-booklet_app = subcommand_app (codes "booklet") (signature_rule ∷ flag_rule (codes "long-edge") ∷ row_rules)
+booklet_app = subcommand_app (codes "booklet")
+    (option_rule (codes "signature") ∷ option_rule (codes "creep") ∷ flag_rule (codes "long-edge") ∷ row_rules)
 
 abbrev pub select_app : App
 select_app = subcommand_app (codes "select") (required_rule (codes "ranges") ∷ order_rules)

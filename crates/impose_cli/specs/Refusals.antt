@@ -1,8 +1,8 @@
 -- What a refused request says.
-use Rattle.std.specs.Prelude.{◌≡◌, ◌⊎◌, ℕ, IfSome, List, Some, Err, false}
+use Rattle.std.specs.Prelude.{◌≡◌, ◌≢◌, ◌⊎◌, ℕ, pos, IfSome, List, Some, Err, false}
 use Rattle.rules.specs.Papers.{Paper}
 use Rattle.rules.specs.Run.{document_of}
-use Rattle.rules.specs.Signatures.{AreSides}
+use Rattle.rows.specs.Sewing.{MayBeSewn}
 use Rattle.layouts.specs.declared.error.ArrangementError.{ArrangementError}
 use Rattle.imposer.specs.declared.outcome.RunError.TheVariants as run
 use Rattle.dsc.specs.declared.errors.DscError.{DscError}
@@ -42,6 +42,9 @@ abbrev pub RefusesLayout : Layout → Spacing → (page_paper sheet_paper : Pape
 RefusesLayout layout.Selection s page_paper sheet_paper f = f ≡ fault.NoSpecification
 RefusesLayout (layout.Cards n) s page_paper sheet_paper f = f ≡ fault.NoSpecification
 RefusesLayout (layout.Stack n duplex) s page_paper sheet_paper f = f ≡ fault.NoSpecification
+RefusesLayout (layout.Booklet signing long_edge) s page_paper sheet_paper f =
+    ((f ≡ fault.NoSpecification) × (s.creep ≢ pos 0))
+    ⊎ ((f ≡ without_memory) ⊎ RefusesLaying (layout.Booklet signing long_edge) s page_paper sheet_paper f)
 RefusesLayout l s page_paper sheet_paper f = (f ≡ without_memory) ⊎ RefusesLaying l s page_paper sheet_paper f
 
 -- ---- the request
@@ -59,7 +62,7 @@ RefusesTask r input f =
 
 -- a signature of so many sides can't be folded, or has too many
 abbrev pub RefusesSides : Layout → Fault → Type 0
-RefusesSides (layout.Booklet (Some sides) long_edge) f = (f ≡ fault.Run run.Options) × (AreSides sides → ⊥)
+RefusesSides (layout.Booklet signing long_edge) f = (f ≡ fault.Run run.Options) × (MayBeSewn signing → ⊥)
 RefusesSides other f = ⊥
 
 -- why there is no task with a row: the document is refused; or it isn't, and the layout is, or the signature, or a border

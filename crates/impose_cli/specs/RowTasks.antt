@@ -3,13 +3,15 @@ use Rattle.std.specs.Prelude.{◌≡◌, ⊤, ℕ, Bool, true, false, List, Opti
 use Rattle.rules.specs.Papers.{Paper}
 use Rattle.rules.specs.Parts.{NestedUnit}
 use Rattle.rules.specs.Run.{document_of}
-use Rattle.made_sheets.specs.Choice.{Signing, InOne, OfSides}
+use Rattle.made_sheets.specs.Choice.{Signing}
 use Rattle.rows.specs.Choices.{choice_of}
 use Rattle.rows.specs.Sewing.{MayBeSewn, signing_of}
 use Rattle.layouts.specs.Fitted.{binding_setting_of, setting_of}
-use Rattle.layouts.specs.Refusals.{why_not_arranged, why_not_bound}
+use Rattle.layouts.specs.Grids.{rounded_down}
+use Rattle.layouts.specs.Refusals.{first_of, is_length, why_not_arranged, why_not_bound}
 use Rattle.layouts.specs.declared.setting.Setting.{Setting}
 use Rattle.layouts.specs.declared.error.ArrangementError.{ArrangementError}
+use Rattle.layouts.specs.declared.error.ArrangementError.TheVariants as why
 use Rattle.paper_names.specs.Names.{paper_named}
 use Rattle.page_papers.specs.Own.{own_papers}
 use Rattle.own_papers.specs.Cuts.{cut_of}
@@ -33,8 +35,7 @@ use Rattle.impose_cli.specs.declared.row_task.RowTask.{RowTask}
 
 -- how a layout is sewn
 abbrev pub signing_in : Layout → Option Signing
-signing_in (layout.Booklet None long_edge) = Some InOne
-signing_in (layout.Booklet (Some sides) long_edge) = Some (OfSides sides)
+signing_in (layout.Booklet signing long_edge) = Some (signing_of signing)
 signing_in (layout.NUp n) = None
 signing_in (layout.Cards n) = None
 signing_in (layout.Stack n duplex) = None
@@ -59,8 +60,8 @@ laying_in (layout.Cards n) s page_paper sheet_paper =
     Some (laying.Cards (setting_of page_paper sheet_paper (arrangement_in s n)) n)
 laying_in (layout.Stack n duplex) s page_paper sheet_paper =
     Some (stacked duplex (setting_of page_paper sheet_paper (arrangement_in s n)) n)
-laying_in (layout.Booklet signature long_edge) s page_paper sheet_paper =
-    Some (laying.Booklet (binding_setting_of sheet_paper (binding_in s long_edge)) long_edge)
+laying_in (layout.Booklet signing long_edge) s page_paper sheet_paper =
+    Some (laying.Booklet (binding_setting_of sheet_paper (binding_in s long_edge)) long_edge (rounded_down s.creep))
 laying_in layout.Selection s page_paper sheet_paper = Some (laying.AsTheyAre sheet_paper)
 laying_in (layout.Spec specs) s page_paper sheet_paper = None
 
@@ -70,8 +71,8 @@ why_not_laid (layout.NUp n) s page_paper sheet_paper = why_not_arranged page_pap
 why_not_laid (layout.Cards n) s page_paper sheet_paper = why_not_arranged page_paper sheet_paper (arrangement_in s n)
 why_not_laid (layout.Stack n duplex) s page_paper sheet_paper =
     why_not_arranged page_paper sheet_paper (arrangement_in s n)
-why_not_laid (layout.Booklet signature long_edge) s page_paper sheet_paper =
-    why_not_bound page_paper sheet_paper (binding_in s long_edge)
+why_not_laid (layout.Booklet signing long_edge) s page_paper sheet_paper =
+    first_of (is_length s.creep) why.LengthOutOfRange (why_not_bound page_paper sheet_paper (binding_in s long_edge))
 why_not_laid layout.Selection s page_paper sheet_paper = None
 why_not_laid (layout.Spec specs) s page_paper sheet_paper = None
 

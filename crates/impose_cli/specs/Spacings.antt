@@ -1,4 +1,4 @@
--- What is kept free on the sheets of a request.
+-- What is kept free on the sheets of a request, and how far leaves creep.
 use Rattle.std.specs.Prelude.{ℕ, pos, Bool, true, false, None}
 use Rattle.layouts.specs.Grids.{leaf_order}
 use Rattle.layouts.specs.declared.arrangement.Arrangement.{Arrangement}
@@ -13,12 +13,12 @@ abbrev pub keeps_room : Layout → Bool
 keeps_room (layout.NUp n) = true
 keeps_room (layout.Cards n) = true
 keeps_room (layout.Stack n duplex) = true
-keeps_room (layout.Booklet signature long_edge) = true
+keeps_room (layout.Booklet signing long_edge) = true
 keeps_room layout.Selection = false
 keeps_room (layout.Spec specs) = false
 
 abbrev pub nothing_kept : Spacing
-nothing_kept = record { margin = pos 0; gap = pos 0; trim = pos 0; right_to_left = false }
+nothing_kept = record { margin = pos 0; gap = pos 0; trim = pos 0; creep = pos 0; right_to_left = false }
 
 -- so many cells or more
 abbrev pub arrangement_in : Spacing → (count : ℕ) → Arrangement

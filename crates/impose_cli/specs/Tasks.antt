@@ -1,5 +1,5 @@
 -- What is imposed, and how: a request for a document.
-use Rattle.std.specs.Prelude.{◌≡◌, ℕ, ◌+◌, ◌*◌, ◌/◌, Bool, true, if◌then◌else◌, unwrap_or, List, length, Option}
+use Rattle.std.specs.Prelude.{◌≡◌, ℕ, pos, Bool, true, if◌then◌else◌, unwrap_or, List, length, Option}
 use Rattle.std.specs.Prelude.{Some, None, Ok, string_bytes}
 use Rattle.rules.specs.Papers.{Paper}
 use Rattle.rules.specs.Specification.{Spec, canonical}
@@ -7,6 +7,8 @@ use Rattle.rules.specs.Admissible.{Takes, most_slots}
 use Rattle.rules.specs.Parts.{NestedUnit, pages}
 use Rattle.rules.specs.Run.{document_of, plan_in}
 use Rattle.rules.specs.Sheets.{sheets}
+use Rattle.made_sheets.specs.Choice.{sides_for}
+use Rattle.rows.specs.Sewing.{signing_of}
 use Rattle.guard.specs.Guard.{guarded}
 use Rattle.layouts.specs.Grids.{arranged, bound}
 use Rattle.layouts.specs.Laws.{IsArranged, IsBound}
@@ -48,24 +50,21 @@ taken_text is_guarded sheet_paper input = if is_guarded then guarded (Some sheet
 abbrev pub HasPages : (input : List ℕ) → ℕ → Type 0
 HasPages input n = (us : List NestedUnit) × (document_of input ≡ Ok us) × (n ≡ length (pages us))
 
--- the smallest multiple of four that is no less
-abbrev pub fours : ℕ → ℕ
-fours n = (n + 3) / 4 * 4
-
 -- the text is the canonical one of the specification, and is read as that
 abbrev pub IsWritten : Spec → (text : List ℕ) → Type 0
 IsWritten spec text = (text ≡ canonical spec) × Takes most_slots text spec
 
 -- The text of the specification and the sides of a signature to which a layout comes, for so many pages of a paper. None
--- says a selection, cards or a stack.
+-- says a selection, cards, a stack, or leaves that creep.
 abbrev pub IsPlaced : Layout → Spacing → (page_paper sheet_paper : Paper) → (pages : ℕ) → (text : List ℕ)
     → (sides : Option ℕ) → Type 0
 IsPlaced (layout.NUp n) s page_paper sheet_paper pages text sides = let a = arrangement_in s n in
     (IsWritten (arranged page_paper sheet_paper a) text
     × IsArranged page_paper sheet_paper a (arranged page_paper sheet_paper a)) × (sides ≡ None)
-IsPlaced (layout.Booklet signature long_edge) s page_paper sheet_paper pages text sides = let b = binding_in s long_edge in
-    (IsWritten (bound page_paper sheet_paper b) text × IsBound page_paper sheet_paper b (bound page_paper sheet_paper b))
-    × (sides ≡ Some (unwrap_or signature (fours pages)))
+IsPlaced (layout.Booklet signing long_edge) s page_paper sheet_paper pages text sides = let b = binding_in s long_edge in
+    (s.creep ≡ pos 0)
+    × (IsWritten (bound page_paper sheet_paper b) text × IsBound page_paper sheet_paper b (bound page_paper sheet_paper b))
+    × (sides ≡ Some (sides_for (signing_of signing) pages))
 IsPlaced (layout.Spec specs) s page_paper sheet_paper pages text sides = (text ≡ string_bytes specs) × (sides ≡ None)
 IsPlaced (layout.Cards n) s page_paper sheet_paper pages text sides = ⊥
 IsPlaced (layout.Stack n duplex) s page_paper sheet_paper pages text sides = ⊥

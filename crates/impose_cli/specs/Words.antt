@@ -1,5 +1,5 @@
 -- What the words ask for, by the rows that the command finds among them.
-use Rattle.std.specs.Prelude.{◌≡◌, ◌⊎◌, ◌%◌, ◌==◌, ⊤, [], ℕ, ℤ, pos, Bool, true, false, not, if◌then◌else◌, is_some}
+use Rattle.std.specs.Prelude.{◌≡◌, ◌⊎◌, ⊤, [], ℕ, ℤ, pos, Bool, true, false, not, if◌then◌else◌, is_some}
 use Rattle.std.specs.Prelude.{option_map, List, Option, Some, None, codes, nat_eq, string_bytes}
 use Rattle.std.specs.Str.{bytes_eq}
 use Rattle.std.specs.List.{starts_with}
@@ -8,11 +8,13 @@ use Rattle.rules.specs.Papers.{Paper}
 use Rattle.lengths.specs.Lengths.{a4, length_named}
 use Rattle.command_words.specs.Borders.{border_named}
 use Rattle.command_words.specs.Matches.{has_true, number_named}
+use Rattle.rows.specs.declared.sewing.Signing.{Signing}
 use Rattle.rows.specs.declared.choices.Part.{Part}
 use Rattle.rows.specs.declared.choices.Part.TheVariants.{All, Odd, Even}
 use Rattle.impose_cli.specs.Choices.{is_whole}
 use Rattle.impose_cli.specs.declared.request.PageChoice.{PageChoice}
 use Rattle.impose_cli.specs.Command.{impose}
+use Rattle.impose_cli.specs.Signatures.{signing_asked}
 use Rattle.impose_cli.specs.Sizes.{size_named}
 use Rattle.impose_cli.specs.declared.request.Layout.{Layout}
 use Rattle.impose_cli.specs.declared.request.Layout.TheVariants as layout
@@ -20,7 +22,7 @@ use Rattle.impose_cli.specs.declared.request.Request.{Request}
 use Rattle.impose_cli.specs.Spacings.{keeps_room, nothing_kept}
 use Rattle.impose_cli.specs.declared.request.Spacing.{Spacing}
 use Rattle.impose_cli.specs.declared.fault.LengthOption.{LengthOption}
-use Rattle.impose_cli.specs.declared.fault.LengthOption.TheVariants.{Margin, Gap, Trim}
+use Rattle.impose_cli.specs.declared.fault.LengthOption.TheVariants.{Margin, Gap, Trim, Creep}
 use Rattle.impose_cli.specs.declared.fault.PaperOption.{PaperOption}
 use Rattle.impose_cli.specs.declared.fault.PaperOption.TheVariants.{Paper as OfPages, Sheet as OfSheets}
 use Rattle.impose_cli.specs.declared.fault.CommandFault.{CommandFault}
@@ -56,6 +58,7 @@ abbrev pub length_id : LengthOption → Text
 length_id Margin = codes "margin"
 length_id Gap = codes "gap"
 length_id Trim = codes "trim"
+length_id Creep = codes "creep"
 
 -- no length is 0; and nothing if the text names none
 abbrev pub length_asked : Option Text → Option ℤ
@@ -65,10 +68,9 @@ length_asked (Some text) = length_named a4 text
 abbrev pub length_found : LengthOption → (found : List Row) → Option ℤ
 length_found option found = length_asked (first_of (length_id option) found)
 
--- a signature of leaves that are folded has a multiple of four sides
-abbrev pub is_folded : (signature : Option ℕ) → Bool
-is_folded None = true
-is_folded (Some sides) = sides % 4 == 0
+-- how a booklet is sewn
+abbrev pub signing_found : (found : List Row) → Option Signing
+signing_found found = signing_asked (first_of (codes "signature") found)
 
 abbrev pub part_by : (odd even : Bool) → Option Part
 part_by false false = Some All
@@ -104,8 +106,7 @@ AsksFor name found (layout.NUp n) = (name ≡ codes "nup") × (number_found (cod
 AsksFor name found (layout.Cards n) = (name ≡ codes "cards") × (number_found (codes "count") found ≡ Some n)
 AsksFor name found (layout.Stack n duplex) = (name ≡ codes "stack") × (number_found (codes "count") found ≡ Some n)
     × (has_flag (codes "duplex") found ≡ duplex)
-AsksFor name found (layout.Booklet signature long_edge) =
-    (name ≡ codes "booklet") × (number_found (codes "signature") found ≡ signature) × (is_folded signature ≡ true)
+AsksFor name found (layout.Booklet signing long_edge) = (name ≡ codes "booklet") × (signing_found found ≡ Some signing)
     × (has_flag (codes "long-edge") found ≡ long_edge)
 AsksFor name found layout.Selection = (name ≡ codes "select") × (is_some (first_of (codes "ranges") found) ≡ true)
 AsksFor name found (layout.Spec specs) = (name ≡ codes "spec")
@@ -123,11 +124,11 @@ ChoosesBy None found choice = is_whole choice ≡ true
 ChoosesBy (Some id) found choice = (first_of id found ≡ option_map string_bytes choice.ranges)
     × (part_found found ≡ Some choice.part) × (has_flag (codes "reverse") found ≡ choice.backwards)
 
--- what was found asks for this to be kept free, by a layout that keeps room; or nothing is
+-- what was found asks for this to be kept free, by a layout that keeps room, and for this creep; or nothing is
 abbrev pub SpacesBy : (keeps : Bool) → (found : List Row) → Spacing → Type 0
 SpacesBy false found s = s ≡ nothing_kept
 SpacesBy true found s = (length_found Margin found ≡ Some s.margin) × (length_found Gap found ≡ Some s.gap)
-    × (length_found Trim found ≡ Some s.trim) × (has_flag (codes "rtl") found ≡ s.right_to_left)
+    × (length_found Trim found ≡ Some s.trim) × (length_found Creep found ≡ Some s.creep) × (has_flag (codes "rtl") found ≡ s.right_to_left)
 
 -- the request is what was found
 pub record Reads (name : Text) (found : List Row) (r : Request) : Type 0 where
@@ -195,6 +196,8 @@ abbrev pub AreBefore : LengthOption → (found : List Row) → Type 0
 AreBefore Margin found = ⊤
 AreBefore Gap found = is_some (length_found Margin found) ≡ true
 AreBefore Trim found = (is_some (length_found Margin found) ≡ true) × (is_some (length_found Gap found) ≡ true)
+AreBefore Creep found = (is_some (length_found Margin found) ≡ true) × (is_some (length_found Gap found) ≡ true)
+    × (is_some (length_found Trim found) ≡ true)
 
 pub record NamesNoLength (option : LengthOption) (found : List Row) (text : Text) : Type 0 where
   pub given : first_of (length_id option) found ≡ Some text
@@ -219,8 +222,8 @@ is_complete name found =
 
 -- what a refusal of a layout says of what was found
 abbrev pub RefusesArguments : (name : Text) → (found : List Row) → CommandFault → Type 0
-RefusesArguments name found (fault.BadSignature sides) = (name ≡ codes "booklet")
-    × (number_found (codes "signature") found ≡ Some sides) × (is_folded (Some sides) ≡ false)
+RefusesArguments name found (fault.BadSignature text) = (name ≡ codes "booklet")
+    × (first_of (codes "signature") found ≡ Some (string_bytes text)) × (signing_found found ≡ None)
 RefusesArguments name found fault.OddAndEven = ⊥
 RefusesArguments name found fault.Lacking = is_complete name found ≡ false
 RefusesArguments name found fault.NoMemory = ⊤
@@ -239,8 +242,8 @@ RefusesFound name found (fault.UnknownPaper OfSheets text) = (is_some (size_foun
     × NamesNoSize OfSheets found (string_bytes text)
 RefusesFound name found (fault.BadBorder text) = HasPapers found
     × (first_of (codes "border") found ≡ Some (string_bytes text)) × (border_found found ≡ None)
-RefusesFound name found (fault.BadSignature sides) = HasSizes found
-    × RefusesArguments name found (fault.BadSignature sides)
+RefusesFound name found (fault.BadSignature text) = HasSizes found
+    × RefusesArguments name found (fault.BadSignature text)
 RefusesFound name found fault.OddAndEven = AsksForNone name found
 RefusesFound name found (fault.BadLength option text) = HasLayout name found × NamesNoLength option found (string_bytes text)
 RefusesFound name found fault.Lacking = HasSizes found × RefusesArguments name found fault.Lacking
@@ -257,8 +260,8 @@ Refuses words fault.NoMemory = ⊤
 Refuses words (fault.UnknownPaper option text) =
     Entered words (λ name found. RefusesFound name found (fault.UnknownPaper option text))
 Refuses words (fault.BadBorder text) = Entered words (λ name found. RefusesFound name found (fault.BadBorder text))
-Refuses words (fault.BadSignature sides) =
-    Entered words (λ name found. RefusesFound name found (fault.BadSignature sides))
+Refuses words (fault.BadSignature text) =
+    Entered words (λ name found. RefusesFound name found (fault.BadSignature text))
 Refuses words (fault.BadLength option text) =
     Entered words (λ name found. RefusesFound name found (fault.BadLength option text))
 Refuses words fault.OddAndEven = Entered words (λ name found. RefusesFound name found fault.OddAndEven)

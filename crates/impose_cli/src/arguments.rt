@@ -5,7 +5,7 @@ ghost use Rattle.clap.specs.Words.{app_of, new_app, rule_of, with_rule};
 ghost use Rattle.command_words.specs.Arguments.{fits};
 ghost use Rattle.impose_cli.specs.Command.{apps, booklet_app, cards_app, common_rules, count_rule, flag_rule, impose};
 ghost use Rattle.impose_cli.specs.Command.{nup_app, option_rule, positional_rule, required_rule, select_app, spec_app};
-ghost use Rattle.impose_cli.specs.Command.{signature_rule, stack_app};
+ghost use Rattle.impose_cli.specs.Command.{stack_app};
 
 use clap::{Arg, ArgAction, Command, value_parser};
 use std::alloc::{AllocError, Global};
@@ -111,6 +111,7 @@ fn booklet<'a>(alloc: Global) -> Result<Command<'a>, AllocError>
     let about = "A booklet, to be printed on both sides, folded and stapled";
     let own = vec![in alloc;
         signature(alloc),
+        creep(alloc),
         long_edge,
         margin(alloc),
         gap(alloc),
@@ -145,11 +146,19 @@ fn count<'a>(alloc: Global) -> Arg<'a>
 }
 
 fn signature<'a>(alloc: Global) -> Arg<'a>
-    ensures { rule_of result ≡ signature_rule }
+    ensures { rule_of result ≡ option_rule (codes "signature") }
 {
-    option(alloc, "signature", "SIDES")
-        .value_parser(value_parser!(u32).range(4..=1_000_000))
-        .help("Leaves of so many sides, a multiple of four [default: all pages]")
+    option(alloc, "signature", "SIDES").help(
+        "Leaves of so many sides, a multiple of four, or auto, for eight leaves at most [default: all pages]",
+    )
+}
+
+fn creep<'a>(alloc: Global) -> Arg<'a>
+    ensures { rule_of result ≡ option_rule (codes "creep") }
+{
+    option(alloc, "creep", "LENGTH").help(
+        "Move pages of the innermost leaf so much towards the fold, and of others less, as 2mm",
+    )
 }
 
 fn margin<'a>(alloc: Global) -> Arg<'a>

@@ -5,7 +5,7 @@ ghost use Rattle.impose_cli.specs.Command.{impose};
 ghost use Rattle.impose_cli.specs.Words.{AsksFor, Entered, ParseRefuses, Reads, Refuses, RefusesFound};
 ghost use Rattle.impose_cli.specs.Words.{RefusesArguments, border_found, file_asked, is_outfile, paper_id};
 ghost use Rattle.impose_cli.specs.Words.{ChoosesBy, SpacesBy, length_found, length_id, ranges_id, part_by as of_both};
-ghost use Rattle.impose_cli.specs.Words.{size_found};
+ghost use Rattle.impose_cli.specs.Words.{signing_found, size_found};
 ghost use Rattle.impose_cli.specs.Spacings.{keeps_room};
 ghost use Rattle.impose_cli.specs.Sizing.{ReadsSizes, RefusesBorder, RefusesChoice, RefusesOutfile, RefusesSize};
 ghost use Rattle.impose_cli.specs.Sizing.{RefusesLength, RefusesSizes, RefusesSpacing};
@@ -13,12 +13,13 @@ ghost use Rattle.impose_cli.specs.Sizing.{RefusesLength, RefusesSizes, RefusesSp
 use crate::arguments::command;
 use crate::fault::{CommandFault, LengthOption, PaperOption};
 use crate::request::{Layout, PageChoice, Request, Spacing};
+use crate::signature::signing_named;
 use crate::sizes::size_named;
 use clap::ArgMatches;
 use clap::error::ErrorKind;
 use command_words::{border_named, is_set, number_of, owned, text_of};
 use lengths::{Grains, Paper, a4, length_named};
-use rows::Part;
+use rows::{Part, Signing};
 use std::alloc::Global;
 
 /// The request that the words make, of which the first is the program's name. The paper at home is no matter of the words:
@@ -26,8 +27,8 @@ use std::alloc::Global;
 ///
 /// Words that the command doesn't take are `Words`, with clap's message, and so is a call for help or for the version.
 /// Among words that it takes, the first of these is the fault: a paper that there isn't, after `--paper`, then after
-/// `--sheet`; a border that is no length, or below zero; what the subcommand's own arguments can't be together; a margin, a
-/// gap or a trim that is no length; odd and even entries together; an OUTFILE that begins with a minus sign.
+/// `--sheet`; a border that is no length, or below zero; a signature that leaves can't have; a margin, a gap, a trim or a
+/// creep that is no length; odd and even entries together; an OUTFILE that begins with a minus sign.
 #[tactic(auto, using(crate::proofs::Commands::impose_is_simple))]
 pub fn read_command(alloc: Global, words: &[String]) -> Result<Request, CommandFault>
     // The command takes the words, and the request is what it finds among them.
@@ -190,7 +191,7 @@ fn layout_of(alloc: Global, name: &str, found: &ArgMatches<'_>) -> Result<Layout
     if name == "nup" {
         nup_of(found)
     } else if name == "booklet" {
-        booklet_of(found)
+        booklet_of(alloc, found)
     } else if name == "cards" {
         cards_of(found)
     } else if name == "stack" {
@@ -237,20 +238,31 @@ fn stack_of(found: &ArgMatches<'_>) -> Result<Layout, CommandFault>
     }
 }
 
-fn booklet_of(found: &ArgMatches<'_>) -> Result<Layout, CommandFault>
+fn booklet_of(alloc: Global, found: &ArgMatches<'_>) -> Result<Layout, CommandFault>
     ensures read { IfOk result (AsksFor (codes "booklet") (rows_of (found_of found.now))) }
     ensures refused { IfErr result (RefusesArguments (codes "booklet") (rows_of (found_of found.now))) }
 {
-    let signature = number_of(found, "signature");
-    if let Some(sides) = signature {
-        if sides % 4 != 0 {
-            return Err(CommandFault::BadSignature(sides));
-        }
+    match signing_of(alloc, found) {
+        Ok(signing) => Ok(Layout::Booklet {
+            signing,
+            long_edge: is_set(found, "long-edge"),
+        }),
+        Err(fault) => Err(fault),
     }
-    Ok(Layout::Booklet {
-        signature,
-        long_edge: is_set(found, "long-edge"),
-    })
+}
+
+/// How a booklet is sewn; in one signature of all pages if nothing is asked for.
+fn signing_of(alloc: Global, found: &ArgMatches<'_>) -> Result<Signing, CommandFault>
+    ensures read { IfOk result (λ signing. signing_found (rows_of (found_of found.now)) ≡ Some signing) }
+    ensures refused { IfErr result (RefusesArguments (codes "booklet") (rows_of (found_of found.now))) }
+{
+    match text_of(found, "signature") {
+        None => Ok(Signing::InOne),
+        Some(text) => match signing_named(text) {
+            Some(signing) => Ok(signing),
+            None => Err(CommandFault::BadSignature(String::from_str(alloc, text)?)),
+        },
+    }
 }
 
 fn selection_of(found: &ArgMatches<'_>) -> Result<Layout, CommandFault>
@@ -293,11 +305,16 @@ fn spacing_of(
         Ok(gap) => gap,
         Err(fault) => return Err(fault),
     };
-    match length_of(alloc, found, LengthOption::Trim) {
-        Ok(trim) => Ok(Spacing {
+    let trim = match length_of(alloc, found, LengthOption::Trim) {
+        Ok(trim) => trim,
+        Err(fault) => return Err(fault),
+    };
+    match length_of(alloc, found, LengthOption::Creep) {
+        Ok(creep) => Ok(Spacing {
             margin,
             gap,
             trim,
+            creep,
             right_to_left: is_set(found, "rtl"),
         }),
         Err(fault) => Err(fault),
@@ -330,6 +347,7 @@ fn length_name(option: LengthOption) -> &'static str
         LengthOption::Margin => "margin",
         LengthOption::Gap => "gap",
         LengthOption::Trim => "trim",
+        LengthOption::Creep => "creep",
     }
 }
 

@@ -20,6 +20,7 @@ pub enum LengthOption {
     Margin,
     Gap,
     Trim,
+    Creep,
 }
 
 /// Why a command line is refused.
@@ -37,8 +38,8 @@ pub enum CommandFault {
     BadBorder(String),
     /// The option's value, this text, is no length.
     BadLength(LengthOption, String),
-    /// A signature of so many sides, which is no multiple of four.
-    BadSignature(u32),
+    /// The value of `--signature`, this text, is neither `auto` nor a number of sides that leaves may have.
+    BadSignature(String),
     /// Both `--odd` and `--even` are there.
     OddAndEven,
     /// OUTFILE, this text, begins with a minus sign, as options do.

@@ -1,8 +1,9 @@
 //! How a layout lays a row of pages on sheets.
-ghost use Rattle.std.specs.Prelude.{◌≡◌, ◌<◌, ◌≤◌, IfErr, IfOk, IfSome, OnOk, None, Some, option_map};
+ghost use Rattle.std.specs.Prelude.{◌≡◌, ◌↔◌, ◌<◌, ◌≤◌, IfErr, IfOk, IfSome, IsTrue, OnOk, None, Some, option_map};
 ghost use Rattle.layouts.specs.Cells.{size};
 ghost use Rattle.layouts.specs.Fitted.{setting_of};
-ghost use Rattle.layouts.specs.Refusals.{why_not_arranged};
+ghost use Rattle.layouts.specs.Grids.{rounded_down as rounded_down_of};
+ghost use Rattle.layouts.specs.Refusals.{is_length as may_be_length, why_not_arranged};
 ghost use Rattle.rows.specs.Sewing.{MayBeSewn, signing_of};
 ghost use Rattle.row_runs.specs.Sheets.{MayBeLaid};
 ghost use Rattle.impose_cli.specs.Refusals.{RefusesLaying, RefusesSides};
@@ -13,10 +14,11 @@ ghost use Rattle.impose_cli.specs.declared.request.Layout.TheVariants as layout;
 use crate::fault::Fault;
 use crate::request::{Layout, Spacing};
 use imposer::RunError;
-use layouts::{Papers, Setting};
-use lengths::Paper;
+use layouts::{ArrangementError, Papers, Setting};
+use lengths::{Grains, Paper};
 use row_runs::Laying;
 use rows::Signing;
+use sheet_plan::are_sides;
 
 /// The papers of the pages and of the sheets of a layout. A selection keeps its pages on their own paper.
 pub(crate) fn papers_for(layout: &Layout, named: Option<Paper>, page: Paper) -> Papers
@@ -47,7 +49,9 @@ pub(crate) fn laying_for(
         Layout::NUp(count) => nup_laying(*count, spacing, papers),
         Layout::Cards(count) => cards_laying(*count, spacing, papers),
         Layout::Stack { count, duplex } => stack_laying(*count, *duplex, spacing, papers),
-        Layout::Booklet { long_edge, .. } => booklet_laying(*long_edge, spacing, papers),
+        Layout::Booklet { signing, long_edge } => {
+            booklet_laying(*signing, *long_edge, spacing, papers)
+        }
         Layout::Selection => Ok(Some(Laying::AsTheyAre {
             blank: papers.sheet,
         })),
@@ -132,25 +136,47 @@ fn cells_for(count: u32, spacing: &Spacing, papers: &Papers) -> Result<Setting, 
 }
 
 fn booklet_laying(
+    signing: Signing,
     long_edge: bool,
     spacing: &Spacing,
     papers: &Papers,
 ) -> Result<Option<Laying>, Fault>
     ensures laying { IfOk result (λ laying.
-        laying ≡ laying_in (layout.Booklet None long_edge) spacing.now papers.now.page papers.now.sheet) }
+        laying ≡ laying_in (layout.Booklet signing long_edge) spacing.now papers.now.page papers.now.sheet) }
     ensures may_be { IfOk result (λ laying. IfSome laying MayBeLaid) }
     ensures possible { OnOk result
-        (why_not_laid (layout.Booklet None long_edge) spacing.now papers.now.page papers.now.sheet ≡ None) }
+        (why_not_laid (layout.Booklet signing long_edge) spacing.now papers.now.page papers.now.sheet ≡ None) }
     ensures refused { IfErr result
-        (RefusesLaying (layout.Booklet None long_edge) spacing.now papers.now.page papers.now.sheet) }
+        (RefusesLaying (layout.Booklet signing long_edge) spacing.now papers.now.page papers.now.sheet) }
 {
+    if !is_length(spacing.creep) {
+        return Err(Fault::Layout(ArrangementError::LengthOutOfRange));
+    }
+    let creep = rounded_down(spacing.creep);
     match Setting::of_binding(papers, &spacing.binding(long_edge)) {
         Ok(setting) => Ok(Some(Laying::Booklet {
             setting,
             turned_backs: long_edge,
+            creep,
         })),
         Err(error) => Err(Fault::Layout(error)),
     }
+}
+
+/// Whether a length is from 0 to 99,999 points and five nines behind the dot.
+fn is_length(length: Grains) -> bool
+    ensures { result ≡ may_be_length length }
+{
+    let grains = length.get();
+    0 <= grains && grains < 12_700_000_000_000_000
+}
+
+/// A length in whole 10^-5 of a point, to which none is added.
+fn rounded_down(length: Grains) -> u64
+    requires { IsTrue (may_be_length length) }
+    ensures { result ≡ rounded_down_of length }
+{
+    length.get() as u64 / 1_270_000
 }
 
 /// How a layout is sewn, if it is.
@@ -160,21 +186,23 @@ pub(crate) fn signing_for(layout: &Layout) -> Result<Option<Signing>, Fault>
     ensures refused { IfErr result (RefusesSides layout.now) }
 {
     match layout {
-        Layout::Booklet {
-            signature: Some(sides),
-            ..
-        } => {
-            let sides = *sides;
-            if sides == 0 || sides % 4 != 0 || sides > 1_000_000 {
-                Err(Fault::Run(RunError::Options))
+        Layout::Booklet { signing, .. } => {
+            if may_be_sewn(*signing) {
+                Ok(Some(*signing))
             } else {
-                Ok(Some(Signing::OfSides(sides)))
+                Err(Fault::Run(RunError::Options))
             }
         }
-        Layout::Booklet {
-            signature: None,
-            ..
-        } => Ok(Some(Signing::InOne)),
         _ => Ok(None),
+    }
+}
+
+/// Whether a signature may have so many sides, if a number is named.
+fn may_be_sewn(signing: Signing) -> bool
+    ensures { IsTrue result ↔ MayBeSewn signing }
+{
+    match signing {
+        Signing::OfSides(sides) => are_sides(sides),
+        Signing::InOne | Signing::Auto => true,
     }
 }

@@ -15,6 +15,7 @@ mod program;
 mod request;
 mod row_task;
 mod shown;
+mod signature;
 mod sizes;
 mod task;
 
@@ -26,5 +27,6 @@ pub use printed::printed_task;
 pub use program::{Done, Ended, impose};
 pub use request::{Layout, PageChoice, Request, Spacing};
 pub use row_task::run_request;
+pub use signature::signing_named;
 pub use sizes::size_named;
 pub use task::{Finished, PaperOrigin, Task, check_layout, task_for};

@@ -7,6 +7,7 @@ use crate::fault::{CommandFault, Fault, LengthOption, PaperOption};
 use crate::mistakes::looks_like_file;
 use crate::request::{Layout, PageChoice, Request};
 use crate::shown::shown_word;
+use crate::signature::number_in;
 use crate::task::{Finished, PaperOrigin};
 use clap::error::ErrorKind;
 use command_words::run_status;
@@ -190,8 +191,8 @@ pub fn fault_text(
         Fault::Sheets(error) => String::from_str(alloc, sheets_message(error)),
         Fault::NoSpecification => String::from_str(
             alloc,
-            "--print-spec: no specification says a selection, cards or a stack, nor --pages, --odd, --even or --reverse; \
-            leave it out",
+            "--print-spec: no specification says a selection, cards or a stack, nor --pages, --odd, --even, --reverse or \
+            --creep; leave it out",
         ),
         Fault::NoSuchPage { place, pages } => {
             let message = format!(in alloc;
@@ -334,13 +335,7 @@ pub fn command_text(alloc: Global, fault: &CommandFault) -> Result<String, Alloc
             let text = text.as_str();
             format!(in alloc; "bad length '{text}' after {option}: give it as 5mm, .2in or 14pt")
         }
-        CommandFault::BadSignature(sides) => {
-            let below = sides - sides % 4;
-            let above = below.saturating_add(4);
-            format!(in alloc;
-                "a signature of {sides} sides can't be folded: take a multiple of four, as {below} or {above}"
-            )
-        }
+        CommandFault::BadSignature(text) => signature_text(alloc, text.as_str()),
         CommandFault::OddAndEven => {
             String::from_str(
                 alloc,
@@ -359,11 +354,32 @@ pub fn command_text(alloc: Global, fault: &CommandFault) -> Result<String, Alloc
     }
 }
 
+/// What is said of a text that names no signature.
+fn signature_text(alloc: Global, text: &str) -> Result<String, AllocError> {
+    match number_in(text) {
+        Some(sides) if 4 < sides && sides < 1_000_000 => {
+            let below = sides - sides % 4;
+            let above = below + 4;
+            format!(in alloc;
+                "a signature of {sides} sides can't be folded: take a multiple of four, as {below} or {above}, or auto"
+            )
+        }
+        _ => {
+            let shown = shown_word(alloc, text)?;
+            let shown = shown.as_str();
+            format!(in alloc;
+                "bad signature '{shown}' after --signature: give a multiple of four, as 16, up to 1000000, or auto"
+            )
+        }
+    }
+}
+
 fn length_option(option: LengthOption) -> &'static str {
     match option {
         LengthOption::Margin => "--margin",
         LengthOption::Gap => "--gap",
         LengthOption::Trim => "--trim",
+        LengthOption::Creep => "--creep",
     }
 }
 
@@ -468,7 +484,7 @@ fn layout_message(error: &ArrangementError) -> &'static str {
             "a side of a paper is 100,000 points or more: name a smaller paper"
         }
         ArrangementError::LengthOutOfRange => {
-            "a margin, a gap or a trim is below 0, or 100,000 points or more"
+            "a margin, a gap, a trim or a creep is below 0, or 100,000 points or more"
         }
         ArrangementError::NothingLeftOfPage =>
             "nothing is left of a page that is trimmed so: trim less",

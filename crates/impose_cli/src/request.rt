@@ -6,7 +6,7 @@ ghost use Rattle.impose_cli.specs.Spacings.{arrangement_in, binding_in, keeps_ro
 
 use layouts::{Arrangement, Binding, Cells, Order, Run, Turned};
 use lengths::{Grains, Paper};
-use rows::{Choice, Part};
+use rows::{Choice, Part, Signing};
 
 /// How the pages are laid out.
 #[derive(Debug, Drop)]
@@ -21,9 +21,9 @@ pub enum Layout {
         count: u32,
         duplex: bool,
     },
-    /// Two pages on each side of a sheet, to be folded; in signatures of so many sides, or in one.
+    /// Two pages on each side of a sheet, to be folded and sewn so.
     Booklet {
-        signature: Option<u32>,
+        signing: Signing,
         long_edge: bool,
     },
     /// Each page as it is, on a sheet of its own paper.
@@ -45,7 +45,7 @@ impl Layout {
     }
 }
 
-/// What is kept free on sheets, and on which side one begins to read.
+/// What is kept free on sheets, how far leaves creep, and on which side one begins to read.
 #[derive(Clone, Copy, Debug, PartialEq, Eq)]
 pub struct Spacing {
     /// Kept free along each edge of a sheet.
@@ -54,6 +54,8 @@ pub struct Spacing {
     pub gap: Grains,
     /// A page counts as smaller by this along each of its sides; what is there may reach over its neighbours.
     pub trim: Grains,
+    /// Pages of a booklet's innermost leaves are moved towards the fold by this.
+    pub creep: Grains,
     /// Pages stand from the right to the left, and a booklet is bound at the right.
     pub right_to_left: bool,
 }
@@ -68,6 +70,7 @@ impl Spacing {
             margin: plain.margin,
             gap: plain.gap,
             trim: plain.trim,
+            creep: plain.trim,
             right_to_left: false,
         }
     }

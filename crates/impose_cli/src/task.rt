@@ -3,6 +3,8 @@ ghost use Rattle.std.specs.Prelude.{◌≡◌, ◌⊎◌, ℕ, List, ◌<◌, �
 ghost use Rattle.std.specs.Io.KnownBytes.{Appends};
 ghost use Rattle.rules.specs.Output.{output};
 ghost use Rattle.rules.specs.Run.{most_pages};
+ghost use Rattle.made_sheets.specs.Choice.{sides_for};
+ghost use Rattle.rows.specs.Sewing.{signing_of};
 ghost use Rattle.layouts.specs.Grids.{bound};
 ghost use Rattle.layouts.specs.Laws.{IsBound};
 ghost use Rattle.layouts.specs.Refusals.{why_not_bound};
@@ -10,7 +12,7 @@ ghost use Rattle.layouts.specs.declared.error.ArrangementError.{ArrangementError
 ghost use Rattle.sheet_writer.specs.Sinks.{IsCountable};
 ghost use Rattle.imposer.specs.Runs.{Accepted, FailedIn, HasWritten, IsRefusal, Reports, frame_of};
 ghost use Rattle.impose_cli.specs.Faults.{of_document as document_fault, of_other_input, without_memory};
-ghost use Rattle.impose_cli.specs.Tasks.{HasPages, IsPlaced, IsTask, IsWritten, asked_by, fours, page_paper_found};
+ghost use Rattle.impose_cli.specs.Tasks.{HasPages, IsPlaced, IsTask, IsWritten, asked_by, page_paper_found};
 ghost use Rattle.impose_cli.specs.Tasks.{IsSpec, sheet_paper_found, taken_text};
 ghost use Rattle.impose_cli.specs.Refusals.{RefusesDocument, RefusesLayout, RefusesTask};
 ghost use Rattle.impose_cli.specs.Endings.{EndsBySpec};
@@ -29,6 +31,7 @@ use layouts::{Binding, Papers, arrange, bind};
 use lengths::Paper;
 use own_papers::Cut;
 use pagespec::{Spec, read_spec, write_spec};
+use rows::{Signing, auto_sides};
 use std::alloc::{AllocError, Global};
 use std::sync::Wait;
 use std::thread::Threads;
@@ -188,6 +191,7 @@ pub(crate) fn paper_of_sheets<'p>(named: &'p Option<Paper>, page_paper: &'p Pape
 /// How many pages the document has.
 pub(crate) fn pages_of(alloc: Global, input: &[u8]) -> Result<u32, Fault>
     ensures counted { IfOk result (HasPages input.now) }
+    ensures some { IfOk result (λ pages. 0 < pages) }
     ensures within { IfOk result (λ pages. pages ≤ most_pages) }
     ensures refused { IfErr result (RefusesDocument input.now) }
 {
@@ -235,7 +239,8 @@ fn placing(
     papers: &Papers,
     pages: u32,
 ) -> Result<Placed, Fault>
-    requires { pages ≤ most_pages }
+    requires some { 0 < pages }
+    requires few { pages ≤ most_pages }
     ensures placed { IfOk result (λ placed.
         IsPlaced layout.now spacing.now papers.now.page papers.now.sheet pages (string_bytes placed.0) placed.1) }
     ensures refused { IfErr result (λ f.
@@ -243,11 +248,11 @@ fn placing(
 {
     match layout {
         Layout::NUp(count) => nup_placing(alloc, *count, spacing, papers),
-        Layout::Booklet {
-            signature,
-            long_edge,
-        } => {
-            let sides = signature.unwrap_or(in_fours(pages));
+        Layout::Booklet { signing, long_edge } => {
+            if spacing.creep.get() != 0 {
+                return Err(Fault::NoSpecification);
+            }
+            let sides = sides_of(*signing, pages);
             booklet_placing(alloc, &spacing.binding(*long_edge), papers, sides)
         }
         Layout::Cards(_) | Layout::Stack { .. } | Layout::Selection => Err(Fault::NoSpecification),
@@ -305,12 +310,17 @@ fn written(alloc: Global, spec: &Spec, sides: Option<u32>) -> Result<Placed, Fau
     }
 }
 
-/// The smallest multiple of four that is no less.
-fn in_fours(pages: u32) -> u32
-    requires { pages ≤ most_pages }
-    ensures { result ≡ fours pages }
+/// How many sides a signature has, for so many pages.
+fn sides_of(signing: Signing, pages: u32) -> u32
+    requires some { 0 < pages }
+    requires few { pages ≤ most_pages }
+    ensures { result ≡ sides_for (signing_of signing) pages }
 {
-    (pages + 3) / 4 * 4
+    match signing {
+        Signing::InOne => (pages + 3) / 4 * 4,
+        Signing::OfSides(sides) => sides,
+        Signing::Auto => auto_sides(pages as usize),
+    }
 }
 
 /// Carries a request out by the specification that it names.

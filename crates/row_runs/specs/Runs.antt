@@ -8,7 +8,7 @@ use Rattle.sheet_plan.specs.MadeRefusals.{RefusesMade}
 use Rattle.sheet_writer.specs.Sinks.{SinkView}
 use Rattle.imposer.specs.declared.outcome.Report.{Report}
 use Rattle.sheet_runs.specs.Runs.{ReportsOn, WroteStart, told_output}
-use Rattle.row_runs.specs.Sheets.{AreAsked, WhyNotLaid, row_asked}
+use Rattle.row_runs.specs.Sheets.{AreAsked, WhyNotLaid, row_chosen}
 use Rattle.row_runs.specs.Sheets as sheets
 use Rattle.row_runs.specs.declared.run.RowJob.{RowJob}
 use Rattle.row_runs.specs.declared.error.AskedError.{AskedError}
@@ -50,7 +50,7 @@ RefusesRun j (error.Row e) = sheets.RefusesAsked (page_count j) j.papers.now j.a
 RefusesRun j (error.Arrangement e) = sheets.RefusesAsked (page_count j) j.papers.now j.asked (error.Arrangement e)
 RefusesRun j (error.Sheets e) =
     (made : List MadeSheet) × AreAsked (page_count j) j.papers.now j.asked made × RefusesMade (page_count j) made e
-RefusesRun j (error.NoMemory written) = IsOk (row_asked (page_count j) j.asked)
+RefusesRun j (error.NoMemory written) = IsOk (row_chosen (page_count j) j.asked)
 RefusesRun j (error.Write written) = (made : List MadeSheet) × ArePlanned j made
 
 -- the first bytes of the output of the sheets that are asked for were written, so many, and nothing else

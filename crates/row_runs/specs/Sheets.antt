@@ -1,9 +1,9 @@
 -- The sheets that are asked for.
-use Rattle.std.specs.Prelude.{◌≡◌, ⊤, ℕ, ◌<◌, ◌≤◌, List, IsOk, IfSome, Ok, Result, option_map}
+use Rattle.std.specs.Prelude.{◌≡◌, ⊤, ℕ, ◌/◌, ◌<◌, ◌≤◌, List, length, IsOk, IfSome, Option, Some, None, Ok, Result, option_map}
 use Rattle.rules.specs.Papers.{Paper}
 use Rattle.made_sheets.specs.Made.{MadeSheet}
 use Rattle.made_sheets.specs.Rows.{Row}
-use Rattle.made_sheets.specs.Choice.{RowFault, imposed_row}
+use Rattle.made_sheets.specs.Choice.{RowFault, Signing, chosen, sides_for, signed}
 use Rattle.layouts.specs.Cells.{size}
 use Rattle.layouts.specs.declared.error.ArrangementError.{ArrangementError}
 use Rattle.layouts.specs.declared.error.ArrangementError.TheVariants as why
@@ -11,7 +11,8 @@ use Rattle.rows.specs.Choices.{choice_of}
 use Rattle.rows.specs.Sewing.{MayBeSewn, signing_of}
 use Rattle.rows.specs.Refusals.{RefusesRow}
 use Rattle.row_sheets.specs.RowSheets.{selected}
-use Rattle.arranged_sheets.specs.Filled.{booklet_sheets, card_sheets, duplex_sheets, grid_sheets, stack_sheets}
+use Rattle.arranged_sheets.specs.Filled.{card_sheets, duplex_sheets, grid_sheets, stack_sheets}
+use Rattle.arranged_sheets.specs.Creep.{AreHalves, IsRefusedCreeping, creeping_sheets}
 use Rattle.arranged_sheets.specs.Shapes.{IsRefusedFor, filling}
 use Rattle.row_runs.specs.declared.asked.Asked.{Asked}
 use Rattle.row_runs.specs.declared.asked.Laying.{Laying}
@@ -19,53 +20,68 @@ use Rattle.row_runs.specs.declared.asked.Laying.TheVariants as laying
 use Rattle.row_runs.specs.declared.error.AskedError.{AskedError}
 use Rattle.row_runs.specs.declared.error.AskedError.TheVariants as error
 
--- so many cells are some, and the sheet has them
+-- so many cells are some, and the sheet has them; those of a booklet are its halves
 abbrev pub MayBeLaid : Laying → Type 0
 MayBeLaid (laying.AsTheyAre blank) = ⊤
 MayBeLaid (laying.Grid setting cells) = (0 < cells) × (cells ≤ size setting.grid)
 MayBeLaid (laying.Cards setting cells) = (0 < cells) × (cells ≤ size setting.grid)
 MayBeLaid (laying.Stack setting cells) = (0 < cells) × (cells ≤ size setting.grid)
 MayBeLaid (laying.Leaves setting) = ⊤
-MayBeLaid (laying.Booklet setting turned_backs) = 2 ≤ size setting.grid
+MayBeLaid (laying.Booklet setting turned_backs creep) = AreHalves setting
 
 -- and a signature may have so many sides
 pub record MayBeAsked (a : Asked) : Type 0 where
   pub laid : MayBeLaid a.laying
   pub sewn : IfSome a.signing MayBeSewn
 
--- a row of pages with these papers, laid on sheets
-abbrev pub sheets_laid : Laying → List Paper → Row → List MadeSheet
-sheets_laid (laying.AsTheyAre blank) papers row = selected papers blank row
-sheets_laid (laying.Grid setting cells) papers row = grid_sheets (filling setting papers) cells row
-sheets_laid (laying.Cards setting cells) papers row = card_sheets (filling setting papers) cells row
-sheets_laid (laying.Stack setting cells) papers row = stack_sheets (filling setting papers) cells row
-sheets_laid (laying.Leaves setting) papers row = duplex_sheets (filling setting papers) row
-sheets_laid (laying.Booklet setting turned_backs) papers row = booklet_sheets (filling setting papers) turned_backs row
+-- ---- how a row is laid
+
+-- how many leaves a signature of a row has; none if it isn't put into signatures
+abbrev pub leaves_in : Option Signing → Row → ℕ
+leaves_in None row = 0
+leaves_in (Some how) row = sides_for how (length row) / 4
+
+-- a row of pages with these papers, laid on sheets; if it is in signatures, each has so many leaves
+abbrev pub sheets_laid : Laying → (leaves : ℕ) → List Paper → Row → List MadeSheet
+sheets_laid (laying.AsTheyAre blank) leaves papers row = selected papers blank row
+sheets_laid (laying.Grid setting cells) leaves papers row = grid_sheets (filling setting papers) cells row
+sheets_laid (laying.Cards setting cells) leaves papers row = card_sheets (filling setting papers) cells row
+sheets_laid (laying.Stack setting cells) leaves papers row = stack_sheets (filling setting papers) cells row
+sheets_laid (laying.Leaves setting) leaves papers row = duplex_sheets (filling setting papers) row
+sheets_laid (laying.Booklet setting turned_backs creep) leaves papers row =
+    creeping_sheets (filling setting papers) turned_backs creep leaves row
 
 -- why it can't be laid: out of memory, or a page that can't stand in its cell
-abbrev pub WhyNotLaid : Laying → List Paper → Row → ArrangementError → Type 0
-WhyNotLaid (laying.AsTheyAre blank) papers row e = e ≡ why.NoMemory
-WhyNotLaid (laying.Grid setting cells) papers row e = IsRefusedFor (filling setting papers) row e
-WhyNotLaid (laying.Cards setting cells) papers row e = IsRefusedFor (filling setting papers) row e
-WhyNotLaid (laying.Stack setting cells) papers row e = IsRefusedFor (filling setting papers) row e
-WhyNotLaid (laying.Leaves setting) papers row e = IsRefusedFor (filling setting papers) row e
-WhyNotLaid (laying.Booklet setting turned_backs) papers row e = IsRefusedFor (filling setting papers) row e
+abbrev pub WhyNotLaid : Laying → (leaves : ℕ) → List Paper → Row → ArrangementError → Type 0
+WhyNotLaid (laying.AsTheyAre blank) leaves papers row e = e ≡ why.NoMemory
+WhyNotLaid (laying.Grid setting cells) leaves papers row e = IsRefusedFor (filling setting papers) row e
+WhyNotLaid (laying.Cards setting cells) leaves papers row e = IsRefusedFor (filling setting papers) row e
+WhyNotLaid (laying.Stack setting cells) leaves papers row e = IsRefusedFor (filling setting papers) row e
+WhyNotLaid (laying.Leaves setting) leaves papers row e = IsRefusedFor (filling setting papers) row e
+WhyNotLaid (laying.Booklet setting turned_backs creep) leaves papers row e =
+    IsRefusedCreeping (filling setting papers) creep leaves row e
 
--- the row that is asked for of a document with so many pages, or its fault
-abbrev pub row_asked : (pages : ℕ) → Asked → Result Row RowFault
-row_asked pages a = imposed_row pages (choice_of a.choice) (option_map signing_of a.signing)
+-- ---- what is asked for
 
--- these are the sheets that are asked for: the row that is asked for, laid as is asked
+-- the row that is chosen of a document with so many pages, or its fault
+abbrev pub row_chosen : (pages : ℕ) → Asked → Result Row RowFault
+row_chosen pages a = chosen pages (choice_of a.choice)
+
+-- how it is put into signatures, if it is
+abbrev pub sewn : Asked → Option Signing
+sewn a = option_map signing_of a.signing
+
+-- these are the sheets that are asked for: the row that is chosen, in signatures if there are to be some, laid as is asked
 pub record AreAsked (pages : ℕ) (papers : List Paper) (a : Asked) (made : List MadeSheet) : Type 0 where
   pub row : Row
-  pub chosen : row_asked pages a ≡ Ok row
-  pub are_laid : made ≡ sheets_laid a.laying papers row
+  pub is_chosen : row_chosen pages a ≡ Ok row
+  pub are_laid : made ≡ sheets_laid a.laying (leaves_in (sewn a) row) papers (signed (sewn a) row)
 
 -- a refusal tells the fault of the row, or, if there is one, why it can't be laid
 abbrev pub RefusesAsked : (pages : ℕ) → List Paper → Asked → AskedError → Type 0
-RefusesAsked pages papers a (error.Row e) = RefusesRow (row_asked pages a) e
-RefusesAsked pages papers a (error.Arrangement e) =
-    (row : Row) × (row_asked pages a ≡ Ok row) × WhyNotLaid a.laying papers row e
+RefusesAsked pages papers a (error.Row e) = RefusesRow (row_chosen pages a) e
+RefusesAsked pages papers a (error.Arrangement e) = (row : Row) × (row_chosen pages a ≡ Ok row)
+    × WhyNotLaid a.laying (leaves_in (sewn a) row) papers (signed (sewn a) row) e
 RefusesAsked pages papers a (error.Sheets e) = ⊥
-RefusesAsked pages papers a (error.NoMemory written) = (written ≡ 0) × IsOk (row_asked pages a)
+RefusesAsked pages papers a (error.NoMemory written) = (written ≡ 0) × IsOk (row_chosen pages a)
 RefusesAsked pages papers a (error.Write written) = ⊥

@@ -1,20 +1,23 @@
 //! The sheets that are asked for.
-ghost use Rattle.std.specs.Prelude.{◌≡◌, ◌≤◌, IfErr, IfOk, IfSome, Ok, option_map};
-ghost use Rattle.made_sheets.specs.Choice.{imposed_row as row_imposed, most_entries};
+ghost use Rattle.std.specs.Prelude.{◌≡◌, ◌<◌, ◌≤◌, IfErr, IfOk, IfSome, Ok, length, option_map};
+ghost use Rattle.made_sheets.specs.Choice.{most_entries};
 ghost use Rattle.rows.specs.Choices.{choice_of};
 ghost use Rattle.rows.specs.Sewing.{MayBeSewn, signing_of};
 ghost use Rattle.rows.specs.Refusals.{RefusesRow};
 ghost use Rattle.row_sheets.specs.RowSheets.{selected as selected_of};
 ghost use Rattle.layouts.specs.declared.error.ArrangementError.TheVariants as ArrangementError;
 ghost use Rattle.row_runs.specs.Errors.{of_arrangement, of_row};
-ghost use Rattle.row_runs.specs.Sheets.{AreAsked, MayBeAsked, MayBeLaid, RefusesAsked, WhyNotLaid, sheets_laid};
+ghost use Rattle.row_runs.specs.Sheets.{AreAsked, MayBeAsked, MayBeLaid, RefusesAsked, WhyNotLaid};
+ghost use Rattle.row_runs.specs.Sheets.{leaves_in as leaves_of_signature, sheets_laid};
 
 use crate::error::AskedError;
-use arranged_sheets::{booklet_sheets, card_sheets, grid_sheets, leaf_sheets, stack_sheets};
+use arranged_sheets::{
+    Creep, card_sheets, creeping_booklet_sheets, grid_sheets, leaf_sheets, stack_sheets,
+};
 use layouts::{ArrangementError, Setting};
 use lengths::Paper;
 use row_sheets::{PagePapers, PaperList, select};
-use rows::{Choice, RowError, Signing, imposed_row};
+use rows::{Choice, RowError, Signing, chosen_row, signed_row};
 use sheet_plan::MadeSheets;
 use std::alloc::{AllocError, Global};
 
@@ -45,10 +48,12 @@ pub enum Laying {
         setting: Setting,
     },
     /// Two entries on each side of leaves, for a row in signatures; for printers that flip a sheet about its longer edge
-    /// the backs are turned by half.
+    /// the backs are turned by half. Pages of a signature's innermost leaf are moved towards the fold by the creep, in
+    /// 10^-5 of a point, those of its outermost not at all, and the others in between.
     Booklet {
         setting: Setting,
         turned_backs: bool,
+        creep: u64,
     },
 }
 
@@ -73,13 +78,31 @@ pub fn asked_sheets(
     ensures made { IfOk result (AreAsked pages papers.now asked.now) }
     ensures refused { IfErr result (RefusesAsked pages papers.now asked.now) }
 {
-    let row = match imposed_row(alloc, pages, &asked.choice, asked.signing) {
+    let row = match chosen_row(alloc, pages, &asked.choice) {
         Ok(row) => row,
         Err(error) => return Err(row_error(error)),
     };
-    match laid(alloc, &asked.laying, papers, row.as_slice()) {
+    let leaves = leaves_in(asked.signing, row.as_slice());
+    let printed = match signed_row(alloc, row, asked.signing) {
+        Ok(printed) => printed,
+        Err(_) => return Err(AskedError::NoMemory { written: 0 }),
+    };
+    match laid(alloc, &asked.laying, leaves, papers, printed.as_slice()) {
         Ok(sheets) => Ok(sheets),
         Err(error) => Err(arrangement_error(error)),
+    }
+}
+
+/// How many leaves a signature of the row has; none if it isn't put into signatures.
+fn leaves_in(signing: Option<Signing>, row: &[Option<u32>]) -> u32
+    requires sewn { IfSome signing MayBeSewn }
+    requires some { 0 < length row.now }
+    requires few { length row.now ≤ most_entries }
+    ensures { result ≡ leaves_of_signature (option_map signing_of signing) row.now }
+{
+    match signing {
+        Some(how) => how.sides(row.len()) / 4,
+        None => 0,
     }
 }
 
@@ -103,16 +126,17 @@ fn arrangement_error(error: ArrangementError) -> AskedError
     }
 }
 
-/// The row on sheets.
+/// The row on sheets; if it is in signatures, each has so many leaves.
 fn laid(
     alloc: Global,
     laying: &Laying,
+    leaves: u32,
     papers: &[Paper],
     row: &[Option<u32>],
 ) -> Result<MadeSheets, ArrangementError>
     requires { MayBeLaid laying.now }
-    ensures made { IfOk result (λ made. made ≡ sheets_laid laying.now papers.now row.now) }
-    ensures refused { IfErr result (WhyNotLaid laying.now papers.now row.now) }
+    ensures made { IfOk result (λ made. made ≡ sheets_laid laying.now leaves papers.now row.now) }
+    ensures refused { IfErr result (WhyNotLaid laying.now leaves papers.now row.now) }
 {
     match laying {
         Laying::AsTheyAre { blank } => selected(alloc, papers, blank, row),
@@ -123,7 +147,14 @@ fn laid(
         Laying::Booklet {
             setting,
             turned_backs,
-        } => booklet_sheets(alloc, setting, papers, *turned_backs, row),
+            creep,
+        } => {
+            let creep = Creep {
+                innermost: *creep,
+                leaves,
+            };
+            creeping_booklet_sheets(alloc, setting, papers, *turned_backs, creep, row)
+        }
     }
 }
 

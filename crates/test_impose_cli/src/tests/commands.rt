@@ -1,8 +1,10 @@
 //! Command lines as they are typed, and what each asks for.
 use super::read;
-use impose_cli::{CommandFault, Layout, LengthOption, PaperOption, Request, Spacing, size_named};
+use impose_cli::{
+    CommandFault, Layout, LengthOption, PaperOption, Request, Spacing, signing_named, size_named,
+};
 use lengths::{Grains, Paper, paper_by_name};
-use rows::Part;
+use rows::{Part, Signing};
 use std::process::Abort;
 use std::test::Fail;
 
@@ -57,23 +59,25 @@ fn nothing_more_than_a_command(rt: HostRuntime) -> Result<(), Fail> {
 #[test]
 fn booklets(rt: HostRuntime) -> Result<(), Fail> {
     let rows = [
-        ("booklet", None, false),
-        ("booklet --signature 16", Some(16u32), false),
-        ("booklet --long-edge --signature=4 in.ps", Some(4), true),
+        ("booklet", Signing::InOne, false),
+        ("booklet --signature 16", Signing::OfSides(16), false),
+        (
+            "booklet --long-edge --signature=4 in.ps",
+            Signing::OfSides(4),
+            true,
+        ),
+        ("booklet --signature auto", Signing::Auto, false),
         (
             "booklet --signature 1000000 --quiet",
-            Some(1_000_000),
+            Signing::OfSides(1_000_000),
             false,
         ),
     ];
-    for (line, sides, flips) in rows {
+    for (line, sewn, flips) in rows {
         let request = read(rt.alloc(), line)?;
         match request.layout {
-            Layout::Booklet {
-                signature,
-                long_edge,
-            } => {
-                assert_eq!(rt; signature, sides, "at {line}");
+            Layout::Booklet { signing, long_edge } => {
+                assert_eq!(rt; signing, sewn, "at {line}");
                 assert_eq!(rt; long_edge, flips, "at {line}");
             }
             _ => assert!(rt; false, "at {line}"),
@@ -137,6 +141,27 @@ fn cards_stacks_and_what_is_kept_free(rt: HostRuntime) -> Result<(), Fail> {
 }
 
 #[test]
+fn leaves_that_creep(rt: HostRuntime) -> Result<(), Fail> {
+    let none = read(rt.alloc(), "booklet")?.spacing.creep;
+    assert_eq!(rt; Some(none), Grains::new(0));
+    let creep = read(rt.alloc(), "booklet --creep 2mm")?.spacing.creep;
+    assert_eq!(rt; Some(creep), Grains::new(720_000_000_000));
+    let refused = read(rt.alloc(), "booklet --creep x");
+    assert!(rt; matches!(refused, Err(CommandFault::BadLength(LengthOption::Creep, _))));
+    assert!(rt; matches!(read(rt.alloc(), "nup 2 --creep 2mm"), Err(CommandFault::Words(_))));
+    Ok(())
+}
+
+#[test]
+fn signatures_that_leaves_cannot_have(rt: HostRuntime) {
+    for word in ["0", "2", "6", "1000004", "-4", "x", "Auto", "16 "] {
+        assert_eq!(rt; signing_named(word), None, "at {word}");
+    }
+    assert_eq!(rt; signing_named("auto"), Some(Signing::Auto));
+    assert_eq!(rt; signing_named("08"), Some(Signing::OfSides(8)));
+}
+
+#[test]
 fn values_that_name_nothing(rt: HostRuntime) {
     let alloc = rt.alloc();
     let pages = "nup 2 -p b9 --sheet x --border x";
@@ -158,7 +183,7 @@ fn values_that_name_nothing(rt: HostRuntime) {
     assert!(rt;
         matches!(
             read(alloc, "booklet --signature 6"),
-            Err(CommandFault::BadSignature(6))
+            Err(CommandFault::BadSignature(_))
         )
     );
     assert!(rt;
@@ -186,7 +211,7 @@ fn words_that_are_not_taken(rt: HostRuntime) {
         "nup",
         "nup 0",
         "nup 1025",
-        "booklet --signature 3",
+        "booklet --signature",
         "select",
         "spec",
         "twice 2",

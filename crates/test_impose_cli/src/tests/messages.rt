@@ -1,7 +1,7 @@
 //! Each message, as docs/USING.md has it.
 use super::read;
 use dsc::DscError;
-use impose_cli::{CommandFault, Fault, PaperOption, Request, fault_status, fault_text};
+use impose_cli::{CommandFault, Fault, LengthOption, PaperOption, Request, fault_status, fault_text};
 use imposer::RunError;
 use pagespec::SpecError;
 use rows::RowError;
@@ -57,9 +57,19 @@ fn command_lines(rt: HostRuntime) -> Result<(), Fail> {
             "bad width '-1' after --border: give a length as 1pt, .5mm or .02in",
         ),
         (
-            CommandFault::BadSignature(6),
+            CommandFault::BadSignature(text("6")?),
             2,
-            "a signature of 6 sides can't be folded: take a multiple of four, as 4 or 8",
+            "a signature of 6 sides can't be folded: take a multiple of four, as 4 or 8, or auto",
+        ),
+        (
+            CommandFault::BadSignature(text("2")?),
+            2,
+            "bad signature '2' after --signature: give a multiple of four, as 16, up to 1000000, or auto",
+        ),
+        (
+            CommandFault::BadLength(LengthOption::Creep, text("2x")?),
+            2,
+            "bad length '2x' after --creep: give it as 5mm, .2in or 14pt",
         ),
         (
             CommandFault::OddAndEven,

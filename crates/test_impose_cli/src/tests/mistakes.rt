@@ -41,10 +41,6 @@ fn each_mistake_has_a_tip(rt: HostRuntime) -> Result<(), Fail> {
             "tip: a specification that begins with a minus",
         ),
         (
-            "booklet --signature x in.ps",
-            "tip: a signature is a number of sides",
-        ),
-        (
             "nup 2 -o out.ps in.ps",
             "tip: the sheets go to the second file",
         ),

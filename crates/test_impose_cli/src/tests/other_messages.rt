@@ -45,6 +45,10 @@ fn layouts_plans_and_faulty_documents(rt: HostRuntime) -> Result<(), Fail> {
             "the pages would be too small or too large on the sheet: name other papers by --paper and --sheet",
         ),
         (
+            Fault::Layout(ArrangementError::CreepOverFold),
+            "there is no room at the fold for leaves to creep so far: take a smaller --creep or a larger --gap",
+        ),
+        (
             Fault::Row(RowError::NoEntries),
             "page ranges: no page is left by --odd or --even; pages are counted from 1",
         ),
@@ -54,8 +58,8 @@ fn layouts_plans_and_faulty_documents(rt: HostRuntime) -> Result<(), Fail> {
         ),
         (
             Fault::NoSpecification,
-            "--print-spec: no specification says a selection, cards or a stack, nor --pages, --odd, --even or --reverse; \
-            leave it out",
+            "--print-spec: no specification says a selection, cards or a stack, nor --pages, --odd, --even, --reverse or \
+            --creep; leave it out",
         ),
         (
             Fault::Run(RunError::Plan(PlanError::TooManyPages)),

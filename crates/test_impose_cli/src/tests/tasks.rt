@@ -69,6 +69,19 @@ fn a_booklet_of_one_signature(rt: HostRuntime) -> Result<(), Fail> {
     Ok(())
 }
 
+// Nine leaves are too many for one signature: two of five leaves, and so of twenty sides.
+#[test]
+fn a_booklet_in_signatures_by_itself(rt: HostRuntime) -> Result<(), Fail> {
+    let mut text = owned(rt.alloc(), "%!PS\n")?;
+    for _ in 0..33 {
+        text.extend_from_slice(b"%%Page: 1 1\n")?;
+    }
+    let request = read(rt.alloc(), "booklet --signature auto")?;
+    let task = task_for(rt.alloc(), &request, text)?;
+    assert_eq!(rt; task.options.sides, Some(20));
+    Ok(())
+}
+
 fn assert_printed(rt: &(impl Abort + AllocGlobal), line: &str, lines: &str) -> Result<(), Fail> {
     let request = read(rt.alloc(), line)?;
     let task = task_for(rt.alloc(), &request, owned(rt.alloc(), ONE_PAGE)?)?;
@@ -143,6 +156,12 @@ fn documents_that_are_refused(rt: HostRuntime) {
             Err(Fault::NoSpecification)
         )
     );
+    assert!(rt;
+        matches!(
+            fault_of(alloc, "booklet --creep 1mm", ONE_PAGE),
+            Err(Fault::NoSpecification)
+        )
+    );
 }
 
 #[test]
@@ -151,6 +170,10 @@ fn rows_that_are_refused(rt: HostRuntime) -> Result<(), Fail> {
         ("select 1-2", Fault::NoSuchPage { place: 0, pages: 1 }),
         ("nup 2 --pages 1,x", Fault::Row(RowError::NotARange(2))),
         ("booklet --even", Fault::Row(RowError::NoEntries)),
+        (
+            "booklet -p a4 --pages 1,1,1,1,1 --creep 4pt",
+            Fault::Layout(ArrangementError::CreepOverFold),
+        ),
     ];
     for (line, fault) in rows {
         let request = read(rt.alloc(), line)?;
@@ -198,6 +221,12 @@ fn layouts_that_are_refused(rt: HostRuntime) {
         matches!(
             fault_of(alloc, "nup 2 -p 100000x1", ""),
             Err(Fault::Command(_))
+        )
+    );
+    assert!(rt;
+        matches!(
+            fault_of(alloc, "booklet -p a4 --creep=-1pt", ""),
+            Err(Fault::Layout(ArrangementError::LengthOutOfRange))
         )
     );
     let long = "nup 2 -p 99999inx1pt";
@@ -278,6 +307,51 @@ fn rows_in_their_order(rt: HostRuntime) -> Result<(), Fail> {
     ];
     for (line, order) in rows {
         assert_eq!(rt; shown(&rt, line)?.as_str(), order, "at {line}");
+    }
+    Ok(())
+}
+
+/// How far up each page stands, sheet by sheet.
+fn heights(
+    rt: &(impl Threads + Wait + Sync + AllocGlobal),
+    line: &str,
+) -> Result<String, Fail> {
+    let request = read(rt.alloc(), line)?;
+    let mut sink = MemorySink::new(rt.alloc(), 40_000, 40_000, 40_000)?;
+    run_request(
+        rt,
+        rt.alloc(),
+        &request,
+        owned(rt.alloc(), THREE_PAGES)?,
+        &mut sink,
+    )?;
+    let mut heights = String::new(rt.alloc());
+    for text in str::from_utf8(sink.bytes()).unwrap_or("").lines() {
+        if text.starts_with("%%Page: ") {
+            heights.push('|')?;
+        }
+        if let Some(matrix) = text.strip_suffix("] concat") {
+            if let Some((_, height)) = matrix.rsplit_once(" ") {
+                heights.push(' ')?;
+                heights.push_str(height)?;
+            }
+        }
+    }
+    Ok(heights)
+}
+
+// Halves of 416 points, with ten between them. Of the two leaves that are folded together the inner one creeps.
+#[test]
+fn inner_leaves_creep(rt: HostRuntime) -> Result<(), Fail> {
+    let rows = [
+        ("--gap 10pt", "| 0 426| 0 426| 0 426| 0 426"),
+        ("--gap 10pt --creep 4pt", "| 0 426| 0 426| 4 422| 4 422"),
+        ("--gap 10pt --creep 4pt --signature 4", "| 0 426| 0 426| 0 426| 0 426"),
+        ("--gap 10pt --creep 4pt --signature auto", "| 0 426| 0 426| 4 422| 4 422"),
+    ];
+    for (options, wanted) in rows {
+        let line = format!(in rt.alloc(); "booklet -p a4 --pages 1-,1-,1-2 {options}")?;
+        assert_eq!(rt; heights(&rt, line.as_str())?.as_str(), wanted, "at {options}");
     }
     Ok(())
 }

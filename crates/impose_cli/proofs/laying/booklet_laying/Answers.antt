@@ -1,17 +1,40 @@
-use Rattle.std.proofs.Common.{◌≡◌, ◌∙◌, ap, subst, refl, None, Some}
+use Rattle.std.proofs.Common.{◌≡◌, ◌∙◌, ap, ap₂, refl, rules, subst, sym, true, false, None, Some}
 use Rattle.layouts.specs.Fitted.{binding_setting_of}
-use Rattle.layouts.specs.Refusals.{why_not_bound}
+use Rattle.layouts.specs.Grids.{leaf_order}
+use Rattle.layouts.specs.Refusals.{first_of, is_length, why_not_bound}
+use Rattle.layouts.specs.declared.error.ArrangementError.TheVariants as why
 use Rattle.row_runs.specs.declared.asked.Laying.TheVariants as laying
+use Rattle.impose_cli.specs.Spacings.{binding_in}
 use Rattle.impose_cli.proofs.laying.booklet_laying.Goals as goal
+
+pub returns-then-not-is_length-clause-refused : goal.returns-then-not-is_length-clause-refused
+returns-then-not-is_length-clause-refused c =
+    let papers = c.args.papers.now in
+    let s = c.args.spacing.now in
+    let too_long : is_length s.creep ≡ false = search rules in
+    (why.LengthOutOfRange, refl, ap (λ b. first_of b why.LengthOutOfRange (why_not_bound papers.page papers.sheet (binding_in s c.args.long_edge))) too_long)
 
 pub returns-in-Ok-clause-laying : goal.returns-in-Ok-clause-laying
 returns-in-Ok-clause-laying c =
-    ap (λ t. Some (laying.Booklet t c.args.long_edge)) (c.in-Ok.ensures.made ∙ ap (binding_setting_of c.args.papers.now.sheet) c.binding.ensures)
+    ap₂ (λ t n. Some (laying.Booklet t c.args.long_edge n)) (c.in-Ok.ensures.made ∙ ap (binding_setting_of c.args.papers.now.sheet) c.binding.ensures) c.rounded_down-creep.ensures
+
+pub returns-in-Ok-clause-may_be : goal.returns-in-Ok-clause-may_be
+returns-in-Ok-clause-may_be c =
+    let made = c.in-Ok.ensures.made in
+    (ap (λ t. t.grid) made, ap (λ t. t.order) made ∙ sym (ap (λ t. leaf_order t.order.right_to_left) made))
 
 pub returns-in-Ok-clause-possible : goal.returns-in-Ok-clause-possible
 returns-in-Ok-clause-possible c =
-    subst (λ b. why_not_bound c.args.papers.now.page c.args.papers.now.sheet b ≡ None) c.binding.ensures c.in-Ok.ensures.possible
+    let papers = c.args.papers.now in
+    let s = c.args.spacing.now in
+    let short : is_length s.creep ≡ true = search rules in
+    ap (λ b. first_of b why.LengthOutOfRange (why_not_bound papers.page papers.sheet (binding_in s c.args.long_edge))) short
+    ∙ subst (λ b. why_not_bound papers.page papers.sheet b ≡ None) c.binding.ensures c.in-Ok.ensures.possible
 
 pub returns-in-Err-clause-refused : goal.returns-in-Err-clause-refused
 returns-in-Err-clause-refused c =
-    (c.in-Err.error, refl, subst (λ b. why_not_bound c.args.papers.now.page c.args.papers.now.sheet b ≡ Some c.in-Err.error) c.binding.ensures c.in-Err.ensures.refused)
+    let papers = c.args.papers.now in
+    let s = c.args.spacing.now in
+    let short : is_length s.creep ≡ true = search rules in
+    (c.in-Err.error, refl, ap (λ b. first_of b why.LengthOutOfRange (why_not_bound papers.page papers.sheet (binding_in s c.args.long_edge))) short
+    ∙ subst (λ b. why_not_bound papers.page papers.sheet b ≡ Some c.in-Err.error) c.binding.ensures c.in-Err.ensures.refused)

@@ -1,0 +1,24 @@
+-- How a booklet is sewn, by the word of an option.
+use Rattle.std.specs.Prelude.{ℕ, ◌%◌, ◌==◌, ◌&&◌, Bool, nat_le, if◌then◌else◌, List, Option, Some, None, codes}
+use Rattle.std.specs.Str.{bytes_eq}
+use Rattle.rules.specs.Signatures.{most_sides}
+use Rattle.command_words.specs.Matches.{number_of}
+use Rattle.rows.specs.declared.sewing.Signing.{Signing}
+use Rattle.rows.specs.declared.sewing.Signing.TheVariants.{InOne, OfSides, Auto}
+
+-- a signature may have so many sides: each of its leaves has four
+abbrev pub are_sides : ℕ → Bool
+are_sides n = nat_le 4 n && nat_le n most_sides && (n % 4 == 0)
+
+abbrev pub of_sides : Option ℕ → Option Signing
+of_sides None = None
+of_sides (Some n) = if are_sides n then Some (OfSides n) else None
+
+-- `auto`, or a number of sides
+abbrev pub signing_named : List ℕ → Option Signing
+signing_named text = if bytes_eq text (codes "auto") then Some Auto else of_sides (number_of text)
+
+-- in one signature if nothing is asked for; and nothing if the text says neither
+abbrev pub signing_asked : Option (List ℕ) → Option Signing
+signing_asked None = Some InOne
+signing_asked (Some text) = signing_named text
