@@ -22,6 +22,22 @@ pub enum LengthOption {
     Trim,
 }
 
+/// The command that puts pages into the cells of a grid.
+#[derive(Clone, Copy, Debug, PartialEq, Eq)]
+pub enum GridCommand {
+    NUp,
+    Cards,
+    Stack,
+}
+
+/// The option that says in which order pages stand in cells, or how large they are.
+#[derive(Clone, Copy, Debug, PartialEq, Eq)]
+pub enum CellOption {
+    Order,
+    Turned,
+    Scale,
+}
+
 /// Why a command line is refused.
 #[derive(Debug, Drop)]
 pub enum CommandFault {
@@ -37,6 +53,10 @@ pub enum CommandFault {
     BadBorder(String),
     /// The option's value, this text, is no length.
     BadLength(LengthOption, String),
+    /// What stands behind the command, this text, names no cells that a sheet takes.
+    BadCells(GridCommand, String),
+    /// The option's value, this text, is none of its values.
+    BadValue(CellOption, String),
     /// A signature of so many sides, which is no multiple of four.
     BadSignature(u32),
     /// Both `--odd` and `--even` are there.
