@@ -3,7 +3,7 @@ use Rattle.std.proofs.Common.{◌≡◌, refl, inl, inr, Option, Some, Result, O
 use Rattle.std.specs.Prelude.{◌⊎◌}
 use Rattle.layouts.specs.Refusals.{IsFault}
 use Rattle.layouts.specs.declared.error.ArrangementError.{ArrangementError}
-use Rattle.layouts.specs.declared.error.ArrangementError.TheVariants.{CellsOutOfRange, SideTooLong, LengthOutOfRange, NothingLeftOfPage, FoldOnLongEdge, NoRoom, ScaleOutOfRange, ScaleTooLarge, NoMemory}
+use Rattle.layouts.specs.declared.error.ArrangementError.TheVariants.{CellsOutOfRange, SideTooLong, LengthOutOfRange, NothingLeftOfPage, FoldOnLongEdge, NoRoom, ScaleOutOfRange, ScaleTooLarge, CreepOverFold, NoMemory}
 use Rattle.impose_cli.specs.Faults.{of_layout, without_memory}
 use Rattle.impose_cli.specs.declared.fault.Fault.TheVariants as fault
 
@@ -27,3 +27,4 @@ refuses_layout found FoldOnLongEdge h = inr (FoldOnLongEdge, refl, unless found 
 refuses_layout found NoRoom h = inr (NoRoom, refl, unless found NoRoom (λ bad. cc) h)
 refuses_layout found ScaleOutOfRange h = inr (ScaleOutOfRange, refl, unless found ScaleOutOfRange (λ bad. cc) h)
 refuses_layout found ScaleTooLarge h = inr (ScaleTooLarge, refl, unless found ScaleTooLarge (λ bad. cc) h)
+refuses_layout found CreepOverFold h = inr (CreepOverFold, refl, unless found CreepOverFold (λ bad. cc) h)
