@@ -1,6 +1,6 @@
 -- The papers, the border, what is kept free, the order and the scale, the pages and OUTFILE that the words ask for: the steps of
 -- their reading.
-use Rattle.std.specs.Prelude.{◌≡◌, ⊤, ℤ, true, is_some, List, Option, Some, None, codes, string_bytes}
+use Rattle.std.specs.Prelude.{◌≡◌, ⊤, ℤ, true, false, is_some, List, Option, Some, None, codes, string_bytes}
 use Rattle.clap.specs.Words.{Row, first_of}
 use Rattle.rules.specs.Papers.{Paper}
 use Rattle.lengths.specs.Lengths.{a4, length_named}

@@ -376,7 +376,7 @@ fn reading_of(alloc: Global, found: &ArgMatches<'_>) -> Result<Reading, CommandF
     ensures refused { IfErr result (RefusesReading (rows_of (found_of found.now))) }
 {
     let (run, from_right) = match run_of(alloc, found) {
-        Ok(run) => run,
+        Ok(read) => read,
         Err(fault) => return Err(fault),
     };
     let turned = match turned_of(alloc, found) {
