@@ -7,11 +7,12 @@ _impose_options_of() {
     local all='--paper --sheet --border --unguarded --print-spec --quiet --help -p -q -h'
     local parts='--odd --even --reverse'
     local laid="--margin --gap --trim --rtl --pages $parts"
+    local cells="--order --turned --scale $laid"
     case "$1" in
         '') echo '--help --version -h -V' ;;
-        nup | cards) echo "$laid $all" ;;
+        nup | cards) echo "$cells $all" ;;
         booklet) echo "--signature --creep --long-edge $laid $all" ;;
-        stack) echo "--duplex $laid $all" ;;
+        stack) echo "--duplex $cells $all" ;;
         select) echo "$parts $all" ;;
         spec) echo "$all" ;;
     esac
@@ -23,6 +24,9 @@ _impose_values_of() {
         --paper | --sheet | -p) echo "$_impose_papers" ;;
         --border) echo '.5pt 1pt .5mm' ;;
         --margin | --gap | --trim) echo '2mm 5mm 1cm' ;;
+        --order) echo 'right-down down-right left-down down-left' ;;
+        --turned) echo 'left right' ;;
+        --scale) echo '0.5 0.7 1' ;;
         --creep) echo '.5mm 1mm 2mm' ;;
         --signature) echo 'auto 4 8 12 16 20 24 28 32' ;;
         --pages) ;;
@@ -71,7 +75,7 @@ _impose() {
         case "$command:$number" in
             help:0) COMPREPLY=($(compgen -W "$_impose_commands" -- "$cur")) ;;
             help:*) ;;
-            nup:0 | cards:0 | stack:0) COMPREPLY=($(compgen -W '1 2 4 6 8 9 16' -- "$cur")) ;;
+            nup:0 | cards:0 | stack:0) COMPREPLY=($(compgen -W '1 2 4 6 8 9 16 2x4' -- "$cur")) ;;
             select:0 | spec:0) ;;
             *) _impose_files "${patterns[@]}" ;;
         esac

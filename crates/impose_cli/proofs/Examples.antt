@@ -1,10 +1,16 @@
 -- What words and requests stand for, worked out.
 use Rattle.std.proofs.Common.{◌≡◌, true, false, [], ◌∷◌, refl, map}
-use Rattle.std.specs.Prelude.{codes, None, Some}
+use Rattle.std.specs.Prelude.{codes, pos, None, Some}
 use Rattle.clap.specs.declared.error.kind.ErrorKind.TheVariants.{DisplayHelp, DisplayVersion, UnknownArgument}
 use Rattle.lengths.specs.Reading.{number_at}
 use Rattle.rules.specs.Papers.{points}
 use Rattle.guard.specs.Guard.{guarded}
+use Rattle.layouts.specs.Grids.{plain_order}
+use Rattle.layouts.specs.declared.arrangement.Cells.TheVariants.{AtLeast, Exactly}
+use Rattle.layouts.specs.declared.arrangement.Order.{Order}
+use Rattle.layouts.specs.declared.arrangement.Run.{Run}
+use Rattle.layouts.specs.declared.arrangement.Run.TheVariants.{Rows, Columns}
+use Rattle.layouts.specs.declared.arrangement.Turned.TheVariants.{Upright, Left, Right}
 use Rattle.layouts.specs.declared.error.ArrangementError.TheVariants as layout
 use Rattle.made_sheets.specs.Choice.{InOne as in_one, Auto as by_itself, sides_for}
 use Rattle.rows.specs.declared.choices.Part.TheVariants.{All, Odd, Even}
@@ -18,7 +24,8 @@ use Rattle.impose_cli.specs.declared.fault.CommandFault.TheVariants as command
 use Rattle.paper_names.specs.Names.{papers}
 use Rattle.impose_cli.specs.Signatures.{signing_asked}
 use Rattle.impose_cli.specs.Sizes.{size_named}
-use Rattle.impose_cli.specs.Words.{part_by, file_asked, is_outfile}
+use Rattle.impose_cli.specs.Arranging.{cells_named, run_named, scale_named, turned_named}
+use Rattle.impose_cli.specs.Words.{part_by, file_asked, is_outfile, order_by, run_asked, turned_asked}
 use Rattle.impose_cli.specs.Statuses.{words_status, command_status, layout_status, fault_status}
 use Rattle.impose_cli.specs.Tasks.{own_or_home, page_paper_found, sheet_paper_found, taken_text}
 use Rattle.impose_cli.specs.Faults.{of_document}
@@ -57,6 +64,46 @@ both = refl
 
 signatures : map signing_asked (None ∷ Some (codes "auto") ∷ Some (codes "4") ∷ Some (codes "6") ∷ Some (codes "0") ∷ Some (codes "x") ∷ []) ≡ Some InOne ∷ Some Auto ∷ Some (OfSides 4) ∷ None ∷ None ∷ None ∷ []
 signatures = refl
+
+-- Cells: a number of them, or columns and rows.
+
+numbers : map cells_named (codes "1" ∷ codes "8" ∷ codes "0008" ∷ codes "1024" ∷ []) ≡ Some (AtLeast 1) ∷ Some (AtLeast 8) ∷ Some (AtLeast 8) ∷ Some (AtLeast 1_024) ∷ []
+numbers = refl
+
+columns_and_rows : map cells_named (codes "2x4" ∷ codes "1x1" ∷ codes "32x32" ∷ codes "1024x1" ∷ []) ≡ Some (Exactly 2 4) ∷ Some (Exactly 1 1) ∷ Some (Exactly 32 32) ∷ Some (Exactly 1_024 1) ∷ []
+columns_and_rows = refl
+
+no_numbers : map cells_named ([] ∷ codes "0" ∷ codes "1025" ∷ codes "2.5" ∷ codes "-2" ∷ codes "two" ∷ codes "2 " ∷ []) ≡ None ∷ None ∷ None ∷ None ∷ None ∷ None ∷ None ∷ []
+no_numbers = refl
+
+no_columns_and_rows : map cells_named (codes "2x" ∷ codes "x" ∷ codes "x4" ∷ codes "0x3" ∷ codes "3x0" ∷ codes "2x4x1" ∷ codes "33x32" ∷ codes "2X4" ∷ []) ≡ None ∷ None ∷ None ∷ None ∷ None ∷ None ∷ None ∷ None ∷ []
+no_columns_and_rows = refl
+
+-- Orders of cells, which --rtl turns round.
+
+runs : map run_named (codes "right-down" ∷ codes "down-right" ∷ codes "left-down" ∷ codes "down-left" ∷ codes "down" ∷ []) ≡ Some (Rows, false) ∷ Some (Columns, false) ∷ Some (Rows, true) ∷ Some (Columns, true) ∷ None ∷ []
+runs = refl
+
+unasked : order_by (run_asked None) false (turned_asked None) ≡ Some plain_order
+unasked = refl
+
+abbrev from_right : Run → Order
+from_right run = record { run = run; right_to_left = true; turned = Upright }
+
+turned_round : map (λ run. order_by (Some run) true (Some Upright)) ((Rows, false) ∷ (Columns, false) ∷ (Rows, true) ∷ (Columns, true) ∷ [])
+    ≡ Some (from_right Rows) ∷ Some (from_right Columns) ∷ Some (from_right Rows) ∷ Some (from_right Columns) ∷ []
+turned_round = refl
+
+sides : map turned_named (codes "left" ∷ codes "right" ∷ codes "up" ∷ []) ≡ Some Left ∷ Some Right ∷ None ∷ []
+sides = refl
+
+scales : map scale_named (codes "0.7" ∷ codes ".5" ∷ codes "2" ∷ []) ≡ Some (pos 700_000_000) ∷ Some (pos 500_000_000) ∷ Some (pos 2_000_000_000) ∷ []
+unfolding number_at
+scales = refl
+
+no_scales : map scale_named (codes "70%" ∷ codes "x" ∷ codes "1/2" ∷ codes "100000" ∷ []) ≡ None ∷ None ∷ None ∷ None ∷ []
+unfolding number_at
+no_scales = refl
 
 -- The sides of a booklet in one signature: a multiple of four stays as it is.
 booklets_of_one : map (sides_for in_one) (1 ∷ 3 ∷ 4 ∷ 5 ∷ 8 ∷ []) ≡ 4 ∷ 4 ∷ 4 ∷ 8 ∷ 8 ∷ []

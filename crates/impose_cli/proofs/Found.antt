@@ -1,6 +1,6 @@
 -- What was found for a subcommand, and what its refusals say of the words.
-use Rattle.std.proofs.Common.{◌≡◌, ℤ, ap, ap₂, refl, inr, subst, sym, List, Option, Some, None, unwrap_or, true}
-use Rattle.std.specs.Prelude.{is_some, option_map, string_bytes}
+use Rattle.std.proofs.Common.{◌≡◌, ℤ, ap, ap₂, refl, inr, subst, sym, Bool, List, Option, Some, None, unwrap_or, true, false}
+use Rattle.std.specs.Prelude.{codes, is_some, option_map, string_bytes}
 use Rattle.std.specs.Box.{box_value}
 use Rattle.clap.specs.Words.{Row, Text, first_of, found_of, rows_of, subcommand_name_of, subcommand_rows, subcommand_rows_of}
 use Rattle.clap.specs.declared.parser.matches.ArgMatches.{ArgMatches}
@@ -8,12 +8,19 @@ use Rattle.clap.specs.declared.parser.matches.ArgMatches.TheViews.{out-ArgMatche
 use Rattle.rules.specs.Papers.{Paper}
 use Rattle.lengths.specs.Lengths.{a4, length_named}
 use Rattle.impose_cli.specs.declared.request.Request.{Request}
-use Rattle.impose_cli.specs.Words.{AreBefore, AsksFor, ChoosesBy, Entered, Enters, HasLayout, HasSizes, HasSpacing, NamesNoLength, SpacesBy, length_found, length_id, ParseRefuses, Reads, Refuses, RefusesFound, RefusesArguments, ranges_id, size_found}
-use Rattle.impose_cli.specs.Sizing.{ReadsSizes, RefusesBorder, RefusesChoice, RefusesLength, RefusesOutfile, RefusesSize, RefusesSizes, RefusesSpacing}
+use Rattle.impose_cli.specs.Words.{AreBefore, AreValues, AsksFor, ChoosesBy, Entered, Enters, HasLayout, HasLengths, HasNoValue, HasSizes, HasSpacing, NamesNoLength, ParseRefuses, Reads, Refuses, RefusesFound, RefusesArguments}
+use Rattle.impose_cli.specs.Words.{SpacesBy, cell_id, command_name, is_complete, is_value, length_found, length_id, ranges_id, run_found, size_found, turned_found}
+use Rattle.impose_cli.specs.Sizing.{ReadsSizes, RefusesBorder, RefusesChoice, RefusesLength, RefusesOutfile, RefusesReading, RefusesSize, RefusesSizes, RefusesSpacing, RefusesValue}
 use Rattle.impose_cli.specs.declared.request.Layout.{Layout}
 use Rattle.impose_cli.specs.declared.request.PageChoice.{PageChoice}
 use Rattle.impose_cli.specs.declared.request.Spacing.{Spacing}
 use Rattle.impose_cli.specs.Spacings.{keeps_room}
+use Rattle.layouts.specs.declared.arrangement.Run.{Run}
+use Rattle.layouts.specs.declared.arrangement.Turned.{Turned}
+use Rattle.impose_cli.specs.declared.fault.CellOption.{CellOption}
+use Rattle.impose_cli.specs.declared.fault.CellOption.TheVariants as cell
+use Rattle.impose_cli.specs.declared.fault.GridCommand.{GridCommand}
+use Rattle.impose_cli.specs.declared.fault.GridCommand.TheVariants as grid
 use Rattle.impose_cli.specs.declared.fault.LengthOption.{LengthOption}
 use Rattle.impose_cli.specs.declared.fault.LengthOption.TheVariants.{Margin, Gap, Trim, Creep}
 use Rattle.impose_cli.specs.declared.fault.PaperOption.TheVariants.{Paper as OfPages, Sheet as OfSheets}
@@ -61,6 +68,8 @@ refuses_parse words (fault.UnknownPaper option text) h = absurd h
 refuses_parse words (fault.BadBorder text) h = absurd h
 refuses_parse words (fault.BadLength option text) h = absurd h
 refuses_parse words (fault.BadSignature text) h = absurd h
+refuses_parse words (fault.BadCells command text) h = absurd h
+refuses_parse words (fault.BadValue which text) h = absurd h
 refuses_parse words (fault.OptionAsOutfile text) h = absurd h
 
 pub refuses_words : (words : List Text) (name : Text) (found : List Row) (f : CommandFault) → Enters words name found → RefusesFound name found f → Refuses words f
@@ -73,7 +82,15 @@ refuses_words words name found (fault.UnknownPaper option text) e h = (name, fou
 refuses_words words name found (fault.BadBorder text) e h = (name, found, e, h)
 refuses_words words name found (fault.BadLength option text) e h = (name, found, e, h)
 refuses_words words name found (fault.BadSignature text) e h = (name, found, e, h)
+refuses_words words name found (fault.BadCells command text) e h = (name, found, e, h)
+refuses_words words name found (fault.BadValue which text) e h = (name, found, e, h)
 refuses_words words name found (fault.OptionAsOutfile text) e h = (name, found, e, h)
+
+-- a command that has cells lacks nothing but them
+pub lacks_cells : (command : GridCommand) (found : List Row) → is_some (first_of (codes "count") found) ≡ false → is_complete (command_name command) found ≡ false
+lacks_cells grid.NUp found e = e
+lacks_cells grid.Cards found e = e
+lacks_cells grid.Stack found e = e
 
 -- ---- a step behind the others
 
@@ -91,6 +108,8 @@ refuses_page_paper found fault.NoMemory h = tt
 refuses_page_paper found fault.Lacking h = h
 refuses_page_paper found fault.OddAndEven h = h
 refuses_page_paper found (fault.BadSignature text) h = h
+refuses_page_paper found (fault.BadCells command text) h = h
+refuses_page_paper found (fault.BadValue which text) h = h
 refuses_page_paper found (fault.OptionAsOutfile text) h = h
 refuses_page_paper found (fault.Words error) h = h
 refuses_page_paper found fault.NoText h = h
@@ -107,6 +126,8 @@ refuses_sheet_paper found page_paper fault.NoMemory p h = tt
 refuses_sheet_paper found page_paper fault.Lacking p h = h
 refuses_sheet_paper found page_paper fault.OddAndEven p h = h
 refuses_sheet_paper found page_paper (fault.BadSignature text) p h = h
+refuses_sheet_paper found page_paper (fault.BadCells command text) p h = h
+refuses_sheet_paper found page_paper (fault.BadValue which text) p h = h
 refuses_sheet_paper found page_paper (fault.OptionAsOutfile text) p h = h
 refuses_sheet_paper found page_paper (fault.Words error) p h = h
 refuses_sheet_paper found page_paper fault.NoText p h = h
@@ -120,6 +141,8 @@ refuses_border found page_paper sheet_paper fault.NoMemory p s h = tt
 refuses_border found page_paper sheet_paper fault.Lacking p s h = h
 refuses_border found page_paper sheet_paper fault.OddAndEven p s h = h
 refuses_border found page_paper sheet_paper (fault.BadSignature text) p s h = h
+refuses_border found page_paper sheet_paper (fault.BadCells command text) p s h = h
+refuses_border found page_paper sheet_paper (fault.BadValue which text) p s h = h
 refuses_border found page_paper sheet_paper (fault.OptionAsOutfile text) p s h = h
 refuses_border found page_paper sheet_paper (fault.Words error) p s h = h
 refuses_border found page_paper sheet_paper fault.NoText p s h = h
@@ -134,6 +157,8 @@ refuses_sizes name found fault.NoMemory h = tt
 refuses_sizes name found fault.Lacking h = absurd h
 refuses_sizes name found fault.OddAndEven h = absurd h
 refuses_sizes name found (fault.BadSignature text) h = absurd h
+refuses_sizes name found (fault.BadCells command text) h = absurd h
+refuses_sizes name found (fault.BadValue which text) h = absurd h
 refuses_sizes name found (fault.OptionAsOutfile text) h = absurd h
 refuses_sizes name found (fault.Words error) h = h
 refuses_sizes name found fault.NoText h = h
@@ -148,6 +173,8 @@ pub refuses_arguments : (name : Text) (found : List Row) (page_paper sheet_paper
 refuses_arguments name found page_paper sheet_paper border fault.Lacking r h = (has_sizes found page_paper sheet_paper border r, h)
 refuses_arguments name found page_paper sheet_paper border fault.OddAndEven r h = absurd h
 refuses_arguments name found page_paper sheet_paper border (fault.BadSignature text) r h = (has_sizes found page_paper sheet_paper border r, h)
+refuses_arguments name found page_paper sheet_paper border (fault.BadCells command text) r h = (has_sizes found page_paper sheet_paper border r, h)
+refuses_arguments name found page_paper sheet_paper border (fault.BadValue which text) r h = absurd h
 refuses_arguments name found page_paper sheet_paper border fault.NoMemory r h = tt
 refuses_arguments name found page_paper sheet_paper border (fault.Words error) r h = h
 refuses_arguments name found page_paper sheet_paper border fault.NoText r h = h
@@ -176,6 +203,8 @@ refuses_margin found (fault.BadBorder text) h = h
 refuses_margin found fault.Lacking h = h
 refuses_margin found fault.OddAndEven h = h
 refuses_margin found (fault.BadSignature text) h = h
+refuses_margin found (fault.BadCells command text) h = h
+refuses_margin found (fault.BadValue which text) h = absurd h
 refuses_margin found (fault.OptionAsOutfile text) h = h
 refuses_margin found (fault.Words error) h = h
 refuses_margin found fault.NoText h = h
@@ -188,6 +217,8 @@ refuses_gap found margin (fault.BadBorder text) m h = h
 refuses_gap found margin fault.Lacking m h = h
 refuses_gap found margin fault.OddAndEven m h = h
 refuses_gap found margin (fault.BadSignature text) m h = h
+refuses_gap found margin (fault.BadCells command text) m h = h
+refuses_gap found margin (fault.BadValue which text) m h = absurd h
 refuses_gap found margin (fault.OptionAsOutfile text) m h = h
 refuses_gap found margin (fault.Words error) m h = h
 refuses_gap found margin fault.NoText m h = h
@@ -200,6 +231,8 @@ refuses_trim found margin gap (fault.BadBorder text) m g h = h
 refuses_trim found margin gap fault.Lacking m g h = h
 refuses_trim found margin gap fault.OddAndEven m g h = h
 refuses_trim found margin gap (fault.BadSignature text) m g h = h
+refuses_trim found margin gap (fault.BadCells command text) m g h = h
+refuses_trim found margin gap (fault.BadValue which text) m g h = absurd h
 refuses_trim found margin gap (fault.OptionAsOutfile text) m g h = h
 refuses_trim found margin gap (fault.Words error) m g h = h
 refuses_trim found margin gap fault.NoText m g h = h
@@ -215,6 +248,70 @@ refuses_creep found margin gap trim (fault.BadSignature text) m g t h = h
 refuses_creep found margin gap trim (fault.OptionAsOutfile text) m g t h = h
 refuses_creep found margin gap trim (fault.Words error) m g t h = h
 refuses_creep found margin gap trim fault.NoText m g t h = h
+refuses_creep found margin gap trim (fault.BadCells command text) m g t h = h
+refuses_creep found margin gap trim (fault.BadValue which text) m g t h = absurd h
+
+-- ---- the order of cells, and the scale
+
+has_no_value : (option other : CellOption) (found : List Row) (text : Text) → other ≡ option → first_of (cell_id option) found ≡ Some text → is_value option text ≡ false → AreValues option found → HasNoValue other found text
+has_no_value option other found text is given none before = subst (λ o. HasNoValue o found text) (sym is) (record { given = given; none = none; before = before })
+
+pub refuses_order : (found : List Row) (f : CommandFault) → RefusesValue cell.Order found f → RefusesReading found f
+refuses_order found (fault.BadValue option text) h = has_no_value cell.Order option found (string_bytes text) h.0 h.1 h.2 tt
+refuses_order found fault.NoMemory h = tt
+refuses_order found (fault.UnknownPaper option text) h = h
+refuses_order found (fault.BadBorder text) h = h
+refuses_order found fault.Lacking h = h
+refuses_order found fault.OddAndEven h = h
+refuses_order found (fault.BadSignature text) h = h
+refuses_order found (fault.BadCells command text) h = h
+refuses_order found (fault.OptionAsOutfile text) h = h
+refuses_order found (fault.Words error) h = h
+refuses_order found fault.NoText h = h
+refuses_order found (fault.BadLength option text) h = h
+
+pub refuses_turned : (found : List Row) (run : Run × Bool) (f : CommandFault) → run_found found ≡ Some run → RefusesValue cell.Turned found f → RefusesReading found f
+refuses_turned found run (fault.BadValue option text) r h = has_no_value cell.Turned option found (string_bytes text) h.0 h.1 h.2 (is_there _ run r)
+refuses_turned found run fault.NoMemory r h = tt
+refuses_turned found run (fault.UnknownPaper option text) r h = h
+refuses_turned found run (fault.BadBorder text) r h = h
+refuses_turned found run fault.Lacking r h = h
+refuses_turned found run fault.OddAndEven r h = h
+refuses_turned found run (fault.BadSignature text) r h = h
+refuses_turned found run (fault.BadCells command text) r h = h
+refuses_turned found run (fault.OptionAsOutfile text) r h = h
+refuses_turned found run (fault.Words error) r h = h
+refuses_turned found run fault.NoText r h = h
+refuses_turned found run (fault.BadLength option text) r h = h
+
+pub refuses_scale : (found : List Row) (run : Run × Bool) (turned : Turned) (f : CommandFault) → run_found found ≡ Some run → turned_found found ≡ Some turned → RefusesValue cell.Scale found f → RefusesReading found f
+refuses_scale found run turned (fault.BadValue option text) r t h = has_no_value cell.Scale option found (string_bytes text) h.0 h.1 h.2 (is_there _ run r, is_there _ turned t)
+refuses_scale found run turned fault.NoMemory r t h = tt
+refuses_scale found run turned (fault.UnknownPaper option text) r t h = h
+refuses_scale found run turned (fault.BadBorder text) r t h = h
+refuses_scale found run turned fault.Lacking r t h = h
+refuses_scale found run turned fault.OddAndEven r t h = h
+refuses_scale found run turned (fault.BadSignature text) r t h = h
+refuses_scale found run turned (fault.BadCells command text) r t h = h
+refuses_scale found run turned (fault.OptionAsOutfile text) r t h = h
+refuses_scale found run turned (fault.Words error) r t h = h
+refuses_scale found run turned fault.NoText r t h = h
+refuses_scale found run turned (fault.BadLength option text) r t h = h
+
+pub refuses_reading : (found : List Row) (margin gap trim creep : ℤ) (f : CommandFault) → length_found Margin found ≡ Some margin → length_found Gap found ≡ Some gap → length_found Trim found ≡ Some trim → length_found Creep found ≡ Some creep
+    → RefusesReading found f → RefusesSpacing found f
+refuses_reading found margin gap trim creep (fault.BadValue option text) m g t c h = (record { margin = is_there _ margin m; gap = is_there _ gap g; trim = is_there _ trim t; creep = is_there _ creep c }, h)
+refuses_reading found margin gap trim creep fault.NoMemory m g t c h = tt
+refuses_reading found margin gap trim creep (fault.UnknownPaper option text) m g t c h = h
+refuses_reading found margin gap trim creep (fault.BadBorder text) m g t c h = h
+refuses_reading found margin gap trim creep fault.Lacking m g t c h = h
+refuses_reading found margin gap trim creep fault.OddAndEven m g t c h = h
+refuses_reading found margin gap trim creep (fault.BadSignature text) m g t c h = h
+refuses_reading found margin gap trim creep (fault.BadCells command text) m g t c h = h
+refuses_reading found margin gap trim creep (fault.OptionAsOutfile text) m g t c h = h
+refuses_reading found margin gap trim creep (fault.Words error) m g t c h = h
+refuses_reading found margin gap trim creep fault.NoText m g t c h = h
+refuses_reading found margin gap trim creep (fault.BadLength option text) m g t c h = absurd h
 
 pub refuses_spacing : (name : Text) (found : List Row) (page_paper sheet_paper : Option Paper) (border : Option ℤ) (layout : Layout) (f : CommandFault)
     → ReadsSizes found page_paper sheet_paper border → AsksFor name found layout → RefusesSpacing found f → RefusesFound name found f
@@ -225,6 +322,8 @@ refuses_spacing name found page_paper sheet_paper border layout (fault.BadBorder
 refuses_spacing name found page_paper sheet_paper border layout fault.Lacking r a h = absurd h
 refuses_spacing name found page_paper sheet_paper border layout fault.OddAndEven r a h = absurd h
 refuses_spacing name found page_paper sheet_paper border layout (fault.BadSignature text) r a h = absurd h
+refuses_spacing name found page_paper sheet_paper border layout (fault.BadCells command text) r a h = absurd h
+refuses_spacing name found page_paper sheet_paper border layout (fault.BadValue which text) r a h = (has_layout name found page_paper sheet_paper border layout r a, h.0, h.1)
 refuses_spacing name found page_paper sheet_paper border layout (fault.OptionAsOutfile text) r a h = absurd h
 refuses_spacing name found page_paper sheet_paper border layout (fault.Words error) r a h = h
 refuses_spacing name found page_paper sheet_paper border layout fault.NoText r a h = h
@@ -239,6 +338,8 @@ refuses_choice name found page_paper sheet_paper border layout spacing (fault.Un
 refuses_choice name found page_paper sheet_paper border layout spacing (fault.BadBorder text) r a k h = absurd h
 refuses_choice name found page_paper sheet_paper border layout spacing fault.Lacking r a k h = absurd h
 refuses_choice name found page_paper sheet_paper border layout spacing (fault.BadSignature text) r a k h = absurd h
+refuses_choice name found page_paper sheet_paper border layout spacing (fault.BadCells command text) r a k h = absurd h
+refuses_choice name found page_paper sheet_paper border layout spacing (fault.BadValue which text) r a k h = absurd h
 refuses_choice name found page_paper sheet_paper border layout spacing (fault.OptionAsOutfile text) r a k h = absurd h
 refuses_choice name found page_paper sheet_paper border layout spacing (fault.Words error) r a k h = h
 refuses_choice name found page_paper sheet_paper border layout spacing fault.NoText r a k h = h
@@ -254,6 +355,8 @@ refuses_outfile name found page_paper sheet_paper border layout spacing choice (
 refuses_outfile name found page_paper sheet_paper border layout spacing choice fault.Lacking r a k o h = absurd h
 refuses_outfile name found page_paper sheet_paper border layout spacing choice fault.OddAndEven r a k o h = absurd h
 refuses_outfile name found page_paper sheet_paper border layout spacing choice (fault.BadSignature text) r a k o h = absurd h
+refuses_outfile name found page_paper sheet_paper border layout spacing choice (fault.BadCells command text) r a k o h = absurd h
+refuses_outfile name found page_paper sheet_paper border layout spacing choice (fault.BadValue which text) r a k o h = absurd h
 refuses_outfile name found page_paper sheet_paper border layout spacing choice (fault.Words error) r a k o h = h
 refuses_outfile name found page_paper sheet_paper border layout spacing choice fault.NoText r a k o h = h
 

@@ -1,8 +1,7 @@
 -- The command line: impose nup N, impose booklet, impose cards N, impose stack N, impose select RANGES or impose spec
--- SPECS, with [OPTIONS] [INFILE [OUTFILE]].
+-- SPECS, with [OPTIONS] [INFILE [OUTFILE]]. N is a number of pages, or columns and rows.
 use Rattle.std.specs.Prelude.{ℕ, pos, true, List, [], ◌∷◌, Some, codes}
 use Rattle.std.specs.List.{fold}
-use Rattle.layouts.specs.Refusals.{most_on_sheet}
 use Rattle.clap.specs.Words.{App, Rule, Shape, Text, new_app, new_rule, with_rule, with_subcommand}
 use Rattle.clap.specs.Simple.{on_top}
 use Rattle.clap.specs.declared.builder.action.ArgAction.TheVariants.{Set, SetTrue}
@@ -66,17 +65,26 @@ row_rules =
     ∷ option_rule (codes "pages")
     ∷ order_rules
 
+-- a number of pages, or columns and rows
 abbrev pub count_rule : Rule
-count_rule = ranged 1 most_on_sheet (required_rule (codes "count"))
+count_rule = required_rule (codes "count")
+
+-- in which order pages stand in cells, how they lie, and how large they are
+abbrev pub cell_rules : List Rule
+cell_rules =
+    option_rule (codes "order")
+    ∷ option_rule (codes "turned")
+    ∷ option_rule (codes "scale")
+    ∷ row_rules
 
 abbrev pub nup_app : App
-nup_app = subcommand_app (codes "nup") (count_rule ∷ row_rules)
+nup_app = subcommand_app (codes "nup") (count_rule ∷ cell_rules)
 
 abbrev pub cards_app : App
-cards_app = subcommand_app (codes "cards") (count_rule ∷ row_rules)
+cards_app = subcommand_app (codes "cards") (count_rule ∷ cell_rules)
 
 abbrev pub stack_app : App
-stack_app = subcommand_app (codes "stack") (count_rule ∷ flag_rule (codes "duplex") ∷ row_rules)
+stack_app = subcommand_app (codes "stack") (count_rule ∷ flag_rule (codes "duplex") ∷ cell_rules)
 
 abbrev pub booklet_app : App
 booklet_app = subcommand_app (codes "booklet")

@@ -1,8 +1,9 @@
--- Read in this order: the command and its values, sizes, signatures, choices of pages and what is kept free among them; what the words ask for; what is refused; what a
+-- Read in this order: the command and its values, sizes, signatures, cells, choices of pages and what is kept free among them; what the words ask for; what is refused; what a
 -- request comes to with a document; what its run leaves and says, with which status; the whole program.
 pub mod Command
 pub mod Sizes
 pub mod Signatures
+pub mod Arranging
 pub mod Choices
 pub mod Spacings
 pub mod Words

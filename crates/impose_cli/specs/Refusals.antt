@@ -40,8 +40,8 @@ RefusesLaying l s page_paper sheet_paper f =
 -- why no specification is printed: out of memory, or there is no such layout, or one that no specification says
 abbrev pub RefusesLayout : Layout → Spacing → (page_paper sheet_paper : Paper) → Fault → Type 0
 RefusesLayout layout.Selection s page_paper sheet_paper f = f ≡ fault.NoSpecification
-RefusesLayout (layout.Cards n) s page_paper sheet_paper f = f ≡ fault.NoSpecification
-RefusesLayout (layout.Stack n duplex) s page_paper sheet_paper f = f ≡ fault.NoSpecification
+RefusesLayout (layout.Cards cells) s page_paper sheet_paper f = f ≡ fault.NoSpecification
+RefusesLayout (layout.Stack cells duplex) s page_paper sheet_paper f = f ≡ fault.NoSpecification
 RefusesLayout (layout.Booklet signing long_edge) s page_paper sheet_paper f =
     ((f ≡ fault.NoSpecification) × (s.creep ≢ pos 0))
     ⊎ ((f ≡ without_memory) ⊎ RefusesLaying (layout.Booklet signing long_edge) s page_paper sheet_paper f)

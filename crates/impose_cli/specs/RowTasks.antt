@@ -7,7 +7,7 @@ use Rattle.made_sheets.specs.Choice.{Signing}
 use Rattle.rows.specs.Choices.{choice_of}
 use Rattle.rows.specs.Sewing.{MayBeSewn, signing_of}
 use Rattle.layouts.specs.Fitted.{binding_setting_of, setting_of}
-use Rattle.layouts.specs.Grids.{rounded_down}
+use Rattle.layouts.specs.Grids.{count_of, rounded_down}
 use Rattle.layouts.specs.Refusals.{first_of, is_length, why_not_arranged, why_not_bound}
 use Rattle.layouts.specs.declared.setting.Setting.{Setting}
 use Rattle.layouts.specs.declared.error.ArrangementError.{ArrangementError}
@@ -36,9 +36,9 @@ use Rattle.impose_cli.specs.declared.row_task.RowTask.{RowTask}
 -- how a layout is sewn
 abbrev pub signing_in : Layout → Option Signing
 signing_in (layout.Booklet signing long_edge) = Some (signing_of signing)
-signing_in (layout.NUp n) = None
-signing_in (layout.Cards n) = None
-signing_in (layout.Stack n duplex) = None
+signing_in (layout.NUp cells) = None
+signing_in (layout.Cards cells) = None
+signing_in (layout.Stack cells duplex) = None
 signing_in layout.Selection = None
 signing_in (layout.Spec specs) = None
 
@@ -54,12 +54,12 @@ stacked true t cells = laying.Leaves t
 
 -- how a layout lays a row of pages of a paper on sheets, if it does
 abbrev pub laying_in : Layout → Spacing → (page_paper sheet_paper : Paper) → Option Laying
-laying_in (layout.NUp n) s page_paper sheet_paper =
-    Some (laying.Grid (setting_of page_paper sheet_paper (arrangement_in s n)) n)
-laying_in (layout.Cards n) s page_paper sheet_paper =
-    Some (laying.Cards (setting_of page_paper sheet_paper (arrangement_in s n)) n)
-laying_in (layout.Stack n duplex) s page_paper sheet_paper =
-    Some (stacked duplex (setting_of page_paper sheet_paper (arrangement_in s n)) n)
+laying_in (layout.NUp cells) s page_paper sheet_paper =
+    Some (laying.Grid (setting_of page_paper sheet_paper (arrangement_in s cells)) (count_of cells))
+laying_in (layout.Cards cells) s page_paper sheet_paper =
+    Some (laying.Cards (setting_of page_paper sheet_paper (arrangement_in s cells)) (count_of cells))
+laying_in (layout.Stack cells duplex) s page_paper sheet_paper =
+    Some (stacked duplex (setting_of page_paper sheet_paper (arrangement_in s cells)) (count_of cells))
 laying_in (layout.Booklet signing long_edge) s page_paper sheet_paper =
     Some (laying.Booklet (binding_setting_of sheet_paper (binding_in s long_edge)) long_edge (rounded_down s.creep))
 laying_in layout.Selection s page_paper sheet_paper = Some (laying.AsTheyAre sheet_paper)
@@ -67,10 +67,12 @@ laying_in (layout.Spec specs) s page_paper sheet_paper = None
 
 -- why it can't
 abbrev pub why_not_laid : Layout → Spacing → (page_paper sheet_paper : Paper) → Option ArrangementError
-why_not_laid (layout.NUp n) s page_paper sheet_paper = why_not_arranged page_paper sheet_paper (arrangement_in s n)
-why_not_laid (layout.Cards n) s page_paper sheet_paper = why_not_arranged page_paper sheet_paper (arrangement_in s n)
-why_not_laid (layout.Stack n duplex) s page_paper sheet_paper =
-    why_not_arranged page_paper sheet_paper (arrangement_in s n)
+why_not_laid (layout.NUp cells) s page_paper sheet_paper =
+    why_not_arranged page_paper sheet_paper (arrangement_in s cells)
+why_not_laid (layout.Cards cells) s page_paper sheet_paper =
+    why_not_arranged page_paper sheet_paper (arrangement_in s cells)
+why_not_laid (layout.Stack cells duplex) s page_paper sheet_paper =
+    why_not_arranged page_paper sheet_paper (arrangement_in s cells)
 why_not_laid (layout.Booklet signing long_edge) s page_paper sheet_paper =
     first_of (is_length s.creep) why.LengthOutOfRange (why_not_bound page_paper sheet_paper (binding_in s long_edge))
 why_not_laid layout.Selection s page_paper sheet_paper = None

@@ -1,9 +1,12 @@
--- The papers, the border, what is kept free, the pages and OUTFILE that the words ask for: the steps of their reading.
-use Rattle.std.specs.Prelude.{◌≡◌, ⊤, ℤ, true, is_some, List, Option, Some, None, codes, string_bytes}
+-- The papers, the border, what is kept free, the order and the scale, the pages and OUTFILE that the words ask for: the steps of
+-- their reading.
+use Rattle.std.specs.Prelude.{◌≡◌, ⊤, ℤ, true, false, is_some, List, Option, Some, None, codes, string_bytes}
 use Rattle.clap.specs.Words.{Row, first_of}
 use Rattle.rules.specs.Papers.{Paper}
 use Rattle.lengths.specs.Lengths.{a4, length_named}
-use Rattle.impose_cli.specs.Words.{HasPapers, NamesNoLength, NamesNoSize, WritesToOption, border_found, has_flag, length_id, size_found}
+use Rattle.impose_cli.specs.Words.{HasLengths, HasNoValue, HasPapers, NamesNoLength, NamesNoSize, WritesToOption, border_found}
+use Rattle.impose_cli.specs.Words.{cell_id, has_flag, is_value, length_id, size_found}
+use Rattle.impose_cli.specs.declared.fault.CellOption.{CellOption}
 use Rattle.impose_cli.specs.declared.fault.LengthOption.{LengthOption}
 use Rattle.impose_cli.specs.declared.fault.PaperOption.{PaperOption}
 use Rattle.impose_cli.specs.declared.fault.PaperOption.TheVariants.{Paper as OfPages, Sheet as OfSheets}
@@ -24,6 +27,8 @@ RefusesSize option found fault.NoMemory = ⊤
 RefusesSize option found fault.Lacking = ⊥
 RefusesSize option found fault.OddAndEven = ⊥
 RefusesSize option found (fault.BadSignature text) = ⊥
+RefusesSize option found (fault.BadCells command text) = ⊥
+RefusesSize option found (fault.BadValue which text) = ⊥
 RefusesSize option found (fault.Words error) = ⊥
 RefusesSize option found fault.NoText = ⊥
 RefusesSize option found (fault.BadLength which text) = ⊥
@@ -39,6 +44,8 @@ RefusesBorder found (fault.UnknownPaper option text) = ⊥
 RefusesBorder found fault.Lacking = ⊥
 RefusesBorder found fault.OddAndEven = ⊥
 RefusesBorder found (fault.BadSignature text) = ⊥
+RefusesBorder found (fault.BadCells command text) = ⊥
+RefusesBorder found (fault.BadValue which text) = ⊥
 RefusesBorder found (fault.OptionAsOutfile text) = ⊥
 RefusesBorder found (fault.Words error) = ⊥
 RefusesBorder found fault.NoText = ⊥
@@ -54,6 +61,8 @@ RefusesSizes found fault.NoMemory = ⊤
 RefusesSizes found fault.Lacking = ⊥
 RefusesSizes found fault.OddAndEven = ⊥
 RefusesSizes found (fault.BadSignature text) = ⊥
+RefusesSizes found (fault.BadCells command text) = ⊥
+RefusesSizes found (fault.BadValue which text) = ⊥
 RefusesSizes found (fault.OptionAsOutfile text) = ⊥
 RefusesSizes found (fault.Words error) = ⊥
 RefusesSizes found fault.NoText = ⊥
@@ -69,18 +78,54 @@ RefusesLength option found (fault.BadBorder text) = ⊥
 RefusesLength option found fault.Lacking = ⊥
 RefusesLength option found fault.OddAndEven = ⊥
 RefusesLength option found (fault.BadSignature text) = ⊥
+RefusesLength option found (fault.BadCells command text) = ⊥
+RefusesLength option found (fault.BadValue which text) = ⊥
 RefusesLength option found (fault.OptionAsOutfile text) = ⊥
 RefusesLength option found (fault.Words error) = ⊥
 RefusesLength option found fault.NoText = ⊥
 
+-- a refusal of the order of cells, of how pages lie in them, or of their scale
+abbrev pub RefusesValue : CellOption → (found : List Row) → CommandFault → Type 0
+RefusesValue option found (fault.BadValue other text) = (other ≡ option)
+    × (first_of (cell_id option) found ≡ Some (string_bytes text)) × (is_value option (string_bytes text) ≡ false)
+RefusesValue option found fault.NoMemory = ⊤
+RefusesValue option found (fault.UnknownPaper which text) = ⊥
+RefusesValue option found (fault.BadBorder text) = ⊥
+RefusesValue option found fault.Lacking = ⊥
+RefusesValue option found fault.OddAndEven = ⊥
+RefusesValue option found (fault.BadSignature sides) = ⊥
+RefusesValue option found (fault.BadCells command text) = ⊥
+RefusesValue option found (fault.OptionAsOutfile text) = ⊥
+RefusesValue option found (fault.Words error) = ⊥
+RefusesValue option found fault.NoText = ⊥
+RefusesValue option found (fault.BadLength which text) = ⊥
+
+-- a refusal of one of them, each behind those before it
+abbrev pub RefusesReading : (found : List Row) → CommandFault → Type 0
+RefusesReading found (fault.BadValue option text) = HasNoValue option found (string_bytes text)
+RefusesReading found fault.NoMemory = ⊤
+RefusesReading found (fault.UnknownPaper which text) = ⊥
+RefusesReading found (fault.BadBorder text) = ⊥
+RefusesReading found fault.Lacking = ⊥
+RefusesReading found fault.OddAndEven = ⊥
+RefusesReading found (fault.BadSignature sides) = ⊥
+RefusesReading found (fault.BadCells command text) = ⊥
+RefusesReading found (fault.OptionAsOutfile text) = ⊥
+RefusesReading found (fault.Words error) = ⊥
+RefusesReading found fault.NoText = ⊥
+RefusesReading found (fault.BadLength which text) = ⊥
+
+-- a refusal of any of what is kept free, the order and the scale
 abbrev pub RefusesSpacing : (found : List Row) → CommandFault → Type 0
 RefusesSpacing found (fault.BadLength option text) = NamesNoLength option found (string_bytes text)
+RefusesSpacing found (fault.BadValue option text) = HasLengths found × HasNoValue option found (string_bytes text)
 RefusesSpacing found fault.NoMemory = ⊤
 RefusesSpacing found (fault.UnknownPaper option text) = ⊥
 RefusesSpacing found (fault.BadBorder text) = ⊥
 RefusesSpacing found fault.Lacking = ⊥
 RefusesSpacing found fault.OddAndEven = ⊥
 RefusesSpacing found (fault.BadSignature text) = ⊥
+RefusesSpacing found (fault.BadCells command text) = ⊥
 RefusesSpacing found (fault.OptionAsOutfile text) = ⊥
 RefusesSpacing found (fault.Words error) = ⊥
 RefusesSpacing found fault.NoText = ⊥
@@ -93,6 +138,8 @@ RefusesChoice found (fault.UnknownPaper option text) = ⊥
 RefusesChoice found (fault.BadBorder text) = ⊥
 RefusesChoice found fault.Lacking = ⊥
 RefusesChoice found (fault.BadSignature text) = ⊥
+RefusesChoice found (fault.BadCells command text) = ⊥
+RefusesChoice found (fault.BadValue which text) = ⊥
 RefusesChoice found (fault.OptionAsOutfile text) = ⊥
 RefusesChoice found (fault.Words error) = ⊥
 RefusesChoice found fault.NoText = ⊥
@@ -107,6 +154,8 @@ RefusesOutfile found (fault.BadBorder text) = ⊥
 RefusesOutfile found fault.Lacking = ⊥
 RefusesOutfile found fault.OddAndEven = ⊥
 RefusesOutfile found (fault.BadSignature text) = ⊥
+RefusesOutfile found (fault.BadCells command text) = ⊥
+RefusesOutfile found (fault.BadValue which text) = ⊥
 RefusesOutfile found (fault.Words error) = ⊥
 RefusesOutfile found fault.NoText = ⊥
 RefusesOutfile found (fault.BadLength option text) = ⊥

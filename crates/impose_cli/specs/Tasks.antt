@@ -58,7 +58,7 @@ IsWritten spec text = (text ≡ canonical spec) × Takes most_slots text spec
 -- says a selection, cards, a stack, or leaves that creep.
 abbrev pub IsPlaced : Layout → Spacing → (page_paper sheet_paper : Paper) → (pages : ℕ) → (text : List ℕ)
     → (sides : Option ℕ) → Type 0
-IsPlaced (layout.NUp n) s page_paper sheet_paper pages text sides = let a = arrangement_in s n in
+IsPlaced (layout.NUp cells) s page_paper sheet_paper pages text sides = let a = arrangement_in s cells in
     (IsWritten (arranged page_paper sheet_paper a) text
     × IsArranged page_paper sheet_paper a (arranged page_paper sheet_paper a)) × (sides ≡ None)
 IsPlaced (layout.Booklet signing long_edge) s page_paper sheet_paper pages text sides = let b = binding_in s long_edge in
@@ -66,8 +66,8 @@ IsPlaced (layout.Booklet signing long_edge) s page_paper sheet_paper pages text 
     × (IsWritten (bound page_paper sheet_paper b) text × IsBound page_paper sheet_paper b (bound page_paper sheet_paper b))
     × (sides ≡ Some (sides_for (signing_of signing) pages))
 IsPlaced (layout.Spec specs) s page_paper sheet_paper pages text sides = (text ≡ string_bytes specs) × (sides ≡ None)
-IsPlaced (layout.Cards n) s page_paper sheet_paper pages text sides = ⊥
-IsPlaced (layout.Stack n duplex) s page_paper sheet_paper pages text sides = ⊥
+IsPlaced (layout.Cards cells) s page_paper sheet_paper pages text sides = ⊥
+IsPlaced (layout.Stack cells duplex) s page_paper sheet_paper pages text sides = ⊥
 IsPlaced layout.Selection s page_paper sheet_paper pages text sides = ⊥
 
 -- the task is what the request asks for with this document

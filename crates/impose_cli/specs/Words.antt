@@ -1,6 +1,6 @@
 -- What the words ask for, by the rows that the command finds among them.
-use Rattle.std.specs.Prelude.{◌≡◌, ◌⊎◌, ⊤, [], ℕ, ℤ, pos, Bool, true, false, not, if◌then◌else◌, is_some}
-use Rattle.std.specs.Prelude.{option_map, List, Option, Some, None, codes, nat_eq, string_bytes}
+use Rattle.std.specs.Prelude.{◌≡◌, ◌⊎◌, ◌||◌, ⊤, [], ℕ, ℤ, pos, Bool, true, false, not, if◌then◌else◌, is_some}
+use Rattle.std.specs.Prelude.{option_and_then, option_map, List, Option, Some, None, codes, nat_eq, string_bytes}
 use Rattle.std.specs.Str.{bytes_eq}
 use Rattle.std.specs.List.{starts_with}
 use Rattle.clap.specs.Words.{IsAmong, Row, Text, fault_of, first_of, kind_of, one_of, subcommand_of}
@@ -8,9 +8,16 @@ use Rattle.rules.specs.Papers.{Paper}
 use Rattle.lengths.specs.Lengths.{a4, length_named}
 use Rattle.command_words.specs.Borders.{border_named}
 use Rattle.command_words.specs.Matches.{has_true, number_named}
+use Rattle.layouts.specs.declared.arrangement.Cells.{Cells}
+use Rattle.layouts.specs.declared.arrangement.Order.{Order}
+use Rattle.layouts.specs.declared.arrangement.Run.{Run}
+use Rattle.layouts.specs.declared.arrangement.Run.TheVariants.{Rows}
+use Rattle.layouts.specs.declared.arrangement.Turned.{Turned}
+use Rattle.layouts.specs.declared.arrangement.Turned.TheVariants.{Upright}
 use Rattle.rows.specs.declared.sewing.Signing.{Signing}
 use Rattle.rows.specs.declared.choices.Part.{Part}
 use Rattle.rows.specs.declared.choices.Part.TheVariants.{All, Odd, Even}
+use Rattle.impose_cli.specs.Arranging.{cells_named, run_named, scale_named, turned_named}
 use Rattle.impose_cli.specs.Choices.{is_whole}
 use Rattle.impose_cli.specs.declared.request.PageChoice.{PageChoice}
 use Rattle.impose_cli.specs.Command.{impose}
@@ -21,6 +28,10 @@ use Rattle.impose_cli.specs.declared.request.Layout.TheVariants as layout
 use Rattle.impose_cli.specs.declared.request.Request.{Request}
 use Rattle.impose_cli.specs.Spacings.{keeps_room, nothing_kept}
 use Rattle.impose_cli.specs.declared.request.Spacing.{Spacing}
+use Rattle.impose_cli.specs.declared.fault.CellOption.{CellOption}
+use Rattle.impose_cli.specs.declared.fault.CellOption.TheVariants as cell
+use Rattle.impose_cli.specs.declared.fault.GridCommand.{GridCommand}
+use Rattle.impose_cli.specs.declared.fault.GridCommand.TheVariants as grid
 use Rattle.impose_cli.specs.declared.fault.LengthOption.{LengthOption}
 use Rattle.impose_cli.specs.declared.fault.LengthOption.TheVariants.{Margin, Gap, Trim, Creep}
 use Rattle.impose_cli.specs.declared.fault.PaperOption.{PaperOption}
@@ -72,6 +83,59 @@ length_found option found = length_asked (first_of (length_id option) found)
 abbrev pub signing_found : (found : List Row) → Option Signing
 signing_found found = signing_asked (first_of (codes "signature") found)
 
+abbrev pub command_name : GridCommand → Text
+command_name grid.NUp = codes "nup"
+command_name grid.Cards = codes "cards"
+command_name grid.Stack = codes "stack"
+
+-- the cells that stand behind such a command
+abbrev pub cells_found : (found : List Row) → Option Cells
+cells_found found = option_and_then cells_named (first_of (codes "count") found)
+
+abbrev pub cell_id : CellOption → Text
+cell_id cell.Order = codes "order"
+cell_id cell.Turned = codes "turned"
+cell_id cell.Scale = codes "scale"
+
+-- along rows from the left if no order is asked for; and nothing if the text names none
+abbrev pub run_asked : Option Text → Option (Run × Bool)
+run_asked None = Some (Rows, false)
+run_asked (Some text) = run_named text
+
+abbrev pub run_found : (found : List Row) → Option (Run × Bool)
+run_found found = run_asked (first_of (cell_id cell.Order) found)
+
+-- upright if pages aren't said to lie on their sides; and nothing if the text names no side
+abbrev pub turned_asked : Option Text → Option Turned
+turned_asked None = Some Upright
+turned_asked (Some text) = turned_named text
+
+abbrev pub turned_found : (found : List Row) → Option Turned
+turned_found found = turned_asked (first_of (cell_id cell.Turned) found)
+
+-- no scale if none is asked for; and nothing if the text is no number
+abbrev pub scale_asked : Option Text → Option (Option ℤ)
+scale_asked None = Some None
+scale_asked (Some text) = option_map (λ scale. Some scale) (scale_named text)
+
+abbrev pub scale_found : (found : List Row) → Option (Option ℤ)
+scale_found found = scale_asked (first_of (cell_id cell.Scale) found)
+
+-- --rtl turns right into left in whatever order
+abbrev pub order_by : (run : Option (Run × Bool)) → (rtl : Bool) → Option Turned → Option Order
+order_by None rtl turned = None
+order_by (Some run) rtl None = None
+order_by (Some run) rtl (Some turned) = Some (record { run = run.0; right_to_left = run.1 || rtl; turned = turned })
+
+abbrev pub order_found : (found : List Row) → Option Order
+order_found found = order_by (run_found found) (has_flag (codes "rtl") found) (turned_found found)
+
+-- the text is a value of the option
+abbrev pub is_value : CellOption → Text → Bool
+is_value cell.Order text = is_some (run_named text)
+is_value cell.Turned text = is_some (turned_named text)
+is_value cell.Scale text = is_some (scale_named text)
+
 abbrev pub part_by : (odd even : Bool) → Option Part
 part_by false false = Some All
 part_by true false = Some Odd
@@ -102,9 +166,9 @@ is_outfile (Some name) = not (is_like_option name)
 
 -- the subcommand with this name and what was found for it ask for this layout
 abbrev pub AsksFor : (name : Text) → (found : List Row) → Layout → Type 0
-AsksFor name found (layout.NUp n) = (name ≡ codes "nup") × (number_found (codes "count") found ≡ Some n)
-AsksFor name found (layout.Cards n) = (name ≡ codes "cards") × (number_found (codes "count") found ≡ Some n)
-AsksFor name found (layout.Stack n duplex) = (name ≡ codes "stack") × (number_found (codes "count") found ≡ Some n)
+AsksFor name found (layout.NUp cells) = (name ≡ codes "nup") × (cells_found found ≡ Some cells)
+AsksFor name found (layout.Cards cells) = (name ≡ codes "cards") × (cells_found found ≡ Some cells)
+AsksFor name found (layout.Stack cells duplex) = (name ≡ codes "stack") × (cells_found found ≡ Some cells)
     × (has_flag (codes "duplex") found ≡ duplex)
 AsksFor name found (layout.Booklet signing long_edge) = (name ≡ codes "booklet") × (signing_found found ≡ Some signing)
     × (has_flag (codes "long-edge") found ≡ long_edge)
@@ -124,11 +188,13 @@ ChoosesBy None found choice = is_whole choice ≡ true
 ChoosesBy (Some id) found choice = (first_of id found ≡ option_map string_bytes choice.ranges)
     × (part_found found ≡ Some choice.part) × (has_flag (codes "reverse") found ≡ choice.backwards)
 
--- what was found asks for this to be kept free, by a layout that keeps room, and for this creep; or nothing is
+-- what was found asks for this to be kept free, for this creep, and for this order and scale, by a layout that keeps room; or
+-- nothing is
 abbrev pub SpacesBy : (keeps : Bool) → (found : List Row) → Spacing → Type 0
 SpacesBy false found s = s ≡ nothing_kept
 SpacesBy true found s = (length_found Margin found ≡ Some s.margin) × (length_found Gap found ≡ Some s.gap)
-    × (length_found Trim found ≡ Some s.trim) × (length_found Creep found ≡ Some s.creep) × (has_flag (codes "rtl") found ≡ s.right_to_left)
+    × (length_found Trim found ≡ Some s.trim) × (length_found Creep found ≡ Some s.creep)
+    × (order_found found ≡ Some s.order) × (scale_found found ≡ Some s.scale)
 
 -- the request is what was found
 pub record Reads (name : Text) (found : List Row) (r : Request) : Type 0 where
@@ -204,6 +270,27 @@ pub record NamesNoLength (option : LengthOption) (found : List Row) (text : Text
   pub none : length_named a4 text ≡ None
   pub before : AreBefore option found
 
+-- what stands behind the command names no cells
+abbrev pub NamesNoCells : (found : List Row) → (text : Text) → Type 0
+NamesNoCells found text = (first_of (codes "count") found ≡ Some text) × (cells_named text ≡ None)
+
+-- the value of the option is none, and those of the options before it are, and the lengths
+pub record HasLengths (found : List Row) : Type 0 where
+  pub margin : is_some (length_found Margin found) ≡ true
+  pub gap : is_some (length_found Gap found) ≡ true
+  pub trim : is_some (length_found Trim found) ≡ true
+  pub creep : is_some (length_found Creep found) ≡ true
+
+abbrev pub AreValues : CellOption → (found : List Row) → Type 0
+AreValues cell.Order found = ⊤
+AreValues cell.Turned found = is_some (run_found found) ≡ true
+AreValues cell.Scale found = (is_some (run_found found) ≡ true) × (is_some (turned_found found) ≡ true)
+
+pub record HasNoValue (option : CellOption) (found : List Row) (text : Text) : Type 0 where
+  pub given : first_of (cell_id option) found ≡ Some text
+  pub none : is_value option text ≡ false
+  pub before : AreValues option found
+
 -- odd and even entries are asked for, which leave none together
 pub record AsksForNone (name : Text) (found : List Row) : Type 0 where
   pub spacing : HasSpacing name found
@@ -213,10 +300,10 @@ pub record AsksForNone (name : Text) (found : List Row) : Type 0 where
 -- the arguments that the subcommand needs were found
 abbrev pub is_complete : (name : Text) → (found : List Row) → Bool
 is_complete name found =
-    if bytes_eq name (codes "nup") then is_some (number_found (codes "count") found)
+    if bytes_eq name (codes "nup") then is_some (first_of (codes "count") found)
     else (if bytes_eq name (codes "booklet") then true
-    else (if bytes_eq name (codes "cards") then is_some (number_found (codes "count") found)
-    else (if bytes_eq name (codes "stack") then is_some (number_found (codes "count") found)
+    else (if bytes_eq name (codes "cards") then is_some (first_of (codes "count") found)
+    else (if bytes_eq name (codes "stack") then is_some (first_of (codes "count") found)
     else (if bytes_eq name (codes "select") then is_some (first_of (codes "ranges") found)
     else (if bytes_eq name (codes "spec") then is_some (first_of (codes "specs") found) else false)))))
 
@@ -224,6 +311,9 @@ is_complete name found =
 abbrev pub RefusesArguments : (name : Text) → (found : List Row) → CommandFault → Type 0
 RefusesArguments name found (fault.BadSignature text) = (name ≡ codes "booklet")
     × (first_of (codes "signature") found ≡ Some (string_bytes text)) × (signing_found found ≡ None)
+    × (number_found (codes "signature") found ≡ Some sides) × (is_folded (Some sides) ≡ false)
+RefusesArguments name found (fault.BadCells command text) = (name ≡ command_name command)
+    × NamesNoCells found (string_bytes text)
 RefusesArguments name found fault.OddAndEven = ⊥
 RefusesArguments name found fault.Lacking = is_complete name found ≡ false
 RefusesArguments name found fault.NoMemory = ⊤
@@ -232,6 +322,7 @@ RefusesArguments name found fault.NoText = ⊥
 RefusesArguments name found (fault.UnknownPaper option text) = ⊥
 RefusesArguments name found (fault.BadBorder text) = ⊥
 RefusesArguments name found (fault.BadLength option text) = ⊥
+RefusesArguments name found (fault.BadValue option text) = ⊥
 RefusesArguments name found (fault.OptionAsOutfile text) = ⊥
 
 -- what a refusal says of what was found, and of what was looked at before: --paper, --sheet, --border, the layout, what is
@@ -244,8 +335,12 @@ RefusesFound name found (fault.BadBorder text) = HasPapers found
     × (first_of (codes "border") found ≡ Some (string_bytes text)) × (border_found found ≡ None)
 RefusesFound name found (fault.BadSignature text) = HasSizes found
     × RefusesArguments name found (fault.BadSignature text)
+RefusesFound name found (fault.BadCells command text) = HasSizes found
+    × RefusesArguments name found (fault.BadCells command text)
 RefusesFound name found fault.OddAndEven = AsksForNone name found
 RefusesFound name found (fault.BadLength option text) = HasLayout name found × NamesNoLength option found (string_bytes text)
+RefusesFound name found (fault.BadValue option text) = HasLayout name found × HasLengths found
+    × HasNoValue option found (string_bytes text)
 RefusesFound name found fault.Lacking = HasSizes found × RefusesArguments name found fault.Lacking
 RefusesFound name found (fault.OptionAsOutfile text) = HasChoice name found × WritesToOption found (string_bytes text)
 RefusesFound name found fault.NoMemory = ⊤
@@ -262,6 +357,10 @@ Refuses words (fault.UnknownPaper option text) =
 Refuses words (fault.BadBorder text) = Entered words (λ name found. RefusesFound name found (fault.BadBorder text))
 Refuses words (fault.BadSignature text) =
     Entered words (λ name found. RefusesFound name found (fault.BadSignature text))
+Refuses words (fault.BadCells command text) =
+    Entered words (λ name found. RefusesFound name found (fault.BadCells command text))
+Refuses words (fault.BadValue option text) =
+    Entered words (λ name found. RefusesFound name found (fault.BadValue option text))
 Refuses words (fault.BadLength option text) =
     Entered words (λ name found. RefusesFound name found (fault.BadLength option text))
 Refuses words fault.OddAndEven = Entered words (λ name found. RefusesFound name found fault.OddAndEven)

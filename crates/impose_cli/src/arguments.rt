@@ -18,6 +18,8 @@ const PAPERS_AND_EXAMPLES: &str = "Papers:
 Examples:
   impose nup 2 in.ps out.ps           two pages on each sheet
   impose booklet in.ps out.ps         print on both sides, fold, staple
+  impose cards 8 in.ps out.ps         each page eight times on a sheet
+  impose stack 2 in.ps out.ps         cut the pile in two, and the pages run on
   impose select 9-3,12- in.ps out.ps  pages 9 down to 3, then 12 to the last
   impose booklet --pages 3-14 in.ps out.ps
   pdftops in.pdf - | impose nup 4 --sheet a3 - | ps2pdf - out.pdf";
@@ -52,9 +54,15 @@ fn nup<'a>(alloc: Global) -> Result<Command<'a>, AllocError>
 {
     let about = "Several pages on each sheet, as large as they fit";
     let own = vec![in alloc;
-        count(alloc),
+        count(
+            alloc,
+            "How many pages, from 1 to 1024, or columns and rows, as 2x4"
+        ),
+        order(alloc),
+        turned(alloc),
+        scale(alloc),
         margin(alloc),
-        gap(alloc),
+        gap(alloc, "Keep so much free between pages"),
         trim(alloc),
         rtl(alloc),
         pages(alloc),
@@ -70,9 +78,15 @@ fn cards<'a>(alloc: Global) -> Result<Command<'a>, AllocError>
 {
     let about = "Each page several times on a sheet, to be cut";
     let own = vec![in alloc;
-        count(alloc),
+        count(
+            alloc,
+            "How often each page stands on a sheet, from 1 to 1024, or columns and rows, as 2x4",
+        ),
+        order(alloc),
+        turned(alloc),
+        scale(alloc),
         margin(alloc),
-        gap(alloc),
+        gap(alloc, "Keep so much free between pages"),
         trim(alloc),
         rtl(alloc),
         pages(alloc),
@@ -90,10 +104,16 @@ fn stack<'a>(alloc: Global) -> Result<Command<'a>, AllocError>
     let about =
         "Several pages on each sheet: cut the pile, lay its parts on one another, and the pages run on";
     let own = vec![in alloc;
-        count(alloc),
+        count(
+            alloc,
+            "How many pages, from 1 to 1024, or columns and rows, as 2x4"
+        ),
         duplex,
+        order(alloc),
+        turned(alloc),
+        scale(alloc),
         margin(alloc),
-        gap(alloc),
+        gap(alloc, "Keep so much free between pages"),
         trim(alloc),
         rtl(alloc),
         pages(alloc),
@@ -114,7 +134,10 @@ fn booklet<'a>(alloc: Global) -> Result<Command<'a>, AllocError>
         creep(alloc),
         long_edge,
         margin(alloc),
-        gap(alloc),
+        gap(
+            alloc,
+            "Keep so much free at the fold, half of it on each side"
+        ),
         trim(alloc),
         rtl(alloc),
         pages(alloc),
@@ -137,12 +160,34 @@ fn select<'a>(alloc: Global) -> Result<Command<'a>, AllocError>
 const RANGES_HELP: &str =
     "Pages, as 7, 3-9, 9-3, 5- or _1 (the last), blank for an empty one, with commas between them";
 
-fn count<'a>(alloc: Global) -> Arg<'a>
+fn count<'a>(alloc: Global, help: &'a str) -> Arg<'a>
     ensures { rule_of result ≡ count_rule }
 {
-    required(alloc, "count", "N")
-        .value_parser(value_parser!(u32).range(1..=1_024))
-        .help("How many pages, from 1 to 1024")
+    required(alloc, "count", "N").help(help)
+}
+
+fn order<'a>(alloc: Global) -> Arg<'a>
+    ensures { rule_of result ≡ option_rule (codes "order") }
+{
+    option(alloc, "order", "ORDER").help(
+        "Where pages go on: right-down, down-right, left-down or down-left [default: right-down]",
+    )
+}
+
+fn turned<'a>(alloc: Global) -> Arg<'a>
+    ensures { rule_of result ≡ option_rule (codes "turned") }
+{
+    option(alloc, "turned", "SIDE").help(
+        "The pages lie on their sides, and are turned to the left or to the right to be read",
+    )
+}
+
+fn scale<'a>(alloc: Global) -> Arg<'a>
+    ensures { rule_of result ≡ option_rule (codes "scale") }
+{
+    option(alloc, "scale", "SCALE").help(
+        "The scale of the pages, as 0.7 [default: as large as they fit]",
+    )
 }
 
 fn signature<'a>(alloc: Global) -> Arg<'a>
@@ -167,10 +212,10 @@ fn margin<'a>(alloc: Global) -> Arg<'a>
     option(alloc, "margin", "LENGTH").help("Keep so much free along each edge of a sheet, as 5mm")
 }
 
-fn gap<'a>(alloc: Global) -> Arg<'a>
+fn gap<'a>(alloc: Global, help: &'a str) -> Arg<'a>
     ensures { rule_of result ≡ option_rule (codes "gap") }
 {
-    option(alloc, "gap", "LENGTH").help("Keep so much free between pages")
+    option(alloc, "gap", "LENGTH").help(help)
 }
 
 fn trim<'a>(alloc: Global) -> Arg<'a>

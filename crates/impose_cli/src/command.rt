@@ -5,20 +5,24 @@ ghost use Rattle.impose_cli.specs.Command.{impose};
 ghost use Rattle.impose_cli.specs.Words.{AsksFor, Entered, ParseRefuses, Reads, Refuses, RefusesFound};
 ghost use Rattle.impose_cli.specs.Words.{RefusesArguments, border_found, file_asked, is_outfile, paper_id};
 ghost use Rattle.impose_cli.specs.Words.{ChoosesBy, SpacesBy, length_found, length_id, ranges_id, part_by as of_both};
-ghost use Rattle.impose_cli.specs.Words.{signing_found, size_found};
+ghost use Rattle.impose_cli.specs.Words.{cells_found, command_name, order_found, run_found, scale_found};
+ghost use Rattle.impose_cli.specs.Words.{signing_found, size_found, turned_found};
 ghost use Rattle.impose_cli.specs.Spacings.{keeps_room};
 ghost use Rattle.impose_cli.specs.Sizing.{ReadsSizes, RefusesBorder, RefusesChoice, RefusesOutfile, RefusesSize};
-ghost use Rattle.impose_cli.specs.Sizing.{RefusesLength, RefusesSizes, RefusesSpacing};
+ghost use Rattle.impose_cli.specs.Sizing.{RefusesLength, RefusesReading, RefusesSizes, RefusesSpacing, RefusesValue};
+ghost use Rattle.impose_cli.specs.declared.fault.CellOption.TheVariants as cell;
 
 use crate::arguments::command;
-use crate::fault::{CommandFault, LengthOption, PaperOption};
+use crate::arranging::{cells_named, run_named, scale_named, turned_named};
+use crate::fault::{CellOption, CommandFault, GridCommand, LengthOption, PaperOption};
 use crate::request::{Layout, PageChoice, Request, Spacing};
 use crate::signature::signing_named;
 use crate::sizes::size_named;
 use clap::ArgMatches;
 use clap::error::ErrorKind;
 use command_words::{border_named, is_set, number_of, owned, text_of};
-use lengths::{Grains, Paper, a4, length_named};
+use layouts::{Cells, Order, Run, Turned};
+use lengths::{Grains, Number, Paper, a4, length_named};
 use rows::{Part, Signing};
 use std::alloc::Global;
 
@@ -27,8 +31,9 @@ use std::alloc::Global;
 ///
 /// Words that the command doesn't take are `Words`, with clap's message, and so is a call for help or for the version.
 /// Among words that it takes, the first of these is the fault: a paper that there isn't, after `--paper`, then after
-/// `--sheet`; a border that is no length, or below zero; a signature that leaves can't have; a margin, a gap, a trim or a
-/// creep that is no length; odd and even entries together; an OUTFILE that begins with a minus sign.
+/// `--sheet`; a border that is no length, or below zero; cells that a sheet doesn't take, or a signature that leaves can't have;
+/// a margin, a gap, a trim or a creep that is no length; an order that there isn't, no side after `--turned`, no number after
+/// `--scale`; odd and even entries together; an OUTFILE that begins with a minus sign.
 #[tactic(auto, using(crate::proofs::Commands::impose_is_simple))]
 pub fn read_command(alloc: Global, words: &[String]) -> Result<Request, CommandFault>
     // The command takes the words, and the request is what it finds among them.
@@ -189,13 +194,13 @@ fn layout_of(alloc: Global, name: &str, found: &ArgMatches<'_>) -> Result<Layout
     ensures refused { IfErr result (RefusesArguments name.now (rows_of (found_of found.now))) }
 {
     if name == "nup" {
-        nup_of(found)
+        nup_of(alloc, found)
     } else if name == "booklet" {
         booklet_of(alloc, found)
     } else if name == "cards" {
-        cards_of(found)
+        cards_of(alloc, found)
     } else if name == "stack" {
-        stack_of(found)
+        stack_of(alloc, found)
     } else if name == "select" {
         selection_of(found)
     } else if name == "spec" {
@@ -205,36 +210,54 @@ fn layout_of(alloc: Global, name: &str, found: &ArgMatches<'_>) -> Result<Layout
     }
 }
 
-fn nup_of(found: &ArgMatches<'_>) -> Result<Layout, CommandFault>
+fn nup_of(alloc: Global, found: &ArgMatches<'_>) -> Result<Layout, CommandFault>
     ensures read { IfOk result (AsksFor (codes "nup") (rows_of (found_of found.now))) }
     ensures refused { IfErr result (RefusesArguments (codes "nup") (rows_of (found_of found.now))) }
 {
-    match number_of(found, "count") {
-        Some(count) => Ok(Layout::NUp(count)),
-        None => Err(CommandFault::Lacking),
+    match cells_of(alloc, GridCommand::NUp, found) {
+        Ok(cells) => Ok(Layout::NUp(cells)),
+        Err(fault) => Err(fault),
     }
 }
 
-fn cards_of(found: &ArgMatches<'_>) -> Result<Layout, CommandFault>
+fn cards_of(alloc: Global, found: &ArgMatches<'_>) -> Result<Layout, CommandFault>
     ensures read { IfOk result (AsksFor (codes "cards") (rows_of (found_of found.now))) }
     ensures refused { IfErr result (RefusesArguments (codes "cards") (rows_of (found_of found.now))) }
 {
-    match number_of(found, "count") {
-        Some(count) => Ok(Layout::Cards(count)),
-        None => Err(CommandFault::Lacking),
+    match cells_of(alloc, GridCommand::Cards, found) {
+        Ok(cells) => Ok(Layout::Cards(cells)),
+        Err(fault) => Err(fault),
     }
 }
 
-fn stack_of(found: &ArgMatches<'_>) -> Result<Layout, CommandFault>
+fn stack_of(alloc: Global, found: &ArgMatches<'_>) -> Result<Layout, CommandFault>
     ensures read { IfOk result (AsksFor (codes "stack") (rows_of (found_of found.now))) }
     ensures refused { IfErr result (RefusesArguments (codes "stack") (rows_of (found_of found.now))) }
 {
-    match number_of(found, "count") {
-        Some(count) => Ok(Layout::Stack {
-            count,
+    match cells_of(alloc, GridCommand::Stack, found) {
+        Ok(cells) => Ok(Layout::Stack {
+            cells,
             duplex: is_set(found, "duplex"),
         }),
+        Err(fault) => Err(fault),
+    }
+}
+
+/// The cells that stand behind the command.
+fn cells_of(
+    alloc: Global,
+    command: GridCommand,
+    found: &ArgMatches<'_>,
+) -> Result<Cells, CommandFault>
+    ensures read { IfOk result (λ cells. cells_found (rows_of (found_of found.now)) ≡ Some cells) }
+    ensures refused { IfErr result (RefusesArguments (command_name command) (rows_of (found_of found.now))) }
+{
+    match text_of(found, "count") {
         None => Err(CommandFault::Lacking),
+        Some(text) => match cells_named(text) {
+            Some(cells) => Ok(cells),
+            None => Err(CommandFault::BadCells(command, String::from_str(alloc, text)?)),
+        },
     }
 }
 
@@ -285,7 +308,7 @@ fn spec_of(alloc: Global, found: &ArgMatches<'_>) -> Result<Layout, CommandFault
     }
 }
 
-/// What is kept free on the sheets of the layout.
+/// What is kept free on the sheets of the layout, in which order one reads them, and at which scale the pages are.
 fn spacing_of(
     alloc: Global,
     layout: &Layout,
@@ -309,13 +332,18 @@ fn spacing_of(
         Ok(trim) => trim,
         Err(fault) => return Err(fault),
     };
-    match length_of(alloc, found, LengthOption::Creep) {
-        Ok(creep) => Ok(Spacing {
+    let creep = match length_of(alloc, found, LengthOption::Creep) {
+        Ok(creep) => creep,
+        Err(fault) => return Err(fault),
+    };
+    match reading_of(alloc, found) {
+        Ok(Reading { order, scale }) => Ok(Spacing {
             margin,
             gap,
             trim,
             creep,
-            right_to_left: is_set(found, "rtl"),
+            order,
+            scale,
         }),
         Err(fault) => Err(fault),
     }
@@ -348,6 +376,82 @@ fn length_name(option: LengthOption) -> &'static str
         LengthOption::Gap => "gap",
         LengthOption::Trim => "trim",
         LengthOption::Creep => "creep",
+    }
+}
+
+/// In which order one reads the cells, and the scale of the pages in them.
+#[derive(Clone, Copy, Drop)]
+struct Reading {
+    order: Order,
+    scale: Option<Number>,
+}
+
+/// Right is turned into left by `--rtl` in whatever order.
+fn reading_of(alloc: Global, found: &ArgMatches<'_>) -> Result<Reading, CommandFault>
+    ensures order { IfOk result (λ reading. order_found (rows_of (found_of found.now)) ≡ Some reading.order) }
+    ensures scale { IfOk result (λ reading. scale_found (rows_of (found_of found.now)) ≡ Some reading.scale) }
+    ensures refused { IfErr result (RefusesReading (rows_of (found_of found.now))) }
+{
+    let (run, from_right) = match run_of(alloc, found) {
+        Ok(read) => read,
+        Err(fault) => return Err(fault),
+    };
+    let turned = match turned_of(alloc, found) {
+        Ok(turned) => turned,
+        Err(fault) => return Err(fault),
+    };
+    match scale_of(alloc, found) {
+        Ok(scale) => Ok(Reading {
+            order: Order {
+                run,
+                right_to_left: from_right || is_set(found, "rtl"),
+                turned,
+            },
+            scale,
+        }),
+        Err(fault) => Err(fault),
+    }
+}
+
+/// Along what pages run, and whether from the right by the order itself.
+fn run_of(alloc: Global, found: &ArgMatches<'_>) -> Result<(Run, bool), CommandFault>
+    ensures read { IfOk result (λ run. run_found (rows_of (found_of found.now)) ≡ Some run) }
+    ensures refused { IfErr result (RefusesValue cell.Order (rows_of (found_of found.now))) }
+{
+    match text_of(found, "order") {
+        None => Ok((Run::Rows, false)),
+        Some(text) => match run_named(text) {
+            Some(run) => Ok(run),
+            None => Err(CommandFault::BadValue(CellOption::Order, String::from_str(alloc, text)?)),
+        },
+    }
+}
+
+/// How pages lie in the cells.
+fn turned_of(alloc: Global, found: &ArgMatches<'_>) -> Result<Turned, CommandFault>
+    ensures read { IfOk result (λ turned. turned_found (rows_of (found_of found.now)) ≡ Some turned) }
+    ensures refused { IfErr result (RefusesValue cell.Turned (rows_of (found_of found.now))) }
+{
+    match text_of(found, "turned") {
+        None => Ok(Turned::Upright),
+        Some(text) => match turned_named(text) {
+            Some(turned) => Ok(turned),
+            None => Err(CommandFault::BadValue(CellOption::Turned, String::from_str(alloc, text)?)),
+        },
+    }
+}
+
+/// The scale that is asked for, if one is.
+fn scale_of(alloc: Global, found: &ArgMatches<'_>) -> Result<Option<Number>, CommandFault>
+    ensures read { IfOk result (λ scale. scale_found (rows_of (found_of found.now)) ≡ Some scale) }
+    ensures refused { IfErr result (RefusesValue cell.Scale (rows_of (found_of found.now))) }
+{
+    match text_of(found, "scale") {
+        None => Ok(None),
+        Some(text) => match scale_named(text) {
+            Some(scale) => Ok(Some(scale)),
+            None => Err(CommandFault::BadValue(CellOption::Scale, String::from_str(alloc, text)?)),
+        },
     }
 }
 

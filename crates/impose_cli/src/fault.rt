@@ -23,6 +23,22 @@ pub enum LengthOption {
     Creep,
 }
 
+/// The command that puts pages into the cells of a grid.
+#[derive(Clone, Copy, Debug, PartialEq, Eq)]
+pub enum GridCommand {
+    NUp,
+    Cards,
+    Stack,
+}
+
+/// The option that says in which order pages stand in cells, or how large they are.
+#[derive(Clone, Copy, Debug, PartialEq, Eq)]
+pub enum CellOption {
+    Order,
+    Turned,
+    Scale,
+}
+
 /// Why a command line is refused.
 #[derive(Debug, Drop)]
 pub enum CommandFault {
@@ -40,6 +56,10 @@ pub enum CommandFault {
     BadLength(LengthOption, String),
     /// The value of `--signature`, this text, is neither `auto` nor a number of sides that leaves may have.
     BadSignature(String),
+    /// What stands behind the command, this text, names no cells that a sheet takes.
+    BadCells(GridCommand, String),
+    /// The option's value, this text, is none of its values.
+    BadValue(CellOption, String),
     /// Both `--odd` and `--even` are there.
     OddAndEven,
     /// OUTFILE, this text, begins with a minus sign, as options do.

@@ -2,7 +2,7 @@
 ghost use Rattle.std.specs.Prelude.{◌≡◌, ◌↔◌, ◌<◌, ◌≤◌, IfErr, IfOk, IfSome, IsTrue, OnOk, None, Some, option_map};
 ghost use Rattle.layouts.specs.Cells.{size};
 ghost use Rattle.layouts.specs.Fitted.{setting_of};
-ghost use Rattle.layouts.specs.Grids.{rounded_down as rounded_down_of};
+ghost use Rattle.layouts.specs.Grids.{count_of, rounded_down as rounded_down_of};
 ghost use Rattle.layouts.specs.Refusals.{is_length as may_be_length, why_not_arranged};
 ghost use Rattle.rows.specs.Sewing.{MayBeSewn, signing_of};
 ghost use Rattle.row_runs.specs.Sheets.{MayBeLaid};
@@ -14,7 +14,7 @@ ghost use Rattle.impose_cli.specs.declared.request.Layout.TheVariants as layout;
 use crate::fault::Fault;
 use crate::request::{Layout, Spacing};
 use imposer::RunError;
-use layouts::{ArrangementError, Papers, Setting};
+use layouts::{ArrangementError, Cells, Papers, Setting};
 use lengths::{Grains, Paper};
 use row_runs::Laying;
 use rows::Signing;
@@ -46,9 +46,9 @@ pub(crate) fn laying_for(
     ensures refused { IfErr result (RefusesLaying layout.now spacing.now papers.now.page papers.now.sheet) }
 {
     match layout {
-        Layout::NUp(count) => nup_laying(*count, spacing, papers),
-        Layout::Cards(count) => cards_laying(*count, spacing, papers),
-        Layout::Stack { count, duplex } => stack_laying(*count, *duplex, spacing, papers),
+        Layout::NUp(cells) => nup_laying(*cells, spacing, papers),
+        Layout::Cards(cells) => cards_laying(*cells, spacing, papers),
+        Layout::Stack { cells, duplex } => stack_laying(*cells, *duplex, spacing, papers),
         Layout::Booklet { signing, long_edge } => {
             booklet_laying(*signing, *long_edge, spacing, papers)
         }
@@ -59,78 +59,70 @@ pub(crate) fn laying_for(
     }
 }
 
-fn nup_laying(count: u32, spacing: &Spacing, papers: &Papers) -> Result<Option<Laying>, Fault>
+fn nup_laying(cells: Cells, spacing: &Spacing, papers: &Papers) -> Result<Option<Laying>, Fault>
     ensures laying { IfOk result (λ laying.
-        laying ≡ laying_in (layout.NUp count) spacing.now papers.now.page papers.now.sheet) }
+        laying ≡ laying_in (layout.NUp cells) spacing.now papers.now.page papers.now.sheet) }
     ensures may_be { IfOk result (λ laying. IfSome laying MayBeLaid) }
-    ensures possible { OnOk result (why_not_laid (layout.NUp count) spacing.now papers.now.page papers.now.sheet ≡ None) }
-    ensures refused { IfErr result (RefusesLaying (layout.NUp count) spacing.now papers.now.page papers.now.sheet) }
+    ensures possible { OnOk result (why_not_laid (layout.NUp cells) spacing.now papers.now.page papers.now.sheet ≡ None) }
+    ensures refused { IfErr result (RefusesLaying (layout.NUp cells) spacing.now papers.now.page papers.now.sheet) }
 {
-    match cells_for(count, spacing, papers) {
-        Ok(setting) => Ok(Some(Laying::Grid {
-            setting,
-            cells: count,
-        })),
+    match cells_for(cells, spacing, papers) {
+        Ok((setting, cells)) => Ok(Some(Laying::Grid { setting, cells })),
         Err(fault) => Err(fault),
     }
 }
 
-fn cards_laying(count: u32, spacing: &Spacing, papers: &Papers) -> Result<Option<Laying>, Fault>
+fn cards_laying(cells: Cells, spacing: &Spacing, papers: &Papers) -> Result<Option<Laying>, Fault>
     ensures laying { IfOk result (λ laying.
-        laying ≡ laying_in (layout.Cards count) spacing.now papers.now.page papers.now.sheet) }
+        laying ≡ laying_in (layout.Cards cells) spacing.now papers.now.page papers.now.sheet) }
     ensures may_be { IfOk result (λ laying. IfSome laying MayBeLaid) }
-    ensures possible { OnOk result (why_not_laid (layout.Cards count) spacing.now papers.now.page papers.now.sheet ≡ None) }
-    ensures refused { IfErr result (RefusesLaying (layout.Cards count) spacing.now papers.now.page papers.now.sheet) }
+    ensures possible { OnOk result (why_not_laid (layout.Cards cells) spacing.now papers.now.page papers.now.sheet ≡ None) }
+    ensures refused { IfErr result (RefusesLaying (layout.Cards cells) spacing.now papers.now.page papers.now.sheet) }
 {
-    match cells_for(count, spacing, papers) {
-        Ok(setting) => Ok(Some(Laying::Cards {
-            setting,
-            cells: count,
-        })),
+    match cells_for(cells, spacing, papers) {
+        Ok((setting, cells)) => Ok(Some(Laying::Cards { setting, cells })),
         Err(fault) => Err(fault),
     }
 }
 
 fn stack_laying(
-    count: u32,
+    cells: Cells,
     duplex: bool,
     spacing: &Spacing,
     papers: &Papers,
 ) -> Result<Option<Laying>, Fault>
     ensures laying { IfOk result (λ laying.
-        laying ≡ laying_in (layout.Stack count duplex) spacing.now papers.now.page papers.now.sheet) }
+        laying ≡ laying_in (layout.Stack cells duplex) spacing.now papers.now.page papers.now.sheet) }
     ensures may_be { IfOk result (λ laying. IfSome laying MayBeLaid) }
     ensures possible { OnOk result
-        (why_not_laid (layout.Stack count duplex) spacing.now papers.now.page papers.now.sheet ≡ None) }
+        (why_not_laid (layout.Stack cells duplex) spacing.now papers.now.page papers.now.sheet ≡ None) }
     ensures refused { IfErr result
-        (RefusesLaying (layout.Stack count duplex) spacing.now papers.now.page papers.now.sheet) }
+        (RefusesLaying (layout.Stack cells duplex) spacing.now papers.now.page papers.now.sheet) }
 {
-    match cells_for(count, spacing, papers) {
-        Ok(setting) => if duplex {
+    match cells_for(cells, spacing, papers) {
+        Ok((setting, cells)) => if duplex {
             Ok(Some(Laying::Leaves { setting }))
         } else {
-            Ok(Some(Laying::Stack {
-                setting,
-                cells: count,
-            }))
+            Ok(Some(Laying::Stack { setting, cells }))
         },
         Err(fault) => Err(fault),
     }
 }
 
-/// So many cells or more, with what is kept free.
-fn cells_for(count: u32, spacing: &Spacing, papers: &Papers) -> Result<Setting, Fault>
-    ensures made { IfOk result (λ t.
-        t ≡ setting_of papers.now.page papers.now.sheet (arrangement_in spacing.now count)) }
-    ensures some { IfOk result (λ t. 0 < count) }
-    ensures cells { IfOk result (λ t. count ≤ size t.grid) }
+/// These cells, with what is kept free, and how many a sheet has.
+fn cells_for(cells: Cells, spacing: &Spacing, papers: &Papers) -> Result<(Setting, u32), Fault>
+    ensures made { IfOk result (λ x.
+        x.0 ≡ setting_of papers.now.page papers.now.sheet (arrangement_in spacing.now cells)) }
+    ensures counted { IfOk result (λ x. x.1 ≡ count_of cells) }
+    ensures some { IfOk result (λ x. 0 < x.1) }
+    ensures within { IfOk result (λ x. x.1 ≤ size x.0.grid) }
     ensures possible { OnOk result
-        (why_not_arranged papers.now.page papers.now.sheet (arrangement_in spacing.now count) ≡ None) }
+        (why_not_arranged papers.now.page papers.now.sheet (arrangement_in spacing.now cells) ≡ None) }
     ensures refused { IfErr result
-        (RefusesLaying (layout.NUp count) spacing.now papers.now.page papers.now.sheet) }
+        (RefusesLaying (layout.NUp cells) spacing.now papers.now.page papers.now.sheet) }
 {
-    match Setting::of(papers, &spacing.arrangement(count)) {
-        Ok(setting) => Ok(setting),
+    match Setting::of(papers, &spacing.arrangement(cells)) {
+        Ok(setting) => Ok((setting, cells.count() as u32)),
         Err(error) => Err(Fault::Layout(error)),
     }
 }

@@ -2,6 +2,7 @@
 #![tactic(auto)]
 
 mod arguments;
+mod arranging;
 mod caret;
 mod command;
 mod fault;
@@ -19,8 +20,9 @@ mod signature;
 mod sizes;
 mod task;
 
+pub use arranging::{cells_named, run_named, scale_named, turned_named};
 pub use command::read_command;
-pub use fault::{CommandFault, Fault, LengthOption, PaperOption};
+pub use fault::{CellOption, CommandFault, Fault, GridCommand, LengthOption, PaperOption};
 pub use messages::{command_text, cut_text, fault_status, fault_text, note_text, report_text};
 pub use mistakes::words_text;
 pub use printed::printed_task;

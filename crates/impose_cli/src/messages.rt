@@ -3,7 +3,7 @@ ghost use Rattle.std.specs.Prelude.{◌≡◌};
 ghost use Rattle.impose_cli.specs.Statuses.{fault_status as status_of_fault, words_status as status_of_words};
 
 use crate::caret::{caret_below, group_place, item_place, large_place};
-use crate::fault::{CommandFault, Fault, LengthOption, PaperOption};
+use crate::fault::{CellOption, CommandFault, Fault, GridCommand, LengthOption, PaperOption};
 use crate::mistakes::looks_like_file;
 use crate::request::{Layout, PageChoice, Request};
 use crate::shown::shown_word;
@@ -85,7 +85,7 @@ fn counts_text(alloc: Global, report: &Report, request: &Request) -> Result<Stri
 /// How many places of the sheets have no page, where all sheets have equally many and each page has one.
 fn blanks_of(request: &Request, report: &Report) -> u64 {
     let places = match request.layout {
-        Layout::NUp(count) if request.choice.is_whole() => u64::from(count),
+        Layout::NUp(cells) if request.choice.is_whole() => cells.count(),
         Layout::Booklet { .. } if request.choice.is_whole() => 2,
         _ => 0,
     };
@@ -186,7 +186,7 @@ pub fn fault_text(
 ) -> Result<String, AllocError> {
     match fault {
         Fault::Command(fault) => command_text(alloc, fault),
-        Fault::Layout(error) => String::from_str(alloc, layout_message(error)),
+        Fault::Layout(error) => String::from_str(alloc, layout_text(error, request)),
         Fault::Row(error) => row_text(alloc, error, request),
         Fault::Sheets(error) => String::from_str(alloc, sheets_message(error)),
         Fault::NoSpecification => String::from_str(
@@ -335,6 +335,8 @@ pub fn command_text(alloc: Global, fault: &CommandFault) -> Result<String, Alloc
             let text = text.as_str();
             format!(in alloc; "bad length '{text}' after {option}: give it as 5mm, .2in or 14pt")
         }
+        CommandFault::BadCells(command, text) => cells_text(alloc, *command, text.as_str()),
+        CommandFault::BadValue(option, text) => value_text(alloc, *option, text.as_str()),
         CommandFault::BadSignature(text) => signature_text(alloc, text.as_str()),
         CommandFault::OddAndEven => {
             String::from_str(
@@ -371,6 +373,47 @@ fn signature_text(alloc: Global, text: &str) -> Result<String, AllocError> {
                 "bad signature '{shown}' after --signature: give a multiple of four, as 16, up to 1000000, or auto"
             )
         }
+    }
+}
+
+/// What is said of a text behind a command that names no cells.
+fn cells_text(alloc: Global, command: GridCommand, text: &str) -> Result<String, AllocError> {
+    let (command, example) = match command {
+        GridCommand::NUp => ("nup", "impose nup 2 in.ps out.ps"),
+        GridCommand::Cards => ("cards", "impose cards 8 in.ps out.ps"),
+        GridCommand::Stack => ("stack", "impose stack 2 in.ps out.ps"),
+    };
+    let shown = shown_word(alloc, text)?;
+    let shown = shown.as_str();
+    if looks_like_file(text) {
+        format!(in alloc;
+            "the number of pages is missing before '{shown}': it stands behind {command}, as in: {example}"
+        )
+    } else if text.contains("x") {
+        format!(in alloc;
+            "bad grid '{shown}' behind {command}: give columns and rows as 2x4, at most 1024 cells in all"
+        )
+    } else {
+        format!(in alloc;
+            "bad number of pages '{shown}' behind {command}: give one from 1 to 1024, or columns and rows as 2x4"
+        )
+    }
+}
+
+/// What is said of a text that is no value of the option.
+fn value_text(alloc: Global, option: CellOption, text: &str) -> Result<String, AllocError> {
+    let text = shown_word(alloc, text)?;
+    let text = text.as_str();
+    match option {
+        CellOption::Order => format!(in alloc;
+            "unknown order '{text}' after --order: give right-down, down-right, left-down or down-left"
+        ),
+        CellOption::Turned => format!(in alloc;
+            "unknown side '{text}' after --turned: give left or right"
+        ),
+        CellOption::Scale => format!(in alloc;
+            "bad scale '{text}' after --scale: give a number as 0.7"
+        ),
     }
 }
 
@@ -474,6 +517,23 @@ fn row_message(error: &RowError) -> &'static str {
             "page ranges: no page is left by --odd or --even; pages are counted from 1"
         }
         RowError::NoMemory => "out of memory",
+    }
+}
+
+/// What is said of pages that can't be laid out so: of a scale that is asked for something else than of one that is found.
+fn layout_text(error: &ArrangementError, request: Option<&Request>) -> &'static str {
+    match error {
+        ArrangementError::ScaleOutOfRange if is_scaled(request) => {
+            "the scale is 0 or below, or too large: give one as --scale 0.7"
+        }
+        error => layout_message(error),
+    }
+}
+
+fn is_scaled(request: Option<&Request>) -> bool {
+    match request {
+        Some(request) => request.spacing.scale.is_some(),
+        None => false,
     }
 }
 

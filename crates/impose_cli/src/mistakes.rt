@@ -140,6 +140,7 @@ fn tip_on_argument(command: &str) -> Option<&'static str> {
 
 /// An option that there isn't, or a word too many.
 fn tip_on_unknown(command: &str, behind: &[String]) -> Option<&'static str> {
+    let mut before = "";
     for word in behind {
         let word = word.as_str();
         if word.starts_with("-o") || word.starts_with("--out") {
@@ -147,14 +148,15 @@ fn tip_on_unknown(command: &str, behind: &[String]) -> Option<&'static str> {
                 "the sheets go to the second file, without an option: impose nup 2 in.ps out.ps",
             );
         }
-        if begins_with_minus_and_digit(word) {
-            return Some(tip_on_negative(command, behind));
+        if begins_with_minus_and_number(word) {
+            return Some(tip_on_negative(command, before));
         }
         if word.starts_with("-") && looks_like_file(word) {
             return Some(
                 "a file whose name begins with a minus is written with its folder: ./-in.ps",
             );
         }
+        before = word;
     }
     if behind.iter().any(|word| word.as_str().starts_with("-")) {
         None
@@ -163,23 +165,36 @@ fn tip_on_unknown(command: &str, behind: &[String]) -> Option<&'static str> {
     }
 }
 
-fn begins_with_minus_and_digit(word: &str) -> bool {
+fn begins_with_minus_and_number(word: &str) -> bool {
     match word.strip_prefix("-") {
-        Some(rest) => rest.starts_with(|letter: char| letter.is_ascii_digit()),
+        Some(rest) => rest.starts_with(|letter: char| letter.is_ascii_digit() || letter == '.'),
         None => false,
     }
 }
 
-fn tip_on_negative(command: &str, behind: &[String]) -> &'static str {
-    if behind.iter().any(|word| word.as_str() == "--pages") {
+/// A value with a minus stands behind this word.
+fn tip_on_negative(command: &str, before: &str) -> &'static str {
+    if takes_length(before) {
+        "a length is not below 0, as in: --gap 5mm"
+    } else if before == "--scale" {
+        "a scale is above 0, as in: --scale 0.7"
+    } else if before == "--pages" {
         TIP_ON_RANGES
-    } else if command == "nup" || command == "cards" || command == "stack" {
+    } else if command == "nup" {
         "the number of pages has no sign, as in: impose nup 2 in.ps out.ps"
+    } else if command == "cards" {
+        "the number of pages has no sign, as in: impose cards 8 in.ps out.ps"
+    } else if command == "stack" {
+        "the number of pages has no sign, as in: impose stack 2 in.ps out.ps"
     } else if command == "spec" {
         "a specification that begins with a minus is written with its modulo: 1:-0"
     } else {
         TIP_ON_RANGES
     }
+}
+
+fn takes_length(option: &str) -> bool {
+    option == "--margin" || option == "--gap" || option == "--trim" || option == "--border"
 }
 
 const TIP_ON_RANGES: &str =

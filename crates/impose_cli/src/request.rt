@@ -4,21 +4,21 @@ ghost use Rattle.rows.specs.Choices.{choice_of};
 ghost use Rattle.impose_cli.specs.Choices.{choice_in, is_whole};
 ghost use Rattle.impose_cli.specs.Spacings.{arrangement_in, binding_in, keeps_room, nothing_kept};
 
-use layouts::{Arrangement, Binding, Cells, Order, Run, Turned};
-use lengths::{Grains, Paper};
+use layouts::{Arrangement, Binding, Cells, Order};
+use lengths::{Grains, Number, Paper};
 use rows::{Choice, Part, Signing};
 
 /// How the pages are laid out.
 #[derive(Debug, Drop)]
 pub enum Layout {
-    /// So many pages on each sheet.
-    NUp(u32),
-    /// Each page so many times on a sheet.
-    Cards(u32),
-    /// So many pages on each sheet, so that the parts of the sheets, cut and laid on one another, are in order; on both
+    /// A page in each of these cells of a sheet.
+    NUp(Cells),
+    /// The same page in each of these cells.
+    Cards(Cells),
+    /// A page in each of these cells, so that the parts of the sheets, cut and laid on one another, are in order; on both
     /// sides if it is a duplex one.
     Stack {
-        count: u32,
+        cells: Cells,
         duplex: bool,
     },
     /// Two pages on each side of a sheet, to be folded and sewn so.
@@ -45,7 +45,7 @@ impl Layout {
     }
 }
 
-/// What is kept free on sheets, how far leaves creep, and on which side one begins to read.
+/// What is kept free on sheets, how far leaves creep, in which order one reads sheets, and at which scale the pages are.
 #[derive(Clone, Copy, Debug, PartialEq, Eq)]
 pub struct Spacing {
     /// Kept free along each edge of a sheet.
@@ -56,39 +56,38 @@ pub struct Spacing {
     pub trim: Grains,
     /// Pages of a booklet's innermost leaves are moved towards the fold by this.
     pub creep: Grains,
-    /// Pages stand from the right to the left, and a booklet is bound at the right.
-    pub right_to_left: bool,
+    /// In which order pages stand in the cells. A booklet is bound at the right if they stand from the right to the left.
+    pub order: Order,
+    /// The scale of the pages; without it they are as large as they can be.
+    pub scale: Option<Number>,
 }
 
 impl Spacing {
-    /// Nothing is kept free, and one begins to read at the left.
+    /// Nothing is kept free, one reads along rows from the left, and pages are as large as they can be.
     pub fn none() -> Spacing
         ensures { result ≡ nothing_kept }
     {
-        let plain = Binding::plain(false);
+        let plain = Arrangement::plain(Cells::AtLeast(1));
         Spacing {
             margin: plain.margin,
             gap: plain.gap,
             trim: plain.trim,
             creep: plain.trim,
-            right_to_left: false,
+            order: plain.order,
+            scale: plain.scale,
         }
     }
 
-    /// So many cells or more, with this kept free.
-    pub fn arrangement(&self, count: u32) -> Arrangement
-        ensures { result ≡ arrangement_in self.now count }
+    /// These cells, with this kept free, in this order and at this scale.
+    pub fn arrangement(&self, cells: Cells) -> Arrangement
+        ensures { result ≡ arrangement_in self.now cells }
     {
         Arrangement {
-            cells: Cells::AtLeast(count),
+            cells,
             margin: self.margin,
             gap: self.gap,
-            order: Order {
-                run: Run::Rows,
-                right_to_left: self.right_to_left,
-                turned: Turned::Upright,
-            },
-            scale: None,
+            order: self.order,
+            scale: self.scale,
             trim: self.trim,
         }
     }
@@ -100,7 +99,7 @@ impl Spacing {
         Binding {
             margin: self.margin,
             gap: self.gap,
-            right_to_left: self.right_to_left,
+            right_to_left: self.order.right_to_left,
             trim: self.trim,
             long_edge,
         }
@@ -162,7 +161,7 @@ fn ranges_of(ranges: &Option<String>) -> Option<&[u8]>
 #[derive(Debug, Drop)]
 pub struct Request {
     pub layout: Layout,
-    /// What is kept free; nothing for a selection or a specification.
+    /// What is kept free, order and scale; for a selection or a specification nothing is asked for.
     pub spacing: Spacing,
     /// Which pages are laid out; those of a specification are all.
     pub choice: PageChoice,

@@ -27,7 +27,7 @@ use document_paper::{Comment, document_paper};
 use dsc::{Document, DscError};
 use guard::put_guard;
 use imposer::{Open, Options, Report, RunError, Sink, Workers, run};
-use layouts::{Binding, Papers, arrange, bind};
+use layouts::{Binding, Cells, Papers, arrange, bind};
 use lengths::Paper;
 use own_papers::Cut;
 use pagespec::{Spec, read_spec, write_spec};
@@ -247,7 +247,7 @@ fn placing(
         (f ≡ without_memory) ⊎ RefusesLayout layout.now spacing.now papers.now.page papers.now.sheet f) }
 {
     match layout {
-        Layout::NUp(count) => nup_placing(alloc, *count, spacing, papers),
+        Layout::NUp(cells) => nup_placing(alloc, *cells, spacing, papers),
         Layout::Booklet { signing, long_edge } => {
             if spacing.creep.get() != 0 {
                 return Err(Fault::NoSpecification);
@@ -265,15 +265,15 @@ fn placing(
 
 fn nup_placing(
     alloc: Global,
-    count: u32,
+    cells: Cells,
     spacing: &Spacing,
     papers: &Papers,
 ) -> Result<Placed, Fault>
     ensures placed { IfOk result (λ placed.
-        IsPlaced (layout.NUp count) spacing.now papers.now.page papers.now.sheet 0 (string_bytes placed.0) placed.1) }
-    ensures refused { IfErr result (RefusesLayout (layout.NUp count) spacing.now papers.now.page papers.now.sheet) }
+        IsPlaced (layout.NUp cells) spacing.now papers.now.page papers.now.sheet 0 (string_bytes placed.0) placed.1) }
+    ensures refused { IfErr result (RefusesLayout (layout.NUp cells) spacing.now papers.now.page papers.now.sheet) }
 {
-    match arrange(alloc, papers, &spacing.arrangement(count)) {
+    match arrange(alloc, papers, &spacing.arrangement(cells)) {
         Ok(spec) => written(alloc, &spec, None),
         Err(error) => Err(Fault::from(error)),
     }

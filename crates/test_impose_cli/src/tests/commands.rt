@@ -1,9 +1,11 @@
 //! Command lines as they are typed, and what each asks for.
 use super::read;
 use impose_cli::{
-    CommandFault, Layout, LengthOption, PaperOption, Request, Spacing, signing_named, size_named,
+    CellOption, CommandFault, GridCommand, Layout, LengthOption, PaperOption, Request, Spacing,
+    signing_named, size_named,
 };
-use lengths::{Grains, Paper, paper_by_name};
+use layouts::{Cells, Order, Run, Turned};
+use lengths::{Grains, Number, Paper, paper_by_name};
 use rows::{Part, Signing};
 use std::process::Abort;
 use std::test::Fail;
@@ -25,7 +27,7 @@ fn several_pages_on_a_sheet(rt: HostRuntime) -> Result<(), Fail> {
         rt.alloc(),
         "nup 4 -p a5 --sheet a3 --border 1pt in.ps out.ps",
     )?;
-    assert!(rt; matches!(request.layout, Layout::NUp(4)));
+    assert!(rt; matches!(request.layout, Layout::NUp(Cells::AtLeast(4))));
     assert_eq!(rt; request.page_paper, Some(paper(&rt, "a5")));
     assert_eq!(rt; request.sheet_paper, Some(paper(&rt, "a3")));
     assert_eq!(rt; request.border, Grains::new(127_000_000_000));
@@ -38,7 +40,7 @@ fn several_pages_on_a_sheet(rt: HostRuntime) -> Result<(), Fail> {
 #[test]
 fn nothing_more_than_a_command(rt: HostRuntime) -> Result<(), Fail> {
     let request = read(rt.alloc(), "nup 1024")?;
-    assert!(rt; matches!(request.layout, Layout::NUp(1_024)));
+    assert!(rt; matches!(request.layout, Layout::NUp(Cells::AtLeast(1_024))));
     assert_eq!(rt; request.page_paper, None);
     assert_eq!(rt; request.sheet_paper, None);
     assert_eq!(rt; request.border, None);
@@ -119,12 +121,13 @@ fn selections(rt: HostRuntime) -> Result<(), Fail> {
 
 #[test]
 fn cards_stacks_and_what_is_kept_free(rt: HostRuntime) -> Result<(), Fail> {
-    assert!(rt; matches!(read(rt.alloc(), "cards 8 in.ps")?.layout, Layout::Cards(8)));
+    let cards = read(rt.alloc(), "cards 8 in.ps")?;
+    assert!(rt; matches!(cards.layout, Layout::Cards(Cells::AtLeast(8))));
     assert!(rt;
         matches!(
             read(rt.alloc(), "stack 2 --duplex in.ps")?.layout,
             Layout::Stack {
-                count: 2,
+                cells: Cells::AtLeast(2),
                 duplex: true,
             }
         )
@@ -134,10 +137,212 @@ fn cards_stacks_and_what_is_kept_free(rt: HostRuntime) -> Result<(), Fail> {
     assert_eq!(rt; Some(spacing.margin), Grains::new(3_600_000_000_000));
     assert_eq!(rt; Some(spacing.gap), Grains::new(720_000_000_000));
     assert_eq!(rt; Some(spacing.trim), Grains::new(4_572_000_000_000));
-    assert!(rt; spacing.right_to_left);
+    assert!(rt; spacing.order.right_to_left);
     let refused = read(rt.alloc(), "booklet --gap x --trim y");
     assert!(rt; matches!(refused, Err(CommandFault::BadLength(LengthOption::Gap, _))));
     Ok(())
+}
+
+/// The cells that a line asks for; none if it asks for no cells.
+fn cells(rt: &impl AllocGlobal, line: &str) -> Option<Cells> {
+    match read(rt.alloc(), line) {
+        Ok(request) => match request.layout {
+            Layout::NUp(cells) | Layout::Cards(cells) => Some(cells),
+            Layout::Stack { cells, .. } => Some(cells),
+            _ => None,
+        },
+        Err(_) => None,
+    }
+}
+
+#[test]
+fn a_number_of_pages_or_columns_and_rows(rt: HostRuntime) {
+    for (line, columns, rows) in [
+        ("nup 2x4", 2, 4),
+        ("cards 3x1 in.ps", 3, 1),
+        ("stack 1x2 --duplex", 1, 2),
+        ("nup 32x32", 32, 32),
+        ("nup 1024x1", 1_024, 1),
+        ("nup 02x04", 2, 4),
+    ] {
+        assert_eq!(rt;
+            cells(&rt, line),
+            Some(Cells::Exactly { columns, rows }),
+            "at {line}"
+        );
+    }
+    for (line, count) in [("nup 1", 1), ("stack 5", 5), ("nup 0008", 8)] {
+        assert_eq!(rt; cells(&rt, line), Some(Cells::AtLeast(count)), "at {line}");
+    }
+    for word in [
+        "0",
+        "1025",
+        "99999999999999999999",
+        "2.5",
+        "two",
+        "in.ps",
+        "2x",
+        "x",
+        "x4",
+        "0x3",
+        "3x0",
+        "2x4x1",
+        "33x32",
+        "1x1025",
+        "4294967297x1",
+        "2X4",
+    ] {
+        assert!(rt; names_no_cells(&rt, word), "at {word}");
+    }
+}
+
+/// Whether the word is refused behind each command that has cells, as it is named.
+fn names_no_cells(rt: &impl AllocGlobal, word: &str) -> bool {
+    is_refused(rt, "nup", GridCommand::NUp, word)
+        && is_refused(rt, "cards", GridCommand::Cards, word)
+        && is_refused(rt, "stack", GridCommand::Stack, word)
+}
+
+fn is_refused(rt: &impl AllocGlobal, name: &str, command: GridCommand, word: &str) -> bool {
+    let Ok(line) = format!(in rt.alloc(); "{name} {word}") else {
+        return false;
+    };
+    match read(rt.alloc(), line.as_str()) {
+        Err(CommandFault::BadCells(of, text)) => of == command && text.as_str() == word,
+        _ => false,
+    }
+}
+
+#[test]
+fn orders_of_cells(rt: HostRuntime) -> Result<(), Fail> {
+    for (line, run, right_to_left, turned) in [
+        ("nup 4", Run::Rows, false, Turned::Upright),
+        (
+            "nup 4 --order right-down",
+            Run::Rows,
+            false,
+            Turned::Upright,
+        ),
+        (
+            "nup 4 --order down-right",
+            Run::Columns,
+            false,
+            Turned::Upright,
+        ),
+        (
+            "cards 4 --order=left-down",
+            Run::Rows,
+            true,
+            Turned::Upright,
+        ),
+        (
+            "stack 4 --order down-left",
+            Run::Columns,
+            true,
+            Turned::Upright,
+        ),
+        ("nup 4 --rtl", Run::Rows, true, Turned::Upright),
+        (
+            "nup 4 --rtl --order right-down",
+            Run::Rows,
+            true,
+            Turned::Upright,
+        ),
+        (
+            "nup 4 --order down-right --rtl",
+            Run::Columns,
+            true,
+            Turned::Upright,
+        ),
+        (
+            "nup 4 --order left-down --rtl",
+            Run::Rows,
+            true,
+            Turned::Upright,
+        ),
+        (
+            "nup 4 --order down-left --rtl",
+            Run::Columns,
+            true,
+            Turned::Upright,
+        ),
+        ("nup 4 --turned left", Run::Rows, false, Turned::Left),
+        (
+            "stack 2x4 --turned right --rtl",
+            Run::Rows,
+            true,
+            Turned::Right,
+        ),
+        ("booklet", Run::Rows, false, Turned::Upright),
+        ("booklet --rtl", Run::Rows, true, Turned::Upright),
+    ] {
+        let order = Order {
+            run,
+            right_to_left,
+            turned,
+        };
+        let spacing = read(rt.alloc(), line)?.spacing;
+        assert_eq!(rt; spacing.order, order, "at {line}");
+        assert_eq!(rt; spacing.scale, None, "at {line}");
+    }
+    Ok(())
+}
+
+#[test]
+fn scales(rt: HostRuntime) -> Result<(), Fail> {
+    for (line, billionths) in [
+        ("nup 2 --scale 0.7", 700_000_000i64),
+        ("cards 8 --scale=.5", 500_000_000),
+        ("stack 2 --scale 1", 1_000_000_000),
+        ("nup 2 --scale 2.25", 2_250_000_000),
+        ("nup 2 --scale 0.123456789", 123_456_789),
+        ("nup 2 --scale=-1", -1_000_000_000),
+        ("nup 2 --scale 0", 0),
+    ] {
+        let spacing = read(rt.alloc(), line)?.spacing;
+        assert_eq!(rt; spacing.scale, Number::new(billionths), "at {line}");
+    }
+    Ok(())
+}
+
+#[test]
+fn values_of_cells_that_there_are_not(rt: HostRuntime) {
+    for (line, option, text) in [
+        ("nup 2 --order down", CellOption::Order, "down"),
+        ("nup 2 --order Right-down", CellOption::Order, "Right-down"),
+        (
+            "nup 2 --order x --turned y --scale z",
+            CellOption::Order,
+            "x",
+        ),
+        (
+            "cards 2 --turned upright --scale z",
+            CellOption::Turned,
+            "upright",
+        ),
+        ("stack 2 --scale 70%", CellOption::Scale, "70%"),
+        ("nup 2 --scale 1/2 --odd --even", CellOption::Scale, "1/2"),
+        ("nup 2 --scale 100000", CellOption::Scale, "100000"),
+    ] {
+        match read(rt.alloc(), line) {
+            Err(CommandFault::BadValue(of, value)) => {
+                assert_eq!(rt; of, option, "at {line}");
+                assert_eq!(rt; value.as_str(), text, "at {line}");
+            }
+            _ => assert!(rt; false, "at {line}"),
+        }
+    }
+    let length = read(rt.alloc(), "nup 2 --order x --trim y");
+    assert!(rt; matches!(length, Err(CommandFault::BadLength(LengthOption::Trim, _))));
+    let paper = read(rt.alloc(), "nup 2x -p b9");
+    assert!(rt;
+        matches!(
+            paper,
+            Err(CommandFault::UnknownPaper(PaperOption::Paper, _))
+        )
+    );
+    let cells = read(rt.alloc(), "nup 2x --gap y");
+    assert!(rt; matches!(cells, Err(CommandFault::BadCells(GridCommand::NUp, _))));
 }
 
 #[test]
@@ -209,9 +414,10 @@ fn words_that_are_not_taken(rt: HostRuntime) {
         "--version",
         "nup --help",
         "nup",
-        "nup 0",
-        "nup 1025",
         "booklet --signature",
+        "booklet --order down-right",
+        "select 1 --turned left",
+        "spec 0 --scale 1",
         "select",
         "spec",
         "twice 2",

@@ -1,8 +1,12 @@
 //! Each message, as docs/USING.md has it.
 use super::read;
 use dsc::DscError;
-use impose_cli::{CommandFault, Fault, LengthOption, PaperOption, Request, fault_status, fault_text};
+use impose_cli::{
+    CellOption, CommandFault, Fault, GridCommand, LengthOption, PaperOption, Request, fault_status,
+    fault_text,
+};
 use imposer::RunError;
+use layouts::ArrangementError;
 use pagespec::SpecError;
 use rows::RowError;
 use sheet_plan::PlanError;
@@ -93,6 +97,64 @@ fn command_lines(rt: HostRuntime) -> Result<(), Fail> {
         assert_told(&rt, &request, Fault::Command(fault), status, message)?;
     }
     Ok(())
+}
+
+#[test]
+fn words_of_cells(rt: HostRuntime) -> Result<(), Fail> {
+    let request = read(rt.alloc(), "nup 2")?;
+    let text = |text: &str| String::from_str(rt.alloc(), text);
+    let rows = [
+        (
+            CommandFault::BadCells(GridCommand::NUp, text("in.ps")?),
+            "the number of pages is missing before 'in.ps': it stands behind nup, as in: impose nup 2 in.ps out.ps",
+        ),
+        (
+            CommandFault::BadCells(GridCommand::Cards, text("a.pdf")?),
+            "the number of pages is missing before 'a.pdf': it stands behind cards, as in: impose cards 8 in.ps out.ps",
+        ),
+        (
+            CommandFault::BadCells(GridCommand::Stack, text("0")?),
+            "bad number of pages '0' behind stack: give one from 1 to 1024, or columns and rows as 2x4",
+        ),
+        (
+            CommandFault::BadCells(GridCommand::NUp, text("2x")?),
+            "bad grid '2x' behind nup: give columns and rows as 2x4, at most 1024 cells in all",
+        ),
+        (
+            CommandFault::BadValue(CellOption::Order, text("down")?),
+            "unknown order 'down' after --order: give right-down, down-right, left-down or down-left",
+        ),
+        (
+            CommandFault::BadValue(CellOption::Turned, text("up")?),
+            "unknown side 'up' after --turned: give left or right",
+        ),
+        (
+            CommandFault::BadValue(CellOption::Scale, text("70%")?),
+            "bad scale '70%' after --scale: give a number as 0.7",
+        ),
+    ];
+    for (fault, message) in rows {
+        assert_told(&rt, &request, Fault::Command(fault), 2, message)?;
+    }
+    Ok(())
+}
+
+#[test]
+fn scales_that_are_refused(rt: HostRuntime) -> Result<(), Fail> {
+    assert_told(
+        &rt,
+        &read(rt.alloc(), "nup 2 --scale 0")?,
+        Fault::Layout(ArrangementError::ScaleOutOfRange),
+        1,
+        "the scale is 0 or below, or too large: give one as --scale 0.7",
+    )?;
+    assert_told(
+        &rt,
+        &read(rt.alloc(), "nup 2")?,
+        Fault::Layout(ArrangementError::ScaleOutOfRange),
+        1,
+        "the pages would be too small or too large on the sheet: name other papers by --paper and --sheet",
+    )
 }
 
 #[test]

@@ -27,10 +27,30 @@ fn each_mistake_has_a_tip(rt: HostRuntime) -> Result<(), Fail> {
         ("in.ps out.ps", "tip: a command stands before the files"),
         ("-q nup 2", "tip: options stand behind the command"),
         ("2 in.ps", "tip: a command stands before its number"),
-        ("nup in.ps", "tip: the number of pages stands behind nup"),
-        ("nup 2x in.ps", "tip: the number of pages stands behind nup"),
         ("nup", "tip: the number of pages stands behind nup"),
-        ("nup -2 in.ps", "tip: the number of pages has no sign"),
+        (
+            "nup -2 in.ps",
+            "tip: the number of pages has no sign, as in: impose nup",
+        ),
+        (
+            "cards -8 in.ps",
+            "tip: the number of pages has no sign, as in: impose cards",
+        ),
+        (
+            "stack -2 in.ps",
+            "tip: the number of pages has no sign, as in: impose stack",
+        ),
+        ("nup 2 --gap -1mm in.ps", "tip: a length is not below 0"),
+        (
+            "booklet --margin -.5cm in.ps",
+            "tip: a length is not below 0",
+        ),
+        ("cards 8 --trim -2 in.ps", "tip: a length is not below 0"),
+        ("nup 2 --scale -1 in.ps", "tip: a scale is above 0"),
+        (
+            "nup 2 --pages -3 in.ps",
+            "tip: a range begins with the number of a page",
+        ),
         ("select", "tip: the pages stand behind select"),
         (
             "select -3 in.ps",

@@ -240,6 +240,7 @@ fn blanks_and_leaves_are_counted(rt: HostRuntime) -> Result<(), Fail> {
     let rows = [
         ("nup 2", 3, "pages 5, blanks 1, sheets 3, bytes 270;"),
         ("nup 5", 1, "pages 5, sheets 1, bytes 270;"),
+        ("nup 2x4", 1, "pages 5, blanks 3, sheets 1, bytes 270;"),
         (
             "booklet",
             4,

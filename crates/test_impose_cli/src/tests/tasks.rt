@@ -115,6 +115,63 @@ fn the_line_of_pstops(rt: HostRuntime) -> Result<(), Fail> {
     )
 }
 
+/// The specification that a line comes to for a document of one page.
+fn spec_for(alloc: Global, line: &str) -> Result<String, Fault> {
+    let request = read(alloc, line).map_err(Fault::Command)?;
+    Ok(task_for(alloc, &request, owned(alloc, ONE_PAGE)?)?.spec)
+}
+
+// Half of a4 is 297.5 x 421 points, and a quarter of its height 210.5.
+#[test]
+fn pages_in_cells(rt: HostRuntime) -> Result<(), Fail> {
+    for (line, wanted) in [
+        (
+            "nup 4 -p a4",
+            "4:0@.5(0,421)+1@.5(297.5,421)+2@.5+3@.5(297.5,0)",
+        ),
+        (
+            "nup 2x2 -p a4 --rtl",
+            "4:0@.5(297.5,421)+1@.5(0,421)+2@.5(297.5,0)+3@.5",
+        ),
+        (
+            "nup 4 -p a4 --order left-down",
+            "4:0@.5(297.5,421)+1@.5(0,421)+2@.5(297.5,0)+3@.5",
+        ),
+        (
+            "nup 4 -p a4 --order down-right",
+            "4:0@.5(0,421)+1@.5+2@.5(297.5,421)+3@.5(297.5,0)",
+        ),
+        (
+            "nup 4 -p a4 --order down-left",
+            "4:0@.5(297.5,421)+1@.5(297.5,0)+2@.5(0,421)+3@.5",
+        ),
+        (
+            "nup 4 -p a4 --order down-right --rtl",
+            "4:0@.5(297.5,421)+1@.5(297.5,0)+2@.5(0,421)+3@.5",
+        ),
+        (
+            "nup 4 -p a4 --turned left",
+            "4:0@.5(297.5,421)+1@.5(297.5,0)+2@.5(0,421)+3@.5",
+        ),
+        (
+            "nup 4 -p a4 --turned right",
+            "4:0@.5+1@.5(0,421)+2@.5(297.5,0)+3@.5(297.5,421)",
+        ),
+        (
+            "nup 4 -p a4 --scale 0.4",
+            "4:0@.4(29.75,463.1)+1@.4(327.25,463.1)+2@.4(29.75,42.1)+3@.4(327.25,42.1)",
+        ),
+        (
+            "nup 2x4 -p a4",
+            "8:0@.25(74.375,631.5)+1@.25(371.875,631.5)+2@.25(74.375,421)+3@.25(371.875,421)\
+             +4@.25(74.375,210.5)+5@.25(371.875,210.5)+6@.25(74.375,0)+7@.25(371.875,0)",
+        ),
+    ] {
+        assert_eq!(rt; spec_for(rt.alloc(), line)?.as_str(), wanted, "at {line}");
+    }
+    Ok(())
+}
+
 #[test]
 fn documents_that_are_refused(rt: HostRuntime) {
     let alloc = rt.alloc();
@@ -229,6 +286,22 @@ fn layouts_that_are_refused(rt: HostRuntime) {
             Err(Fault::Layout(ArrangementError::LengthOutOfRange))
         )
     );
+    for (line, error) in [
+        ("nup 4 -p a4 --scale .6", ArrangementError::ScaleTooLarge),
+        (
+            "cards 2x2 -p a4 --scale 0",
+            ArrangementError::ScaleOutOfRange,
+        ),
+        (
+            "stack 2 -p a4 --scale=-1",
+            ArrangementError::ScaleOutOfRange,
+        ),
+    ] {
+        match fault_of(alloc, line, "") {
+            Err(Fault::Layout(told)) => assert_eq!(rt; told, error, "at {line}"),
+            _ => assert!(rt; false, "at {line}"),
+        }
+    }
     let long = "nup 2 -p 99999inx1pt";
     assert!(rt;
         matches!(
@@ -297,7 +370,11 @@ fn rows_in_their_order(rt: HostRuntime) -> Result<(), Fail> {
         ("nup 3 -p a4 --odd", "|ac"),
         ("select 2-3,1", "|b|c|a"),
         ("select _,last-1 --even", "|c|a"),
+        ("nup 2x1 -p a4 --pages 1-3", "|ab|c"),
+        ("nup 1x3 -p a4", "|abc"),
         ("cards 2 -p a4 --pages 2,3", "|bb|cc"),
+        ("cards 3x1 -p a4 --pages 2", "|bbb"),
+        ("stack 1x2 -p a4", "|ac|b"),
         ("stack 2 -p a4", "|ac|b"),
         ("stack 2 -p a4 --duplex", "|ac|b"),
         ("stack 2 -p a4 --pages 1-,1 --duplex", "|ac|ab"),

@@ -14,16 +14,16 @@ use Rattle.impose_cli.proofs.task.nup_placing.Goals as goal
 pub returns-in-Err-clause-refused : goal.returns-in-Err-clause-refused
 returns-in-Err-clause-refused c =
     let papers = c.args.papers.now in
-    let a = arrangement_in c.args.spacing.now c.args.count in
+    let a = arrangement_in c.args.spacing.now c.args.cells in
     let found = subst (λ b. IsFault (why_not_arranged papers.page papers.sheet b) c.in-Err.error) c.arrangement.ensures c.in-Err.ensures.refused in
-    subst (RefusesLayout (layout.NUp c.args.count) c.args.spacing.now papers.page papers.sheet) (sym c.from.ensures)
+    subst (RefusesLayout (layout.NUp c.args.cells) c.args.spacing.now papers.page papers.sheet) (sym c.from.ensures)
     (refuses_layout (why_not_arranged papers.page papers.sheet a) c.in-Err.error found)
 
 pub returns-in-Ok-clause-placed : goal.returns-in-Ok-clause-placed
 returns-in-Ok-clause-placed c =
     let page = c.args.papers.now.page in
     let sheet = c.args.papers.now.sheet in
-    let a = arrangement_in c.args.spacing.now c.args.count in
+    let a = arrangement_in c.args.spacing.now c.args.cells in
     let e : c.in-Ok.spec ≡ arranged page sheet a = c.in-Ok.ensures.made ∙ ap (arranged page sheet) c.arrangement.ensures in
     let laid = subst (λ s. IsArranged page sheet a s) e (subst (λ b. IsArranged page sheet b c.in-Ok.spec) c.arrangement.ensures c.in-Ok.ensures.laid_out) in
     IfOk-weaker c.written.result _ _ (λ placed h. ((subst (λ s. IsWritten s (string_bytes placed.0)) e h.0, laid), h.1))

@@ -1,0 +1,67 @@
+-- What the values of those arguments stand for that say how pages are arranged in the cells of a sheet.
+use Rattle.std.specs.Prelude.{ℕ, ◌*◌, ℤ, ◌==◌, ◌||◌, Bool, true, false, not, if◌then◌else◌, List, [], ◌∷◌, Option, Some, None, codes}
+use Rattle.std.specs.Str.{bytes_eq}
+use Rattle.rules.specs.Numbers.{is_large, number_of}
+use Rattle.lengths.specs.Reading.{digits, is_empty, number_at, past_digits}
+use Rattle.paper_names.specs.Sizes.{letter_x}
+use Rattle.layouts.specs.Refusals.{is_count}
+use Rattle.layouts.specs.declared.arrangement.Cells.{Cells}
+use Rattle.layouts.specs.declared.arrangement.Cells.TheVariants.{AtLeast, Exactly}
+use Rattle.layouts.specs.declared.arrangement.Run.{Run}
+use Rattle.layouts.specs.declared.arrangement.Run.TheVariants.{Rows, Columns}
+use Rattle.layouts.specs.declared.arrangement.Turned.{Turned}
+use Rattle.layouts.specs.declared.arrangement.Turned.TheVariants.{Left, Right}
+
+-- ---- cells: a number of them, or columns and rows with an x between them
+
+-- so many or more, if a sheet takes so many
+abbrev pub at_least : ℕ → Option Cells
+at_least n = if is_count n then Some (AtLeast n) else None
+
+-- so many columns and rows, if a sheet takes so many cells
+abbrev pub exactly : (columns rows : ℕ) → Option Cells
+exactly columns rows = if is_count (columns * rows) then Some (Exactly columns rows) else None
+
+-- the number that the digits at the front stand for, and what stands behind them
+abbrev pub digits_at : List ℕ → Option (ℕ × List ℕ)
+digits_at text = if is_empty (digits text) then None else Some (number_of (digits text), past_digits text)
+
+-- so many columns, and as many rows as the digits say that are all of the text behind them
+abbrev pub with_rows : (columns : ℕ) → Option (ℕ × List ℕ) → Option Cells
+with_rows columns None = None
+with_rows columns (Some (rows, [])) = exactly columns rows
+with_rows columns (Some (rows, b ∷ rest)) = None
+
+abbrev pub cells_from : Option (ℕ × List ℕ) → Option Cells
+cells_from None = None
+cells_from (Some (n, [])) = at_least n
+cells_from (Some (n, b ∷ rest)) = if b == letter_x then with_rows n (digits_at rest) else None
+
+abbrev pub cells_named : List ℕ → Option Cells
+cells_named text = cells_from (digits_at text)
+
+-- ---- in which order
+
+-- along what pages run, and whether from the right: what stands first says where the second page stands
+abbrev pub run_named : List ℕ → Option (Run × Bool)
+run_named text =
+    if bytes_eq text (codes "right-down") then Some (Rows, false)
+    else (if bytes_eq text (codes "down-right") then Some (Columns, false)
+    else (if bytes_eq text (codes "left-down") then Some (Rows, true)
+    else (if bytes_eq text (codes "down-left") then Some (Columns, true) else None)))
+
+-- to which side one turns the pages to read them
+abbrev pub turned_named : List ℕ → Option Turned
+turned_named text =
+    if bytes_eq text (codes "left") then Some Left
+    else (if bytes_eq text (codes "right") then Some Right else None)
+
+-- ---- how large
+
+-- the number that is all of a text, if it isn't over 99,999
+abbrev pub all_of : Option (ℤ × List ℕ) → Option ℤ
+all_of None = None
+all_of (Some (number, rest)) = if is_large number || not (is_empty rest) then None else Some number
+
+abbrev pub scale_named : List ℕ → Option ℤ
+scale_named text = all_of (number_at text)
