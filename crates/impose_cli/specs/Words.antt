@@ -311,7 +311,6 @@ is_complete name found =
 abbrev pub RefusesArguments : (name : Text) → (found : List Row) → CommandFault → Type 0
 RefusesArguments name found (fault.BadSignature text) = (name ≡ codes "booklet")
     × (first_of (codes "signature") found ≡ Some (string_bytes text)) × (signing_found found ≡ None)
-    × (number_found (codes "signature") found ≡ Some sides) × (is_folded (Some sides) ≡ false)
 RefusesArguments name found (fault.BadCells command text) = (name ≡ command_name command)
     × NamesNoCells found (string_bytes text)
 RefusesArguments name found fault.OddAndEven = ⊥

@@ -136,7 +136,7 @@ fn cut_pages_text(alloc: Global, cut: &Cut) -> Result<String, AllocError> {
     let pages = cut.pages;
     if pages == 1 {
         format!(in alloc; "page {first}")
-    } else if pages == last - cut.first {
+    } else if pages == last.saturating_sub(cut.first) {
         format!(in alloc; "pages {first}-{last}")
     } else {
         format!(in alloc; "{pages} pages from {first} to {last}")
