@@ -1,10 +1,18 @@
 -- What the fault of a layout's error says of the layout.
-use Rattle.std.proofs.Common.{◌≡◌, refl, inl, inr, Option, Some, Result, Ok, Err, IfOk}
-use Rattle.std.specs.Prelude.{◌⊎◌}
-use Rattle.layouts.specs.Refusals.{IsFault}
+use Rattle.std.proofs.Common.{◌≡◌, ◌∙◌, ap, refl, sym, inl, inr, Bool, Option, Some, Result, Ok, Err, IfOk}
+use Rattle.std.specs.Prelude.{◌⊎◌, pos}
+use Rattle.rules.specs.Papers.{Paper}
+use Rattle.layouts.specs.Refusals.{IsFault, first_of, is_length, why_not_bound}
+use Rattle.layouts.specs.declared.arrangement.Binding.{Binding}
 use Rattle.layouts.specs.declared.error.ArrangementError.{ArrangementError}
 use Rattle.layouts.specs.declared.error.ArrangementError.TheVariants.{CellsOutOfRange, SideTooLong, LengthOutOfRange, NothingLeftOfPage, FoldOnLongEdge, NoRoom, ScaleOutOfRange, ScaleTooLarge, CreepOverFold, NoMemory}
 use Rattle.impose_cli.specs.Faults.{of_layout, without_memory}
+use Rattle.rows.specs.declared.sewing.Signing.{Signing}
+use Rattle.impose_cli.specs.Refusals.{RefusesLayout}
+use Rattle.impose_cli.specs.Spacings.{binding_in}
+use Rattle.impose_cli.specs.declared.request.Layout.TheVariants as layout
+use Rattle.impose_cli.specs.declared.request.Spacing.{Spacing}
+use Rattle.impose_cli.specs.declared.fault.Fault.{Fault}
 use Rattle.impose_cli.specs.declared.fault.Fault.TheVariants as fault
 
 unless : (found : Option ArrangementError) (e : ArrangementError) → (e ≡ NoMemory → ⊥) → IsFault found e → found ≡ Some e
@@ -28,3 +36,11 @@ refuses_layout found NoRoom h = inr (NoRoom, refl, unless found NoRoom (λ bad. 
 refuses_layout found ScaleOutOfRange h = inr (ScaleOutOfRange, refl, unless found ScaleOutOfRange (λ bad. cc) h)
 refuses_layout found ScaleTooLarge h = inr (ScaleTooLarge, refl, unless found ScaleTooLarge (λ bad. cc) h)
 refuses_layout found CreepOverFold h = inr (CreepOverFold, refl, unless found CreepOverFold (λ bad. cc) h)
+
+-- of a booklet whose leaves don't creep it is why they can't be bound
+pub refuses_booklet : (signing : Signing) (long_edge : Bool) (s : Spacing) (page sheet : Paper) (b : Binding) (f : Fault) → s.creep ≡ pos 0 → b ≡ binding_in s long_edge
+    → (f ≡ without_memory) ⊎ ((e : ArrangementError) × (f ≡ fault.Layout e) × (why_not_bound page sheet b ≡ Some e))
+    → (f ≡ without_memory) ⊎ RefusesLayout (layout.Booklet signing long_edge) s page sheet f
+refuses_booklet signing long_edge s page sheet b f none is (inl h) = inl h
+refuses_booklet signing long_edge s page sheet b f none is (inr (e, told, why)) =
+    inr (inr (inr (e, told, ap (λ z. first_of (is_length z) LengthOutOfRange (why_not_bound page sheet (binding_in s long_edge))) none ∙ (ap (why_not_bound page sheet) (sym is) ∙ why))))
