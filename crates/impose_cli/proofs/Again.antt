@@ -54,7 +54,7 @@ row_again : (r : Request) (input old text : List ℕ) (done : Finished) (h : Fin
     → length (output_on h.job h.imposes.made) ≤ most_input_bytes → 0 < length h.imposes.made
     → IsMadeDocument h.job.border (telling h.imposes.made) h.imposes.made h.job.document.now (output_on h.job h.imposes.made)
 row_again r input old text done h l some =
-    let taken = text_for r done.page_paper input in
+    let taken = text_for r h.job.papers.now done.page_paper input in
     let made = h.imposes.made in
     let us = h.job.document.now in
     let i = made_is_document h.job.border (telling made) made taken us (telling_is_tame made) h.is_job.document some (few_sheets _ made h.imposes.planned.planned) l in

@@ -1,7 +1,10 @@
 -- What comes of a task with a row, and of a request.
-use Rattle.std.proofs.Common.{◌≡◌, ◌⊎◌, ◌∙◌, ap, sym, subst, refl, inl, inr, false, List, ℕ, Option, Some, Result, Ok, Err, IfOk}
+use Rattle.std.proofs.Common.{◌≡◌, ◌⊎◌, ◌∙◌, ap, sym, subst, refl, inl, inr, false, List, ℕ, Option, Some, None, Result, Ok, Err, IfOk}
 use Rattle.std.specs.Prelude.{length, option_map}
 use Rattle.rules.specs.Papers.{Paper}
+use Rattle.std.proofs.lemmas.List.{length-map}
+use Rattle.document_paper.specs.Media.{header, trailer_lines}
+use Rattle.page_papers.specs.Own.{own_paper, own_papers}
 use Rattle.dsc.proofs.Reading.{accepted_cut}
 use Rattle.dsc.proofs.Slices.{text_whole}
 use Rattle.rules.specs.Parts.{NestedUnit, bytes_of, pages}
@@ -18,7 +21,7 @@ use Rattle.impose_cli.specs.Faults.{without_memory}
 use Rattle.impose_cli.specs.Tasks.{HasPages, page_paper_found}
 use Rattle.impose_cli.specs.declared.fault.Fault.TheVariants as fault
 use Rattle.impose_cli.specs.Refusals.{RefusesDocument, RefusesLaying, RefusesRowTask, RefusesSides}
-use Rattle.impose_cli.specs.RowTasks.{ArePapersOf, cut_in, papers_in, sheet_paper_in, FinishesRow, ImposesTask, IsJobOf, IsRowJob, IsRowTask}
+use Rattle.impose_cli.specs.RowTasks.{ArePapersOf, cut_in, papers_in, sheet_paper_in, text_for, FinishesRow, ImposesTask, IsJobOf, IsRowJob, IsRowTask}
 use Rattle.impose_cli.specs.declared.fault.Fault.{Fault}
 use Rattle.impose_cli.specs.declared.request.Request.{Request}
 use Rattle.impose_cli.specs.declared.row_task.RowTask.{RowTask}
@@ -27,7 +30,7 @@ use Rattle.impose_cli.proofs.Ending.{stays}
 
 is_row_job : (r : Request) (input : List ℕ) (t : RowTask) (job : RowJob) → IsRowTask r input t → IsJobOf r t job → IsRowJob r input t.page_paper job
 is_row_job r input t job is of = record {
-  document = ap document_of (sym is.text) ∙ of.document;
+  document = ap (λ ps. document_of (text_for r ps t.page_paper input)) of.papers ∙ ap document_of (sym is.text) ∙ of.document;
   choice = of.choice;
   signing = ap (option_map signing_of) of.signing ∙ is.signing;
   laying = is.laying ∙ ap Some (sym of.laying);
@@ -45,6 +48,12 @@ are_papers r input us papers cut read own cuts = let same = whole input us read 
 
 pub accepted_has_pages : (input : List ℕ) (us : List NestedUnit) → document_of input ≡ Ok us → (n : ℕ) × HasPages input n
 accepted_has_pages input us read = (length (pages us), (us, read, refl))
+
+-- as many papers as pages
+pub papers_len : (named : Option Paper) (names : List ℕ → Option Paper) (home : Paper) (text : List ℕ) (us : List NestedUnit)
+    → length (own_papers named names home text us) ≡ length (pages us)
+papers_len (Some paper) names home text us = length-map (pages us) (λ page. paper)
+papers_len None names home text us = length-map (pages us) (own_paper names home (header text) (trailer_lines us))
 
 -- a document whose pages have papers has pages
 pub has_pages : (r : Request) (input : List ℕ) (papers : List Paper) (cut : Option Cut) → ArePapersOf r input papers cut → (n : ℕ) × HasPages input n

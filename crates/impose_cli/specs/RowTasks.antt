@@ -1,9 +1,11 @@
 -- What is imposed of a row of pages, and how: a request for a document, if its layout lays rows on sheets.
-use Rattle.std.specs.Prelude.{◌≡◌, ⊤, ℕ, Bool, true, false, List, Option, Some, None, Ok, IfSome, option_map}
+use Rattle.std.specs.Prelude.{◌≡◌, ⊤, ℕ, Bool, true, false, List, [], ◌∷◌, length, Option, Some, None, Result, Ok, Err, IfSome, option_map}
 use Rattle.rules.specs.Papers.{Paper}
 use Rattle.rules.specs.Parts.{NestedUnit}
 use Rattle.rules.specs.Run.{document_of}
-use Rattle.made_sheets.specs.Choice.{Signing}
+use Rattle.made_sheets.specs.Choice.{RowFault, Signing, imposed_row}
+use Rattle.made_sheets.specs.Rows.{Row}
+use Rattle.row_sheets.specs.RowSheets.{selected_sheet}
 use Rattle.rows.specs.Choices.{choice_of}
 use Rattle.rows.specs.Sewing.{MayBeSewn, signing_of}
 use Rattle.layouts.specs.Fitted.{binding_setting_of, setting_of}
@@ -78,9 +80,25 @@ why_not_laid (layout.Booklet signing long_edge) s page_paper sheet_paper =
 why_not_laid layout.Selection s page_paper sheet_paper = None
 why_not_laid (layout.Spec specs) s page_paper sheet_paper = None
 
--- the document, with the guard in it if it is asked for, for sheets of the layout's paper
-abbrev pub text_for : Request → (page_paper : Paper) → (input : List ℕ) → List ℕ
-text_for r page_paper input = taken_text r.is_guarded (sheet_paper_in r.layout r.sheet_paper page_paper) input
+-- the paper of a selection's first sheet; blank sheets have this one
+abbrev pub first_paper : Result Row RowFault → (papers : List Paper) → (blank : Paper) → Paper
+first_paper (Ok (entry ∷ row)) papers blank = (selected_sheet papers blank entry).paper
+first_paper (Ok []) papers blank = blank
+first_paper (Err fault) papers blank = blank
+
+abbrev pub guarded_in : Layout → (first sheet_paper : Paper) → Paper
+guarded_in layout.Selection first sheet_paper = first
+guarded_in other first sheet_paper = sheet_paper
+
+-- the paper for which the guard sets the page size: that of the sheets, and of a selection that of its first sheet, since
+-- sheets of several papers set their own
+abbrev pub guarded_paper : Request → (papers : List Paper) → (page_paper : Paper) → Paper
+guarded_paper r papers page_paper = let sheet_paper = sheet_paper_in r.layout r.sheet_paper page_paper in
+    guarded_in r.layout (first_paper (imposed_row (length papers) (choice_in r.choice) None) papers sheet_paper) sheet_paper
+
+-- the document, with the guard in it if it is asked for
+abbrev pub text_for : Request → (papers : List Paper) → (page_paper : Paper) → (input : List ℕ) → List ℕ
+text_for r papers page_paper input = taken_text r.is_guarded (guarded_paper r papers page_paper) input
 
 -- the papers of the document's pages: the one that is named, and else each page's own
 abbrev pub papers_in : Request → (input : List ℕ) → List NestedUnit → List Paper
@@ -107,7 +125,7 @@ LaysRows other = ⊤
 pub record IsRowTask (r : Request) (input : List ℕ) (t : RowTask) : Type 0 where
   pub papers : ArePapersOf r input t.papers.items t.cut
   pub page_paper : (t.page_paper, t.origin) ≡ page_paper_found r.page_paper r.home_paper input
-  pub text : t.text.items ≡ text_for r t.page_paper input
+  pub text : t.text.items ≡ text_for r t.papers.items t.page_paper input
   pub laying : laying_in r.layout r.spacing t.page_paper (sheet_paper_in r.layout r.sheet_paper t.page_paper) ≡ Some t.laying
   pub may_be_laid : MayBeLaid t.laying
   pub signing : option_map signing_of t.signing ≡ signing_in r.layout
@@ -128,7 +146,7 @@ ImposesTask r t old new report = (job : RowJob) × IsJobOf r t job × Imposes jo
 
 -- the job is what the request asks for with this document, laid out for pages of this paper
 pub record IsRowJob (r : Request) (input : List ℕ) (page_paper : Paper) (job : RowJob) : Type 0 where
-  pub document : document_of (text_for r page_paper input) ≡ Ok job.document.now
+  pub document : document_of (text_for r job.papers.now page_paper input) ≡ Ok job.document.now
   pub choice : choice_of job.asked.choice ≡ choice_in r.choice
   pub signing : option_map signing_of job.asked.signing ≡ signing_in r.layout
   pub laying : laying_in r.layout r.spacing page_paper (sheet_paper_in r.layout r.sheet_paper page_paper) ≡ Some job.asked.laying

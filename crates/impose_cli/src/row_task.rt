@@ -1,5 +1,5 @@
 //! Runs of requests: by a specification, or on a row of pages that a layout lays on sheets.
-ghost use Rattle.std.specs.Prelude.{◌≡◌, ◌⊎◌, ℕ, IfErr, IfOk, IfSome, IsTrue, OnOk};
+ghost use Rattle.std.specs.Prelude.{◌≡◌, ◌≤◌, ◌⊎◌, ℕ, length, IfErr, IfOk, IfSome, IsTrue, None, Ok, OnOk};
 ghost use Rattle.rules.specs.Parts.{bytes_of};
 ghost use Rattle.rows.specs.Sewing.{MayBeSewn};
 ghost use Rattle.row_runs.specs.Sheets.{MayBeLaid};
@@ -7,13 +7,17 @@ ghost use Rattle.sheet_text.specs.Jobs.{is_border};
 ghost use Rattle.sheet_writer.specs.Sinks.{IsCountable};
 ghost use Rattle.impose_cli.specs.Endings.{Ends, EndsTask, Finishes};
 ghost use Rattle.impose_cli.specs.Faults.{of_asked as asked_fault, of_row as row_fault, without_memory};
+ghost use Rattle.rules.specs.Run.{most_pages};
+ghost use Rattle.made_sheets.specs.Choice.{imposed_row as row_of};
+ghost use Rattle.impose_cli.specs.Choices.{choice_in};
+ghost use Rattle.impose_cli.specs.RowTasks.{guarded_in, first_paper as first_paper_of};
 ghost use Rattle.impose_cli.specs.RowTasks.{ArePapersOf, ImposesTask, IsRowTask, LaysRows, cut_in, papers_in as papers_found};
 ghost use Rattle.impose_cli.specs.Refusals.{RefusesDocument, RefusesRowTask};
 ghost use Rattle.impose_cli.specs.Tasks.{HasPages};
 
 use crate::fault::Fault;
 use crate::laying::{laying_for, papers_for, signing_for};
-use crate::request::{Layout, Request};
+use crate::request::{Layout, PageChoice, Request};
 use crate::task::{
     Finished, PaperOrigin, WORKERS, of_document, paper_of_pages, run_spec, text_to_impose,
 };
@@ -22,7 +26,7 @@ use imposer::{Open, Report, RunError, Sink};
 use lengths::{Grains, Paper};
 use own_papers::{Cut, cut_by, own_papers};
 use row_runs::{Asked, AskedError, Laying, RowJob, impose_row};
-use rows::{RowError, Signing};
+use rows::{RowError, Signing, imposed_row};
 use std::alloc::{AllocError, Global};
 use std::sync::Wait;
 use std::thread::Threads;
@@ -119,7 +123,11 @@ fn row_task(alloc: Global, request: &Request, input: Vec<u8>) -> Result<RowTask,
     if !is_drawn(request.border) {
         return Err(Fault::Run(RunError::Options));
     }
-    match text_to_impose(request.is_guarded, &papers.sheet, input) {
+    let sheet = match guarded_paper(alloc, request, &found, &papers.sheet) {
+        Ok(sheet) => sheet,
+        Err(fault) => return Err(fault),
+    };
+    match text_to_impose(request.is_guarded, &sheet, input) {
         Ok(text) => Ok(RowTask {
             text,
             page_paper,
@@ -136,6 +144,8 @@ fn row_task(alloc: Global, request: &Request, input: Vec<u8>) -> Result<RowTask,
 /// The papers of a document's pages.
 #[derive(Drop)]
 struct FoundPapers {
+    /// How many they are.
+    pages: u32,
     papers: Vec<Paper>,
     /// The pages that the paper cuts which is named for them.
     cut: Option<Cut>,
@@ -144,6 +154,8 @@ struct FoundPapers {
 /// The papers of the pages of this document, or why it is refused.
 fn papers_of(alloc: Global, request: &Request, input: &[u8]) -> Result<FoundPapers, Fault>
     ensures found { IfOk result (λ found. ArePapersOf request.now input.now found.papers.items found.cut) }
+    ensures count { IfOk result (λ found. found.pages ≡ length found.papers.items) }
+    ensures few { IfOk result (λ found. found.pages ≤ most_pages) }
     ensures refused { IfErr result (λ f.
         RefusesDocument input.now f ⊎ ((n : ℕ) × HasPages input.now n × (f ≡ without_memory))) }
 {
@@ -166,18 +178,79 @@ fn papers_in(
         found.papers.items ≡ papers_found request.now (bytes_of document.now) document.now) }
     ensures cut { IfOk result (λ found.
         found.cut ≡ cut_in request.now.page_paper (bytes_of document.now) document.now) }
+    ensures count { IfOk result (λ found. found.pages ≡ length found.papers.items) }
+    ensures few { IfOk result (λ found. found.pages ≤ most_pages) }
 {
+    let pages = document.pages();
     let papers = own_papers(alloc, document, request.page_paper, &request.home_paper)?;
     match request.page_paper {
-        None => Ok(FoundPapers { papers, cut: None }),
+        None => Ok(FoundPapers {
+            pages,
+            papers,
+            cut: None,
+        }),
         Some(named) => {
             // A page that tells no paper has the one that is named, which doesn't cut it.
             let own = own_papers(alloc, document, None, &named)?;
             Ok(FoundPapers {
+                pages,
                 papers,
                 cut: cut_by(&named, own.as_slice()),
             })
         }
+    }
+}
+
+/// The paper for which the guard sets the page size: that of the sheets, and of a selection that of its first sheet.
+fn guarded_paper(
+    alloc: Global,
+    request: &Request,
+    found: &FoundPapers,
+    sheet: &Paper,
+) -> Result<Paper, Fault>
+    requires count { found.now.pages ≡ length found.now.papers.items }
+    requires few { found.now.pages ≤ most_pages }
+    ensures value { IfOk result (λ paper. paper ≡ guarded_in request.now.layout (first_paper_of
+        (row_of (length found.now.papers.items) (choice_in request.now.choice) None) found.now.papers.items sheet.now) sheet.now) }
+    ensures refused { IfErr result (λ f. f ≡ without_memory) }
+{
+    match &request.layout {
+        Layout::Selection => first_paper(alloc, &request.choice, found, sheet),
+        _ => Ok(*sheet),
+    }
+}
+
+/// The paper of a selection's first sheet; blank sheets have this one.
+fn first_paper(
+    alloc: Global,
+    choice: &PageChoice,
+    found: &FoundPapers,
+    blank: &Paper,
+) -> Result<Paper, Fault>
+    requires count { found.now.pages ≡ length found.now.papers.items }
+    requires few { found.now.pages ≤ most_pages }
+    ensures value { IfOk result (λ paper. paper ≡ first_paper_of
+        (row_of (length found.now.papers.items) (choice_in choice.now) None) found.now.papers.items blank.now) }
+    ensures refused { IfErr result (λ f. f ≡ without_memory) }
+{
+    match imposed_row(alloc, found.pages, &choice.as_choice(), None) {
+        Ok(row) => Ok(paper_of_first(row.as_slice(), found.papers.as_slice(), blank)),
+        Err(RowError::NoMemory) => Err(Fault::no_memory()),
+        // There is no such row, which the run will tell.
+        Err(_) => Ok(*blank),
+    }
+}
+
+/// The paper of the sheet of a row's first entry.
+fn paper_of_first(row: &[Option<u32>], papers: &[Paper], blank: &Paper) -> Paper
+    ensures { result ≡ first_paper_of (Ok row.now) papers.now blank.now }
+{
+    match row.first() {
+        Some(Some(page)) => match papers.get(*page as usize) {
+            Some(paper) => *paper,
+            None => *blank,
+        },
+        _ => *blank,
     }
 }
 

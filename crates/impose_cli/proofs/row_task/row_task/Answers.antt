@@ -1,6 +1,9 @@
-use Rattle.std.proofs.Common.{◌≡◌, refl, inl, inr, false, rules}
+use Rattle.std.proofs.Common.{◌≡◌, ◌∙◌, ap, refl, inl, inr, false, length, None, rules}
+use Rattle.made_sheets.specs.Choice.{imposed_row}
 use Rattle.sheet_text.specs.Jobs.{is_border}
-use Rattle.impose_cli.specs.RowTasks.{ArePapersOf}
+use Rattle.impose_cli.specs.Choices.{choice_in}
+use Rattle.impose_cli.specs.Tasks.{taken_text}
+use Rattle.impose_cli.specs.RowTasks.{ArePapersOf, first_paper, guarded_in}
 use Rattle.impose_cli.proofs.Rows.{refused_after, refused_found}
 use Rattle.impose_cli.proofs.row_task.row_task.Goals as goal
 
@@ -28,13 +31,21 @@ pub returns-in-Ok-text_to_impose-clause-is_task : goal.returns-in-Ok-text_to_imp
 returns-in-Ok-text_to_impose-clause-is_task c = record {
   papers = rw c.as_slice.ensures.value at c.in-Ok.ensures.found;
   page_paper = rw c.as_slice-2.ensures.value at c.paper_of_pages-page_paper.ensures;
-  text = rw c.papers_for-papers.ensures.sheet at c.in-Ok-text_to_impose.ensures;
+  text = c.in-Ok-text_to_impose.ensures ∙ ap (λ p. taken_text c.args.request.now.is_guarded p c.args.input.items)
+      (c.in-Ok-guarded_paper.ensures.value
+      ∙ ap (λ s. guarded_in c.args.request.now.layout (first_paper (imposed_row (length c.in-Ok.found.papers.items) (choice_in c.args.request.now.choice) None) c.in-Ok.found.papers.items s) s)
+      c.papers_for-papers.ensures.sheet);
   laying = search rules;
   may_be_laid = search rules;
   signing = c.in-Ok-signing_for.ensures.signing;
   may_be_sewn = c.in-Ok-signing_for.ensures.may_be;
   border = search rules;
 }
+
+pub returns-in-Err-guarded_paper-clause-refused : goal.returns-in-Err-guarded_paper-clause-refused
+returns-in-Err-guarded_paper-clause-refused c =
+    let found : ArePapersOf c.args.request.now c.args.input.items c.in-Ok.found.papers.items c.in-Ok.found.cut = rw c.as_slice.ensures.value at c.in-Ok.ensures.found in
+    refused_after c.args.request.now c.args.input.items c.in-Ok.found.papers.items c.in-Ok.found.cut _ found (inr (inr (inr c.in-Err-guarded_paper.ensures.refused)))
 
 pub returns-in-Err-text_to_impose-clause-refused : goal.returns-in-Err-text_to_impose-clause-refused
 returns-in-Err-text_to_impose-clause-refused c =

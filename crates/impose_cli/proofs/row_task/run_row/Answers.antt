@@ -1,4 +1,5 @@
-use Rattle.impose_cli.proofs.Rows.{stops_before, stops_in}
+use Rattle.std.proofs.Common.{inr}
+use Rattle.impose_cli.proofs.Rows.{finishes_row, stops_before, stops_in}
 use Rattle.impose_cli.proofs.row_task.run_row.Goals as goal
 
 pub returns-in-Err : goal.returns-in-Err
@@ -7,4 +8,10 @@ returns-in-Err g c = record { ended = stops_before c.args.request.now c.args.inp
 pub returns-in-Err-impose_task : goal.returns-in-Err-impose_task
 returns-in-Err-impose_task g c = record {
   ended = stops_in c.args.request.now c.args.input.items c.in-Ok.task _ _ c.in-Err-impose_task.fault c.in-Ok.ensures.is_task c.in-Err-impose_task.ensures.ended;
+}
+
+pub returns : goal.returns
+returns g c = record {
+  ended =
+      (inr (finishes_row c.args.request.now c.args.input.items c.in-Ok.task _ _ c.in-Ok-impose_task.report c.in-Ok.ensures.is_task c.in-Ok-impose_task.ensures.finished), c.in-Ok-impose_task.ensures.steady);
 }
