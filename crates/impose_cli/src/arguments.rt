@@ -194,7 +194,7 @@ fn signature<'a>(alloc: Global) -> Arg<'a>
     ensures { rule_of result ≡ option_rule (codes "signature") }
 {
     option(alloc, "signature", "SIDES").help(
-        "Leaves of so many sides, a multiple of four, or auto, for eight leaves at most [default: all pages]",
+        "Leaves of so many sides, a multiple of four; auto is eight leaves at most [default: all pages]",
     )
 }
 
