@@ -208,7 +208,14 @@ fn refused<'a, R: Threads + Wait + Abort + Sync>(
 fn nothing_is_created_before_a_fault(rt: HostRuntime) -> Result<(), Fail> {
     let opened = AtomicU32::new(0);
     let alloc = rt.alloc();
-    let end = refused(&rt, alloc, "nup 1 in.ps out.ps more.ps", ONE_PAGE, 2, &opened)?;
+    let end = refused(
+        &rt,
+        alloc,
+        "nup 1 in.ps out.ps more.ps",
+        ONE_PAGE,
+        2,
+        &opened,
+    )?;
     assert!(rt; matches!(&end.outcome, Err(Fault::Command(CommandFault::Words(_)))));
     let end = refused(&rt, alloc, "nup 1 - out.ps", ONE_PAGE, 1, &opened)?;
     assert!(rt; matches!(&end.outcome, Err(Fault::NoInput)));
