@@ -148,9 +148,9 @@ pub small : (t : Setting) (page : Paper) (creep : ℕ) → AreHalves t → why_n
 small t page creep halved =
     of_halves (λ u. why_no_scale_on u page ≡ None → may_creep page u.room (scale_on u page) creep ≡ true → creep < 10_000_000_000) t halved
     (λ e may.
-        let c = creeps page t.room t.order.right_to_left t.scale creep e may in
-        let before = c.stays.before in let near = c.near in
-        omega (arith, before, near))
+    let c = creeps page t.room t.order.right_to_left t.scale creep e may in
+    let before = c.stays.before in let near = c.near in
+    omega (arith, before, near))
 
 -- ---- what is moved
 

@@ -56,7 +56,14 @@ pub fn creeping_booklet_sheets(
             Ok(slot) => slot,
             Err(error) => return Err(error),
         };
-        let second = match creeping_slot(setting, papers, by_half, by, entry_at(row, place + 1), 1) {
+        let second = match creeping_slot(
+            setting,
+            papers,
+            by_half,
+            by,
+            entry_at(row, place + 1),
+            1,
+        ) {
             Ok(slot) => slot,
             Err(error) => return Err(error),
         };

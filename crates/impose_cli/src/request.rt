@@ -17,15 +17,9 @@ pub enum Layout {
     Cards(Cells),
     /// A page in each of these cells, so that the parts of the sheets, cut and laid on one another, are in order; on both
     /// sides if it is a duplex one.
-    Stack {
-        cells: Cells,
-        duplex: bool,
-    },
+    Stack { cells: Cells, duplex: bool },
     /// Two pages on each side of a sheet, to be folded and sewn so.
-    Booklet {
-        signing: Signing,
-        long_edge: bool,
-    },
+    Booklet { signing: Signing, long_edge: bool },
     /// Each page as it is, on a sheet of its own paper.
     Selection,
     /// By a page specification of pstops.

@@ -61,17 +61,19 @@ pub one_cut : (paper : Paper) (own : List Paper) (i : ℕ) (p : Paper) (old new 
     → (old ≡ cut_before paper own i) × IfSome old (λ c. c.pages ≤ i) → is_cut paper p ≡ true → new ≡ Some (with_page old i p)
     → (new ≡ cut_before paper own (i + 1)) × IfSome new (λ c. c.pages ≤ i + 1)
 one_cut paper own i p old new at l h is made = (
-    made ∙ ap (λ c. Some (with_page c i p)) h.0
-    ∙ sym (told_more (cuts_from paper 0 (take i own)) i p)
-    ∙ sym (ap told_of (up_to paper own i p l ∙ ap (λ q. cuts_from paper 0 (take i own) ++ one_if (is_cut paper q) i q) (sym at)
-    ∙ ap (λ t. cuts_from paper 0 (take i own) ++ one_if t i p) is)),
-    rw made (few old i p h.1))
+  made ∙ ap (λ c. Some (with_page c i p)) h.0
+      ∙ sym (told_more (cuts_from paper 0 (take i own)) i p)
+      ∙ sym (ap told_of (up_to paper own i p l ∙ ap (λ q. cuts_from paper 0 (take i own) ++ one_if (is_cut paper q) i q) (sym at)
+      ∙ ap (λ t. cuts_from paper 0 (take i own) ++ one_if t i p) is)),
+  rw made (few old i p h.1),
+)
 
 pub none_cut : (paper : Paper) (own : List Paper) (i : ℕ) (p : Paper) (old new : Option Cut) → p ≡ get_or own i p → i < length own
     → (old ≡ cut_before paper own i) × IfSome old (λ c. c.pages ≤ i) → is_cut paper p ≡ false → new ≡ old
     → (new ≡ cut_before paper own (i + 1)) × IfSome new (λ c. c.pages ≤ i + 1)
 none_cut paper own i p old new at l h is made = (
-    made ∙ h.0
-    ∙ sym (ap told_of (up_to paper own i p l ∙ ap (λ q. cuts_from paper 0 (take i own) ++ one_if (is_cut paper q) i q) (sym at)
-    ∙ ap (λ t. cuts_from paper 0 (take i own) ++ one_if t i p) is ∙ append-nil (cuts_from paper 0 (take i own)))),
-    rw made (few_still old i h.1))
+  made ∙ h.0
+      ∙ sym (ap told_of (up_to paper own i p l ∙ ap (λ q. cuts_from paper 0 (take i own) ++ one_if (is_cut paper q) i q) (sym at)
+      ∙ ap (λ t. cuts_from paper 0 (take i own) ++ one_if t i p) is ∙ append-nil (cuts_from paper 0 (take i own)))),
+  rw made (few_still old i h.1),
+)

@@ -3,6 +3,7 @@ mod carets;
 mod commands;
 mod messages;
 mod mistakes;
+mod mixed_papers;
 mod other_messages;
 mod programs;
 mod tasks;

@@ -7,13 +7,16 @@ use std::process::Abort;
 use std::test::Fail;
 
 /// As pdftops writes it: pages name media that the header tells.
-const BY_MEDIA: &[u8] = b"%!PS\n%%DocumentMedia: A 595 842 0 () ()\n%%+ B 842 1191 0 () ()\n%%Page: 1 1\n%%PageMedia: B\nx\n%%Page: 2 2\nx\n%%Page: 3 3\n%%PageMedia: C\n%%PageBoundingBox: 0 0 842 1191\nx\n";
+const BY_MEDIA: &[u8] =
+    b"%!PS\n%%DocumentMedia: A 595 842 0 () ()\n%%+ B 842 1191 0 () ()\n%%Page: 1 1\n%%PageMedia: B\nx\n%%Page: 2 2\nx\n%%Page: 3 3\n%%PageMedia: C\n%%PageBoundingBox: 0 0 842 1191\nx\n";
 
 /// As cairo writes it: in the page's setup, with a box of what is painted. The second page has a box alone.
-const BY_BOX: &[u8] = b"%!PS\n%%DocumentMedia: A 595 842 0 () ()\n%%Page: 1 1\n%%BeginPageSetup\n%%PageMedia: A\n%%PageBoundingBox: 0 0 842 1191\n%%EndPageSetup\nx\n%%Page: 2 2\n%%PageBoundingBox: 0 0 842 1191\nx\n%%Page: 3 3\n%%PageBoundingBox: (atend)\nx\n%%PageBoundingBox: 0 0 842 1191\n";
+const BY_BOX: &[u8] =
+    b"%!PS\n%%DocumentMedia: A 595 842 0 () ()\n%%Page: 1 1\n%%BeginPageSetup\n%%PageMedia: A\n%%PageBoundingBox: 0 0 842 1191\n%%EndPageSetup\nx\n%%Page: 2 2\n%%PageBoundingBox: 0 0 842 1191\nx\n%%Page: 3 3\n%%PageBoundingBox: (atend)\nx\n%%PageBoundingBox: 0 0 842 1191\n";
 
 /// A document whose box stands in its trailer, and not in the document in it.
-const AT_END: &[u8] = b"%!PS\n%%BoundingBox: (atend)\n%%Page: 1 1\nx\n%%Trailer\n%%BeginDocument: e\n%%BoundingBox: 0 0 1 2\n%%EndDocument\n%%BoundingBox: 0 0 842 1191\n%%EOF\n";
+const AT_END: &[u8] =
+    b"%!PS\n%%BoundingBox: (atend)\n%%Page: 1 1\nx\n%%Trailer\n%%BeginDocument: e\n%%BoundingBox: 0 0 1 2\n%%EndDocument\n%%BoundingBox: 0 0 842 1191\n%%EOF\n";
 
 /// A paper by its name.
 fn named(rt: &impl Abort, name: &str) -> Paper {
@@ -62,7 +65,10 @@ fn a_box_is_a_paper_if_no_medium_is_named(rt: HostRuntime) -> Result<(), Fail> {
 #[test]
 fn the_document_tells_its_paper_at_its_end(rt: HostRuntime) -> Result<(), Fail> {
     let alloc = rt.alloc();
-    assert_eq!(rt; paper_at(&rt, alloc, AT_END, None, 0)?, Some(named(&rt, "a3")));
+    assert_eq!(rt;
+        paper_at(&rt, alloc, AT_END, None, 0)?,
+        Some(named(&rt, "a3"))
+    );
     Ok(())
 }
 
@@ -72,7 +78,10 @@ fn the_paper_asked_for_and_the_one_at_home(rt: HostRuntime) -> Result<(), Fail> 
     let a5 = Some(named(&rt, "a5"));
     assert_eq!(rt; paper_at(&rt, alloc, BY_MEDIA, a5, 2)?, a5);
     let plain = b"%!PS\n%%Page: 1 1\nx\n";
-    assert_eq!(rt; paper_at(&rt, alloc, plain, None, 0)?, Some(named(&rt, "letter")));
+    assert_eq!(rt;
+        paper_at(&rt, alloc, plain, None, 0)?,
+        Some(named(&rt, "letter"))
+    );
     Ok(())
 }
 
@@ -84,7 +93,10 @@ fn comments_have_values(rt: HostRuntime) -> Result<(), Fail> {
         comment_value(b"%%Title: a b", b"%%Title", b"%%Title:"),
         Some(b" a b".as_slice())
     );
-    assert_eq!(rt; comment_value(b"%%Titles: a", b"%%Title", b"%%Title:"), None);
+    assert_eq!(rt;
+        comment_value(b"%%Titles: a", b"%%Title", b"%%Title:"),
+        None
+    );
     let document = Document::read(rt.alloc(), AT_END)?;
     assert_eq!(rt; document.text(), AT_END);
     Ok(())

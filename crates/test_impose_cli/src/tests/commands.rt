@@ -356,8 +356,18 @@ fn leaves_that_creep(rt: HostRuntime) -> Result<(), Fail> {
     let creep = read(rt.alloc(), "booklet --creep 2mm")?.spacing.creep;
     assert_eq!(rt; Some(creep), Grains::new(720_000_000_000));
     let refused = read(rt.alloc(), "booklet --creep x");
-    assert!(rt; matches!(refused, Err(CommandFault::BadLength(LengthOption::Creep, _))));
-    assert!(rt; matches!(read(rt.alloc(), "nup 2 --creep 2mm"), Err(CommandFault::Words(_))));
+    assert!(rt;
+        matches!(
+            refused,
+            Err(CommandFault::BadLength(LengthOption::Creep, _))
+        )
+    );
+    assert!(rt;
+        matches!(
+            read(rt.alloc(), "nup 2 --creep 2mm"),
+            Err(CommandFault::Words(_))
+        )
+    );
     Ok(())
 }
 

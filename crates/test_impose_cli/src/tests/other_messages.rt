@@ -3,7 +3,8 @@ use super::read;
 use document_paper::Comment;
 use dsc::DscError;
 use impose_cli::{
-    Fault, Finished, PaperOrigin, Request, cut_text, fault_status, fault_text, note_text, report_text,
+    Fault, Finished, PaperOrigin, Request, cut_text, fault_status, fault_text, note_text,
+    report_text,
 };
 use imposer::{Report, RunError};
 use layouts::ArrangementError;
@@ -209,7 +210,12 @@ fn pages_that_are_cut_are_told(rt: HostRuntime) -> Result<(), Fail> {
     let a3 = paper_by_name("a3").expect(&rt, "a3 is a paper");
     let rows = [
         (2, 2, 1, "--paper cuts page 3: 842 x 1191 on 595 x 842"),
-        (2, 16, 15, "--paper cuts pages 3-17: 842 x 1191 on 595 x 842"),
+        (
+            2,
+            16,
+            15,
+            "--paper cuts pages 3-17: 842 x 1191 on 595 x 842",
+        ),
         (
             2,
             16,
@@ -231,7 +237,10 @@ fn pages_that_are_cut_are_told(rt: HostRuntime) -> Result<(), Fail> {
         let text = cut_text(rt.alloc(), &done)?.unwrap_or(String::new(rt.alloc()));
         assert_eq!(rt; text.as_str(), wanted);
     }
-    assert_eq!(rt; cut_text(rt.alloc(), &five_pages(&rt, 3, PaperOrigin::Named))?, None);
+    assert_eq!(rt;
+        cut_text(rt.alloc(), &five_pages(&rt, 3, PaperOrigin::Named))?,
+        None
+    );
     Ok(())
 }
 

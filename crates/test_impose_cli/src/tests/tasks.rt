@@ -389,10 +389,7 @@ fn rows_in_their_order(rt: HostRuntime) -> Result<(), Fail> {
 }
 
 /// How far up each page stands, sheet by sheet.
-fn heights(
-    rt: &(impl Threads + Wait + Sync + AllocGlobal),
-    line: &str,
-) -> Result<String, Fail> {
+fn heights(rt: &(impl Threads + Wait + Sync + AllocGlobal), line: &str) -> Result<String, Fail> {
     let request = read(rt.alloc(), line)?;
     let mut sink = MemorySink::new(rt.alloc(), 40_000, 40_000, 40_000)?;
     run_request(
@@ -423,12 +420,22 @@ fn inner_leaves_creep(rt: HostRuntime) -> Result<(), Fail> {
     let rows = [
         ("--gap 10pt", "| 0 426| 0 426| 0 426| 0 426"),
         ("--gap 10pt --creep 4pt", "| 0 426| 0 426| 4 422| 4 422"),
-        ("--gap 10pt --creep 4pt --signature 4", "| 0 426| 0 426| 0 426| 0 426"),
-        ("--gap 10pt --creep 4pt --signature auto", "| 0 426| 0 426| 4 422| 4 422"),
+        (
+            "--gap 10pt --creep 4pt --signature 4",
+            "| 0 426| 0 426| 0 426| 0 426",
+        ),
+        (
+            "--gap 10pt --creep 4pt --signature auto",
+            "| 0 426| 0 426| 4 422| 4 422",
+        ),
     ];
     for (options, wanted) in rows {
         let line = format!(in rt.alloc(); "booklet -p a4 --pages 1-,1-,1-2 {options}")?;
-        assert_eq!(rt; heights(&rt, line.as_str())?.as_str(), wanted, "at {options}");
+        assert_eq!(rt;
+            heights(&rt, line.as_str())?.as_str(),
+            wanted,
+            "at {options}"
+        );
     }
     Ok(())
 }

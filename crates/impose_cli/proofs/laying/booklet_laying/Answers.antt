@@ -35,6 +35,9 @@ pub returns-in-Err-clause-refused : goal.returns-in-Err-clause-refused
 returns-in-Err-clause-refused c =
     let papers = c.args.papers.now in
     let s = c.args.spacing.now in
-    let short : is_length s.creep ≡ true = search rules in
-    (c.in-Err.error, refl, ap (λ b. first_of b why.LengthOutOfRange (why_not_bound papers.page papers.sheet (binding_in s c.args.long_edge))) short
-    ∙ subst (λ b. why_not_bound papers.page papers.sheet b ≡ Some c.in-Err.error) c.binding.ensures c.in-Err.ensures.refused)
+    let short : is_length s.creep ≡ true = search rules in (
+      c.in-Err.error,
+      refl,
+      ap (λ b. first_of b why.LengthOutOfRange (why_not_bound papers.page papers.sheet (binding_in s c.args.long_edge))) short
+          ∙ subst (λ b. why_not_bound papers.page papers.sheet b ≡ Some c.in-Err.error) c.binding.ensures c.in-Err.ensures.refused,
+    )
