@@ -1,0 +1,10 @@
+//! A look at sheets before they are imposed: the text of their plan, and a picture of it.
+#![tactic(auto)]
+
+mod drawing;
+mod listing;
+mod naming;
+
+pub use drawing::preview_text;
+pub use listing::plan_text;
+pub use naming::Sides;
