@@ -1,50 +1,81 @@
--- The text of a plan: for each sheet a line with its name and its paper, and behind it a line for each of its slots.
-use Rattle.std.specs.Prelude.{ℕ, ℤ, ◌+◌, ◌-◌, ◌/◌, nat_le, if◌then◌else◌, List, ◌++◌, length, take, drop, codes, decimal}
+-- The text of a plan: for each sheet or leaf a line with the pages in its places; behind them how many sheets and blank
+-- places there are, and in which ways pages stand on their sheets.
+use Rattle.std.specs.Prelude.{ℕ, zero, suc, ◌+◌, ◌-◌, ◌*◌, ◌/◌, ◌%◌, ◌==◌, nat_le, nat_lt, if◌then◌else◌, List, [], ◌∷◌, ◌++◌, length, sum_by}
+use Rattle.std.specs.Prelude.{codes, decimal}
 use Rattle.rules.specs.Bytes.{line}
-use Rattle.rules.specs.Numbers.{points_text, scale_text}
-use Rattle.rules.specs.Papers.{Paper}
-use Rattle.rules.specs.Specification.{Item, Turn, Upright, Left, Half, Right}
-use Rattle.rules.specs.Placement.{offset}
 use Rattle.made_sheets.specs.Made.{MadeSheet, MadeSlot, Blank, Placed}
-use Rattle.preview.specs.Naming.{numbered, side_name, size_text}
+use Rattle.sheet_plan.specs.OfSheets.{slots_at}
+use Rattle.preview.specs.Naming.{numbered}
 use Rattle.preview.specs.declared.naming.Sides.{Sides}
+use Rattle.preview.specs.declared.naming.Sides.TheVariants.{One, Both}
+use Rattle.preview.specs.Ways.{ways_text}
 
-abbrev pub turn_text : Turn → List ℕ
-turn_text Upright = codes "upright"
-turn_text Left = codes "turned left"
-turn_text Half = codes "turned by half"
-turn_text Right = codes "turned right"
+-- what stands in a place; pages are counted from 1
+abbrev pub place_text : MadeSlot → List ℕ
+place_text Blank = codes "blank"
+place_text (Placed p item paper) = decimal (p + 1)
 
--- where the lower left corner of a page stands on the sheet, in points
-abbrev pub corner_text : (x y : ℤ) → List ℕ
-corner_text x y = codes ", corner at " ++ points_text x ++ codes " " ++ points_text y
+-- what stands before the place with this number
+abbrev pub bar : (k : ℕ) → List ℕ
+bar k = if k == 0 then [] else codes " | "
 
--- how a page stands on the sheet: its paper, its corner, its scale and its turn, of which its matrix is made
-abbrev pub place_text : Paper → Item → List ℕ
-place_text paper item =
-    size_text paper ++ corner_text (offset paper item).x (offset paper item).y ++ codes ", scale " ++ scale_text item.scale ++ codes ", "
-    ++ turn_text item.turn
+abbrev pub slot_text : (k : ℕ) → MadeSlot → List ℕ
+slot_text k slot = bar k ++ place_text slot
 
--- what stands in a slot; pages are counted from 1
-abbrev pub slot_text : MadeSlot → List ℕ
-slot_text Blank = codes "blank"
-slot_text (Placed p item paper) = codes "page " ++ decimal (p + 1) ++ codes ", " ++ place_text paper item
+-- the places of sheet s
+abbrev pub places : List MadeSheet → (s : ℕ) → List ℕ
+places all s = numbered slot_text 0 (slots_at all s)
 
-abbrev pub slot_line : (k : ℕ) → MadeSlot → List ℕ
-slot_line k slot = line (codes "  slot " ++ decimal (k + 1) ++ codes ": " ++ slot_text slot)
+-- the back of a leaf, which the last one may lack
+abbrev pub back : List MadeSheet → (s : ℕ) → List ℕ
+back all s = if nat_lt s (length all) then codes "    back  " ++ places all s else []
 
-abbrev pub sheet_lines : Sides → (s : ℕ) → MadeSheet → List ℕ
-sheet_lines sides s sheet =
-    line (side_name sides s ++ codes ": " ++ size_text sheet.paper) ++ numbered slot_line 0 sheet.slots
+-- the line of sheet k, or of leaf k
+abbrev pub row_text : Sides → List MadeSheet → (k : ℕ) → List ℕ
+row_text One all k = line (codes "sheet " ++ decimal (k + 1) ++ codes "  " ++ places all k)
+row_text Both all k =
+    line (codes "leaf " ++ decimal (k + 1) ++ codes "  front  " ++ places all (2 * k) ++ back all (2 * k + 1))
 
--- a line in the place of so many sheets
+-- so many lines from the one with this number on
+abbrev pub rows_text : Sides → List MadeSheet → (first count : ℕ) → List ℕ
+rows_text sides all first zero = []
+rows_text sides all first (suc n) = row_text sides all first ++ rows_text sides all (suc first) n
+
+-- how many lines so many sheets have
+abbrev pub row_count : Sides → (sheets : ℕ) → ℕ
+row_count One n = n
+row_count Both n = n / 2 + n % 2
+
+-- a line in the place of so many
 abbrev pub left_out_line : ℕ → List ℕ
 left_out_line n = line (codes ".. " ++ decimal n ++ codes " more ..")
 
--- all sheets; or of more than so many the first half of that and the last, and between them how many are left out
+-- all lines, of which there are so many; or of more than the most the first half of these and the last, and between them how
+-- many are left out
+abbrev pub shortened : Sides → (most n : ℕ) → List MadeSheet → List ℕ
+shortened sides most n all =
+    if nat_le n most then rows_text sides all 0 n else
+    rows_text sides all 0 (most - most / 2) ++ left_out_line (n - most) ++ rows_text sides all (n - most / 2) (most / 2)
+
+-- how many places are blank
+abbrev pub blank_in : MadeSlot → ℕ
+blank_in Blank = 1
+blank_in (Placed p item paper) = 0
+
+abbrev pub blanks_on : List MadeSlot → ℕ
+blanks_on slots = sum_by blank_in slots
+
+abbrev pub blanks_of : List MadeSheet → ℕ
+blanks_of all = sum_by (λ sheet. blanks_on sheet.slots) all
+
+-- how many leaves so many sheets are, if they are printed on both sides
+abbrev pub leaves_text : Sides → (sheets : ℕ) → List ℕ
+leaves_text One n = []
+leaves_text Both n = codes ", leaves " ++ decimal (row_count Both n)
+
+abbrev pub totals : Sides → List MadeSheet → List ℕ
+totals sides all =
+    line (codes "sheets " ++ decimal (length all) ++ leaves_text sides (length all) ++ codes ", blanks " ++ decimal (blanks_of all))
+
 abbrev pub plan_text : Sides → (most : ℕ) → List MadeSheet → List ℕ
-plan_text sides most all =
-    if nat_le (length all) most then numbered (sheet_lines sides) 0 all else
-    numbered (sheet_lines sides) 0 (take (most - most / 2) all)
-    ++ left_out_line (length all - most)
-    ++ numbered (sheet_lines sides) (length all - most / 2) (drop (length all - most / 2) all)
+plan_text sides most all = shortened sides most (row_count sides (length all)) all ++ totals sides all ++ ways_text all

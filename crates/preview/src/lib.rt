@@ -4,6 +4,7 @@
 mod drawing;
 mod listing;
 mod naming;
+mod ways;
 
 pub use drawing::preview_text;
 pub use listing::plan_text;
