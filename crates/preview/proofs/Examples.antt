@@ -26,15 +26,16 @@ lower = record {
 abbrev side : MadeSheet
 side = record { paper = a4; slots = Placed 7 lower a4 ∷ Blank ∷ [] }
 
-abbrev empty : MadeSheet
-empty = record { paper = points 10 20; slots = [] }
+abbrev small : MadeSheet
+small = record { paper = points 10 20; slots = Placed 0 lower a4 ∷ [] }
 
-listed : plan_text Both 40 (side ∷ empty ∷ []) ≡ codes "leaf 1 front: 595 x 842 pt\n  slot 1: page 8, 595 x 842 pt, corner at 595 0.27137, scale 0.706650831, turned left\n  slot 2: blank\nleaf 1 back: 10 x 20 pt\n"
+-- the third sheet is a front without a back
+listed : plan_text Both 40 (side ∷ small ∷ side ∷ []) ≡ codes "leaf 1  front  8 | blank    back  1\nleaf 2  front  8 | blank\nsheets 3, leaves 2, blanks 2\npages of 595 x 842 pt on sheets of 595 x 842 pt, scale 0.706650831\npages of 595 x 842 pt on sheets of 10 x 20 pt, scale 0.706650831\n"
 unfolding digits
 listed = refl
 
 -- of three at most, two at the start and one at the end
-shortened : plan_text One 3 (empty ∷ empty ∷ empty ∷ empty ∷ empty ∷ []) ≡ codes "sheet 1: 10 x 20 pt\nsheet 2: 10 x 20 pt\n.. 2 more ..\nsheet 5: 10 x 20 pt\n"
+shortened : plan_text One 3 (side ∷ small ∷ small ∷ small ∷ side ∷ []) ≡ codes "sheet 1  8 | blank\nsheet 2  1\n.. 2 more ..\nsheet 5  8 | blank\nsheets 5, blanks 2\npages of 595 x 842 pt on sheets of 595 x 842 pt, scale 0.706650831\npages of 595 x 842 pt on sheets of 10 x 20 pt, scale 0.706650831\n"
 unfolding digits
 shortened = refl
 

@@ -1,7 +1,9 @@
 -- Texts of things that are numbered: one more of them; and sheets, read one by one.
-use Rattle.std.proofs.Common.{ℕ, zero, suc, List, [], ◌∷◌, Option, Some, ◌+◌, ◌-◌, ◌<◌, ◌≤◌, ◌++◌, ◌≡◌, ap, sym, refl, ◌∙◌, length, take, drop, arith, append_assoc, append-nil}
+use Rattle.std.proofs.Common.{ℕ, zero, suc, List, [], ◌∷◌, Option, Some, ◌+◌, ◌<◌, ◌++◌, ◌≡◌, ap, sym, refl, ◌∙◌, length, take, arith, append_assoc, append-nil}
 use Rattle.std.specs.Prelude.{slice_get, slice_index_or, map, flat_map}
-use Rattle.std.proofs.lemmas.Option.{same_Some, none-some}
+use Rattle.std.specs.List.{fold, sum_by}
+use Rattle.std.proofs.lemmas.List.Sums.{fold_more, sum_by_more}
+use Rattle.std.proofs.lemmas.Option.{same_Some, none-some, slice_get_within, get_or_from_slice_get}
 use Rattle.rules.specs.Papers.{Paper}
 use Rattle.made_sheets.specs.Made.{MadeSheet, MadeSlot}
 use Rattle.sheet_plan.specs.OfSheets.{slots_at}
@@ -49,14 +51,6 @@ there [] k h = absurd (omega arith)
 there (x ∷ xs) zero h = (x, refl)
 there (x ∷ xs) (suc k) h = there xs k (omega arith)
 
-pub behind : {X : Type 0} (xs : List X) (j s : ℕ) (x : X) → j ≤ s → slice_get xs s ≡ Some x → slice_get (drop j xs) (s - j) ≡ Some x
-behind [] j s x le at = absurd (none-some x at)
-behind (y ∷ xs) zero s x le at = let same : s ≡ s - 0 = omega arith in ap (λ n. slice_get (y ∷ xs) n) (sym same) ∙ at
-behind (y ∷ xs) (suc j) zero x le at = absurd (omega (arith, le))
-behind (y ∷ xs) (suc j) (suc s) x le at =
-    let same : suc s - suc j ≡ s - j = omega arith in
-    ap (λ n. slice_get (drop j xs) n) same ∙ behind xs j s x (omega (arith, le)) at
-
 -- the paper and the slots of a sheet
 pub paper_is : (all : List MadeSheet) (s : ℕ) (it : MadeSheet) (paper : Paper) → slice_get (map (λ (sheet : MadeSheet). sheet.paper) all) s ≡ Some paper → slice_get all s ≡ Some it
     → paper ≡ it.paper
@@ -69,19 +63,25 @@ slots_are [] s it at = absurd (none-some it at)
 slots_are (x ∷ all) zero it at = ap (λ (sheet : MadeSheet). sheet.slots) (same_Some x it at)
 slots_are (x ∷ all) (suc s) it at = slots_are all s it at
 
--- all of a list, and all that is left of it
+-- all of a list
 pub whole : {X : Type 0} (xs : List X) (n : ℕ) → length xs ≡ n → take n xs ≡ xs
 whole [] zero is = refl
 whole [] (suc n) is = refl
 whole (x ∷ xs) zero is = absurd (omega (arith, is))
 whole (x ∷ xs) (suc n) is = ap (λ ys. x ∷ ys) (whole xs n (omega (arith, is)))
 
-pub rest : {X : Type 0} (xs : List X) (j n : ℕ) → length xs ≡ n → j ≤ n → take (n - j) (drop j xs) ≡ drop j xs
-rest [] zero zero is le = refl
-rest [] zero (suc n) is le = absurd (omega (arith, is))
-rest [] (suc j) n is le = whole [] (n - suc j) (omega (arith, is))
-rest (x ∷ xs) zero n is le = let same : n - 0 ≡ n = omega arith in ap (λ k. take k (x ∷ xs)) same ∙ whole (x ∷ xs) n is
-rest (x ∷ xs) (suc j) zero is le = absurd (omega (arith, le))
-rest (x ∷ xs) (suc j) (suc n) is le =
-    let same : suc n - suc j ≡ n - j = omega arith in
-    ap (λ k. take k (drop j xs)) same ∙ rest xs j n (omega (arith, is)) (omega (arith, le))
+-- ---- one more in a sum, and in a fold
+pub sum_more : {X : Type 0} (f : X → ℕ) (xs : List X) (i : ℕ) (x : X) (sum part : ℕ) → slice_get xs i ≡ Some x
+    → sum ≡ sum_by f (take i xs) → part ≡ f x → sum + part ≡ sum_by f (take (i + 1) xs)
+sum_more f xs i x sum part at before step =
+    ap (λ n. n + part) before
+    ∙ ap (λ n. sum_by f (take i xs) + n) (step ∙ ap f (sym (get_or_from_slice_get xs i x x at)))
+    ∙ sym (sum_by_more f xs i x (slice_get_within xs i x at))
+
+pub fold_one : {X Y : Type 0} (f : Y → X → Y) (a old new : Y) (xs : List X) (i : ℕ) (x : X) → slice_get xs i ≡ Some x
+    → old ≡ fold f a (take i xs) → new ≡ f old x → new ≡ fold f a (take (i + 1) xs)
+fold_one f a old new xs i x at before step =
+    step
+    ∙ ap (λ y. f y x) before
+    ∙ ap (λ z. f (fold f a (take i xs)) z) (sym (get_or_from_slice_get xs i x x at))
+    ∙ sym (fold_more f a xs i x (slice_get_within xs i x at))

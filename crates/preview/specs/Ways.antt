@@ -38,9 +38,12 @@ ways_of all = fold with_sheet [] all
 abbrev pub way_text : Way → List ℕ
 way_text way = codes "pages of " ++ size_text way.page ++ codes " on sheets of " ++ size_text way.sheet ++ codes ", scale " ++ scale_text way.scale
 
--- the line of the way with this number: the first one that isn't told stands for all others
+-- what is told of the way with this number: the first one that isn't told stands for all others
+abbrev pub way_told : (k : ℕ) → Way → List ℕ
+way_told k way = if nat_lt k most_told then way_text way else codes "and in other ways"
+
 abbrev pub way_line : (k : ℕ) → Way → List ℕ
-way_line k way = line (if nat_lt k most_told then way_text way else codes "and in other ways")
+way_line k way = line (way_told k way)
 
 abbrev pub ways_text : List MadeSheet → List ℕ
 ways_text all = numbered way_line 0 (ways_of all)

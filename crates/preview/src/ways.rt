@@ -4,7 +4,7 @@ ghost use Rattle.std.specs.List.{fold, list_any};
 ghost use Rattle.made_sheets.specs.Made.{MadeSheet};
 ghost use Rattle.sheet_plan.specs.OfSheets.{placed_of, slots_at};
 ghost use Rattle.preview.specs.Naming.{numbered};
-ghost use Rattle.preview.specs.Ways.{is_same_way, most_told, way_line, way_text, ways_of, ways_text};
+ghost use Rattle.preview.specs.Ways.{is_same_way, most_told, way_line, way_text, way_told, ways_of, ways_text};
 ghost use Rattle.preview.specs.Ways.{with_sheet, with_slot, with_way};
 
 use crate::naming::append_size;
@@ -43,21 +43,36 @@ fn append_lines(ways: &[Way], out: &mut Vec<u8>) -> Result<(), AllocError>
     ensures { OnOk result (out.new.items ≡ out.old.items ++ numbered way_line 0 ways.now) }
 {
     for number in 0..ways.len() {
-        append_line(number, &ways[number], out)?;
+        append_line(number, way_at(ways, number), out)?;
     }
     Ok(())
+}
+
+/// This way. A call, so that a proof has its value by name.
+fn way_at(ways: &[Way], number: usize) -> &Way
+    requires { number < length ways.now }
+    ensures { slice_get ways.now number ≡ Some result.now }
+{
+    &ways[number]
 }
 
 /// The line of a way; of the first that isn't told, one that stands for all others.
 fn append_line(number: usize, way: &Way, out: &mut Vec<u8>) -> Result<(), AllocError>
     ensures { OnOk result (out.new.items ≡ out.old.items ++ way_line number way.now) }
 {
-    if number < MOST_TOLD {
-        append_way(way, out)?;
-    } else {
-        out.extend_from_slice(b"and in other ways")?;
-    }
+    append_told(number, way, out)?;
     out.extend_from_slice(b"\n")?;
+    Ok(())
+}
+
+/// What is told of the way with this number.
+fn append_told(number: usize, way: &Way, out: &mut Vec<u8>) -> Result<(), AllocError>
+    ensures { OnOk result (out.new.items ≡ out.old.items ++ way_told number way.now) }
+{
+    if number < MOST_TOLD {
+        return append_way(way, out);
+    }
+    out.extend_from_slice(b"and in other ways")?;
     Ok(())
 }
 

@@ -1,6 +1,6 @@
 use Rattle.std.proofs.Common.{ℕ, List, ◌++◌, codes, ◌∙◌, ap}
 use Rattle.std.specs.Prelude.{◌+◌, ◌*◌, ◌/◌, decimal}
-use Rattle.preview.proofs.Chains.{then}
+use Rattle.preview.proofs.Chains.{joined}
 use Rattle.preview.proofs.drawing.append_left_out.Goals as goal
 
 pub returns : goal.returns
@@ -18,8 +18,8 @@ returns c =
     let b6 : List ℕ = codes "\n" in
     let t6 : List ℕ = t5 ++ b6 in
     let s1 = c.in_ok-extend_from_slice.ensures.items in
-    let s2 = then o t1 b2 _ _ s1 (c.in_ok-append_number.ensures ∙ ap (λ (n : ℕ). c.extend_from_slice.new.self.items ++ decimal (25 + n)) c.height_of.ensures) in
-    let s3 = then o t2 b3 _ _ s2 (c.in_ok-extend_from_slice-2.ensures.items) in
-    let s4 = then o t3 b4 _ _ s3 (c.in_ok-append_number-2.ensures ∙ ap (λ (n : ℕ). c.extend_from_slice-2.new.self.items ++ decimal n) c.from.ensures) in
-    let s5 = then o t4 b5 _ _ s4 (c.in_ok-extend_from_slice-3.ensures.items) in
-    then o t5 b6 _ _ s5 (c.in_ok-extend_from_slice-4.ensures.items)
+    let s2 = joined o t1 b2 _ _ s1 (c.in_ok-append_number.ensures ∙ ap (λ (n : ℕ). c.extend_from_slice.new.self.items ++ decimal (25 + n)) c.height_of.ensures) in
+    let s3 = joined o t2 b3 _ _ s2 (c.in_ok-extend_from_slice-2.ensures.items) in
+    let s4 = joined o t3 b4 _ _ s3 (c.in_ok-append_number-2.ensures ∙ ap (λ (n : ℕ). c.extend_from_slice-2.new.self.items ++ decimal n) c.from.ensures) in
+    let s5 = joined o t4 b5 _ _ s4 (c.in_ok-extend_from_slice-3.ensures.items) in
+    joined o t5 b6 _ _ s5 (c.in_ok-extend_from_slice-4.ensures.items)

@@ -2,7 +2,7 @@ use Rattle.std.proofs.Common.{ℕ, List, ◌++◌, codes, ◌∙◌, ap}
 use Rattle.std.specs.Prelude.{◌+◌, ◌*◌, ◌/◌, decimal}
 use Rattle.rules.specs.Bytes.{line}
 use Rattle.preview.specs.Drawing.{style}
-use Rattle.preview.proofs.Chains.{then}
+use Rattle.preview.proofs.Chains.{joined}
 use Rattle.preview.proofs.drawing.append_opening.Goals as goal
 
 pub returns : goal.returns
@@ -18,7 +18,7 @@ returns c =
     let b5 : List ℕ = line style in
     let t5 : List ℕ = t4 ++ b5 in
     let s1 = c.in_ok-extend_from_slice.ensures.items in
-    let s2 = then o t1 b2 _ _ s1 (c.in_ok-append_number.ensures ∙ ap (λ (n : ℕ). c.extend_from_slice.new.self.items ++ decimal (40 + n)) c.height_of.ensures) in
-    let s3 = then o t2 b3 _ _ s2 (c.in_ok-extend_from_slice-2.ensures.items) in
-    let s4 = then o t3 b4 _ _ s3 (c.in_ok-extend_from_slice-3.ensures.items) in
-    then o t4 b5 _ _ s4 (c.in_ok-extend_from_slice-4.ensures.items)
+    let s2 = joined o t1 b2 _ _ s1 (c.in_ok-append_number.ensures ∙ ap (λ (n : ℕ). c.extend_from_slice.new.self.items ++ decimal (40 + n)) c.height_of.ensures) in
+    let s3 = joined o t2 b3 _ _ s2 (c.in_ok-extend_from_slice-2.ensures.items) in
+    let s4 = joined o t3 b4 _ _ s3 (c.in_ok-extend_from_slice-3.ensures.items) in
+    joined o t4 b5 _ _ s4 (c.in_ok-extend_from_slice-4.ensures.items)

@@ -3,7 +3,7 @@ use Rattle.std.specs.Prelude.{◌+◌}
 use Rattle.rules.specs.Placement.{Matrix, matrix_of}
 use Rattle.pagespec.specs.Items.{item_of}
 use Rattle.preview.specs.Drawing.{under, page_picture}
-use Rattle.preview.proofs.Chains.{then}
+use Rattle.preview.proofs.Chains.{joined}
 use Rattle.preview.proofs.drawing.append_placed.Goals as goal
 
 pub returns : goal.returns
@@ -17,6 +17,6 @@ returns c =
     let b4 : List ℕ = codes "\n" in
     let t4 : List ℕ = t3 ++ b4 in
     let s1 = c.in_ok-append_under.ensures ∙ ap (λ (m : Matrix). o ++ under m) c.matrix_of.ensures.numbers in
-    let s2 = then o t1 b2 _ _ s1 (c.in_ok-append_page.ensures ∙ ap (λ (n : ℕ). c.append_under.new.out.items ++ page_picture c.args.paper.now (n + 1)) c.from.ensures) in
-    let s3 = then o t2 b3 _ _ s2 (c.in_ok-extend_from_slice.ensures.items) in
-    then o t3 b4 _ _ s3 (c.in_ok-extend_from_slice-2.ensures.items)
+    let s2 = joined o t1 b2 _ _ s1 (c.in_ok-append_page.ensures ∙ ap (λ (n : ℕ). c.append_under.new.out.items ++ page_picture c.args.paper.now (n + 1)) c.from.ensures) in
+    let s3 = joined o t2 b3 _ _ s2 (c.in_ok-extend_from_slice.ensures.items) in
+    joined o t3 b4 _ _ s3 (c.in_ok-extend_from_slice-2.ensures.items)

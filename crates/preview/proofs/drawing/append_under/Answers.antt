@@ -1,6 +1,6 @@
 use Rattle.std.proofs.Common.{ℕ, List, ◌++◌, codes}
 use Rattle.rules.specs.Numbers.{points_text, scale_text}
-use Rattle.preview.proofs.Chains.{then}
+use Rattle.preview.proofs.Chains.{joined}
 use Rattle.preview.proofs.drawing.append_under.Goals as goal
 
 pub returns : goal.returns
@@ -32,15 +32,15 @@ returns c =
     let b13 : List ℕ = codes ")'>" in
     let t13 : List ℕ = t12 ++ b13 in
     let s1 = c.in_ok-extend_from_slice.ensures.items in
-    let s2 = then o t1 b2 _ _ s1 (c.in_ok-print_scale.ensures.appended) in
-    let s3 = then o t2 b3 _ _ s2 (c.in_ok-extend_from_slice-2.ensures.items) in
-    let s4 = then o t3 b4 _ _ s3 (c.in_ok-print_scale-2.ensures.appended) in
-    let s5 = then o t4 b5 _ _ s4 (c.in_ok-extend_from_slice-3.ensures.items) in
-    let s6 = then o t5 b6 _ _ s5 (c.in_ok-print_scale-3.ensures.appended) in
-    let s7 = then o t6 b7 _ _ s6 (c.in_ok-extend_from_slice-4.ensures.items) in
-    let s8 = then o t7 b8 _ _ s7 (c.in_ok-print_scale-4.ensures.appended) in
-    let s9 = then o t8 b9 _ _ s8 (c.in_ok-extend_from_slice-5.ensures.items) in
-    let s10 = then o t9 b10 _ _ s9 (c.in_ok-print_points.ensures.appended) in
-    let s11 = then o t10 b11 _ _ s10 (c.in_ok-extend_from_slice-6.ensures.items) in
-    let s12 = then o t11 b12 _ _ s11 (c.in_ok-print_points-2.ensures.appended) in
-    then o t12 b13 _ _ s12 (c.in_ok-extend_from_slice-7.ensures.items)
+    let s2 = joined o t1 b2 _ _ s1 (c.in_ok-print_scale.ensures.appended) in
+    let s3 = joined o t2 b3 _ _ s2 (c.in_ok-extend_from_slice-2.ensures.items) in
+    let s4 = joined o t3 b4 _ _ s3 (c.in_ok-print_scale-2.ensures.appended) in
+    let s5 = joined o t4 b5 _ _ s4 (c.in_ok-extend_from_slice-3.ensures.items) in
+    let s6 = joined o t5 b6 _ _ s5 (c.in_ok-print_scale-3.ensures.appended) in
+    let s7 = joined o t6 b7 _ _ s6 (c.in_ok-extend_from_slice-4.ensures.items) in
+    let s8 = joined o t7 b8 _ _ s7 (c.in_ok-print_scale-4.ensures.appended) in
+    let s9 = joined o t8 b9 _ _ s8 (c.in_ok-extend_from_slice-5.ensures.items) in
+    let s10 = joined o t9 b10 _ _ s9 (c.in_ok-print_points.ensures.appended) in
+    let s11 = joined o t10 b11 _ _ s10 (c.in_ok-extend_from_slice-6.ensures.items) in
+    let s12 = joined o t11 b12 _ _ s11 (c.in_ok-print_points-2.ensures.appended) in
+    joined o t12 b13 _ _ s12 (c.in_ok-extend_from_slice-7.ensures.items)
