@@ -1,11 +1,11 @@
 -- Texts of things that are numbered: one more of them; and sheets, read one by one.
-use Rattle.std.proofs.Common.{ℕ, zero, suc, List, [], ◌∷◌, Option, Some, ◌+◌, ◌<◌, ◌++◌, ◌≡◌, ap, sym, refl, ◌∙◌, length, take, arith, append_assoc, append-nil}
-use Rattle.std.specs.Prelude.{slice_get, slice_index_or, map, flat_map}
+use Rattle.std.proofs.Common.{ℕ, zero, suc, List, [], ◌∷◌, Some, ◌+◌, ◌<◌, ◌++◌, ◌≡◌, ap, sym, refl, ◌∙◌, length, take, arith, append_assoc, append-nil}
+use Rattle.std.specs.Prelude.{slice_get, map, flat_map}
 use Rattle.std.specs.List.{fold, sum_by}
 use Rattle.std.proofs.lemmas.List.Sums.{fold_more, sum_by_more}
 use Rattle.std.proofs.lemmas.Option.{same_Some, none-some, slice_get_within, get_or_from_slice_get}
 use Rattle.rules.specs.Papers.{Paper}
-use Rattle.made_sheets.specs.Made.{MadeSheet, MadeSlot}
+use Rattle.made_sheets.specs.Made.{MadeSheet}
 use Rattle.sheet_plan.specs.OfSheets.{slots_at}
 use Rattle.preview.specs.Naming.{numbered}
 
@@ -62,13 +62,6 @@ pub slots_are : (all : List MadeSheet) (s : ℕ) (it : MadeSheet) → slice_get 
 slots_are [] s it at = absurd (none-some it at)
 slots_are (x ∷ all) zero it at = ap (λ (sheet : MadeSheet). sheet.slots) (same_Some x it at)
 slots_are (x ∷ all) (suc s) it at = slots_are all s it at
-
--- all of a list
-pub whole : {X : Type 0} (xs : List X) (n : ℕ) → length xs ≡ n → take n xs ≡ xs
-whole [] zero is = refl
-whole [] (suc n) is = refl
-whole (x ∷ xs) zero is = absurd (omega (arith, is))
-whole (x ∷ xs) (suc n) is = ap (λ ys. x ∷ ys) (whole xs n (omega (arith, is)))
 
 -- ---- one more in a sum, and in a fold
 pub sum_more : {X : Type 0} (f : X → ℕ) (xs : List X) (i : ℕ) (x : X) (sum part : ℕ) → slice_get xs i ≡ Some x

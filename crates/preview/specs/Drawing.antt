@@ -1,7 +1,7 @@
 -- The picture of a plan: an SVG with each sheet, and on it the outline of each page under its matrix, with the page's
 -- number and an arrow to its head. What elements and attributes do is of Scalable Vector Graphics 1.1 of the W3C, whose
 -- matrices have the six numbers of PostScript's in the same order; its heights are counted downwards.
-use Rattle.std.specs.Prelude.{ℕ, ◌+◌, ◌-◌, ◌*◌, ◌/◌, ◌%◌, nat_le, if◌then◌else◌, List, [], ◌∷◌, ◌++◌, length, take}
+use Rattle.std.specs.Prelude.{ℕ, ◌+◌, ◌-◌, ◌*◌, ◌/◌, ◌%◌, nat_le, if◌then◌else◌, List, [], ◌++◌, length, take}
 use Rattle.std.specs.Prelude.{flat_map, codes, decimal}
 use Rattle.rules.specs.Bytes.{line}
 use Rattle.rules.specs.Numbers.{points_text, scale_text}
@@ -54,13 +54,13 @@ square_at s = codes "<g transform='translate(" ++ decimal (20 + s % 4 * 220) ++ 
 abbrev pub viewed : Paper → List ℕ
 viewed paper =
     line (codes "<svg width='200' height='200' viewBox='0 0 " ++ points_text paper.width ++ codes " "
-        ++ points_text paper.height ++ codes "'>" ++ outline (codes "sheet") paper ++ flipped paper)
+    ++ points_text paper.height ++ codes "'>" ++ outline (codes "sheet") paper ++ flipped paper)
 
 -- its name and its paper below, and the end of the square
 abbrev pub caption : Sides → (s : ℕ) → Paper → List ℕ
 caption sides s paper =
     line (codes "<text class='name' x='100' y='216'>" ++ side_name sides s
-        ++ codes "</text><text class='name' x='100' y='232'>" ++ size_text paper ++ codes "</text></g>")
+    ++ codes "</text><text class='name' x='100' y='232'>" ++ size_text paper ++ codes "</text></g>")
 
 abbrev pub sheet_picture : Sides → (s : ℕ) → MadeSheet → List ℕ
 sheet_picture sides s sheet =
@@ -79,7 +79,7 @@ opening n =
 abbrev pub left_out : (sheets more : ℕ) → List ℕ
 left_out n more =
     line (codes "<text class='name' x='450' y='" ++ decimal (25 + (n + 3) / 4 * 260) ++ codes "'>and " ++ decimal more
-        ++ codes " more</text>")
+    ++ codes " more</text>")
 
 -- the beginning of a picture with so many sheets, and these sheets
 abbrev pub first_drawn : Sides → (sheets : ℕ) → List MadeSheet → List ℕ

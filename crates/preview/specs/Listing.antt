@@ -1,6 +1,6 @@
 -- The text of a plan: for each sheet or leaf a line with the pages in its places; behind them how many sheets and blank
 -- places there are, and in which ways pages stand on their sheets.
-use Rattle.std.specs.Prelude.{ℕ, zero, suc, ◌+◌, ◌-◌, ◌*◌, ◌/◌, ◌%◌, ◌==◌, nat_le, nat_lt, if◌then◌else◌, List, [], ◌∷◌, ◌++◌, length, sum_by}
+use Rattle.std.specs.Prelude.{ℕ, zero, suc, ◌+◌, ◌-◌, ◌*◌, ◌/◌, ◌%◌, ◌==◌, nat_le, nat_lt, if◌then◌else◌, List, [], ◌++◌, length, sum_by}
 use Rattle.std.specs.Prelude.{codes, decimal}
 use Rattle.rules.specs.Bytes.{line}
 use Rattle.made_sheets.specs.Made.{MadeSheet, MadeSlot, Blank, Placed}

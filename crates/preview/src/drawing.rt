@@ -190,12 +190,7 @@ fn append_slot(placed: Option<PlacedSlot<'_>>, out: &mut Vec<u8>) -> Result<(), 
 }
 
 /// A page where an item places it.
-fn append_placed(
-    page: u32,
-    item: &Item,
-    paper: &Paper,
-    out: &mut Vec<u8>,
-) -> Result<(), AllocError>
+fn append_placed(page: u32, item: &Item, paper: &Paper, out: &mut Vec<u8>) -> Result<(), AllocError>
     ensures { OnOk result (out.new.items
         ≡ out.old.items ++ slot_picture (Placed page (item_of item.now) paper.now)) }
 {

@@ -1,5 +1,5 @@
 use Rattle.std.proofs.Common.{refl}
-use Rattle.preview.proofs.Cuts.{all_drawn, some_drawn}
+use Rattle.preview.proofs.Cuts.{some_drawn}
 use Rattle.preview.proofs.drawing.append_all.Goals as goal
 
 pub returns : goal.returns
