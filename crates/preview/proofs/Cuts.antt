@@ -5,6 +5,7 @@ use Rattle.std.proofs.lemmas.Bool.Decides.{nat_tests}
 use Rattle.made_sheets.specs.Made.{MadeSheet}
 use Rattle.preview.specs.Listing.{row_text, rows_text}
 use Rattle.preview.specs.Drawing.{first_drawn, left_out, drawn}
+use Rattle.preview.specs.declared.guides.Guide.{Guide}
 use Rattle.preview.specs.declared.naming.Sides.{Sides}
 use Rattle.preview.proofs.Chains.{joined}
 
@@ -14,14 +15,14 @@ that_one true x y e = cc
 that_one false x y e = refl
 
 -- ---- the first sheets are drawn
-pub some_drawn : (sides : Sides) (all : List MadeSheet) (count most more : ℕ) (o one two : List ℕ) → count ≡ length all → most < count → more ≡ count - most
-    → one ≡ o ++ first_drawn sides most (take most all) → two ≡ one ++ left_out most more → two ≡ o ++ drawn sides most all
-some_drawn sides all count most more o one two is lt gap first second =
+pub some_drawn : (sides : Sides) (guides : List Guide) (all : List MadeSheet) (count most more : ℕ) (o one two : List ℕ) → count ≡ length all → most < count → more ≡ count - most
+    → one ≡ o ++ first_drawn sides guides most (take most all) → two ≡ one ++ left_out most more → two ≡ o ++ drawn sides guides most all
+some_drawn sides guides all count most more o one two is lt gap first second =
     let n = length all in
     let many : nat_le n most ≡ false = grind (arith, nat_tests, is, lt) in
-    joined o (first_drawn sides most (take most all)) (left_out most more) one two first second
-    ∙ ap (λ k. o ++ (first_drawn sides most (take most all) ++ left_out most k)) (gap ∙ ap (λ k. k - most) is)
-    ∙ ap (λ t. o ++ t) (that_one (nat_le n most) (first_drawn sides n all) (first_drawn sides most (take most all) ++ left_out most (n - most)) many)
+    joined o (first_drawn sides guides most (take most all)) (left_out most more) one two first second
+    ∙ ap (λ k. o ++ (first_drawn sides guides most (take most all) ++ left_out most k)) (gap ∙ ap (λ k. k - most) is)
+    ∙ ap (λ t. o ++ t) (that_one (nat_le n most) (first_drawn sides guides n all) (first_drawn sides guides most (take most all) ++ left_out most (n - most)) many)
 
 -- ---- lines that are listed
 

@@ -9,6 +9,8 @@ use Rattle.rules.specs.Papers.{Paper}
 use Rattle.rules.specs.Placement.{Matrix, matrix_of}
 use Rattle.made_sheets.specs.Made.{MadeSheet, MadeSlot, Blank, Placed}
 use Rattle.preview.specs.Naming.{numbered, side_name, size_text}
+use Rattle.preview.specs.Guides.{guides_picture}
+use Rattle.preview.specs.declared.guides.Guide.{Guide}
 use Rattle.preview.specs.declared.naming.Sides.{Sides}
 
 -- a group that a matrix sends where it sends points in PostScript
@@ -62,12 +64,13 @@ caption sides s paper =
     line (codes "<text class='name' x='100' y='216'>" ++ side_name sides s
     ++ codes "</text><text class='name' x='100' y='232'>" ++ size_text paper ++ codes "</text></g>")
 
-abbrev pub sheet_picture : Sides → (s : ℕ) → MadeSheet → List ℕ
-sheet_picture sides s sheet =
-    square_at s ++ viewed sheet.paper ++ flat_map slot_picture sheet.slots ++ codes "</g></svg>" ++ caption sides s sheet.paper
+abbrev pub sheet_picture : Sides → List Guide → (s : ℕ) → MadeSheet → List ℕ
+sheet_picture sides guides s sheet =
+    square_at s ++ viewed sheet.paper ++ flat_map slot_picture sheet.slots ++ guides_picture guides ++ codes "</g></svg>"
+    ++ caption sides s sheet.paper
 
 abbrev pub style : List ℕ
-style = codes "<style>rect,path{vector-effect:non-scaling-stroke}.sheet{fill:white;stroke:black}.page{fill:lightblue;fill-opacity:.4;stroke:navy}path{fill:navy}text{font:30px sans-serif;text-anchor:middle}.name{font-size:13px}</style>"
+style = codes "<style>rect,line{vector-effect:non-scaling-stroke}.sheet{fill:white;stroke:black}.page{fill:lightblue;fill-opacity:.4;stroke:navy}.margin{stroke:gray;stroke-dasharray:2}.fold{stroke:red;stroke-dasharray:6}.cut{stroke:red}path{fill:navy}text{font:30px sans-serif;text-anchor:middle}.name{font-size:13px}</style>"
 
 -- the beginning of a picture with so many sheets
 abbrev pub opening : (sheets : ℕ) → List ℕ
@@ -82,14 +85,14 @@ left_out n more =
     ++ codes " more</text>")
 
 -- the beginning of a picture with so many sheets, and these sheets
-abbrev pub first_drawn : Sides → (sheets : ℕ) → List MadeSheet → List ℕ
-first_drawn sides n some = opening n ++ numbered (sheet_picture sides) 0 some
+abbrev pub first_drawn : Sides → List Guide → (sheets : ℕ) → List MadeSheet → List ℕ
+first_drawn sides guides n some = opening n ++ numbered (sheet_picture sides guides) 0 some
 
 -- all sheets, or the first of them if there are more than so many
-abbrev pub drawn : Sides → (most : ℕ) → List MadeSheet → List ℕ
-drawn sides most all =
-    if nat_le (length all) most then first_drawn sides (length all) all else
-    first_drawn sides most (take most all) ++ left_out most (length all - most)
+abbrev pub drawn : Sides → List Guide → (most : ℕ) → List MadeSheet → List ℕ
+drawn sides guides most all =
+    if nat_le (length all) most then first_drawn sides guides (length all) all else
+    first_drawn sides guides most (take most all) ++ left_out most (length all - most)
 
-abbrev pub preview_text : Sides → (most : ℕ) → List MadeSheet → List ℕ
-preview_text sides most all = drawn sides most all ++ line (codes "</svg>")
+abbrev pub preview_text : Sides → List Guide → (most : ℕ) → List MadeSheet → List ℕ
+preview_text sides guides most all = drawn sides guides most all ++ line (codes "</svg>")

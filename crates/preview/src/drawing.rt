@@ -9,6 +9,7 @@ ghost use Rattle.preview.specs.Drawing.{as_large, caption, drawn, first_drawn, f
 ghost use Rattle.preview.specs.Drawing.{page_picture, preview_text as text_of_preview, sheet_picture, slot_picture};
 ghost use Rattle.preview.specs.Drawing.{square_at, style, under, viewed};
 
+use crate::guides::{Guide, append_guides};
 use crate::naming::{Sides, append_name, append_number, append_size, count_of};
 use lengths::{Paper, print_points, print_scale};
 use pagespec::Item;
@@ -17,19 +18,20 @@ use sheet_plan::{MadeSheets, PlacedSlot};
 use std::alloc::{AllocError, Global};
 
 /// A picture of these sheets, as an SVG: each sheet with its name and its paper, and on it each page under the matrix
-/// that places it: its outline, its number, counted from 1, and an arrow to its head. Sheets stand four in a row, each as
-/// large as its square allows. Of more sheets than `most` the first are drawn, and a line says how many more there are.
+/// that places it: its outline, its number, counted from 1, and an arrow to its head; and above the pages these lines.
+/// Sheets stand four in a row, each as large as its square allows. Of more sheets than `most` the first are drawn, and a line says how many more there are.
 pub fn preview_text(
     alloc: Global,
     sheets: &MadeSheets,
     sides: Sides,
+    guides: &[Guide],
     most: u32,
 ) -> Result<Vec<u8>, AllocError>
-    ensures { IfOk result (λ text. text.items ≡ text_of_preview sides most sheets.now) }
+    ensures { IfOk result (λ text. text.items ≡ text_of_preview sides guides.now most sheets.now) }
 {
     let count = count_of(sheets)?;
     let mut text = Vec::new(alloc);
-    append_all(sheets, sides, count, most, &mut text)?;
+    append_all(sheets, sides, guides, count, most, &mut text)?;
     text.extend_from_slice(b"</svg>")?;
     text.extend_from_slice(b"\n")?;
     Ok(text)
@@ -39,18 +41,19 @@ pub fn preview_text(
 fn append_all(
     sheets: &MadeSheets,
     sides: Sides,
+    guides: &[Guide],
     count: u32,
     most: u32,
     out: &mut Vec<u8>,
 ) -> Result<(), AllocError>
     requires { count ≡ length sheets.now }
-    ensures { OnOk result (out.new.items ≡ out.old.items ++ drawn sides most sheets.now) }
+    ensures { OnOk result (out.new.items ≡ out.old.items ++ drawn sides guides.now most sheets.now) }
 {
     if count <= most {
-        append_first(sheets, sides, count, out)?;
+        append_first(sheets, sides, guides, count, out)?;
         return Ok(());
     }
-    append_first(sheets, sides, most, out)?;
+    append_first(sheets, sides, guides, most, out)?;
     append_left_out(most, count - most, out)?;
     Ok(())
 }
@@ -59,14 +62,15 @@ fn append_all(
 fn append_first(
     sheets: &MadeSheets,
     sides: Sides,
+    guides: &[Guide],
     count: u32,
     out: &mut Vec<u8>,
 ) -> Result<(), AllocError>
     requires { count ≤ length sheets.now }
-    ensures { OnOk result (out.new.items ≡ out.old.items ++ first_drawn sides count (take count sheets.now)) }
+    ensures { OnOk result (out.new.items ≡ out.old.items ++ first_drawn sides guides.now count (take count sheets.now)) }
 {
     append_opening(count, out)?;
-    append_sheets(sheets, sides, count, out)?;
+    append_sheets(sheets, sides, guides, count, out)?;
     Ok(())
 }
 
@@ -90,7 +94,7 @@ fn append_opening(count: u32, out: &mut Vec<u8>) -> Result<(), AllocError>
 }
 
 const STYLE: &[u8] =
-    b"<style>rect,path{vector-effect:non-scaling-stroke}.sheet{fill:white;stroke:black}.page{fill:lightblue;fill-opacity:.4;stroke:navy}path{fill:navy}text{font:30px sans-serif;text-anchor:middle}.name{font-size:13px}</style>\n";
+    b"<style>rect,line{vector-effect:non-scaling-stroke}.sheet{fill:white;stroke:black}.page{fill:lightblue;fill-opacity:.4;stroke:navy}.margin{stroke:gray;stroke-dasharray:2}.fold{stroke:red;stroke-dasharray:6}.cut{stroke:red}path{fill:navy}text{font:30px sans-serif;text-anchor:middle}.name{font-size:13px}</style>\n";
 
 /// How many sheets aren't drawn, below those that are.
 fn append_left_out(count: u32, more: u32, out: &mut Vec<u8>) -> Result<(), AllocError>
@@ -109,14 +113,15 @@ fn append_left_out(count: u32, more: u32, out: &mut Vec<u8>) -> Result<(), Alloc
 fn append_sheets(
     sheets: &MadeSheets,
     sides: Sides,
+    guides: &[Guide],
     count: u32,
     out: &mut Vec<u8>,
 ) -> Result<(), AllocError>
     requires { count ≤ length sheets.now }
-    ensures { OnOk result (out.new.items ≡ out.old.items ++ numbered (sheet_picture sides) 0 (take count sheets.now)) }
+    ensures { OnOk result (out.new.items ≡ out.old.items ++ numbered (sheet_picture sides guides.now) 0 (take count sheets.now)) }
 {
     for sheet in 0..count {
-        append_sheet(sheets, sides, sheet, out)?;
+        append_sheet(sheets, sides, guides, sheet, out)?;
     }
     Ok(())
 }
@@ -125,17 +130,19 @@ fn append_sheets(
 fn append_sheet(
     sheets: &MadeSheets,
     sides: Sides,
+    guides: &[Guide],
     sheet: u32,
     out: &mut Vec<u8>,
 ) -> Result<(), AllocError>
     requires { sheet < length sheets.now }
     ensures { OnOk result ((it : MadeSheet) → slice_get sheets.now sheet ≡ Some it →
-        out.new.items ≡ out.old.items ++ sheet_picture sides sheet it) }
+        out.new.items ≡ out.old.items ++ sheet_picture sides guides.now sheet it) }
 {
     let paper = sheets.paper(sheet);
     append_square(sheet, out)?;
     append_view(paper, out)?;
     append_slots(sheets, sheet, out)?;
+    append_guides(guides, out)?;
     out.extend_from_slice(b"</g></svg>")?;
     append_caption(sides, sheet, paper, out)?;
     Ok(())

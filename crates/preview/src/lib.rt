@@ -2,10 +2,12 @@
 #![tactic(auto)]
 
 mod drawing;
+mod guides;
 mod listing;
 mod naming;
 mod ways;
 
 pub use drawing::preview_text;
+pub use guides::{Guide, GuideKind};
 pub use listing::plan_text;
 pub use naming::Sides;

@@ -4,5 +4,5 @@ use Rattle.preview.proofs.drawing.append_all.Goals as goal
 
 pub returns : goal.returns
 returns c =
-    some_drawn c.args.sides c.args.sheets.now c.args.count c.args.most _ c.args.out.now.items _ _ c.requires c.if-count-most.false refl
+    some_drawn c.args.sides c.args.guides.now c.args.sheets.now c.args.count c.args.most _ c.args.out.now.items _ _ c.requires c.if-count-most.false refl
     c.in_ok-append_first-2.ensures c.in_ok-append_left_out.ensures
