@@ -101,9 +101,16 @@ fn a_sheet_that_is_folded(rt: HostRuntime) -> Result<(), Fail> {
         ),
     };
     let text = preview_text(rt.alloc(), &sheets, Sides::Both, &[fold], 40)?;
-    assert_eq!(rt; text.as_slice(), FOLDED.as_slice());
+    assert_eq!(rt; text.as_slice(), FOLDED);
     Ok(())
 }
 
-/// The picture of that sheet, without the style.
-const FOLDED: &[u8] = b"";
+/// The picture of that sheet.
+const FOLDED: &[u8] = b"<svg xmlns='http://www.w3.org/2000/svg' viewBox='0 0 900 300'>
+<style>rect,line{vector-effect:non-scaling-stroke}.sheet{fill:white;stroke:black}.page{fill:lightblue;fill-opacity:.4;stroke:navy}.margin{stroke:gray;stroke-dasharray:2}.fold{stroke:red;stroke-dasharray:6}.cut{stroke:red}path{fill:navy}text{font:30px sans-serif;text-anchor:middle}.name{font-size:13px}</style>
+<g transform='translate(20 20)'><svg width='200' height='200' viewBox='0 0 100 200'><rect class='sheet' width='100' height='200'/><g transform='matrix(1 0 0 -1 0 200)'>
+<g transform='matrix(1 0 0 1 0 0)'><rect class='page' width='100' height='200'/><g transform='matrix(1 0 0 -1 0 200)'><svg width='100' height='200' viewBox='0 0 100 100' preserveAspectRatio='xMidYMin'><path d='M50 3 57 15H43Z'/><text x='50' y='62'>3</text></svg></g></g>
+<line class='fold' x1='0' y1='100' x2='100' y2='100'/>
+</g></svg><text class='name' x='100' y='216'>leaf 1 front</text><text class='name' x='100' y='232'>100 x 200 pt</text></g>
+</svg>
+";
