@@ -1,4 +1,6 @@
--- Read in this order: what errors are called; the sheets that are asked for; what the answers mean.
+-- Read in this order: what errors are called; the sheets that are asked for; what the answers mean; what is
+-- told of sheets before they are imposed.
 pub mod Errors
 pub mod Sheets
 pub mod Runs
+pub mod Looks
