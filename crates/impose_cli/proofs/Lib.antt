@@ -3,6 +3,7 @@ pub mod Found
 pub mod Placing
 pub mod Ending
 pub mod Rows
+pub mod Looking
 pub mod Again
 pub mod Examples
 pub mod Programs

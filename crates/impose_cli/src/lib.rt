@@ -8,6 +8,7 @@ mod fault;
 mod keeping_reader;
 pub mod laws;
 mod laying;
+mod look;
 mod messages;
 mod mistakes;
 mod printed;
@@ -20,6 +21,7 @@ mod task;
 
 pub use command::read_command;
 pub use fault::{CommandFault, Fault, LengthOption, PaperOption};
+pub use look::{Look, look_text};
 pub use messages::{command_text, fault_status, fault_text, note_text, report_text};
 pub use mistakes::words_text;
 pub use printed::printed_task;
