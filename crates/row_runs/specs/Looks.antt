@@ -15,11 +15,13 @@ use Rattle.row_runs.specs.declared.run.RowJob.{RowJob}
 use Rattle.row_runs.specs.declared.error.AskedError.{AskedError}
 use Rattle.row_runs.specs.declared.error.AskedError.TheVariants as error
 
--- leaves are printed on both sides
+-- leaves are printed on both sides, also those of a booklet
 abbrev pub sides_in : Laying → Sides
-sides_in (laying.Leaves setting) = sides.Both
-sides_in (laying.Booklet setting turned_backs) = sides.Both
-sides_in other = sides.One
+sides_in (laying.AsTheyAre blank) = sides.One
+sides_in (laying.Grid setting cells) = sides.One
+sides_in (laying.Cards setting cells) = sides.One
+sides_in (laying.Stack setting cells) = sides.One
+sides_in leaves = sides.Both
 
 -- the text of the plan of the sheets that a run would impose
 pub record TellsPlan (j : RowJob) (most : ℕ) (text : List ℕ) : Type 0 where
