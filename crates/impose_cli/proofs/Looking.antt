@@ -1,5 +1,5 @@
 -- What comes of a look at a task.
-use Rattle.std.proofs.Common.{ap, inr, sym, subst, List, ℕ}
+use Rattle.std.proofs.Common.{ap, inr, subst, List, ℕ}
 use Rattle.rules.specs.Papers.{Paper}
 use Rattle.impose_cli.specs.Looks.{RefusesRowLook, RefusesTaskLook, TellsRow, TellsTask}
 use Rattle.impose_cli.specs.RowTasks.{IsRowJob, IsRowTask}

@@ -50,12 +50,7 @@ pub fn look_text(
 }
 
 /// The plan or the picture of a task.
-fn task_text(
-    alloc: Global,
-    request: &Request,
-    task: &RowTask,
-    look: Look,
-) -> Result<Vec<u8>, Fault>
+fn task_text(alloc: Global, request: &Request, task: &RowTask, look: Look) -> Result<Vec<u8>, Fault>
     requires laid { MayBeLaid task.now.laying }
     requires sewn { IfSome task.now.signing MayBeSewn }
     ensures told { IfOk result (λ text. TellsTask request.now task.now look text.items) }

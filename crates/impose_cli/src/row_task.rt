@@ -176,7 +176,11 @@ fn impose_task<R: Threads + Wait + Sync, S: Sink>(
 }
 
 /// So many pages of one paper.
-pub(crate) fn papers_of(alloc: Global, pages: u32, page_paper: &Paper) -> Result<Vec<Paper>, AllocError>
+pub(crate) fn papers_of(
+    alloc: Global,
+    pages: u32,
+    page_paper: &Paper,
+) -> Result<Vec<Paper>, AllocError>
     ensures { IfOk result (λ papers. papers.items ≡ replicate pages page_paper.now) }
 {
     let mut papers = Vec::new(alloc);
