@@ -1,5 +1,5 @@
 -- What is told of a request in place of carrying it out: the plan of its sheets, or their picture.
-use Rattle.std.specs.Prelude.{◌≡◌, ◌⊎◌, ℕ, List, []}
+use Rattle.std.specs.Prelude.{◌≡◌, ◌⊎◌, ℕ, List}
 use Rattle.row_runs.specs.Looks.{RefusesLook, TellsPicture, TellsPlan}
 use Rattle.row_runs.specs.Runs.{page_count}
 use Rattle.row_runs.specs.declared.error.AskedError.{AskedError}
@@ -22,7 +22,7 @@ most_told = 40
 -- the text tells of the sheets that the run of this job would impose
 abbrev pub Tells : Look → RowJob → (text : List ℕ) → Type 0
 Tells Plan job text = TellsPlan job most_told text
-Tells Picture job text = TellsPicture job [] most_told text
+Tells Picture job text = TellsPicture job most_told text
 
 abbrev pub TellsTask : Request → RowTask → Look → (text : List ℕ) → Type 0
 TellsTask r t look text = (job : RowJob) × IsJobOf r t job × Tells look job text

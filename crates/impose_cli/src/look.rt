@@ -90,6 +90,6 @@ fn job_text(alloc: Global, job: &RowJob<'_, '_>, look: Look) -> Result<Vec<u8>, 
 {
     match look {
         Look::Plan => row_plan(alloc, job, MOST_TOLD),
-        Look::Picture => row_preview(alloc, job, &[], MOST_TOLD),
+        Look::Picture => row_preview(alloc, job, MOST_TOLD),
     }
 }

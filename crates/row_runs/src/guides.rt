@@ -15,7 +15,7 @@ use std::alloc::{AllocError, Global};
 
 /// The lines of a laying: its margin, where sheets are cut between their cells, and where the leaves of a booklet are
 /// folded.
-pub fn guides_of(alloc: Global, laying: &Laying) -> Result<Vec<Guide>, AllocError>
+pub(crate) fn guides_of(alloc: Global, laying: &Laying) -> Result<Vec<Guide>, AllocError>
     ensures { IfOk result (λ guides. guides.items ≡ guides_in laying.now) }
 {
     let mut guides = Vec::new(alloc);

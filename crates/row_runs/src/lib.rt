@@ -9,6 +9,5 @@ mod run;
 
 pub use asked::{Asked, Laying, asked_sheets};
 pub use error::AskedError;
-pub use guides::guides_of;
 pub use look::{row_plan, row_preview};
 pub use run::{RowJob, impose_row};

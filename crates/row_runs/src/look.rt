@@ -2,16 +2,19 @@
 ghost use Rattle.std.specs.Prelude.{◌≡◌, IfErr, IfOk, OnOk, Ok};
 ghost use Rattle.made_sheets.specs.MadePlans.{made_plan_of};
 ghost use Rattle.sheet_plan.specs.MadeRefusals.{RefusesMade};
+ghost use Rattle.preview.specs.Drawing.{preview_text as picture_of};
+ghost use Rattle.row_runs.specs.Guides.{guides_in};
 ghost use Rattle.row_runs.specs.Sheets.{MayBeAsked};
 ghost use Rattle.row_runs.specs.Runs.{ArePlanned};
 ghost use Rattle.row_runs.specs.Looks.{RefusesLook, TellsPicture, TellsPlan, of_plan, sides_in};
 
 use crate::asked::{Laying, asked_sheets};
 use crate::error::AskedError;
+use crate::guides::guides_of;
 use crate::run::RowJob;
-use preview::{Guide, Sides, plan_text, preview_text};
+use preview::{Sides, plan_text, preview_text};
 use sheet_plan::{MadeError, MadeSheets, Plan};
-use std::alloc::Global;
+use std::alloc::{AllocError, Global};
 
 /// The text of the plan of the sheets that `impose_row` would impose. Of more sheets or leaves than `most` the middle is
 /// left out. What the run refuses is refused as it does, but for a write.
@@ -30,26 +33,36 @@ pub fn row_plan(alloc: Global, job: &RowJob<'_, '_>, most: u32) -> Result<Vec<u8
     }
 }
 
-/// The picture of the sheets that `impose_row` would impose, as an SVG, with these lines on each. Of more sheets than
-/// `most` the first are drawn. What the run refuses is refused as it does, but for a write.
-pub fn row_preview(
-    alloc: Global,
-    job: &RowJob<'_, '_>,
-    guides: &[Guide],
-    most: u32,
-) -> Result<Vec<u8>, AskedError>
+/// The picture of the sheets that `impose_row` would impose, as an SVG, with margin, cuts and fold on each. Of more sheets
+/// than `most` the first are drawn. What the run refuses is refused as it does, but for a write.
+pub fn row_preview(alloc: Global, job: &RowJob<'_, '_>, most: u32) -> Result<Vec<u8>, AskedError>
     requires asked { MayBeAsked job.now.asked }
-    ensures told { IfOk result (λ text. TellsPicture job.now guides.now most text.items) }
+    ensures told { IfOk result (λ text. TellsPicture job.now most text.items) }
     ensures refused { IfErr result (RefusesLook job.now) }
 {
     let sheets = match planned_sheets(alloc, job) {
         Ok(sheets) => sheets,
         Err(error) => return Err(error),
     };
-    match preview_text(alloc, &sheets, sides_of(&job.asked.laying), guides, most) {
+    match drawn(alloc, &sheets, &job.asked.laying, most) {
         Ok(text) => Ok(text),
         Err(_) => Err(AskedError::NoMemory { written: 0 }),
     }
+}
+
+/// The picture of sheets that are laid so.
+fn drawn(
+    alloc: Global,
+    sheets: &MadeSheets,
+    laying: &Laying,
+    most: u32,
+) -> Result<Vec<u8>, AllocError>
+    ensures { IfOk result (λ text. text.items
+        ≡ picture_of (sides_in laying.now) (guides_in laying.now) most sheets.now) }
+{
+    let guides = guides_of(alloc, laying)?;
+    let text = preview_text(alloc, sheets, sides_of(laying), guides.as_slice(), most)?;
+    Ok(text)
 }
 
 /// Whether sheets are printed on one side, or leaves on both.
