@@ -3,7 +3,6 @@ use Rattle.std.proofs.Common.{ap, inr, subst, List, ℕ}
 use Rattle.rules.specs.Papers.{Paper}
 use Rattle.impose_cli.specs.Looks.{RefusesRowLook, RefusesTaskLook, TellsRow, TellsTask}
 use Rattle.impose_cli.specs.RowTasks.{IsRowJob, IsRowTask}
-use Rattle.impose_cli.specs.Tasks.{page_paper_found}
 use Rattle.impose_cli.specs.declared.fault.Fault.{Fault}
 use Rattle.impose_cli.specs.declared.look.Look.{Look}
 use Rattle.impose_cli.specs.declared.request.Request.{Request}
