@@ -4,6 +4,7 @@ pub mod Placing
 pub mod Counted
 pub mod Ending
 pub mod Rows
+pub mod Looking
 pub mod Again
 pub mod Examples
 pub mod Programs

@@ -1,5 +1,6 @@
--- Read in this order: the command and its values, sizes, signatures, cells, choices of pages and what is kept free among them; what the words ask for; what is refused; what a
--- request comes to with a document; what its run leaves and says, with which status; the whole program.
+-- Read in this order: the command and its values, sizes, signatures, cells, choices of pages and what is kept free among them; what
+-- the words ask for; what is refused; what a request comes to with a document; what its run leaves and says, with which status, and
+-- what a look tells; the whole program.
 pub mod Command
 pub mod Sizes
 pub mod Signatures
@@ -13,6 +14,7 @@ pub mod Tasks
 pub mod RowTasks
 pub mod Refusals
 pub mod Endings
+pub mod Looks
 pub mod Unread
 pub mod Laws
 pub mod Statuses

@@ -87,19 +87,19 @@ fn run_row<R: Threads + Wait + Sync, S: Sink>(
 #[derive(Drop)]
 pub struct RowTask {
     /// The document, with the guard in it if it is asked for.
-    text: Vec<u8>,
-    page_paper: Paper,
+    pub(crate) text: Vec<u8>,
+    pub(crate) page_paper: Paper,
     origin: PaperOrigin,
     /// The papers of its pages.
-    papers: Vec<Paper>,
+    pub(crate) papers: Vec<Paper>,
     /// The pages that the paper cuts which is named for them.
     cut: Option<Cut>,
-    laying: Laying,
-    signing: Option<Signing>,
+    pub(crate) laying: Laying,
+    pub(crate) signing: Option<Signing>,
 }
 
 /// The request for this document, and the fault if it is found before the run.
-fn row_task(alloc: Global, request: &Request, input: Vec<u8>) -> Result<RowTask, Fault>
+pub(crate) fn row_task(alloc: Global, request: &Request, input: Vec<u8>) -> Result<RowTask, Fault>
     requires rows { LaysRows request.now.layout }
     ensures is_task { IfOk result (IsRowTask request.now input.items) }
     ensures refused { IfErr result (RefusesRowTask request.now input.items) }
@@ -303,7 +303,7 @@ fn impose_task<R: Threads + Wait + Sync, S: Sink>(
 }
 
 /// What an error of the run is for a document with so many pages.
-fn asked_fault_of(error: AskedError, pages: u32) -> Fault
+pub(crate) fn asked_fault_of(error: AskedError, pages: u32) -> Fault
     ensures { result ≡ asked_fault pages error }
 {
     match error {

@@ -1,4 +1,7 @@
--- Read in this order: what errors are called; the sheets that are asked for; what the answers mean.
+-- Read in this order: what errors are called; the sheets that are asked for; what the answers mean; lines on
+-- sheets; what is told of sheets before they are imposed.
 pub mod Errors
 pub mod Sheets
 pub mod Runs
+pub mod Guides
+pub mod Looks

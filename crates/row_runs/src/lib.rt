@@ -3,8 +3,11 @@
 
 mod asked;
 mod error;
+mod guides;
+mod look;
 mod run;
 
 pub use asked::{Asked, Laying, asked_sheets};
 pub use error::AskedError;
+pub use look::{row_plan, row_preview};
 pub use run::{RowJob, impose_row};

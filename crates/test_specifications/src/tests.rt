@@ -4,4 +4,5 @@ mod known_layouts;
 mod matrices;
 mod measures;
 mod plans;
+mod previews;
 mod specifications;

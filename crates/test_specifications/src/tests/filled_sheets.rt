@@ -13,7 +13,7 @@ use std::alloc::Global;
 use std::test::Fail;
 
 /// Two columns and one row on A4, chosen for pages of that paper.
-fn two_columns() -> Option<Setting>
+pub(super) fn two_columns() -> Option<Setting>
     ensures { IfSome result (λ t. 2 ≤ size t.grid) }
 {
     let a4 = paper_by_name("a4")?;
@@ -44,7 +44,7 @@ fn two_columns() -> Option<Setting>
 }
 
 /// A paper of so many points.
-fn paper(width: i128, height: i128) -> Option<Paper> {
+pub(super) fn paper(width: i128, height: i128) -> Option<Paper> {
     let width = Grains::new(width.checked_mul(127_000_000_000)?)?;
     let height = Grains::new(height.checked_mul(127_000_000_000)?)?;
     Paper::new(width, height)

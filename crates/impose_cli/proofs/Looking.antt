@@ -1,0 +1,22 @@
+-- What comes of a look at a task.
+use Rattle.std.proofs.Common.{ap, inr, subst, List, ℕ}
+use Rattle.rules.specs.Papers.{Paper}
+use Rattle.impose_cli.specs.Looks.{RefusesRowLook, RefusesTaskLook, TellsRow, TellsTask}
+use Rattle.impose_cli.specs.RowTasks.{IsRowJob, IsRowTask}
+use Rattle.impose_cli.specs.declared.fault.Fault.{Fault}
+use Rattle.impose_cli.specs.declared.look.Look.{Look}
+use Rattle.impose_cli.specs.declared.request.Request.{Request}
+use Rattle.impose_cli.specs.declared.row_task.RowTask.{RowTask}
+use Rattle.impose_cli.proofs.Rows.{is_row_job}
+
+pub tells_row : (r : Request) (input : List ℕ) (t : RowTask) (look : Look) (text : List ℕ) → IsRowTask r input t → TellsTask r t look text → TellsRow r input look text
+tells_row r input t look text is h = record {
+  pages = is.pages;
+  document = is.document;
+  job = h.0;
+  is_job = subst (λ (paper : Paper). IsRowJob r input paper h.0) (ap (λ found. found.0) is.page_paper) (is_row_job r input t h.0 is h.1);
+  told = h.2;
+}
+
+pub refuses_row : (r : Request) (input : List ℕ) (t : RowTask) (f : Fault) → IsRowTask r input t → RefusesTaskLook r t f → RefusesRowLook r input f
+refuses_row r input t f is h = inr (record { task = t; is_task = is; refused = h })

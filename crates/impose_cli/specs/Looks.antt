@@ -1,0 +1,56 @@
+-- What is told of a request in place of carrying it out: the plan of its sheets, or their picture.
+use Rattle.std.specs.Prelude.{◌≡◌, ◌⊎◌, ℕ, List}
+use Rattle.row_runs.specs.Looks.{RefusesLook, TellsPicture, TellsPlan}
+use Rattle.row_runs.specs.Runs.{page_count}
+use Rattle.row_runs.specs.declared.error.AskedError.{AskedError}
+use Rattle.row_runs.specs.declared.run.RowJob.{RowJob}
+use Rattle.impose_cli.specs.Endings.{RefusesText}
+use Rattle.impose_cli.specs.Faults.{of_asked}
+use Rattle.impose_cli.specs.Refusals.{RefusesRowTask}
+use Rattle.impose_cli.specs.RowTasks.{IsJobOf, IsRowJob, IsRowTask}
+use Rattle.impose_cli.specs.Tasks.{HasPages, page_paper_found}
+use Rattle.impose_cli.specs.declared.fault.Fault.{Fault}
+use Rattle.impose_cli.specs.declared.look.Look.{Look}
+use Rattle.impose_cli.specs.declared.look.Look.TheVariants.{Plan, Picture}
+use Rattle.impose_cli.specs.declared.request.Request.{Request}
+use Rattle.impose_cli.specs.declared.row_task.RowTask.{RowTask}
+
+-- how many sheets or leaves are listed, or sheets drawn
+abbrev pub most_told : ℕ
+most_told = 40
+
+-- the text tells of the sheets that the run of this job would impose
+abbrev pub Tells : Look → RowJob → (text : List ℕ) → Type 0
+Tells Plan job text = TellsPlan job most_told text
+Tells Picture job text = TellsPicture job most_told text
+
+abbrev pub TellsTask : Request → RowTask → Look → (text : List ℕ) → Type 0
+TellsTask r t look text = (job : RowJob) × IsJobOf r t job × Tells look job text
+
+-- the text tells of the sheets on which the layout of the request lays its row of this document
+pub record TellsRow (r : Request) (input : List ℕ) (look : Look) (text : List ℕ) : Type 0 where
+  pub pages : ℕ
+  pub document : HasPages input pages
+  pub job : RowJob
+  pub is_job : IsRowJob r input (page_paper_found r.page_paper r.home_paper input).0 job
+  pub told : Tells look job text
+
+-- the fault is that of the run of a task's job
+pub record RefusesJob (r : Request) (t : RowTask) (f : Fault) : Type 0 where
+  pub job : RowJob
+  pub is_job : IsJobOf r t job
+  pub error : AskedError
+  pub is_fault : f ≡ of_asked (page_count job) error
+  pub refused : RefusesLook job error
+
+abbrev pub RefusesTaskLook : Request → RowTask → Fault → Type 0
+RefusesTaskLook r t f = RefusesText t.text.items f ⊎ RefusesJob r t f
+
+pub record RefusesInTask (r : Request) (input : List ℕ) (f : Fault) : Type 0 where
+  pub task : RowTask
+  pub is_task : IsRowTask r input task
+  pub refused : RefusesTaskLook r task f
+
+-- the fault was found before there was a task, or is the task's, as if it were carried out
+abbrev pub RefusesRowLook : Request → (input : List ℕ) → Fault → Type 0
+RefusesRowLook r input f = RefusesRowTask r input f ⊎ RefusesInTask r input f

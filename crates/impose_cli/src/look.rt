@@ -1,0 +1,91 @@
+//! A look at what a request would impose.
+ghost use Rattle.std.specs.Prelude.{IfErr, IfOk, IfSome};
+ghost use Rattle.rows.specs.Sewing.{MayBeSewn};
+ghost use Rattle.row_runs.specs.Looks.{RefusesLook};
+ghost use Rattle.row_runs.specs.Sheets.{MayBeAsked, MayBeLaid};
+ghost use Rattle.impose_cli.specs.Looks.{RefusesRowLook, RefusesTaskLook, Tells, TellsRow, TellsTask};
+ghost use Rattle.impose_cli.specs.RowTasks.{LaysRows};
+
+use crate::fault::Fault;
+use crate::request::Request;
+use crate::row_task::{RowTask, asked_fault_of, row_task};
+use crate::task::WORKERS;
+use dsc::Document;
+use imposer::RunError;
+use row_runs::{Asked, AskedError, RowJob, row_plan, row_preview};
+use std::alloc::Global;
+
+/// How many sheets or leaves are listed, or sheets drawn.
+const MOST_TOLD: u32 = 40;
+
+/// What is told of sheets in place of imposing them.
+#[derive(Clone, Copy, Debug, PartialEq, Eq)]
+pub enum Look {
+    /// Line by line which page stands where.
+    Plan,
+    /// A picture of the sheets, as an SVG.
+    Picture,
+}
+
+/// The plan or the picture of the sheets on which the layout of a request lays its row of this document. What a run of
+/// the request would refuse is refused as it does, but for a write.
+pub fn look_text(
+    alloc: Global,
+    request: &Request,
+    input: Vec<u8>,
+    look: Look,
+) -> Result<Vec<u8>, Fault>
+    requires rows { LaysRows request.now.layout }
+    ensures told { IfOk result (λ text. TellsRow request.now input.items look text.items) }
+    ensures refused { IfErr result (RefusesRowLook request.now input.items) }
+{
+    let task = match row_task(alloc, request, input) {
+        Ok(task) => task,
+        Err(fault) => return Err(fault),
+    };
+    match task_text(alloc, request, &task, look) {
+        Ok(text) => Ok(text),
+        Err(fault) => Err(fault),
+    }
+}
+
+/// The plan or the picture of a task.
+fn task_text(alloc: Global, request: &Request, task: &RowTask, look: Look) -> Result<Vec<u8>, Fault>
+    requires laid { MayBeLaid task.now.laying }
+    requires sewn { IfSome task.now.signing MayBeSewn }
+    ensures told { IfOk result (λ text. TellsTask request.now task.now look text.items) }
+    ensures refused { IfErr result (RefusesTaskLook request.now task.now) }
+{
+    let document = match Document::read(alloc, task.text.as_slice()) {
+        Ok(document) => document,
+        Err(error) => return Err(Fault::Run(RunError::from(error))),
+    };
+    let pages = document.pages();
+    let job = RowJob {
+        document: &document,
+        papers: task.papers.as_slice(),
+        asked: Asked {
+            choice: request.choice.as_choice(),
+            signing: task.signing,
+            laying: task.laying,
+        },
+        border: request.border,
+        workers: WORKERS,
+    };
+    match job_text(alloc, &job, look) {
+        Ok(text) => Ok(text),
+        Err(error) => Err(asked_fault_of(error, pages)),
+    }
+}
+
+/// The plan or the picture of a job.
+fn job_text(alloc: Global, job: &RowJob<'_, '_>, look: Look) -> Result<Vec<u8>, AskedError>
+    requires asked { MayBeAsked job.now.asked }
+    ensures told { IfOk result (λ text. Tells look job.now text.items) }
+    ensures refused { IfErr result (RefusesLook job.now) }
+{
+    match look {
+        Look::Plan => row_plan(alloc, job, MOST_TOLD),
+        Look::Picture => row_preview(alloc, job, MOST_TOLD),
+    }
+}

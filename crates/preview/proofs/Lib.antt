@@ -1,0 +1,4 @@
+pub mod Chains
+pub mod Numbered
+pub mod Cuts
+pub mod Examples

@@ -1,0 +1,306 @@
+//! The picture of a plan.
+ghost use Rattle.std.specs.Prelude.{◌≡◌, ◌+◌, ◌*◌, ◌/◌, ◌<◌, ◌≤◌, ◌++◌, flat_map, length, take, OnOk, IfOk, Some, slice_get};
+ghost use Rattle.made_sheets.specs.Made.{MadeSheet, Placed};
+ghost use Rattle.pagespec.specs.Items.{item_of};
+ghost use Rattle.placement.specs.Matrices.{numbers_of};
+ghost use Rattle.sheet_plan.specs.OfSheets.{placed_of, slots_at};
+ghost use Rattle.preview.specs.Naming.{numbered};
+ghost use Rattle.preview.specs.Drawing.{as_large, caption, drawn, first_drawn, flipped, head, left_out, opening, outline};
+ghost use Rattle.preview.specs.Drawing.{page_picture, preview_text as text_of_preview, sheet_picture, slot_picture};
+ghost use Rattle.preview.specs.Drawing.{square_at, style, under, viewed};
+
+use crate::guides::{Guide, append_guides};
+use crate::naming::{Sides, append_name, append_number, append_size, count_of};
+use lengths::{Paper, print_points, print_scale};
+use pagespec::Item;
+use placement::{Matrix, matrix_of};
+use sheet_plan::{MadeSheets, PlacedSlot};
+use std::alloc::{AllocError, Global};
+
+/// A picture of these sheets, as an SVG: each sheet with its name and its paper, and on it each page under the matrix
+/// that places it: its outline, its number, counted from 1, and an arrow to its head; and above the pages these lines.
+/// Sheets stand four in a row, each as large as its square allows. Of more sheets than `most` the first are drawn, and a line says how many more there are.
+pub fn preview_text(
+    alloc: Global,
+    sheets: &MadeSheets,
+    sides: Sides,
+    guides: &[Guide],
+    most: u32,
+) -> Result<Vec<u8>, AllocError>
+    ensures { IfOk result (λ text. text.items ≡ text_of_preview sides guides.now most sheets.now) }
+{
+    let count = count_of(sheets)?;
+    let mut text = Vec::new(alloc);
+    append_all(sheets, sides, guides, count, most, &mut text)?;
+    text.extend_from_slice(b"</svg>")?;
+    text.extend_from_slice(b"\n")?;
+    Ok(text)
+}
+
+/// All sheets, of which there are so many, or the first of them.
+fn append_all(
+    sheets: &MadeSheets,
+    sides: Sides,
+    guides: &[Guide],
+    count: u32,
+    most: u32,
+    out: &mut Vec<u8>,
+) -> Result<(), AllocError>
+    requires { count ≡ length sheets.now }
+    ensures { OnOk result (out.new.items ≡ out.old.items ++ drawn sides guides.now most sheets.now) }
+{
+    if count <= most {
+        append_first(sheets, sides, guides, count, out)?;
+        return Ok(());
+    }
+    append_first(sheets, sides, guides, most, out)?;
+    append_left_out(most, count - most, out)?;
+    Ok(())
+}
+
+/// The beginning of a picture with the first sheets, and these.
+fn append_first(
+    sheets: &MadeSheets,
+    sides: Sides,
+    guides: &[Guide],
+    count: u32,
+    out: &mut Vec<u8>,
+) -> Result<(), AllocError>
+    requires { count ≤ length sheets.now }
+    ensures { OnOk result (out.new.items ≡ out.old.items ++ first_drawn sides guides.now count (take count sheets.now)) }
+{
+    append_opening(count, out)?;
+    append_sheets(sheets, sides, guides, count, out)?;
+    Ok(())
+}
+
+/// The height of so many sheets.
+fn height_of(count: u32) -> u64
+    ensures { result ≡ (count + 3) / 4 * 260 }
+{
+    (u64::from(count) + 3) / 4 * 260
+}
+
+/// The beginning of a picture with so many sheets.
+fn append_opening(count: u32, out: &mut Vec<u8>) -> Result<(), AllocError>
+    ensures { OnOk result (out.new.items ≡ out.old.items ++ opening count) }
+{
+    out.extend_from_slice(b"<svg xmlns='http://www.w3.org/2000/svg' viewBox='0 0 900 ")?;
+    append_number(40 + height_of(count), out)?;
+    out.extend_from_slice(b"'>")?;
+    out.extend_from_slice(b"\n")?;
+    out.extend_from_slice(STYLE)?;
+    Ok(())
+}
+
+const STYLE: &[u8] =
+    b"<style>rect,line{vector-effect:non-scaling-stroke}.sheet{fill:white;stroke:black}.page{fill:lightblue;fill-opacity:.4;stroke:navy}.margin{stroke:gray;stroke-dasharray:2}.fold{stroke:red;stroke-dasharray:6}.cut{stroke:red}path{fill:navy}text{font:30px sans-serif;text-anchor:middle}.name{font-size:13px}</style>\n";
+
+/// How many sheets aren't drawn, below those that are.
+fn append_left_out(count: u32, more: u32, out: &mut Vec<u8>) -> Result<(), AllocError>
+    ensures { OnOk result (out.new.items ≡ out.old.items ++ left_out count more) }
+{
+    out.extend_from_slice(b"<text class='name' x='450' y='")?;
+    append_number(25 + height_of(count), out)?;
+    out.extend_from_slice(b"'>and ")?;
+    append_number(u64::from(more), out)?;
+    out.extend_from_slice(b" more</text>")?;
+    out.extend_from_slice(b"\n")?;
+    Ok(())
+}
+
+/// The first sheets.
+fn append_sheets(
+    sheets: &MadeSheets,
+    sides: Sides,
+    guides: &[Guide],
+    count: u32,
+    out: &mut Vec<u8>,
+) -> Result<(), AllocError>
+    requires { count ≤ length sheets.now }
+    ensures { OnOk result (out.new.items ≡ out.old.items ++ numbered (sheet_picture sides guides.now) 0 (take count sheets.now)) }
+{
+    for sheet in 0..count {
+        append_sheet(sheets, sides, guides, sheet, out)?;
+    }
+    Ok(())
+}
+
+/// A sheet in its square.
+fn append_sheet(
+    sheets: &MadeSheets,
+    sides: Sides,
+    guides: &[Guide],
+    sheet: u32,
+    out: &mut Vec<u8>,
+) -> Result<(), AllocError>
+    requires { sheet < length sheets.now }
+    ensures { OnOk result ((it : MadeSheet) → slice_get sheets.now sheet ≡ Some it →
+        out.new.items ≡ out.old.items ++ sheet_picture sides guides.now sheet it) }
+{
+    let paper = sheets.paper(sheet);
+    append_square(sheet, out)?;
+    append_view(paper, out)?;
+    append_slots(sheets, sheet, out)?;
+    append_guides(guides, out)?;
+    out.extend_from_slice(b"</g></svg>")?;
+    append_caption(sides, sheet, paper, out)?;
+    Ok(())
+}
+
+/// Where the square of a sheet begins.
+fn append_square(sheet: u32, out: &mut Vec<u8>) -> Result<(), AllocError>
+    ensures { OnOk result (out.new.items ≡ out.old.items ++ square_at sheet) }
+{
+    out.extend_from_slice(b"<g transform='translate(")?;
+    append_number(u64::from(20 + sheet % 4 * 220), out)?;
+    out.extend_from_slice(b" ")?;
+    append_number(20 + u64::from(sheet / 4) * 260, out)?;
+    out.extend_from_slice(b")'>")?;
+    Ok(())
+}
+
+/// A sheet without its pages.
+fn append_view(paper: &Paper, out: &mut Vec<u8>) -> Result<(), AllocError>
+    ensures { OnOk result (out.new.items ≡ out.old.items ++ viewed paper.now) }
+{
+    out.extend_from_slice(b"<svg width='200' height='200' viewBox='0 0 ")?;
+    print_points(paper.width(), out)?;
+    out.extend_from_slice(b" ")?;
+    print_points(paper.height(), out)?;
+    out.extend_from_slice(b"'>")?;
+    append_outline(b"sheet", paper, out)?;
+    append_flip(paper, out)?;
+    out.extend_from_slice(b"\n")?;
+    Ok(())
+}
+
+/// The pages of a sheet.
+fn append_slots(sheets: &MadeSheets, sheet: u32, out: &mut Vec<u8>) -> Result<(), AllocError>
+    requires { sheet < length sheets.now }
+    ensures { OnOk result (out.new.items ≡ out.old.items ++ flat_map slot_picture (slots_at sheets.now sheet)) }
+{
+    for slot in 0..sheets.slots(sheet) {
+        append_slot(sheets.placed(sheet, slot), out)?;
+    }
+    Ok(())
+}
+
+/// The page in a slot. A blank one isn't drawn.
+fn append_slot(placed: Option<PlacedSlot<'_>>, out: &mut Vec<u8>) -> Result<(), AllocError>
+    ensures { OnOk result (out.new.items ≡ out.old.items ++ slot_picture (placed_of placed.entry)) }
+{
+    match placed {
+        None => Ok(()),
+        Some(placed) => append_placed(placed.page, placed.item, placed.paper, out),
+    }
+}
+
+/// A page where an item places it.
+fn append_placed(page: u32, item: &Item, paper: &Paper, out: &mut Vec<u8>) -> Result<(), AllocError>
+    ensures { OnOk result (out.new.items
+        ≡ out.old.items ++ slot_picture (Placed page (item_of item.now) paper.now)) }
+{
+    append_under(&matrix_of(item, paper), out)?;
+    append_page(paper, u64::from(page) + 1, out)?;
+    out.extend_from_slice(b"</g>")?;
+    out.extend_from_slice(b"\n")?;
+    Ok(())
+}
+
+/// A group that a matrix sends where it sends points in PostScript.
+fn append_under(matrix: &Matrix, out: &mut Vec<u8>) -> Result<(), AllocError>
+    ensures { OnOk result (out.new.items ≡ out.old.items ++ under (numbers_of matrix.now)) }
+{
+    out.extend_from_slice(b"<g transform='matrix(")?;
+    print_scale(matrix.a, out)?;
+    out.extend_from_slice(b" ")?;
+    print_scale(matrix.b, out)?;
+    out.extend_from_slice(b" ")?;
+    print_scale(matrix.c, out)?;
+    out.extend_from_slice(b" ")?;
+    print_scale(matrix.d, out)?;
+    out.extend_from_slice(b" ")?;
+    print_points(matrix.tx, out)?;
+    out.extend_from_slice(b" ")?;
+    print_points(matrix.ty, out)?;
+    out.extend_from_slice(b")'>")?;
+    Ok(())
+}
+
+/// A page with its number and the way to its head.
+fn append_page(paper: &Paper, number: u64, out: &mut Vec<u8>) -> Result<(), AllocError>
+    ensures { OnOk result (out.new.items ≡ out.old.items ++ page_picture paper.now number) }
+{
+    append_outline(b"page", paper, out)?;
+    append_flip(paper, out)?;
+    append_head(paper, number, out)?;
+    out.extend_from_slice(b"</g>")?;
+    Ok(())
+}
+
+/// The arrow at the head of a page, and the page's number.
+fn append_head(paper: &Paper, number: u64, out: &mut Vec<u8>) -> Result<(), AllocError>
+    ensures { OnOk result (out.new.items ≡ out.old.items ++ head paper.now number) }
+{
+    out.extend_from_slice(b"<svg")?;
+    append_as_large(paper, out)?;
+    out.extend_from_slice(
+        b" viewBox='0 0 100 100' preserveAspectRatio='xMidYMin'><path d='M50 3 57 15H43Z'/><text x='50' y='62'>",
+    )?;
+    append_number(number, out)?;
+    out.extend_from_slice(b"</text></svg>")?;
+    Ok(())
+}
+
+/// The outline of a sheet or a page.
+fn append_outline(kind: &[u8], paper: &Paper, out: &mut Vec<u8>) -> Result<(), AllocError>
+    ensures { OnOk result (out.new.items ≡ out.old.items ++ outline kind.now paper.now) }
+{
+    out.extend_from_slice(b"<rect class='")?;
+    out.extend_from_slice(kind)?;
+    out.extend_from_slice(b"'")?;
+    append_as_large(paper, out)?;
+    out.extend_from_slice(b"/>")?;
+    Ok(())
+}
+
+/// As wide and as high as a paper.
+fn append_as_large(paper: &Paper, out: &mut Vec<u8>) -> Result<(), AllocError>
+    ensures { OnOk result (out.new.items ≡ out.old.items ++ as_large paper.now) }
+{
+    out.extend_from_slice(b" width='")?;
+    print_points(paper.width(), out)?;
+    out.extend_from_slice(b"' height='")?;
+    print_points(paper.height(), out)?;
+    out.extend_from_slice(b"'")?;
+    Ok(())
+}
+
+/// A group in which heights on this paper are counted the other way round.
+fn append_flip(paper: &Paper, out: &mut Vec<u8>) -> Result<(), AllocError>
+    ensures { OnOk result (out.new.items ≡ out.old.items ++ flipped paper.now) }
+{
+    out.extend_from_slice(b"<g transform='matrix(1 0 0 -1 0 ")?;
+    print_points(paper.height(), out)?;
+    out.extend_from_slice(b")'>")?;
+    Ok(())
+}
+
+/// The name and the paper of a sheet, and the end of its square.
+fn append_caption(
+    sides: Sides,
+    sheet: u32,
+    paper: &Paper,
+    out: &mut Vec<u8>,
+) -> Result<(), AllocError>
+    ensures { OnOk result (out.new.items ≡ out.old.items ++ caption sides sheet paper.now) }
+{
+    out.extend_from_slice(b"<text class='name' x='100' y='216'>")?;
+    append_name(sides, sheet, out)?;
+    out.extend_from_slice(b"</text><text class='name' x='100' y='232'>")?;
+    append_size(paper, out)?;
+    out.extend_from_slice(b"</text></g>")?;
+    out.extend_from_slice(b"\n")?;
+    Ok(())
+}

@@ -1,0 +1,61 @@
+//! Lines on sheets.
+ghost use Rattle.std.specs.Prelude.{◌≡◌, ◌++◌, OnOk};
+ghost use Rattle.preview.specs.Guides.{guide_picture, guides_picture, kind_name as name_of_kind};
+
+use lengths::{Grains, print_points};
+use std::alloc::AllocError;
+
+/// Why a line is drawn: it shows the margin that is kept free, or a sheet is folded there, or cut.
+#[derive(Clone, Copy, Debug, PartialEq, Eq)]
+pub enum GuideKind {
+    Margin,
+    Fold,
+    Cut,
+}
+
+/// A line on a sheet, from a point to another one: how far each is from the left edge, and from the lower one.
+#[derive(Clone, Copy, Debug, PartialEq, Eq)]
+pub struct Guide {
+    pub kind: GuideKind,
+    pub start: (Grains, Grains),
+    pub end: (Grains, Grains),
+}
+
+/// All of these lines.
+pub(crate) fn append_guides(guides: &[Guide], out: &mut Vec<u8>) -> Result<(), AllocError>
+    ensures { OnOk result (out.new.items ≡ out.old.items ++ guides_picture guides.now) }
+{
+    for guide in guides {
+        append_guide(guide, out)?;
+    }
+    Ok(())
+}
+
+fn append_guide(guide: &Guide, out: &mut Vec<u8>) -> Result<(), AllocError>
+    ensures { OnOk result (out.new.items ≡ out.old.items ++ guide_picture guide.now) }
+{
+    out.extend_from_slice(b"<line class='")?;
+    out.extend_from_slice(kind_name(guide.kind))?;
+    out.extend_from_slice(b"' x1='")?;
+    print_points(guide.start.0, out)?;
+    out.extend_from_slice(b"' y1='")?;
+    print_points(guide.start.1, out)?;
+    out.extend_from_slice(b"' x2='")?;
+    print_points(guide.end.0, out)?;
+    out.extend_from_slice(b"' y2='")?;
+    print_points(guide.end.1, out)?;
+    out.extend_from_slice(b"'/>")?;
+    out.extend_from_slice(b"\n")?;
+    Ok(())
+}
+
+/// The style that a line has.
+fn kind_name(kind: GuideKind) -> &'static [u8]
+    ensures { result.now ≡ name_of_kind kind }
+{
+    match kind {
+        GuideKind::Margin => b"margin",
+        GuideKind::Fold => b"fold",
+        GuideKind::Cut => b"cut",
+    }
+}

@@ -1,0 +1,13 @@
+//! A look at sheets before they are imposed: the text of their plan, and a picture of it.
+#![tactic(auto)]
+
+mod drawing;
+mod guides;
+mod listing;
+mod naming;
+mod ways;
+
+pub use drawing::preview_text;
+pub use guides::{Guide, GuideKind};
+pub use listing::plan_text;
+pub use naming::Sides;

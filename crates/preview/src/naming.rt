@@ -1,0 +1,70 @@
+//! How sheets are numbered and named.
+ghost use Rattle.std.specs.Prelude.{◌≡◌, ◌++◌, OnOk, IfOk, decimal, length};
+ghost use Rattle.preview.specs.Naming.{face, side_name, size_text};
+
+use itoa::Buffer;
+use lengths::{Paper, print_points};
+use sheet_plan::MadeSheets;
+use std::alloc::AllocError;
+
+/// How sheets are printed: on one side of the paper; or on both sides, each two sheets as the front and the back of a
+/// leaf.
+#[derive(Clone, Copy, Debug, PartialEq, Eq)]
+pub enum Sides {
+    One,
+    Both,
+}
+
+/// How many sheets there are. More than a `u32` can count are told as out of memory, as are their lines.
+pub(crate) fn count_of(sheets: &MadeSheets) -> Result<u32, AllocError>
+    ensures { IfOk result (λ count. count ≡ length sheets.now) }
+{
+    match u32::try_from(sheets.len()) {
+        Ok(count) => Ok(count),
+        Err(_) => Err(AllocError),
+    }
+}
+
+/// The name of a sheet, counted from 0.
+pub(crate) fn append_name(sides: Sides, sheet: u32, out: &mut Vec<u8>) -> Result<(), AllocError>
+    ensures { OnOk result (out.new.items ≡ out.old.items ++ side_name sides sheet) }
+{
+    match sides {
+        Sides::One => {
+            out.extend_from_slice(b"sheet ")?;
+            append_number(u64::from(sheet) + 1, out)?;
+        }
+        Sides::Both => {
+            out.extend_from_slice(b"leaf ")?;
+            append_number(u64::from(sheet / 2) + 1, out)?;
+            out.extend_from_slice(face_of(sheet))?;
+        }
+    }
+    Ok(())
+}
+
+/// Which face of a leaf a sheet is.
+fn face_of(sheet: u32) -> &'static [u8]
+    ensures { result.now ≡ face sheet }
+{
+    if sheet % 2 == 0 { b" front" } else { b" back" }
+}
+
+pub(crate) fn append_number(number: u64, out: &mut Vec<u8>) -> Result<(), AllocError>
+    ensures { OnOk result (out.new.items ≡ out.old.items ++ decimal number) }
+{
+    let mut buffer = Buffer::new();
+    out.extend_from_slice(buffer.format(number).as_bytes())?;
+    Ok(())
+}
+
+/// The sides of a paper.
+pub(crate) fn append_size(paper: &Paper, out: &mut Vec<u8>) -> Result<(), AllocError>
+    ensures { OnOk result (out.new.items ≡ out.old.items ++ size_text paper.now) }
+{
+    print_points(paper.width(), out)?;
+    out.extend_from_slice(b" x ")?;
+    print_points(paper.height(), out)?;
+    out.extend_from_slice(b" pt")?;
+    Ok(())
+}

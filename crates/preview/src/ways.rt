@@ -1,0 +1,167 @@
+//! In which ways pages stand on sheets.
+ghost use Rattle.std.specs.Prelude.{◌≡◌, ◌<◌, ◌++◌, ◌||◌, nat_lt, length, OnOk, IfOk, Some, slice_get};
+ghost use Rattle.std.specs.List.{fold, list_any};
+ghost use Rattle.made_sheets.specs.Made.{MadeSheet};
+ghost use Rattle.sheet_plan.specs.OfSheets.{placed_of, slots_at};
+ghost use Rattle.preview.specs.Naming.{numbered};
+ghost use Rattle.preview.specs.Ways.{is_same_way, most_told, way_line, way_text, way_told, ways_of, ways_text};
+ghost use Rattle.preview.specs.Ways.{with_sheet, with_slot, with_way};
+
+use crate::naming::append_size;
+use lengths::{Number, Paper, print_scale};
+use sheet_plan::{MadeSheets, PlacedSlot};
+use std::alloc::{AllocError, Global};
+
+/// How many ways are told.
+const MOST_TOLD: usize = 16;
+
+/// How a page stands on a sheet: their papers, and the page's scale.
+#[derive(Clone, Copy, Debug, PartialEq, Eq)]
+pub(crate) struct Way {
+    pub(crate) page: Paper,
+    pub(crate) sheet: Paper,
+    pub(crate) scale: Number,
+}
+
+/// A line for each way in which pages stand on these sheets, of which there are so many.
+pub(crate) fn append_ways(
+    alloc: Global,
+    sheets: &MadeSheets,
+    count: u32,
+    out: &mut Vec<u8>,
+) -> Result<(), AllocError>
+    requires { count ≡ length sheets.now }
+    ensures { OnOk result (out.new.items ≡ out.old.items ++ ways_text sheets.now) }
+{
+    let ways = different_ways(alloc, sheets, count)?;
+    append_lines(ways.as_slice(), out)?;
+    Ok(())
+}
+
+/// The lines of these ways.
+fn append_lines(ways: &[Way], out: &mut Vec<u8>) -> Result<(), AllocError>
+    ensures { OnOk result (out.new.items ≡ out.old.items ++ numbered way_line 0 ways.now) }
+{
+    for number in 0..ways.len() {
+        append_line(number, way_at(ways, number), out)?;
+    }
+    Ok(())
+}
+
+/// This way. A call, so that a proof has its value by name.
+fn way_at(ways: &[Way], number: usize) -> &Way
+    requires { number < length ways.now }
+    ensures { slice_get ways.now number ≡ Some result.now }
+{
+    &ways[number]
+}
+
+/// The line of a way; of the first that isn't told, one that stands for all others.
+fn append_line(number: usize, way: &Way, out: &mut Vec<u8>) -> Result<(), AllocError>
+    ensures { OnOk result (out.new.items ≡ out.old.items ++ way_line number way.now) }
+{
+    append_told(number, way, out)?;
+    out.extend_from_slice(b"\n")?;
+    Ok(())
+}
+
+/// What is told of the way with this number.
+fn append_told(number: usize, way: &Way, out: &mut Vec<u8>) -> Result<(), AllocError>
+    ensures { OnOk result (out.new.items ≡ out.old.items ++ way_told number way.now) }
+{
+    if number < MOST_TOLD {
+        return append_way(way, out);
+    }
+    out.extend_from_slice(b"and in other ways")?;
+    Ok(())
+}
+
+fn append_way(way: &Way, out: &mut Vec<u8>) -> Result<(), AllocError>
+    ensures { OnOk result (out.new.items ≡ out.old.items ++ way_text way.now) }
+{
+    out.extend_from_slice(b"pages of ")?;
+    append_size(&way.page, out)?;
+    out.extend_from_slice(b" on sheets of ")?;
+    append_size(&way.sheet, out)?;
+    out.extend_from_slice(b", scale ")?;
+    print_scale(way.scale, out)?;
+    Ok(())
+}
+
+/// The different ways in which pages stand on these sheets, of which there are so many. No more are kept than are told,
+/// and one.
+fn different_ways(alloc: Global, sheets: &MadeSheets, count: u32) -> Result<Vec<Way>, AllocError>
+    requires { count ≡ length sheets.now }
+    ensures { IfOk result (λ ways. ways.items ≡ ways_of sheets.now) }
+{
+    let mut ways = Vec::new(alloc);
+    for sheet in 0..count {
+        note_sheet(sheets, sheet, &mut ways)?;
+    }
+    Ok(ways)
+}
+
+/// Adds the ways of a sheet.
+fn note_sheet(sheets: &MadeSheets, sheet: u32, ways: &mut Vec<Way>) -> Result<(), AllocError>
+    requires { sheet < length sheets.now }
+    ensures { OnOk result ((it : MadeSheet) → slice_get sheets.now sheet ≡ Some it →
+        ways.new.items ≡ with_sheet ways.old.items it) }
+{
+    note_slots(sheets, sheet, sheets.paper(sheet), ways)?;
+    Ok(())
+}
+
+/// Adds the ways of the slots of a sheet with this paper.
+fn note_slots(
+    sheets: &MadeSheets,
+    sheet: u32,
+    paper: &Paper,
+    ways: &mut Vec<Way>,
+) -> Result<(), AllocError>
+    requires { sheet < length sheets.now }
+    ensures { OnOk result (ways.new.items ≡ fold (with_slot paper.now) ways.old.items (slots_at sheets.now sheet)) }
+{
+    for slot in 0..sheets.slots(sheet) {
+        note_slot(sheets.placed(sheet, slot), paper, ways)?;
+    }
+    Ok(())
+}
+
+/// Adds the way of the page in a slot, on a sheet with this paper.
+fn note_slot(
+    placed: Option<PlacedSlot<'_>>,
+    sheet: &Paper,
+    ways: &mut Vec<Way>,
+) -> Result<(), AllocError>
+    ensures { OnOk result (ways.new.items ≡ with_slot sheet.now ways.old.items (placed_of placed.entry)) }
+{
+    match placed {
+        None => Ok(()),
+        Some(placed) => note(
+            Way {
+                page: *placed.paper,
+                sheet: *sheet,
+                scale: placed.item.scale,
+            },
+            ways,
+        ),
+    }
+}
+
+/// Adds a way, if it is none of these and fewer are kept than may be.
+fn note(way: Way, ways: &mut Vec<Way>) -> Result<(), AllocError>
+    ensures { OnOk result (ways.new.items ≡ with_way ways.old.items way) }
+{
+    if is_full_or_there(ways.as_slice(), &way) {
+        return Ok(());
+    }
+    ways.push(way)?;
+    Ok(())
+}
+
+/// Whether as many are kept as may be, or one of them is the same.
+fn is_full_or_there(ways: &[Way], way: &Way) -> bool
+    ensures { result ≡ (nat_lt most_told (length ways.now) || list_any (is_same_way way.now) ways.now) }
+{
+    MOST_TOLD < ways.len() || ways.contains(way)
+}

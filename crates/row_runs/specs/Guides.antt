@@ -1,0 +1,73 @@
+-- Lines that are drawn on the sheets of a setting: its margin, and lines between its cells.
+use Rattle.std.specs.Prelude.{ℕ, ◌+◌, ◌-◌, ◌*◌, ℤ, pos, ◌-ℤ◌, nat_abs, if◌then◌else◌, List, [], ◌∷◌, ◌++◌, map}
+use Rattle.std.specs.List.{range_with_len}
+use Rattle.rules.specs.Papers.{Paper}
+use Rattle.layouts.specs.Placed.{Room}
+use Rattle.layouts.specs.Cells.{Grid, kept, step}
+use Rattle.layouts.specs.declared.setting.Setting.{Setting}
+use Rattle.preview.specs.declared.guides.Guide.{Guide}
+use Rattle.preview.specs.declared.guides.GuideKind.{GuideKind}
+use Rattle.preview.specs.declared.guides.GuideKind.TheVariants.{Margin, Fold, Cut}
+use Rattle.row_runs.specs.declared.asked.Laying.{Laying}
+use Rattle.row_runs.specs.declared.asked.Laying.TheVariants as laying
+
+-- a line that stands so far from the left edge of a paper, and one that lies so far from the lower one
+abbrev pub upright : GuideKind → Paper → (x : ℤ) → Guide
+upright kind paper x = record { kind = kind; start = (x, pos 0); end = (x, paper.height) }
+
+abbrev pub level : GuideKind → Paper → (y : ℤ) → Guide
+level kind paper y = record { kind = kind; start = (pos 0, y); end = (paper.width, y) }
+
+-- so many 10^-5 of a point, in grains
+abbrev pub grains_in : ℕ → ℕ
+grains_in n = 1_270_000 * n
+
+-- the margin, along the edges on both sides, and along the lower and the upper one
+abbrev pub edge_of : Room → ℤ
+edge_of room = pos (grains_in room.edge)
+
+abbrev pub upright_margin : Room → List Guide
+upright_margin room =
+    upright Margin room.paper (edge_of room) ∷ upright Margin room.paper (room.paper.width -ℤ edge_of room) ∷ []
+
+abbrev pub level_margin : Room → List Guide
+level_margin room =
+    level Margin room.paper (edge_of room) ∷ level Margin room.paper (room.paper.height -ℤ edge_of room) ∷ []
+
+abbrev pub margin_lines : Room → List Guide
+margin_lines room = upright_margin room ++ level_margin room
+
+-- how far the middle of the gap before part k of a side lies, in grains
+abbrev pub gap_at : Room → (side parts k : ℕ) → ℕ
+gap_at room side parts k = grains_in (kept room room.edge + k * step room side parts) - 635_000 * kept room room.gap
+
+-- the line before cell k of so many side by side, or one above another, and all such lines
+abbrev pub upright_line : GuideKind → Room → (parts k : ℕ) → Guide
+upright_line kind room parts k = upright kind room.paper (pos (gap_at room (nat_abs room.paper.width) parts k))
+
+abbrev pub level_line : GuideKind → Room → (parts k : ℕ) → Guide
+level_line kind room parts k = level kind room.paper (pos (gap_at room (nat_abs room.paper.height) parts k))
+
+abbrev pub upright_lines : GuideKind → Room → (parts : ℕ) → List Guide
+upright_lines kind room parts = map (upright_line kind room parts) (range_with_len 1 (parts - 1))
+
+abbrev pub level_lines : GuideKind → Room → (parts : ℕ) → List Guide
+level_lines kind room parts = map (level_line kind room parts) (range_with_len 1 (parts - 1))
+
+-- between all cells of a grid, which lies on its side if its pages do
+abbrev pub lines_between : GuideKind → Room → Grid → List Guide
+lines_between kind room g =
+    upright_lines kind room (if g.turned then g.rows else g.columns) ++ level_lines kind room (if g.turned then g.columns else g.rows)
+
+-- the lines of a setting, of this kind between its cells
+abbrev pub lines_in : GuideKind → Setting → List Guide
+lines_in kind setting = margin_lines setting.room ++ lines_between kind setting.room setting.grid
+
+-- the lines of a laying: stacks and cards are cut between their cells, booklets are folded
+abbrev pub guides_in : Laying → List Guide
+guides_in (laying.AsTheyAre blank) = []
+guides_in (laying.Grid setting cells) = margin_lines setting.room
+guides_in (laying.Cards setting cells) = lines_in Cut setting
+guides_in (laying.Stack setting cells) = lines_in Cut setting
+guides_in (laying.Leaves setting) = lines_in Cut setting
+guides_in (laying.Booklet setting turned_backs creep) = lines_in Fold setting

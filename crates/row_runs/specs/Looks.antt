@@ -1,0 +1,47 @@
+-- What is told of sheets before they are imposed.
+use Rattle.std.specs.Prelude.{◌≡◌, ℕ, List}
+use Rattle.made_sheets.specs.Made.{MadeSheet}
+use Rattle.preview.specs.Listing.{plan_text}
+use Rattle.preview.specs.Drawing.{preview_text}
+use Rattle.preview.specs.declared.naming.Sides.{Sides}
+use Rattle.preview.specs.declared.naming.Sides.TheVariants as sides
+use Rattle.sheet_plan.specs.declared.error.MadeError.{MadeError}
+use Rattle.sheet_plan.specs.declared.error.MadeError.TheVariants as plan
+use Rattle.row_runs.specs.Guides.{guides_in}
+use Rattle.row_runs.specs.Runs.{ArePlanned, RefusesRun}
+use Rattle.row_runs.specs.declared.asked.Laying.{Laying}
+use Rattle.row_runs.specs.declared.asked.Laying.TheVariants as laying
+use Rattle.row_runs.specs.declared.run.RowJob.{RowJob}
+use Rattle.row_runs.specs.declared.error.AskedError.{AskedError}
+use Rattle.row_runs.specs.declared.error.AskedError.TheVariants as error
+
+-- leaves are printed on both sides, also those of a booklet
+abbrev pub sides_in : Laying → Sides
+sides_in (laying.AsTheyAre blank) = sides.One
+sides_in (laying.Grid setting cells) = sides.One
+sides_in (laying.Cards setting cells) = sides.One
+sides_in (laying.Stack setting cells) = sides.One
+sides_in leaves = sides.Both
+
+-- the text of the plan of the sheets that a run would impose
+pub record TellsPlan (j : RowJob) (most : ℕ) (text : List ℕ) : Type 0 where
+  pub made : List MadeSheet
+  pub planned : ArePlanned j made
+  pub told : text ≡ plan_text (sides_in j.asked.laying) most made
+
+-- the picture of these sheets, with the lines of their laying on each
+pub record TellsPicture (j : RowJob) (most : ℕ) (text : List ℕ) : Type 0 where
+  pub made : List MadeSheet
+  pub planned : ArePlanned j made
+  pub told : text ≡ preview_text (sides_in j.asked.laying) (guides_in j.asked.laying) most made
+
+-- what an error of the plan is called
+abbrev pub of_plan : MadeError → AskedError
+of_plan plan.NoMemory = error.NoMemory 0
+of_plan other = error.Sheets other
+
+-- a refusal is that of the run, and nothing is written
+abbrev pub RefusesLook : RowJob → AskedError → Type 0
+RefusesLook j (error.NoMemory written) = (written ≡ 0) × RefusesRun j (error.NoMemory written)
+RefusesLook j (error.Write written) = ⊥
+RefusesLook j other = RefusesRun j other

@@ -1,0 +1,230 @@
+//! Lines that are drawn on sheets: margins, and lines between cells.
+ghost use Rattle.std.specs.Prelude.{◌≡◌, ◌*◌, ◌^◌, ◌-ℤ◌, ◌<◌, ◌≤◌, ◌++◌, pos, nat_abs, IfOk, IsTrue, OnOk};
+ghost use Rattle.lengths.specs.Ranges.{FitsGrains};
+ghost use Rattle.rules.specs.Papers.{is_side};
+ghost use Rattle.layouts.specs.Cells.{kept as kept_of, step as step_of};
+ghost use Rattle.row_runs.specs.Guides.{edge_of, gap_at as gap_of, guides_in, level as level_of, level_line as level_line_of};
+ghost use Rattle.row_runs.specs.Guides.{level_lines, level_margin, lines_between, lines_in, margin_lines};
+ghost use Rattle.row_runs.specs.Guides.{upright as upright_of, upright_line as upright_line_of, upright_lines, upright_margin};
+
+use crate::asked::Laying;
+use layouts::{Grid, Room, Setting};
+use lengths::{Grains, Paper};
+use preview::{Guide, GuideKind};
+use std::alloc::{AllocError, Global};
+
+/// The lines of a laying: its margin, where sheets are cut between their cells, and where the leaves of a booklet are
+/// folded.
+pub(crate) fn guides_of(alloc: Global, laying: &Laying) -> Result<Vec<Guide>, AllocError>
+    ensures { IfOk result (λ guides. guides.items ≡ guides_in laying.now) }
+{
+    let mut guides = Vec::new(alloc);
+    push_guides(laying, &mut guides)?;
+    Ok(guides)
+}
+
+fn push_guides(laying: &Laying, guides: &mut Vec<Guide>) -> Result<(), AllocError>
+    ensures { OnOk result (guides.new.items ≡ guides.old.items ++ guides_in laying.now) }
+{
+    match laying {
+        Laying::AsTheyAre { .. } => Ok(()),
+        Laying::Grid { setting, .. } => push_margin(&setting.room, guides),
+        Laying::Cards { setting, .. } => push_lines(GuideKind::Cut, setting, guides),
+        Laying::Stack { setting, .. } => push_lines(GuideKind::Cut, setting, guides),
+        Laying::Leaves { setting } => push_lines(GuideKind::Cut, setting, guides),
+        Laying::Booklet { setting, .. } => push_lines(GuideKind::Fold, setting, guides),
+    }
+}
+
+/// Adds the lines of a setting, of this kind between its cells.
+fn push_lines(kind: GuideKind, setting: &Setting, guides: &mut Vec<Guide>) -> Result<(), AllocError>
+    ensures { OnOk result (guides.new.items ≡ guides.old.items ++ lines_in kind setting.now) }
+{
+    push_margin(&setting.room, guides)?;
+    push_between(kind, &setting.room, setting.grid, guides)?;
+    Ok(())
+}
+
+/// The grains of 10^-5 of a point.
+const FINE: u128 = 1_270_000;
+
+/// Adds the lines of a margin, which may be nothing.
+fn push_margin(room: &Room, guides: &mut Vec<Guide>) -> Result<(), AllocError>
+    ensures { OnOk result (guides.new.items ≡ guides.old.items ++ margin_lines room.now) }
+{
+    push_upright_margin(room, guides)?;
+    push_level_margin(room, guides)?;
+    Ok(())
+}
+
+/// Adds those along the edges on both sides.
+fn push_upright_margin(room: &Room, guides: &mut Vec<Guide>) -> Result<(), AllocError>
+    ensures { OnOk result (guides.new.items ≡ guides.old.items ++ upright_margin room.now) }
+{
+    let right = far_edge(room, room.paper.width());
+    guides.push(upright(GuideKind::Margin, &room.paper, near_edge(room)))?;
+    guides.push(upright(GuideKind::Margin, &room.paper, right))?;
+    Ok(())
+}
+
+/// Adds those along the lower and the upper edge.
+fn push_level_margin(room: &Room, guides: &mut Vec<Guide>) -> Result<(), AllocError>
+    ensures { OnOk result (guides.new.items ≡ guides.old.items ++ level_margin room.now) }
+{
+    let top = far_edge(room, room.paper.height());
+    guides.push(level(GuideKind::Margin, &room.paper, near_edge(room)))?;
+    guides.push(level(GuideKind::Margin, &room.paper, top))?;
+    Ok(())
+}
+
+/// How far a margin reaches from a left or a lower edge.
+fn near_edge(room: &Room) -> Grains
+    ensures { result ≡ edge_of room.now }
+{
+    grains(i128::from(room.edge) * 1_270_000)
+}
+
+/// And to where it leaves a side free.
+fn far_edge(room: &Room, side: Grains) -> Grains
+    requires { IsTrue (is_side side) }
+    ensures { result ≡ side -ℤ edge_of room.now }
+{
+    grains(side.get() - i128::from(room.edge) * 1_270_000)
+}
+
+/// Adds the lines between all cells of a grid.
+fn push_between(
+    kind: GuideKind,
+    room: &Room,
+    grid: Grid,
+    guides: &mut Vec<Guide>,
+) -> Result<(), AllocError>
+    ensures { OnOk result (guides.new.items ≡ guides.old.items ++ lines_between kind room.now grid) }
+{
+    if grid.turned {
+        push_upright(kind, room, grid.rows, guides)?;
+        push_level(kind, room, grid.columns, guides)?;
+        return Ok(());
+    }
+    push_upright(kind, room, grid.columns, guides)?;
+    push_level(kind, room, grid.rows, guides)?;
+    Ok(())
+}
+
+/// Adds the lines between so many cells side by side.
+fn push_upright(
+    kind: GuideKind,
+    room: &Room,
+    parts: u32,
+    guides: &mut Vec<Guide>,
+) -> Result<(), AllocError>
+    requires { 0 < parts }
+    ensures { OnOk result (guides.new.items ≡ guides.old.items ++ upright_lines kind room.now parts) }
+{
+    for k in 1..parts {
+        guides.push(upright_line(kind, room, parts, k))?;
+    }
+    Ok(())
+}
+
+/// Adds the lines between so many cells one above another.
+fn push_level(
+    kind: GuideKind,
+    room: &Room,
+    parts: u32,
+    guides: &mut Vec<Guide>,
+) -> Result<(), AllocError>
+    requires { 0 < parts }
+    ensures { OnOk result (guides.new.items ≡ guides.old.items ++ level_lines kind room.now parts) }
+{
+    for k in 1..parts {
+        guides.push(level_line(kind, room, parts, k))?;
+    }
+    Ok(())
+}
+
+/// The line before a cell of so many side by side.
+fn upright_line(kind: GuideKind, room: &Room, parts: u32, k: u32) -> Guide
+    requires { k < parts }
+    ensures { result ≡ upright_line_of kind room.now parts k }
+{
+    let x = gap_at(room, room.paper.width(), parts, k);
+    upright(kind, &room.paper, x)
+}
+
+/// The line below a cell of so many one above another.
+fn level_line(kind: GuideKind, room: &Room, parts: u32, k: u32) -> Guide
+    requires { k < parts }
+    ensures { result ≡ level_line_of kind room.now parts k }
+{
+    let y = gap_at(room, room.paper.height(), parts, k);
+    level(kind, &room.paper, y)
+}
+
+/// How far the middle of the gap before a part of a side lies.
+fn gap_at(room: &Room, side: Grains, parts: u32, k: u32) -> Grains
+    requires side { IsTrue (is_side side) }
+    requires part { k < parts }
+    ensures { result ≡ pos (gap_of room.now (nat_abs side) parts k) }
+{
+    let far = FINE * (kept(room, room.edge) + u128::from(k) * step(room, side, parts));
+    let gap = 635_000 * kept(room, room.gap);
+    grains(far.saturating_sub(gap) as i128)
+}
+
+/// From where a part of a side begins to where the next one begins, in 10^-5 of a point.
+fn step(room: &Room, side: Grains, parts: u32) -> u128
+    requires side { IsTrue (is_side side) }
+    requires some { 0 < parts }
+    ensures value { result ≡ step_of room.now (nat_abs side) parts }
+    ensures within { parts * result ≤ 10 ^ 13 }
+{
+    let margins = 2 * FINE * kept(room, room.edge);
+    let free = side.get().unsigned_abs().saturating_sub(margins);
+    (free + FINE * kept(room, room.gap)) / (FINE * u128::from(parts))
+}
+
+/// What is kept of a length, in 10^-5 of a point.
+fn kept(room: &Room, length: u64) -> u128
+    requires { length ≤ 10_000_000_000 }
+    ensures value { result ≡ kept_of room.now length }
+    ensures few { result ≤ 10_000_000_001 }
+{
+    if room.trim == 0 {
+        return u128::from(length);
+    }
+    u128::from(length) + 1
+}
+
+/// A line that stands so far from the left edge.
+fn upright(kind: GuideKind, paper: &Paper, x: Grains) -> Guide
+    ensures { result ≡ upright_of kind paper.now x }
+{
+    Guide {
+        kind,
+        start: (x, grains(0)),
+        end: (x, paper.height()),
+    }
+}
+
+/// A line that lies so far from the lower edge.
+fn level(kind: GuideKind, paper: &Paper, y: Grains) -> Guide
+    ensures { result ≡ level_of kind paper.now y }
+{
+    Guide {
+        kind,
+        start: (grains(0), y),
+        end: (paper.width(), y),
+    }
+}
+
+/// So many grains, which are known to be in range.
+fn grains(count: i128) -> Grains
+    requires { FitsGrains count }
+    ensures { result ≡ count }
+{
+    match Grains::new(count) {
+        Some(grains) => grains,
+        None => unreachable!(),
+    }
+}

@@ -1,0 +1,115 @@
+//! A look at the sheets that would be imposed.
+ghost use Rattle.std.specs.Prelude.{◌≡◌, IfErr, IfOk, OnOk, Ok};
+ghost use Rattle.made_sheets.specs.MadePlans.{made_plan_of};
+ghost use Rattle.sheet_plan.specs.MadeRefusals.{RefusesMade};
+ghost use Rattle.preview.specs.Drawing.{preview_text as picture_of};
+ghost use Rattle.row_runs.specs.Guides.{guides_in};
+ghost use Rattle.row_runs.specs.Sheets.{MayBeAsked};
+ghost use Rattle.row_runs.specs.Runs.{ArePlanned};
+ghost use Rattle.row_runs.specs.Looks.{RefusesLook, TellsPicture, TellsPlan, of_plan, sides_in};
+
+use crate::asked::{Laying, asked_sheets};
+use crate::error::AskedError;
+use crate::guides::guides_of;
+use crate::run::RowJob;
+use preview::{Sides, plan_text, preview_text};
+use sheet_plan::{MadeError, MadeSheets, Plan};
+use std::alloc::{AllocError, Global};
+
+/// The text of the plan of the sheets that `impose_row` would impose. Of more sheets or leaves than `most` the middle is
+/// left out. What the run refuses is refused as it does, but for a write.
+pub fn row_plan(alloc: Global, job: &RowJob<'_, '_>, most: u32) -> Result<Vec<u8>, AskedError>
+    requires asked { MayBeAsked job.now.asked }
+    ensures told { IfOk result (λ text. TellsPlan job.now most text.items) }
+    ensures refused { IfErr result (RefusesLook job.now) }
+{
+    let sheets = match planned_sheets(alloc, job) {
+        Ok(sheets) => sheets,
+        Err(error) => return Err(error),
+    };
+    match plan_text(alloc, &sheets, sides_of(&job.asked.laying), most) {
+        Ok(text) => Ok(text),
+        Err(_) => Err(AskedError::NoMemory { written: 0 }),
+    }
+}
+
+/// The picture of the sheets that `impose_row` would impose, as an SVG, with margin, cuts and fold on each. Of more sheets
+/// than `most` the first are drawn. What the run refuses is refused as it does, but for a write.
+pub fn row_preview(alloc: Global, job: &RowJob<'_, '_>, most: u32) -> Result<Vec<u8>, AskedError>
+    requires asked { MayBeAsked job.now.asked }
+    ensures told { IfOk result (λ text. TellsPicture job.now most text.items) }
+    ensures refused { IfErr result (RefusesLook job.now) }
+{
+    let sheets = match planned_sheets(alloc, job) {
+        Ok(sheets) => sheets,
+        Err(error) => return Err(error),
+    };
+    match drawn(alloc, &sheets, &job.asked.laying, most) {
+        Ok(text) => Ok(text),
+        Err(_) => Err(AskedError::NoMemory { written: 0 }),
+    }
+}
+
+/// The picture of sheets that are laid so.
+fn drawn(
+    alloc: Global,
+    sheets: &MadeSheets,
+    laying: &Laying,
+    most: u32,
+) -> Result<Vec<u8>, AllocError>
+    ensures { IfOk result (λ text. text.items
+        ≡ picture_of (sides_in laying.now) (guides_in laying.now) most sheets.now) }
+{
+    let guides = guides_of(alloc, laying)?;
+    let text = preview_text(alloc, sheets, sides_of(laying), guides.as_slice(), most)?;
+    Ok(text)
+}
+
+/// Whether sheets are printed on one side, or leaves on both.
+fn sides_of(laying: &Laying) -> Sides
+    ensures { result ≡ sides_in laying.now }
+{
+    match laying {
+        Laying::Leaves { .. } => Sides::Both,
+        Laying::Booklet { .. } => Sides::Both,
+        _ => Sides::One,
+    }
+}
+
+/// The sheets that would be imposed.
+fn planned_sheets(alloc: Global, job: &RowJob<'_, '_>) -> Result<MadeSheets, AskedError>
+    requires asked { MayBeAsked job.now.asked }
+    ensures made { IfOk result (ArePlanned job.now) }
+    ensures refused { IfErr result (RefusesLook job.now) }
+{
+    let count = job.document.pages();
+    let sheets = match asked_sheets(alloc, count, job.papers, &job.asked) {
+        Ok(sheets) => sheets,
+        Err(error) => return Err(error),
+    };
+    match check_plan(alloc, count, &sheets) {
+        Ok(()) => Ok(sheets),
+        Err(error) => Err(plan_error(error)),
+    }
+}
+
+/// Whether these sheets can be planned, on so many pages.
+fn check_plan(alloc: Global, pages: u32, sheets: &MadeSheets) -> Result<(), MadeError>
+    ensures planned { OnOk result (made_plan_of pages sheets.now ≡ Ok sheets.now) }
+    ensures refused { IfErr result (RefusesMade pages sheets.now) }
+{
+    match Plan::of_sheets(alloc, pages, sheets) {
+        Ok(_) => Ok(()),
+        Err(error) => Err(error),
+    }
+}
+
+/// What an error of the plan is called.
+fn plan_error(error: MadeError) -> AskedError
+    ensures { result ≡ of_plan error }
+{
+    match error {
+        MadeError::NoMemory => AskedError::NoMemory { written: 0 },
+        error => AskedError::Sheets(error),
+    }
+}
