@@ -22,6 +22,7 @@ use Rattle.layouts.proofs.InGrid.{fits, both_true}
 use Rattle.layouts.proofs.Folds.{kept_little}
 use Rattle.layouts.proofs.Fitting.{has_scale}
 use Rattle.arranged_sheets.specs.Creep.{up_to_fold, moved_up, may_creep, creep_on, creeping, creeping_slot, AreHalves, IsRefusedCreep, IsRefusedCreeping}
+use Rattle.arranged_sheets.specs.Standing.{EntryCreeps}
 use Rattle.arranged_sheets.specs.Filled.{Filling}
 
 -- ---- a page on its half
@@ -177,6 +178,15 @@ pub entry_is : (f : Filling) (row : Row) (half half' : Bool) (k by by' place pla
     → slot ≡ creeping_slot f half' k by' (entry_of row place')
 entry_is f row half half' k by by' place place' entry slot is h b e at =
     is ∙ (ap (λ x. creeping_slot f x k by entry) h ∙ (ap (λ n. creeping_slot f half' k n entry) b ∙ ap (creeping_slot f half' k by') (e ∙ ap (entry_of row) at)))
+
+pub entry_creeps : (f : Filling) (row : Row) (by by' place place' : ℕ) (entry : Option ℕ) → EntryCreeps f by entry → by ≡ by' → entry ≡ entry_of row place → place ≡ place' → EntryCreeps f by' (entry_of row place')
+entry_creeps f row by by' place place' entry has b e at = subst (EntryCreeps f by') (e ∙ ap (entry_of row) at) (subst (λ n. EntryCreeps f n entry) b has)
+
+-- what holds of the two slots of a side
+pub both_creep : (P : ℕ → Type 0) → P 0 → P 1 → (k : ℕ) → k < 2 → P k
+both_creep P p q zero less = p
+both_creep P p q (suc zero) less = q
+both_creep P p q (suc (suc k)) less = absurd (omega (arith, less))
 
 -- what refuses an entry refuses the sides
 pub entry_refused : (f : Filling) (row : Row) (creep leaves s k by place : ℕ) (entry : Option ℕ) (e : ArrangementError) → k < 2 → IsRefusedCreep f by entry e → by ≡ creep_on creep leaves s → entry ≡ entry_of row place → place ≡ s * 2 + k

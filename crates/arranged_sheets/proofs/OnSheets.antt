@@ -11,11 +11,15 @@ use Rattle.arranged_sheets.specs.Standing.{StandsIn, AllStand, EntryFits}
 
 -- ---- what is numbered in turn
 
-pub each_of : {X : Type 0} (P : X → Type 0) (f : ℕ → X) (n : ℕ) → ((k : ℕ) → k < n → P (f k)) → All P (map f (range_with_len 0 n))
-each_of P f n h k d less =
+pub numbered : {X : Type 0} (P : ℕ → X → Type 0) (f : ℕ → X) (n : ℕ) → ((k : ℕ) → k < n → P k (f k))
+    → (k : ℕ) (d : X) → k < length (map f (range_with_len 0 n)) → P k (slice_index_or (map f (range_with_len 0 n)) k d)
+numbered P f n h k d less =
     let many = length-map-range_with_len f 0 n in
     let below : k < n = omega (arith, less, many) in
-    subst P (sym (get_or-map-range_with_len f 0 n k k d below (omega arith))) (h k below)
+    subst (P k) (sym (get_or-map-range_with_len f 0 n k k d below (omega arith))) (h k below)
+
+pub each_of : {X : Type 0} (P : X → Type 0) (f : ℕ → X) (n : ℕ) → ((k : ℕ) → k < n → P (f k)) → All P (map f (range_with_len 0 n))
+each_of P f n h = numbered (λ k. P) f n h
 
 pub each_two_of : {X : Type 0} (R : X → X → Type 0) (f : ℕ → X) (n : ℕ) → ((i j : ℕ) → i < n → j < n → i ≢ j → R (f i) (f j)) → AllPairs R (map f (range_with_len 0 n))
 each_two_of R f n h i j d before less =

@@ -1,6 +1,6 @@
 -- Sheets that stand well: what is placed on them keeps the margin, the gap, and the fold. All here is this project's own
 -- rules.
-use Rattle.std.specs.Prelude.{◌≡◌, ⊤, ℕ, ◌-◌, ◌*◌, ◌+◌, ◌<◌, ◌≤◌, nat_abs, Bool, true, false, ◌==◌, if◌then◌else◌, List, [], ◌∷◌, length}
+use Rattle.std.specs.Prelude.{◌≡◌, ⊤, ℕ, ◌-◌, ◌*◌, ◌+◌, ◌<◌, ◌≤◌, nat_abs, Bool, true, false, if◌then◌else◌, List, [], ◌∷◌, length}
 use Rattle.std.specs.Prelude.{All, AllPairs, Option, Some, None, slice_index_or}
 use Rattle.rules.specs.Papers.{Paper}
 use Rattle.made_sheets.specs.Made.{MadeSlot, Blank, Placed, MadeSheet}
@@ -69,13 +69,13 @@ pub record LeavesStand (t : Setting) (turned_backs : Bool) (creep : ℕ) (made :
 -- ---- what such sheets rest on
 
 -- a page of this paper has its place in the cells of a sheet
-pub record HasCell (t : Setting) (page : Paper) : Type 0 where
+pub record FitsIn (t : Setting) (page : Paper) : Type 0 where
   pub sheet_is : IsPaper t.room.paper
   pub page_is : IsPaper page
   pub fits : why_not_fitted t page ≡ None
 
 -- and in the halves of a leaf that creeps so far
-pub record HasHalf (t : Setting) (page : Paper) (creep : ℕ) : Type 0 where
+pub record FitsOnLeaf (t : Setting) (page : Paper) (creep : ℕ) : Type 0 where
   pub sheet_is : IsPaper t.room.paper
   pub page_is : IsPaper page
   pub fits : why_not_creeping t page creep ≡ None
@@ -83,8 +83,8 @@ pub record HasHalf (t : Setting) (page : Paper) (creep : ℕ) : Type 0 where
 -- an entry of a row has its place
 abbrev pub EntryFits : Filling → (entry : Option ℕ) → Type 0
 EntryFits f None = ⊤
-EntryFits f (Some page) = HasCell f.setting (f.paper_of page)
+EntryFits f (Some page) = FitsIn f.setting (f.paper_of page)
 
 abbrev pub EntryCreeps : Filling → (creep : ℕ) → (entry : Option ℕ) → Type 0
 EntryCreeps f creep None = ⊤
-EntryCreeps f creep (Some page) = HasHalf f.setting (f.paper_of page) creep
+EntryCreeps f creep (Some page) = FitsOnLeaf f.setting (f.paper_of page) creep
