@@ -10,18 +10,19 @@ use Rattle.rules.specs.Signatures.{entry_of}
 use Rattle.made_sheets.specs.Made.{MadeSlot}
 use Rattle.made_sheets.specs.Rows.{Row}
 use Rattle.layouts.specs.declared.error.ArrangementError.{ArrangementError}
+use Rattle.layouts.specs.declared.error.ArrangementError.TheVariants as why
 use Rattle.layouts.specs.declared.setting.Setting.{Setting}
 use Rattle.layouts.specs.Placed.{Room}
 use Rattle.layouts.specs.Cells.{slack, slack_x, trimmed, whole}
 use Rattle.layouts.specs.Grids.{beside, leaf_order}
-use Rattle.layouts.specs.Refusals.{is_near}
-use Rattle.layouts.specs.Fitted.{fitted, fitted_back, scale_on, why_no_scale_on}
+use Rattle.layouts.specs.Refusals.{first_of, is_near}
+use Rattle.layouts.specs.Fitted.{fitted, fitted_back, is_whole, scale_on, why_no_scale_on}
 use Rattle.layouts.proofs.AlongSide.{in_cell, cells_fit}
 use Rattle.layouts.proofs.OnSide.{HasCell, cell, shown, from_start}
 use Rattle.layouts.proofs.InGrid.{fits, both_true}
 use Rattle.layouts.proofs.Folds.{kept_little}
 use Rattle.layouts.proofs.Fitting.{has_scale}
-use Rattle.arranged_sheets.specs.Creep.{up_to_fold, moved_up, may_creep, creep_on, creeping, creeping_slot, AreHalves, IsRefusedCreep, IsRefusedCreeping}
+use Rattle.arranged_sheets.specs.Creep.{up_to_fold, moved_up, may_creep, or_else, why_not_creeping, creep_on, creeping, creeping_slot, AreHalves, IsRefusedCreep, IsRefusedCreeping}
 use Rattle.arranged_sheets.specs.Standing.{EntryCreeps}
 use Rattle.arranged_sheets.specs.Filled.{Filling}
 
@@ -158,6 +159,17 @@ small t page creep halved =
 pub room_there : (t : Setting) (page : Paper) (creep slack : ℕ) → AreHalves t → slack ≡ slack_x page t.room t.grid (scale_on t page) → nat_le (2 * creep) (2 * slack + t.room.gap) ≡ true → may_creep page t.room (scale_on t page) creep ≡ true
 room_there t page creep slack halved is h =
     sym (ap (λ n. nat_le (2 * creep) (2 * n + t.room.gap)) (is ∙ ap (λ g. slack_x page t.room g (scale_on t page)) halved.0)) ∙ h
+
+free_both : (b : Bool) (x : Option ArrangementError) (m : Bool) → x ≡ None → m ≡ true → or_else (if b then None else x) (first_of m why.CreepOverFold None) ≡ None
+free_both true None true e h = refl
+free_both false None true e h = refl
+free_both true None false e h = absurd (cc (h))
+free_both false None false e h = absurd (cc (h))
+free_both true (Some x) m e h = absurd (cc (e))
+free_both false (Some x) m e h = absurd (cc (e))
+
+pub creeps_there : (t : Setting) (page : Paper) (creep : ℕ) → why_no_scale_on t page ≡ None → may_creep page t.room (scale_on t page) creep ≡ true → why_not_creeping t page creep ≡ None
+creeps_there t page creep e may = free_both (is_whole t page) (why_no_scale_on t page) (may_creep page t.room (scale_on t page) creep) e may
 
 pub made_there : (t : Setting) (page : Paper) (by_half : Bool) (k creep : ℕ) (by : ℤ) (item item' : Item) → item' ≡ moved_up by item → by ≡ up_to_fold t.order.right_to_left by_half k creep
     → item ≡ (if by_half then fitted_back t page k else fitted t page k) → item' ≡ creeping t by_half page k creep
