@@ -67,7 +67,7 @@ slot_at_rest f true k (Some page) h = let paper = f.paper_of page in ap (λ i. P
 
 -- ---- its sheets, and what refuses them
 
-sheets_at_rest : (f : Filling) (turned_backs : Bool) (leaves : ℕ) (row : Row) (sheets : List ℕ) → AreHalves f.setting
+pub sheets_at_rest : (f : Filling) (turned_backs : Bool) (leaves : ℕ) (row : Row) (sheets : List ℕ) → AreHalves f.setting
     → map (λ s. sheet f.setting.room.paper (map (λ k. creeping_slot f (is_turned turned_backs s) k (creep_on 0 leaves s) (grid_entry 2 row s k)) (range_with_len 0 2))) sheets
     ≡ map (λ s. sheet f.setting.room.paper (map (λ k. slot_on f (is_turned turned_backs s) k (grid_entry 2 row s k)) (range_with_len 0 2))) sheets
 sheets_at_rest f turned_backs leaves row sheets h =

@@ -10,18 +10,20 @@ use Rattle.rules.specs.Signatures.{entry_of}
 use Rattle.made_sheets.specs.Made.{MadeSlot}
 use Rattle.made_sheets.specs.Rows.{Row}
 use Rattle.layouts.specs.declared.error.ArrangementError.{ArrangementError}
+use Rattle.layouts.specs.declared.error.ArrangementError.TheVariants as why
 use Rattle.layouts.specs.declared.setting.Setting.{Setting}
 use Rattle.layouts.specs.Placed.{Room}
 use Rattle.layouts.specs.Cells.{slack, slack_x, trimmed, whole}
 use Rattle.layouts.specs.Grids.{beside, leaf_order}
-use Rattle.layouts.specs.Refusals.{is_near}
-use Rattle.layouts.specs.Fitted.{fitted, fitted_back, scale_on, why_no_scale_on}
+use Rattle.layouts.specs.Refusals.{first_of, is_near}
+use Rattle.layouts.specs.Fitted.{fitted, fitted_back, is_whole, scale_on, why_no_scale_on}
 use Rattle.layouts.proofs.AlongSide.{in_cell, cells_fit}
 use Rattle.layouts.proofs.OnSide.{HasCell, cell, shown, from_start}
 use Rattle.layouts.proofs.InGrid.{fits, both_true}
 use Rattle.layouts.proofs.Folds.{kept_little}
 use Rattle.layouts.proofs.Fitting.{has_scale}
-use Rattle.arranged_sheets.specs.Creep.{up_to_fold, moved_up, may_creep, creep_on, creeping, creeping_slot, AreHalves, IsRefusedCreep, IsRefusedCreeping}
+use Rattle.arranged_sheets.specs.Creep.{up_to_fold, moved_up, may_creep, or_else, why_not_creeping, creep_on, creeping, creeping_slot, AreHalves, IsRefusedCreep, IsRefusedCreeping}
+use Rattle.arranged_sheets.specs.Standing.{EntryCreeps}
 use Rattle.arranged_sheets.specs.Filled.{Filling}
 
 -- ---- a page on its half
@@ -158,6 +160,17 @@ pub room_there : (t : Setting) (page : Paper) (creep slack : ℕ) → AreHalves 
 room_there t page creep slack halved is h =
     sym (ap (λ n. nat_le (2 * creep) (2 * n + t.room.gap)) (is ∙ ap (λ g. slack_x page t.room g (scale_on t page)) halved.0)) ∙ h
 
+free_both : (b : Bool) (x : Option ArrangementError) (m : Bool) → x ≡ None → m ≡ true → or_else (if b then None else x) (first_of m why.CreepOverFold None) ≡ None
+free_both true None true e h = refl
+free_both false None true e h = refl
+free_both true None false e h = absurd (cc (h))
+free_both false None false e h = absurd (cc (h))
+free_both true (Some x) m e h = absurd (cc (e))
+free_both false (Some x) m e h = absurd (cc (e))
+
+pub creeps_there : (t : Setting) (page : Paper) (creep : ℕ) → why_no_scale_on t page ≡ None → may_creep page t.room (scale_on t page) creep ≡ true → why_not_creeping t page creep ≡ None
+creeps_there t page creep e may = free_both (is_whole t page) (why_no_scale_on t page) (may_creep page t.room (scale_on t page) creep) e may
+
 pub made_there : (t : Setting) (page : Paper) (by_half : Bool) (k creep : ℕ) (by : ℤ) (item item' : Item) → item' ≡ moved_up by item → by ≡ up_to_fold t.order.right_to_left by_half k creep
     → item ≡ (if by_half then fitted_back t page k else fitted t page k) → item' ≡ creeping t by_half page k creep
 made_there t page by_half k creep by item item' e f g = e ∙ (ap (λ b. moved_up b item) f ∙ ap (moved_up (up_to_fold t.order.right_to_left by_half k creep)) g)
@@ -177,6 +190,15 @@ pub entry_is : (f : Filling) (row : Row) (half half' : Bool) (k by by' place pla
     → slot ≡ creeping_slot f half' k by' (entry_of row place')
 entry_is f row half half' k by by' place place' entry slot is h b e at =
     is ∙ (ap (λ x. creeping_slot f x k by entry) h ∙ (ap (λ n. creeping_slot f half' k n entry) b ∙ ap (creeping_slot f half' k by') (e ∙ ap (entry_of row) at)))
+
+pub entry_creeps : (f : Filling) (row : Row) (by by' place place' : ℕ) (entry : Option ℕ) → EntryCreeps f by entry → by ≡ by' → entry ≡ entry_of row place → place ≡ place' → EntryCreeps f by' (entry_of row place')
+entry_creeps f row by by' place place' entry has b e at = subst (EntryCreeps f by') (e ∙ ap (entry_of row) at) (subst (λ n. EntryCreeps f n entry) b has)
+
+-- what holds of the two slots of a side
+pub both_creep : (P : ℕ → Type 0) → P 0 → P 1 → (k : ℕ) → k < 2 → P k
+both_creep P p q zero less = p
+both_creep P p q (suc zero) less = q
+both_creep P p q (suc (suc k)) less = absurd (omega (arith, less))
 
 -- what refuses an entry refuses the sides
 pub entry_refused : (f : Filling) (row : Row) (creep leaves s k by place : ℕ) (entry : Option ℕ) (e : ArrangementError) → k < 2 → IsRefusedCreep f by entry e → by ≡ creep_on creep leaves s → entry ≡ entry_of row place → place ≡ s * 2 + k

@@ -1,7 +1,8 @@
 -- Cells that are filled one after the other.
-use Rattle.std.proofs.Common.{arith, ◌≡◌, ℕ, Bool, ◌+◌, List, [], ◌∷◌, ◌++◌, sym, ap, ◌∙◌, Option}
+use Rattle.std.proofs.Common.{arith, ◌≡◌, ℕ, Bool, ◌+◌, ◌<◌, ◌⊎◌, inl, inr, List, [], ◌∷◌, ◌++◌, sym, ap, subst, ◌∙◌, Option}
 use Rattle.std.specs.Prelude.{map}
 use Rattle.std.specs.List.{range_with_len}
+use Rattle.std.proofs.Math.Nat.{eq-or-lt_of_le}
 use Rattle.std.proofs.lemmas.List.{map-append}
 use Rattle.std.proofs.lemmas.List.FromFn.{map-range_with_len_more}
 use Rattle.rules.specs.Papers.{Paper}
@@ -27,3 +28,11 @@ pub sheet_more : (paper : Paper) (slots_of : ℕ → List MadeSlot) (old new : L
 sheet_more paper slots_of old new slots k so_far here e =
     e ∙ (ap (λ zs. zs ++ sheet paper slots ∷ []) so_far ∙ (ap (λ z. map (λ s. sheet paper (slots_of s)) (range_with_len 0 k) ++ sheet paper z ∷ []) here
     ∙ sym (map-range_with_len_more (λ s. sheet paper (slots_of s)) 0 k k (omega arith))))
+
+-- what holds of all numbers below k, and of k
+pub one_more : (P : ℕ → Type 0) (k : ℕ) → ((n : ℕ) → n < k → P n) → P k → (n : ℕ) → n < k + 1 → P n
+one_more P k so_far here n less = either (eq-or-lt_of_le (omega (arith, less)))
+  where
+    either : (n ≡ k) ⊎ (n < k) → P n
+    either (inl e) = subst P (sym e) here
+    either (inr h) = so_far n h

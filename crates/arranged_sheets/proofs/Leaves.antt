@@ -16,7 +16,7 @@ use Rattle.layouts.proofs.Sides.{of_sides, placed, point, between}
 use Rattle.layouts.proofs.OnSide.{HasCell, ends, cell, shown, from_start}
 use Rattle.layouts.proofs.InGrid.{sides_are}
 use Rattle.layouts.proofs.Folds.{fold, kept_little, in_middle, has_cell}
-use Rattle.arranged_sheets.specs.Creep.{creep_of, moved_up, to_fold, leaf_item, may_creep, KeepsSides, CreepMoves, CreepGrows, CreepKeepsSides}
+use Rattle.arranged_sheets.specs.Creep.{creep_of, moved_up, to_fold, leaf_item, may_creep, KeepsSides, StaysBefore, StaysBehind, CreepMoves, CreepGrows, CreepKeepsSides}
 
 moved_at : (page : Paper) (k s : ℕ) (x y by : ℤ) (p : Point)
     → ((stands page (moved_up by (placed Left k s x y)) p).x ≡ (stands page (placed Left k s x y) p).x)
@@ -90,31 +90,37 @@ behind_at v u k s room h x creep has may (pos a) b of =
     omega (arith, ints, least, back, some, may, (kept_little room room.gap).0)
 behind_at v u k s room h x creep has may (negsuc a) b of = absurd (let f = of.left in omega (arith, ints))
 
+-- the one page, and the other
+
+room_left : (v u : ℕ) (room : Room) (s creep : ℕ) → may_creep (of_sides v u) room s creep ≡ true
+    → 2 * creep ≤ 2 * slack (cell room (nat_abs room.paper.height) 2) (shown room v) s + room.gap
+room_left v u room s creep may = at_most (2 * creep) (2 * slack (cell room (nat_abs room.paper.height) 2) (shown room v) s + room.gap) may
+
+pub before_fold : (v u : ℕ) (room : Room) (b : Bool) (s creep : ℕ) → HasPlace (of_sides v u) room (beside true) s → may_creep (of_sides v u) room s creep ≡ true
+    → StaysBefore room (fold room (nat_abs room.paper.height)) (of_sides v u) (leaf_item (of_sides v u) room b s creep (if b then 1 else 0))
+before_fold v u room false s creep place may p of =
+    before_at v u 0 s room (nat_abs room.paper.height) (to_right (of_sides v u) room (beside true) s 0 0) creep (has_cell v u room s place) (room_left v u room s creep may) p.x p.y of
+before_fold v u room true s creep place may p of =
+    before_at v u 1 s room (nat_abs room.paper.height) (to_right (of_sides v u) room (beside true) s 0 0) creep (has_cell v u room s place) (room_left v u room s creep may) p.x p.y of
+
+pub behind_fold : (v u : ℕ) (room : Room) (b : Bool) (s creep : ℕ) → HasPlace (of_sides v u) room (beside true) s → may_creep (of_sides v u) room s creep ≡ true
+    → StaysBehind room (fold room (nat_abs room.paper.height)) (of_sides v u) (leaf_item (of_sides v u) room b s creep (if b then 0 else 1))
+behind_fold v u room false s creep place may p of =
+    behind_at v u 1 s room (nat_abs room.paper.height) (to_right (of_sides v u) room (beside true) s 0 1) creep (has_cell v u room s place) (room_left v u room s creep may) p.x p.y of
+behind_fold v u room true s creep place may p of =
+    behind_at v u 0 s room (nat_abs room.paper.height) (to_right (of_sides v u) room (beside true) s 0 1) creep (has_cell v u room s place) (room_left v u room s creep may) p.x p.y of
+
 keeps_at : (v u : ℕ) (room : Room) (b : Bool) (s creep : ℕ) → HasPlace (of_sides v u) room (beside true) s → may_creep (of_sides v u) room s creep ≡ true
     → KeepsSides (of_sides v u) room (leaf_item (of_sides v u) room b s creep (if b then 1 else 0)) (leaf_item (of_sides v u) room b s creep (if b then 0 else 1))
-keeps_at v u room false s creep place may =
-    let has = has_cell v u room s place in
+keeps_at v u room b s creep place may =
     let h = nat_abs room.paper.height in
-    let middle = in_middle room h has.some in
-    let room_left = at_most (2 * creep) (2 * slack (cell room h 2) (shown room v) s + room.gap) may in
+    let middle = in_middle room h (has_cell v u room s place).some in
     record {
       twice = fold room h;
       no_farther = middle.0;
       no_nearer = middle.1;
-      before = λ p of. before_at v u 0 s room h (to_right (of_sides v u) room (beside true) s 0 0) creep has room_left p.x p.y of;
-      behind = λ p of. behind_at v u 1 s room h (to_right (of_sides v u) room (beside true) s 0 1) creep has room_left p.x p.y of;
-    }
-keeps_at v u room true s creep place may =
-    let has = has_cell v u room s place in
-    let h = nat_abs room.paper.height in
-    let middle = in_middle room h has.some in
-    let room_left = at_most (2 * creep) (2 * slack (cell room h 2) (shown room v) s + room.gap) may in
-    record {
-      twice = fold room h;
-      no_farther = middle.0;
-      no_nearer = middle.1;
-      before = λ p of. before_at v u 1 s room h (to_right (of_sides v u) room (beside true) s 0 0) creep has room_left p.x p.y of;
-      behind = λ p of. behind_at v u 0 s room h (to_right (of_sides v u) room (beside true) s 0 1) creep has room_left p.x p.y of;
+      before = before_fold v u room b s creep place may;
+      behind = behind_fold v u room b s creep place may;
     }
 
 abbrev KeepsIf : (room : Room) (b : Bool) (s creep : ℕ) → Paper → Type 0

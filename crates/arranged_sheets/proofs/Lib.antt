@@ -1,6 +1,8 @@
 mod Runs
 mod Behind
 mod Inside
+mod OnSheets
+mod OnLeaves
 mod Leaves
 mod Creeping
 mod AtRest

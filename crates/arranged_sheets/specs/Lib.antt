@@ -1,5 +1,6 @@
--- Read in this order: sheets whose cells are filled from a row, and how; leaves that creep; posters.
+-- Read in this order: sheets whose cells are filled from a row, and how; leaves that creep; how they stand; posters.
 pub mod Filled
 pub mod Shapes
 pub mod Creep
+pub mod Standing
 pub mod Posters

@@ -1,6 +1,6 @@
 //! Booklets whose leaves creep: in a folded signature the inner leaves stick out, so what stands on them is moved towards
 //! the fold.
-ghost use Rattle.std.specs.Prelude.{◌≡◌, ◌+◌, ◌*◌, ◌<◌, ◌≤◌, ◌+ℤ◌, ◌*ℤ◌, pos, nat_abs, IfOk, IfErr, OnOk, Some, None, nat_le};
+ghost use Rattle.std.specs.Prelude.{◌≡◌, ◌+◌, ◌*◌, ◌<◌, ◌≤◌, ◌+ℤ◌, ◌*ℤ◌, pos, nat_abs, IfOk, IfErr, OnOk, Some, nat_le};
 ghost use Rattle.rules.specs.Numbers.{greatest_number};
 ghost use Rattle.pagespec.specs.Items.{item_of};
 ghost use Rattle.layouts.specs.Cells.{slack_x};
@@ -10,6 +10,7 @@ ghost use Rattle.arranged_sheets.specs.Shapes.{filling};
 ghost use Rattle.arranged_sheets.specs.Creep.{creep_on as creep_on_side, up_to_fold, moved_up as moved_up_by, may_creep};
 ghost use Rattle.arranged_sheets.specs.Creep.{creeping, creeping_slot as creeping_slot_of, creeping_sheets as creeping_of};
 ghost use Rattle.arranged_sheets.specs.Creep.{AreHalves, why_not_creeping, IsRefusedCreep, IsRefusedCreeping};
+ghost use Rattle.arranged_sheets.specs.Standing.{EntryCreeps, FitsOnLeaf, LeavesStand};
 
 use super::fill::{blocks_of, entry_at, is_turned, paper_of};
 use layouts::{ArrangementError, Setting};
@@ -40,6 +41,7 @@ pub fn creeping_booklet_sheets(
     requires { AreHalves setting.now }
     ensures made { IfOk result (λ made. made
         ≡ creeping_of (filling setting.now papers.now) turned_backs creep.innermost creep.leaves row.now) }
+    ensures stands { IfOk result (LeavesStand setting.now turned_backs creep.innermost) }
     ensures refused { IfErr result
         (IsRefusedCreeping (filling setting.now papers.now) creep.innermost creep.leaves row.now) }
 {
@@ -99,6 +101,7 @@ fn creeping_slot(
     requires cell { cell < 2 }
     ensures made { IfOk result (λ slot. slot_of slot
         ≡ creeping_slot_of (filling setting.now papers.now) by_half cell creep entry) }
+    ensures fits { OnOk result (EntryCreeps (filling setting.now papers.now) creep entry) }
     ensures refused { IfErr result (IsRefusedCreep (filling setting.now papers.now) creep entry) }
 {
     let page = match entry {
@@ -123,7 +126,7 @@ fn creeping_item(
     requires halves { AreHalves setting.now }
     requires cell { cell < 2 }
     ensures made { IfOk result (λ item. item_of item ≡ creeping setting.now by_half paper.now cell creep) }
-    ensures possible { OnOk result (why_not_creeping setting.now paper.now creep ≡ None) }
+    ensures fits { OnOk result (FitsOnLeaf setting.now paper.now creep) }
     ensures refused { IfErr result (λ error. why_not_creeping setting.now paper.now creep ≡ Some error) }
 {
     let slack = match setting.slack(paper) {

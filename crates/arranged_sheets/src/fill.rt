@@ -1,5 +1,5 @@
 //! Sheets whose cells are filled from a row.
-ghost use Rattle.std.specs.Prelude.{◌≡◌, ◌<◌, ◌≤◌, ◌*◌, IfOk, IfErr, length, map, true};
+ghost use Rattle.std.specs.Prelude.{◌≡◌, ◌<◌, ◌≤◌, ◌*◌, IfOk, IfErr, OnOk, length, map, true, ℕ};
 ghost use Rattle.std.specs.List.{range_with_len};
 ghost use Rattle.rules.specs.Sheets.{blocks};
 ghost use Rattle.rules.specs.Signatures.{entry_of};
@@ -10,6 +10,7 @@ ghost use Rattle.arranged_sheets.specs.Filled.{behind_in, slot_on as slot_of_cel
 ghost use Rattle.arranged_sheets.specs.Filled.{grid_sheets as grid_of, card_sheets as cards_of, stack_sheets as stack_of};
 ghost use Rattle.arranged_sheets.specs.Filled.{duplex_sheets as leaves_of, booklet_sheets as booklet_of};
 ghost use Rattle.arranged_sheets.specs.Shapes.{filling, place as place_of, cell_on, entry_in, IsRefusedFor, IsRefusedFrom};
+ghost use Rattle.arranged_sheets.specs.Standing.{AllStand, EntryFits};
 
 use layouts::{ArrangementError, Run, Setting, Turned};
 use lengths::Paper;
@@ -46,6 +47,7 @@ pub fn grid_sheets(
     requires some { 0 < cells }
     requires cells { cells ≤ size setting.now.grid }
     ensures made { IfOk result (λ made. made ≡ grid_of (filling setting.now papers.now) cells row.now) }
+    ensures stands { IfOk result (AllStand setting.now.room) }
     ensures refused { IfErr result (IsRefusedFor (filling setting.now papers.now) row.now) }
 {
     let sheets = match blocks_of(row, u64::from(cells)) {
@@ -78,6 +80,7 @@ pub fn card_sheets(
     requires some { 0 < cells }
     requires cells { cells ≤ size setting.now.grid }
     ensures made { IfOk result (λ made. made ≡ cards_of (filling setting.now papers.now) cells row.now) }
+    ensures stands { IfOk result (AllStand setting.now.room) }
     ensures refused { IfErr result (IsRefusedFor (filling setting.now papers.now) row.now) }
 {
     let sheets = match blocks_of(row, 1) {
@@ -110,6 +113,7 @@ pub fn stack_sheets(
     requires some { 0 < cells }
     requires cells { cells ≤ size setting.now.grid }
     ensures made { IfOk result (λ made. made ≡ stack_of (filling setting.now papers.now) cells row.now) }
+    ensures stands { IfOk result (AllStand setting.now.room) }
     ensures refused { IfErr result (IsRefusedFor (filling setting.now papers.now) row.now) }
 {
     let sheets = match blocks_of(row, u64::from(cells)) {
@@ -140,6 +144,7 @@ pub fn leaf_sheets(
     row: &[Option<u32>],
 ) -> Result<MadeSheets, ArrangementError>
     ensures made { IfOk result (λ made. made ≡ leaves_of (filling setting.now papers.now) row.now) }
+    ensures stands { IfOk result (AllStand setting.now.room) }
     ensures refused { IfErr result (IsRefusedFor (filling setting.now papers.now) row.now) }
 {
     let cells = match cells_in(setting) {
@@ -181,6 +186,7 @@ pub fn booklet_sheets(
 ) -> Result<MadeSheets, ArrangementError>
     requires { 2 ≤ size setting.now.grid }
     ensures made { IfOk result (λ made. made ≡ booklet_of (filling setting.now papers.now) turned_backs row.now) }
+    ensures stands { IfOk result (AllStand setting.now.room) }
     ensures refused { IfErr result (IsRefusedFor (filling setting.now papers.now) row.now) }
 {
     let sheets = match blocks_of(row, 2) {
@@ -239,6 +245,7 @@ fn filled(
     requires halves { shape.turned_backs ≡ true → 2 ≤ size setting.now.grid }
     ensures made { IfOk result (λ made. made ≡ sides_of (filling setting.now papers.now) shape.turned_backs shape.sheets
         shape.cells (entry_in shape setting.now row.now)) }
+    ensures stands { IfOk result (AllStand setting.now.room) }
     ensures refused { IfErr result (IsRefusedFor (filling setting.now papers.now) row.now) }
 {
     let mut made = MadeSheets::new(alloc);
@@ -269,6 +276,8 @@ fn slots_in(
     ensures made { IfOk result (λ slots. map slot_of slots.items
         ≡ map (λ c. slot_of_cell (filling setting.now papers.now) (is_turned_on shape.turned_backs s) c
         (entry_in shape setting.now row.now s c)) (range_with_len 0 shape.cells)) }
+    ensures fits { OnOk result ((c : ℕ) → c < shape.cells
+        → EntryFits (filling setting.now papers.now) (entry_in shape setting.now row.now s c)) }
     ensures refused { IfErr result (IsRefusedFor (filling setting.now papers.now) row.now) }
 {
     let by_half = is_turned(shape.turned_backs, s);
@@ -306,6 +315,7 @@ fn slot_in(
     requires halves { by_half ≡ true → 2 ≤ size setting.now.grid }
     ensures made { IfOk result (λ slot. slot_of slot
         ≡ slot_of_cell (filling setting.now papers.now) by_half cell entry) }
+    ensures fits { OnOk result (EntryFits (filling setting.now papers.now) entry) }
     ensures refused { IfErr result (IsRefusedFrom (filling setting.now papers.now) entry) }
 {
     let page = match entry {

@@ -1,12 +1,14 @@
-use Rattle.std.proofs.Common.{arith, rules, ◌≡◌, ◌+◌, ◌*◌, ◌++◌, ◌∷◌, []}
+use Rattle.std.proofs.Common.{arith, rules, ◌≡◌, ◌<◌, ℕ, ◌+◌, ◌*◌, ◌++◌, ◌∷◌, [], sym, subst}
 use Rattle.std.specs.Prelude.{map}
 use Rattle.std.specs.List.{range_with_len}
 use Rattle.sheet_plan.specs.OfSheets.{slot_of}
 use Rattle.arranged_sheets.specs.Filled.{is_turned, grid_entry}
 use Rattle.arranged_sheets.specs.Shapes.{filling}
 use Rattle.arranged_sheets.specs.Creep.{creep_on, creeping_slot}
-use Rattle.arranged_sheets.proofs.Filling.{sheet, sheet_more}
-use Rattle.arranged_sheets.proofs.Creeping.{both_slots, entry_is, entry_refused}
+use Rattle.arranged_sheets.specs.Standing.{EntryCreeps, LeavesStand}
+use Rattle.arranged_sheets.proofs.Filling.{sheet, sheet_more, one_more}
+use Rattle.arranged_sheets.proofs.OnLeaves.{leaves_stand}
+use Rattle.arranged_sheets.proofs.Creeping.{both_slots, both_creep, entry_creeps, entry_is, entry_refused}
 use Rattle.arranged_sheets.proofs.creep.creeping_booklet_sheets.Goals as goal
 
 pub returns-in-Err-creeping_slot-clause-refused : goal.returns-in-Err-creeping_slot-clause-refused
@@ -34,5 +36,17 @@ loop-s-preserved c =
     let first = entry_is f row c.is_turned-by_half.result half 0 c.creep_on-by.result by _ (s * 2 + 0) c.entry_at.result one c.in-Ok-creeping_slot.ensures.made c.is_turned-by_half.ensures c.creep_on-by.ensures c.entry_at.ensures (omega arith) in
     let second = entry_is f row c.is_turned-by_half.result half 1 c.creep_on-by.result by _ (s * 2 + 1) c.entry_at-in-loop-s.result other c.in-Ok-creeping_slot-2.ensures.made c.is_turned-by_half.ensures c.creep_on-by.ensures c.entry_at-in-loop-s.ensures (omega arith) in
     let e : c.push.new.self ≡ c.loop-s.made ++ sheet t.room.paper (one ∷ other ∷ []) ∷ [] = search rules in
-    sheet_more t.room.paper (λ n. map (λ k. creeping_slot f (is_turned c.args.turned_backs n) k (creep_on c.args.creep.innermost c.args.creep.leaves n) (grid_entry 2 row n k)) (range_with_len 0 2))
-    c.loop-s.made c.push.new.self (one ∷ other ∷ []) s c.loop-s.invariant (both_slots (λ k. creeping_slot f half k by (grid_entry 2 row s k)) one other first second) e
+    let fits_first = entry_creeps f row c.creep_on-by.result by _ (s * 2 + 0) c.entry_at.result c.in-Ok-creeping_slot.ensures.fits c.creep_on-by.ensures c.entry_at.ensures (omega arith) in
+    let fits_second = entry_creeps f row c.creep_on-by.result by _ (s * 2 + 1) c.entry_at-in-loop-s.result c.in-Ok-creeping_slot-2.ensures.fits c.creep_on-by.ensures c.entry_at-in-loop-s.ensures (omega arith) in
+    record {
+      made = sheet_more t.room.paper (λ n. map (λ k. creeping_slot f (is_turned c.args.turned_backs n) k (creep_on c.args.creep.innermost c.args.creep.leaves n) (grid_entry 2 row n k)) (range_with_len 0 2))
+          c.loop-s.made c.push.new.self (one ∷ other ∷ []) s c.loop-s.invariant.made (both_slots (λ k. creeping_slot f half k by (grid_entry 2 row s k)) one other first second) e;
+      fits = λ n k less in_k. one_more (λ n. (k : ℕ) → k < 2 → EntryCreeps f (creep_on c.args.creep.innermost c.args.creep.leaves n) (grid_entry 2 row n k)) s (λ n below k in_k. c.loop-s.invariant.fits n k below in_k)
+          (both_creep (λ k. EntryCreeps f by (grid_entry 2 row s k)) fits_first fits_second) n less k in_k;
+    }
+
+pub returns-clause-stands : goal.returns-clause-stands
+returns-clause-stands c =
+    let t = c.args.setting.now in
+    subst (LeavesStand t c.args.turned_backs c.args.creep.innermost) (sym c.loop-s.invariant.made)
+    (leaves_stand (filling t c.args.papers.now) c.args.turned_backs c.args.creep.innermost c.args.creep.leaves c.loop-s.s c.args.row.now c.requires c.loop-s.invariant.fits)

@@ -1,8 +1,12 @@
-use Rattle.std.proofs.Common.{◌≡◌}
+use Rattle.std.proofs.Common.{◌≡◌, ℕ, ◌<◌}
+use Rattle.arranged_sheets.specs.Filled.{grid_entry}
 use Rattle.arranged_sheets.specs.Shapes.{filling}
-use Rattle.arranged_sheets.specs.Creep.{creeping_sides}
+use Rattle.arranged_sheets.specs.Creep.{creep_on, creeping_sides}
+use Rattle.arranged_sheets.specs.Standing.{EntryCreeps}
 use Rattle.arranged_sheets.proofs.creep.creeping_booklet_sheets.Given as goal
 
 abbrev pub invariant-loop-s : goal.invariant-loop-s
-invariant-loop-s l =
-    l.made ≡ creeping_sides (filling l.setting l.papers) l.turned_backs l.creep.innermost l.creep.leaves l.s l.row
+invariant-loop-s l = record {
+  made : l.made ≡ creeping_sides (filling l.setting l.papers) l.turned_backs l.creep.innermost l.creep.leaves l.s l.row;
+  fits : (s k : ℕ) → s < l.s → k < 2 → EntryCreeps (filling l.setting l.papers) (creep_on l.creep.innermost l.creep.leaves s) (grid_entry 2 l.row s k);
+}

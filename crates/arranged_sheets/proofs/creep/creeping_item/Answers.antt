@@ -2,8 +2,9 @@ use Rattle.std.proofs.Common.{rules, ◌≡◌, ◌+◌, ◌*◌, true}
 use Rattle.std.specs.Prelude.{nat_le, if◌then◌else◌}
 use Rattle.pagespec.specs.Items.{item_of}
 use Rattle.layouts.specs.Fitted.{fitted, fitted_back}
+use Rattle.layouts.specs.Laws.{IsPaper}
 use Rattle.arranged_sheets.specs.Creep.{up_to_fold, moved_up}
-use Rattle.arranged_sheets.proofs.Creeping.{room_there, small, made_there, reached_there}
+use Rattle.arranged_sheets.proofs.Creeping.{creeps_there, room_there, small, made_there, reached_there}
 use Rattle.arranged_sheets.proofs.creep.creeping_item.Goals.{then-by_half, else-by_half}
 use Rattle.arranged_sheets.proofs.creep.creeping_item.Goals as goal
 
@@ -36,3 +37,12 @@ returns-in-Ok-found-clause-made c =
     let by : c.towards_fold-by.result ≡ up_to_fold t.order.right_to_left c.args.by_half c.args.cell c.args.creep = search rules in
     let up : item_of c.moved_up.result ≡ moved_up c.towards_fold-by.result (item_of c.in-Ok-found.item) = search rules in
     made_there t page c.args.by_half c.args.cell c.args.creep c.towards_fold-by.result (item_of c.in-Ok-found.item) (item_of c.moved_up.result) up by is
+
+pub returns-in-Ok-found-clause-fits : goal.returns-in-Ok-found-clause-fits
+returns-in-Ok-found-clause-fits c =
+    let sheet : IsPaper c.args.setting.now.room.paper = elim c.if-by_half.branch [ then-by_half w ↦ w.back_item-found.ensures.sheet | else-by_half w ↦ w.item-found.ensures.sheet ] in
+    let page : IsPaper c.args.paper.now = elim c.if-by_half.branch [ then-by_half w ↦ w.back_item-found.ensures.page | else-by_half w ↦ w.item-found.ensures.page ] in
+    let t = c.args.setting.now in
+    let room_left : nat_le (2 * c.args.creep) (2 * c.in-Ok.slack + t.room.gap) ≡ true = search rules in
+    let may = room_there t c.args.paper.now c.args.creep c.in-Ok.slack c.requires.halves c.in-Ok.ensures.value room_left in
+    record { sheet_is = sheet; page_is = page; fits = creeps_there t c.args.paper.now c.args.creep c.in-Ok.ensures.possible may }

@@ -1,10 +1,12 @@
-use Rattle.std.proofs.Common.{rules, ◌≡◌, ◌++◌, ◌∷◌, []}
+use Rattle.std.proofs.Common.{rules, ◌≡◌, ◌<◌, ℕ, ◌++◌, ◌∷◌, [], sym, subst}
 use Rattle.std.specs.Prelude.{map}
 use Rattle.std.specs.List.{range_with_len}
 use Rattle.sheet_plan.specs.OfSheets.{slot_of}
 use Rattle.arranged_sheets.specs.Filled.{slot_on, is_turned}
 use Rattle.arranged_sheets.specs.Shapes.{filling, entry_in}
-use Rattle.arranged_sheets.proofs.Filling.{sheet, sheet_more}
+use Rattle.arranged_sheets.specs.Standing.{AllStand, EntryFits}
+use Rattle.arranged_sheets.proofs.Filling.{sheet, sheet_more, one_more}
+use Rattle.arranged_sheets.proofs.OnSheets.{sides_stand}
 use Rattle.arranged_sheets.proofs.fill.filled.Goals as goal
 
 pub loop-s-preserved : goal.loop-s-preserved
@@ -13,4 +15,14 @@ loop-s-preserved c =
     let f = filling t c.args.papers.now in
     let row = c.args.row.now in
     let e : c.push.new.self ≡ c.loop-s.made ++ sheet t.room.paper (map slot_of c.in-Ok.slots.items) ∷ [] = search rules in
-    sheet_more t.room.paper (λ s. map (λ n. slot_on f (is_turned c.args.shape.turned_backs s) n (entry_in c.args.shape t row s n)) (range_with_len 0 c.args.shape.cells)) c.loop-s.made c.push.new.self (map slot_of c.in-Ok.slots.items) c.loop-s.s c.loop-s.invariant c.in-Ok.ensures.made e
+    record {
+      made = sheet_more t.room.paper (λ s. map (λ n. slot_on f (is_turned c.args.shape.turned_backs s) n (entry_in c.args.shape t row s n)) (range_with_len 0 c.args.shape.cells)) c.loop-s.made c.push.new.self (map slot_of c.in-Ok.slots.items) c.loop-s.s c.loop-s.invariant.made c.in-Ok.ensures.made e;
+      fits = λ s k less in_k. one_more (λ n. (m : ℕ) → m < c.args.shape.cells → EntryFits f (entry_in c.args.shape t row n m)) c.loop-s.s (λ n below m in_m. c.loop-s.invariant.fits n m below in_m) c.in-Ok.ensures.fits s less k in_k;
+    }
+
+pub returns-clause-stands : goal.returns-clause-stands
+returns-clause-stands c =
+    let t = c.args.setting.now in
+    let f = filling t c.args.papers.now in
+    subst (AllStand t.room) (sym c.loop-s.invariant.made)
+    (sides_stand f c.args.shape.turned_backs c.loop-s.s c.args.shape.cells (entry_in c.args.shape t c.args.row.now) c.requires.cells c.requires.halves c.loop-s.invariant.fits)

@@ -1,7 +1,11 @@
-use Rattle.std.proofs.Common.{◌≡◌}
+use Rattle.std.proofs.Common.{◌≡◌, ℕ, ◌<◌}
 use Rattle.arranged_sheets.specs.Filled.{sides}
 use Rattle.arranged_sheets.specs.Shapes.{filling, entry_in}
+use Rattle.arranged_sheets.specs.Standing.{EntryFits}
 use Rattle.arranged_sheets.proofs.fill.filled.Given as goal
 
 abbrev pub invariant-loop-s : goal.invariant-loop-s
-invariant-loop-s l = l.made ≡ sides (filling l.setting l.papers) l.shape.turned_backs l.s l.shape.cells (entry_in l.shape l.setting l.row)
+invariant-loop-s l = record {
+  made : l.made ≡ sides (filling l.setting l.papers) l.shape.turned_backs l.s l.shape.cells (entry_in l.shape l.setting l.row);
+  fits : (s c : ℕ) → s < l.s → c < l.shape.cells → EntryFits (filling l.setting l.papers) (entry_in l.shape l.setting l.row s c);
+}
