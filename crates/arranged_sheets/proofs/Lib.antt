@@ -5,6 +5,7 @@ mod Leaves
 mod Creeping
 mod AtRest
 mod Tiles
+mod TileRows
 mod Examples
 mod Filling
 mod Offsets
