@@ -309,6 +309,7 @@ pub(crate) fn asked_fault_of(error: AskedError, pages: u32) -> Fault
     match error {
         AskedError::Row(error) => row_fault_of(error, pages),
         AskedError::Arrangement(error) => Fault::Layout(error),
+        AskedError::Poster(error) => Fault::Poster(error),
         AskedError::Sheets(error) => Fault::Sheets(error),
         AskedError::NoMemory { written } => Fault::Run(RunError::NoMemory { written }),
         AskedError::Write { written } => Fault::Run(RunError::Write { written }),
