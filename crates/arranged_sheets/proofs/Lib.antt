@@ -5,7 +5,6 @@ mod Leaves
 mod Creeping
 mod AtRest
 mod Tiles
-mod TileRows
 mod Examples
 mod Filling
 mod Offsets
