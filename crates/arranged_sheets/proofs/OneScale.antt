@@ -119,15 +119,17 @@ have_one_scale f row i page e =
     let s = some.0 in
     let r = found f None row s some.1 in
     let is : least_scale f row ≡ Some (pos s) = counted f None row ∙ ap (option_map pos) some.1 in
-    let own : IsOf f row s = elim r.from [ inl h ↦ absurd (none s h) | inr h ↦ h ] in
-    (s, record {
-      all = λ paper. ap (λ z. scale_on (record { room = f.setting.room; grid = f.setting.grid; order = f.setting.order; scale = z }) paper) is;
-      place = own.0;
-      page = own.1;
-      is_there = own.2;
-      is_own = own.3;
-      least = r.each;
-    })
+    let own : IsOf f row s = elim r.from [ inl h ↦ absurd (none s h) | inr h ↦ h ] in (
+      s,
+      record {
+        all = λ paper. ap (λ z. scale_on (record { room = f.setting.room; grid = f.setting.grid; order = f.setting.order; scale = z }) paper) is;
+        place = own.0;
+        page = own.1;
+        is_there = own.2;
+        is_own = own.3;
+        least = r.each;
+      },
+    )
   where
     none : (s : ℕ) → None ≡ Some s → ⊥
     none s h = cc

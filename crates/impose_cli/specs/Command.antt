@@ -75,6 +75,7 @@ cell_rules =
     option_rule (codes "order")
     ∷ option_rule (codes "turned")
     ∷ option_rule (codes "scale")
+    ∷ flag_rule (codes "same-scale")
     ∷ row_rules
 
 abbrev pub nup_app : App
@@ -93,7 +94,8 @@ poster_app = subcommand_app (codes "poster")
 
 abbrev pub booklet_app : App
 booklet_app = subcommand_app (codes "booklet")
-    (option_rule (codes "signature") ∷ option_rule (codes "creep") ∷ flag_rule (codes "long-edge") ∷ row_rules)
+    (option_rule (codes "signature") ∷ option_rule (codes "creep") ∷ flag_rule (codes "long-edge")
+    ∷ flag_rule (codes "same-scale") ∷ row_rules)
 
 abbrev pub select_app : App
 select_app = subcommand_app (codes "select") (required_rule (codes "ranges") ∷ order_rules)

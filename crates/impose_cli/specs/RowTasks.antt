@@ -147,6 +147,7 @@ pub record IsJobOf (r : Request) (t : RowTask) (job : RowJob) : Type 0 where
   pub choice : choice_of job.asked.choice ≡ choice_in r.choice
   pub signing : job.asked.signing ≡ t.signing
   pub laying : job.asked.laying ≡ t.laying
+  pub same_scale : job.asked.same_scale ≡ r.spacing.same_scale
   pub border : job.border ≡ r.border
 
 abbrev pub ImposesTask : Request → RowTask → (old new : Option (List ℕ)) → Report → Type 0
@@ -158,6 +159,7 @@ pub record IsRowJob (r : Request) (input : List ℕ) (page_paper : Paper) (job :
   pub choice : choice_of job.asked.choice ≡ choice_in r.choice
   pub signing : option_map signing_of job.asked.signing ≡ signing_in r.layout
   pub laying : laying_in r.layout r.spacing page_paper (sheet_paper_in r.layout r.sheet_paper page_paper) ≡ Some job.asked.laying
+  pub same_scale : job.asked.same_scale ≡ r.spacing.same_scale
   pub border : job.border ≡ r.border
 
 -- The request was carried out for this document: exactly the output was appended of the sheets on which its layout lays

@@ -24,7 +24,16 @@ keeps_room (layout.Spec specs) = false
 -- nothing is asked for: nothing is kept free, one reads along rows from the left, and pages are as large as they can be
 abbrev pub nothing_kept : Spacing
 nothing_kept =
-    record { margin = pos 0; gap = pos 0; trim = pos 0; creep = pos 0; overlap = pos 0; order = plain_order; scale = None }
+    record {
+      margin = pos 0;
+      gap = pos 0;
+      trim = pos 0;
+      creep = pos 0;
+      overlap = pos 0;
+      order = plain_order;
+      scale = None;
+      same_scale = false;
+    }
 
 -- these cells
 abbrev pub arrangement_in : Spacing → Cells → Arrangement

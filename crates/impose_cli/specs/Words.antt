@@ -207,6 +207,7 @@ SpacesBy false found s = s ≡ nothing_kept
 SpacesBy true found s = (length_found Margin found ≡ Some s.margin) × (length_found Gap found ≡ Some s.gap)
     × (length_found Trim found ≡ Some s.trim) × (length_found Creep found ≡ Some s.creep)
     × (length_found Overlap found ≡ Some s.overlap) × (order_found found ≡ Some s.order) × (scale_found found ≡ Some s.scale)
+    × (has_flag (codes "same-scale") found ≡ s.same_scale)
 
 -- the request is what was found
 pub record Reads (name : Text) (found : List Row) (r : Request) : Type 0 where

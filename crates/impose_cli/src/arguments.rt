@@ -63,6 +63,7 @@ fn nup<'a>(alloc: Global) -> Result<Command<'a>, AllocError>
         order(alloc),
         turned(alloc),
         scale(alloc),
+        same_scale(alloc),
         margin(alloc),
         gap(alloc, "Keep so much free between pages"),
         trim(alloc),
@@ -87,6 +88,7 @@ fn cards<'a>(alloc: Global) -> Result<Command<'a>, AllocError>
         order(alloc),
         turned(alloc),
         scale(alloc),
+        same_scale(alloc),
         margin(alloc),
         gap(alloc, "Keep so much free between pages"),
         trim(alloc),
@@ -114,6 +116,7 @@ fn stack<'a>(alloc: Global) -> Result<Command<'a>, AllocError>
         order(alloc),
         turned(alloc),
         scale(alloc),
+        same_scale(alloc),
         margin(alloc),
         gap(alloc, "Keep so much free between pages"),
         trim(alloc),
@@ -154,6 +157,7 @@ fn booklet<'a>(alloc: Global) -> Result<Command<'a>, AllocError>
         signature(alloc),
         creep(alloc),
         long_edge,
+        same_scale(alloc),
         margin(alloc),
         gap(
             alloc,
@@ -209,6 +213,12 @@ fn scale<'a>(alloc: Global) -> Arg<'a>
     option(alloc, "scale", "SCALE").help(
         "The scale of the pages, as 0.7 [default: as large as they fit]",
     )
+}
+
+fn same_scale<'a>(alloc: Global) -> Arg<'a>
+    ensures { rule_of result ≡ flag_rule (codes "same-scale") }
+{
+    flag(alloc, "same-scale").help("Pages of smaller papers have the scale of the largest one")
 }
 
 fn signature<'a>(alloc: Global) -> Arg<'a>

@@ -57,9 +57,8 @@ pub fn exact_cells(text: &str) -> Option<Cells>
     ensures { result ≡ meaning.exact_alone (meaning.cells_named text.now) }
 {
     match cells_named(text) {
-        Some(Cells::Exactly { columns, rows }) => Some(Cells::Exactly { columns, rows }),
         Some(Cells::AtLeast(_)) => None,
-        None => None,
+        cells => cells,
     }
 }
 

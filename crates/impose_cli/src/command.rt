@@ -372,6 +372,7 @@ fn spacing_of(
             overlap,
             order,
             scale,
+            same_scale: is_set(found, "same-scale"),
         }),
         Err(fault) => Err(fault),
     }

@@ -131,7 +131,9 @@ fn tip_on_argument(command: &str) -> Option<&'static str> {
     } else if command == "stack" {
         Some("the number of pages stands behind stack, as in: impose stack 2 in.ps out.ps")
     } else if command == "poster" {
-        Some("columns and rows of sheets stand behind poster, as in: impose poster 2x2 in.ps out.ps")
+        Some(
+            "columns and rows of sheets stand behind poster, as in: impose poster 2x2 in.ps out.ps",
+        )
     } else if command == "booklet" {
         Some("a signature is a number of sides, as in: impose booklet --signature 16 in.ps out.ps")
     } else if command == "select" {

@@ -59,6 +59,8 @@ pub struct Spacing {
     pub order: Order,
     /// The scale of the pages; without it they are as large as they can be.
     pub scale: Option<Number>,
+    /// Whether all pages have the scale of the largest paper among them.
+    pub same_scale: bool,
 }
 
 impl Spacing {
@@ -75,6 +77,7 @@ impl Spacing {
             overlap: plain.trim,
             order: plain.order,
             scale: plain.scale,
+            same_scale: false,
         }
     }
 

@@ -292,6 +292,7 @@ fn impose_task<R: Threads + Wait + Sync, S: Sink>(
             choice: request.choice.as_choice(),
             signing: task.signing,
             laying: task.laying,
+            same_scale: request.spacing.same_scale,
         },
         border: request.border,
         workers: WORKERS,

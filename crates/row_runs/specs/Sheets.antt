@@ -1,5 +1,5 @@
 -- The sheets that are asked for.
-use Rattle.std.specs.Prelude.{◌≡◌, ⊤, ℕ, ◌*◌, ◌/◌, ◌<◌, ◌≤◌, List, length, IsOk, IfSome, Option, Some, None, Ok, Result, option_map}
+use Rattle.std.specs.Prelude.{◌≡◌, ◌⊎◌, true, ⊤, ℕ, ◌*◌, ◌/◌, ◌<◌, ◌≤◌, List, length, IsOk, IfSome, Option, Some, None, Ok, Result, option_map}
 use Rattle.rules.specs.Papers.{Paper}
 use Rattle.made_sheets.specs.Made.{MadeSheet}
 use Rattle.made_sheets.specs.Rows.{Row}
@@ -16,6 +16,7 @@ use Rattle.arranged_sheets.specs.Creep.{AreHalves, IsRefusedCreeping, creeping_s
 use Rattle.arranged_sheets.specs.Shapes.{IsRefusedFor, filling}
 use Rattle.arranged_sheets.specs.Posters.{IsNoPosterFor, most_tiles, row_tiles}
 use Rattle.arranged_sheets.specs.declared.poster.PosterError.{PosterError}
+use Rattle.row_runs.specs.Evened.{WhyNotEven, evened_if}
 use Rattle.row_runs.specs.declared.asked.Asked.{Asked}
 use Rattle.row_runs.specs.declared.asked.Laying.{Laying}
 use Rattle.row_runs.specs.declared.asked.Laying.TheVariants as laying
@@ -96,19 +97,24 @@ row_chosen pages a = chosen pages (choice_of a.choice)
 abbrev pub sewn : Asked → Option Signing
 sewn a = option_map signing_of a.signing
 
+-- how the row that is chosen is laid: at one scale if that is asked for
+abbrev pub laying_for : Asked → List Paper → Row → Laying
+laying_for a papers row = evened_if a.same_scale a.laying papers (signed (sewn a) row)
+
 -- these are the sheets that are asked for: the row that is chosen, in signatures if there are to be some, laid as is asked
 pub record AreAsked (pages : ℕ) (papers : List Paper) (a : Asked) (made : List MadeSheet) : Type 0 where
   pub row : Row
   pub is_chosen : row_chosen pages a ≡ Ok row
-  pub are_laid : made ≡ sheets_laid a.laying (leaves_in (sewn a) row) papers (signed (sewn a) row)
+  pub are_laid : made ≡ sheets_laid (laying_for a papers row) (leaves_in (sewn a) row) papers (signed (sewn a) row)
 
 -- a refusal tells the fault of the row, or, if there is one, why it can't be laid
 abbrev pub RefusesAsked : (pages : ℕ) → List Paper → Asked → AskedError → Type 0
 RefusesAsked pages papers a (error.Row e) = RefusesRow (row_chosen pages a) e
 RefusesAsked pages papers a (error.Arrangement e) = (row : Row) × (row_chosen pages a ≡ Ok row)
-    × WhyNotLaid a.laying (leaves_in (sewn a) row) papers (signed (sewn a) row) e
+    × (((a.same_scale ≡ true) × WhyNotEven a.laying papers (signed (sewn a) row) e)
+    ⊎ WhyNotLaid (laying_for a papers row) (leaves_in (sewn a) row) papers (signed (sewn a) row) e)
 RefusesAsked pages papers a (error.Poster e) = (row : Row) × (row_chosen pages a ≡ Ok row)
-    × WhyNoPosters a.laying papers (signed (sewn a) row) e
+    × WhyNoPosters (laying_for a papers row) papers (signed (sewn a) row) e
 RefusesAsked pages papers a (error.Sheets e) = ⊥
 RefusesAsked pages papers a (error.NoMemory written) = (written ≡ 0) × IsOk (row_chosen pages a)
 RefusesAsked pages papers a (error.Write written) = ⊥

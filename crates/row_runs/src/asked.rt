@@ -11,6 +11,7 @@ ghost use Rattle.row_runs.specs.Sheets.{AreAsked, IsWhole, MayBeAsked, MayBeLaid
 ghost use Rattle.row_runs.specs.Sheets.{leaves_in as leaves_of_signature, sheets_laid};
 
 use crate::error::AskedError;
+use crate::evened::evened_if;
 use arranged_sheets::{
     Creep, Poster, PosterError, card_sheets, creeping_booklet_sheets, grid_sheets, leaf_sheets,
     poster_row_sheets, stack_sheets,
@@ -68,6 +69,8 @@ pub struct Asked<'t> {
     pub choice: Choice<'t>,
     pub signing: Option<Signing>,
     pub laying: Laying,
+    /// Whether all pages that are fitted into cells have the scale of the largest paper.
+    pub same_scale: bool,
 }
 
 /// The sheets that are asked for of a document with so many pages, whose papers stand in their order. A page whose paper
@@ -93,7 +96,12 @@ pub fn asked_sheets(
         Ok(printed) => printed,
         Err(_) => return Err(AskedError::NoMemory { written: 0 }),
     };
-    match laid(alloc, &asked.laying, leaves, papers, printed.as_slice()) {
+    let entries = printed.as_slice();
+    let laying = match evened_if(asked.same_scale, &asked.laying, papers, entries) {
+        Ok(laying) => laying,
+        Err(error) => return Err(arrangement_error(error)),
+    };
+    match laid(alloc, &laying, leaves, papers, entries) {
         Ok(sheets) => Ok(sheets),
         Err(error) => Err(error),
     }
