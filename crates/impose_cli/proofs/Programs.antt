@@ -17,7 +17,7 @@ use Rattle.impose_cli.specs.Products.{lays_rows}
 use Rattle.impose_cli.specs.Programs.{CarriesOut, Gives, IsReading, IsSaidOf, Makes, Prints, RunsInto, Shows, Writes}
 use Rattle.impose_cli.specs.RowTasks.{LaysRows}
 use Rattle.impose_cli.specs.Words.{MakesBy, Reads}
-use Rattle.impose_cli.specs.Unread.{IsPossible, RefusesUnread}
+use Rattle.impose_cli.specs.Unread.{MayBeRead, RefusesRequest}
 use Rattle.impose_cli.specs.Tasks.{FinishesSpec, IsTask}
 use Rattle.impose_cli.specs.declared.fault.Fault.{Fault}
 use Rattle.impose_cli.specs.declared.program.Done.{Done}
@@ -118,10 +118,10 @@ broke_off r input tells start sink ended (Err f) is_there is_bare written before
       said = said;
     })
 
--- nothing was created: the layout is refused, or the input can't be read
+-- nothing was created: the request is refused unread, or the input can't be read
 pub stopped_before : (r : Request) (gives : Gives) (tells : Bool) (f : Fault) (outcome : Result Done Fault)
     (has_output : Bool) (written : Option (List ℕ)) → outcome ≡ Err f → has_output ≡ false
-    → RefusesUnread r.layout r.spacing r.page_paper r.sheet_paper f ⊎ (IsPossible r.layout r.spacing r.page_paper r.sheet_paper × IsReading f)
+    → RefusesRequest r f ⊎ (MayBeRead r × IsReading f)
     → CarriesOut r gives tells outcome has_output written
 stopped_before r gives tells f outcome has_output written told none why = inl (f, told, none, why)
 
@@ -129,7 +129,7 @@ stopped_before r gives tells f outcome has_output written told none why = inl (f
 pub took : (r : Request) (gives : Gives) (tells : Bool) (input : List ℕ) (name : Option (List ℕ))
     (outcome : Result Done Fault) (has_output : Bool) (written : Option (List ℕ))
     → name ≡ option_map string_bytes r.infile → IsFirst most_bytes (gives name) input
-    → IsPossible r.layout r.spacing r.page_paper r.sheet_paper → Makes r.product r input tells outcome has_output written
+    → MayBeRead r → Makes r.product r input tells outcome has_output written
     → CarriesOut r gives tells outcome has_output written
 took r gives tells input name outcome has_output written named read possible taken =
     inr (input, subst (λ n. IsFirst most_bytes (gives n) input) named read, possible, taken)

@@ -15,7 +15,7 @@ use Rattle.impose_cli.specs.Looks.{RefusesRowLook, TellsRow}
 use Rattle.impose_cli.specs.Refusals.{RefusesTask}
 use Rattle.impose_cli.specs.Statuses.{fault_status}
 use Rattle.impose_cli.specs.Tasks.{IsTask}
-use Rattle.impose_cli.specs.Unread.{IsPossible, RefusesUnread}
+use Rattle.impose_cli.specs.Unread.{MayBeRead, RefusesRequest}
 use Rattle.impose_cli.specs.Words.{Entered, Reads, Refuses}
 use Rattle.impose_cli.specs.declared.fault.Fault.{Fault}
 use Rattle.impose_cli.specs.declared.fault.Fault.TheVariants as fault
@@ -149,16 +149,14 @@ Makes product.Plan r input tells outcome has_output written =
 Makes (product.Picture file) r input tells outcome has_output written =
     Shows look.Picture (option_map string_bytes file) r input tells outcome has_output written
 
--- What comes of a request: its layout is refused unread; or the layout is possible, and its input can't be read, and
--- nothing was created; or the input was read, and what is asked for is made of it.
+-- What comes of a request: it is refused before its input is read; or it isn't, and its input can't be read, and nothing was
+-- created; or the input was read, and what is asked for is made of it.
 abbrev pub CarriesOut : Request → Gives → (tells : Bool) → Result Done Fault → (has_output : Bool)
     → (written : Option (List ℕ)) → Type 0
 CarriesOut r gives tells outcome has_output written =
-    ((f : Fault) × (outcome ≡ Err f) × (has_output ≡ false)
-    × (RefusesUnread r.layout r.spacing r.page_paper r.sheet_paper f
-    ⊎ (IsPossible r.layout r.spacing r.page_paper r.sheet_paper × IsReading f)))
-    ⊎ ((input : List ℕ) × IsFirst most_bytes (gives (option_map string_bytes r.infile)) input
-    × IsPossible r.layout r.spacing r.page_paper r.sheet_paper × Makes r.product r input tells outcome has_output written)
+    ((f : Fault) × (outcome ≡ Err f) × (has_output ≡ false) × (RefusesRequest r f ⊎ (MayBeRead r × IsReading f)))
+    ⊎ ((input : List ℕ) × IsFirst most_bytes (gives (option_map string_bytes r.infile)) input × MayBeRead r
+    × Makes r.product r input tells outcome has_output written)
 
 -- How the program ends: the words are refused, and nothing was created; or they make a request, with the paper at home,
 -- and this comes of it.

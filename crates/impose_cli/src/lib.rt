@@ -20,6 +20,7 @@ mod shown;
 mod signature;
 mod sizes;
 mod task;
+mod unread;
 
 pub use arranging::{cells_named, run_named, scale_named, turned_named};
 pub use command::read_command;
@@ -36,3 +37,4 @@ pub use row_task::run_request;
 pub use signature::signing_named;
 pub use sizes::size_named;
 pub use task::{Finished, PaperOrigin, Task, check_layout, task_for};
+pub use unread::check_request;

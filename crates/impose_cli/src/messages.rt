@@ -12,7 +12,7 @@ use crate::shown::shown_word;
 use crate::signature::number_in;
 use crate::task::{Finished, PaperOrigin};
 use clap::error::ErrorKind;
-use command_words::run_status;
+use command_words::{name_of, run_status};
 use document_paper::Comment;
 use dsc::DscError;
 use imposer::{Report, RunError};
@@ -99,8 +99,8 @@ fn blanks_of(request: &Request, report: &Report) -> u64 {
 /// How many leaves of paper it takes, where sheets are printed on both sides.
 fn leaves_text(alloc: Global, layout: &Layout, sheets: u32) -> Result<String, AllocError> {
     match layout {
-        Layout::Booklet { .. } => {
-            let leaves = sheets / 2;
+        Layout::Booklet { .. } | Layout::Stack { duplex: true, .. } => {
+            let leaves = sheets.div_ceil(2);
             let word = if leaves == 1 { "leaf" } else { "leaves" };
             format!(in alloc; " ({leaves} {word})")
         }
@@ -277,7 +277,7 @@ fn written_file(request: Option<&Request>) -> Option<&str> {
         Product::Specification | Product::Plan => return None,
         Product::Picture(file) => file,
     };
-    file.as_deref()
+    name_of(file)
 }
 
 /// The name of a file as it is shown.

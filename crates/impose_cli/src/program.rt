@@ -16,7 +16,8 @@ use crate::messages::fault_status;
 use crate::printed::printed_task;
 use crate::request::{Product, Request};
 use crate::row_task::run_request;
-use crate::task::{Finished, check_layout, task_for};
+use crate::task::{Finished, task_for};
+use crate::unread::check_request;
 use command_words::name_of;
 use imposer::RunError;
 use input::{ReadFault, ReadSource, read_input};
@@ -74,7 +75,7 @@ struct Left<W: World> {
 }
 
 /// The program: it reads the words, of which the first is its name, finds the paper at home by the value of `PAPERSIZE`
-/// and by `/etc/papersize`, and checks the layout; then it reads its input whole and closes it; then it imposes,
+/// and by `/etc/papersize`, and checks what it asks for; then it reads its input whole and closes it; then it imposes,
 /// or prints the specification, or writes the plan or the picture of the sheets.
 ///
 /// The output is created when its first byte is to be written, so that a request that is refused creates none, and
@@ -132,7 +133,7 @@ fn home_of<W: World>(alloc: Global, paper_size: &[u8], world: &W) -> Paper
     }
 }
 
-/// Checks the layout, reads the input, and then makes what is asked for.
+/// Checks the request, reads the input, and then makes what is asked for.
 fn carry_out<R: Threads + Wait + Sync, W: World>(
     rt: &R,
     alloc: Global,
@@ -143,7 +144,7 @@ fn carry_out<R: Threads + Wait + Sync, W: World>(
     ensures { CarriesOut request.now (W.gives world) (W.tells world) result.outcome (is_some result.output)
         (option_and_then W.Output.contents result.output) }
 {
-    match check_layout(alloc, request) {
+    match check_request(alloc, request) {
         Ok(()) => {}
         Err(fault) => return stopped(fault, world),
     }
