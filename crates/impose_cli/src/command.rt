@@ -562,7 +562,11 @@ fn specification_if(printed: bool) -> Product
     ensures plan { is_plan result ≡ false }
     ensures picture { picture_in result ≡ None }
 {
-    if printed { Product::Specification } else { Product::Sheets }
+    if printed {
+        Product::Specification
+    } else {
+        Product::Sheets
+    }
 }
 
 /// The picture in the file of that name, which is named as an SVG is.

@@ -172,7 +172,14 @@ fn ranges_are_looked_at_before_the_document(rt: HostRuntime) -> Result<(), Fail>
         }
     }
     // Of a document without pages nothing but the syntax of ranges is known.
-    let end = ended(&rt, rt.alloc(), "select 9,blank none.ps", "", AMPLE, &opened)?;
+    let end = ended(
+        &rt,
+        rt.alloc(),
+        "select 9,blank none.ps",
+        "",
+        AMPLE,
+        &opened,
+    )?;
     assert!(rt; matches!(end.outcome, Err(Fault::Read(_))));
     Ok(())
 }
@@ -211,7 +218,10 @@ fn at_most_one_thing_is_made(rt: HostRuntime) {
             _ => panic!(rt; "taken: {line}"),
         }
     }
-    for line in ["nup 2 --plan -- in.ps -q", "nup 2 --preview a.ps -- in.ps -q"] {
+    for line in [
+        "nup 2 --plan -- in.ps -q",
+        "nup 2 --preview a.ps -- in.ps -q",
+    ] {
         assert!(rt; matches!(read(alloc, line), Err(CommandFault::OptionAsOutfile(_))));
     }
 }
@@ -219,15 +229,35 @@ fn at_most_one_thing_is_made(rt: HostRuntime) {
 #[test]
 fn a_picture_is_named_as_an_svg(rt: HostRuntime) -> Result<(), Fail> {
     let alloc = rt.alloc();
-    for line in ["stack 2 --preview in.ps out.ps", "nup 2 --preview a.SVG", "nup 2 --preview="] {
-        assert!(rt; matches!(read(alloc, line), Err(CommandFault::BadPicture(_))), "at {line}");
+    for line in [
+        "stack 2 --preview in.ps out.ps",
+        "nup 2 --preview a.SVG",
+        "nup 2 --preview=",
+    ] {
+        assert!(rt;
+            matches!(read(alloc, line), Err(CommandFault::BadPicture(_))),
+            "at {line}"
+        );
     }
-    assert!(rt; matches!(read(alloc, "nup 2 --preview -")?.product, Product::Picture(None)));
-    assert!(rt; matches!(read(alloc, "nup 2 --preview .svg")?.product, Product::Picture(Some(_))));
+    assert!(rt;
+        matches!(
+            read(alloc, "nup 2 --preview -")?.product,
+            Product::Picture(None)
+        )
+    );
+    assert!(rt;
+        matches!(
+            read(alloc, "nup 2 --preview .svg")?.product,
+            Product::Picture(Some(_))
+        )
+    );
     assert!(rt; matches!(read(alloc, "nup 2 --plan")?.product, Product::Plan));
     // Of a specification neither is made.
     for line in ["spec 0 --plan", "spec 0 --preview a.svg"] {
-        assert!(rt; matches!(read(alloc, line), Err(CommandFault::Words(_))), "at {line}");
+        assert!(rt;
+            matches!(read(alloc, line), Err(CommandFault::Words(_))),
+            "at {line}"
+        );
     }
     Ok(())
 }

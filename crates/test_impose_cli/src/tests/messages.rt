@@ -2,8 +2,8 @@
 use super::read;
 use dsc::DscError;
 use impose_cli::{
-    CellOption, CommandFault, Fault, GridCommand, LengthOption, PaperOption, ProductOption, Request,
-    fault_status, fault_text,
+    CellOption, CommandFault, Fault, GridCommand, LengthOption, PaperOption, ProductOption,
+    Request, fault_status, fault_text,
 };
 use imposer::RunError;
 use layouts::ArrangementError;

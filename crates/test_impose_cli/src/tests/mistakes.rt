@@ -46,10 +46,7 @@ fn each_mistake_has_a_tip(rt: HostRuntime) -> Result<(), Fail> {
             "tip: a length is not below 0",
         ),
         ("cards 8 --trim -2 in.ps", "tip: a length is not below 0"),
-        (
-            "booklet --creep -1mm in.ps",
-            "tip: a length is not below 0",
-        ),
+        ("booklet --creep -1mm in.ps", "tip: a length is not below 0"),
         ("nup 2 --scale -1 in.ps", "tip: a scale is above 0"),
         (
             "nup 2 --pages -3 in.ps",
@@ -95,10 +92,17 @@ fn each_mistake_has_a_tip(rt: HostRuntime) -> Result<(), Fail> {
 // What stands behind the command isn't at fault then.
 #[test]
 fn a_missing_value_has_no_other_tip(rt: HostRuntime) -> Result<(), Fail> {
-    for line in ["nup 2 --preview -q in.ps", "nup 2 --paper", "booklet --signature -q in.ps"] {
+    for line in [
+        "nup 2 --preview -q in.ps",
+        "nup 2 --paper",
+        "booklet --signature -q in.ps",
+    ] {
         let words = words_of(rt.alloc(), line)?;
         let text = said(rt.alloc(), words.as_slice())?;
-        assert!(rt; text.as_str().contains("a value is required for"), "at {line}: {text}");
+        assert!(rt;
+            text.as_str().contains("a value is required for"),
+            "at {line}: {text}"
+        );
         assert!(rt; !text.as_str().contains("tip:"), "at {line}: {text}");
     }
     Ok(())
@@ -119,7 +123,10 @@ fn names_are_shown_without_control_characters(rt: HostRuntime) -> Result<(), Fai
 fn a_failed_write_names_what_is_written(rt: HostRuntime) -> Result<(), Fail> {
     let rows = [
         ("nup 2 --plan in.ps out.ps", "cannot write standard output"),
-        ("nup 2 --preview - in.ps out.ps", "cannot write standard output"),
+        (
+            "nup 2 --preview - in.ps out.ps",
+            "cannot write standard output",
+        ),
         ("nup 2 --preview a.svg in.ps out.ps", "cannot write a.svg"),
     ];
     for (line, wanted) in rows {
