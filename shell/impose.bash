@@ -5,7 +5,7 @@ _impose_commands='nup booklet cards stack select spec help'
 _impose_papers='a0 a1 a2 a3 a4 a5 a6 b4 b5 b6 letter legal tabloid ledger statement executive folio quarto 10x14'
 _impose_options_of() {
     local all='--paper --sheet --border --unguarded --print-spec --quiet --help -p -q -h'
-    local parts='--odd --even --reverse'
+    local parts='--odd --even --reverse --plan --preview'
     local laid="--margin --gap --trim --rtl --pages $parts"
     local cells="--order --turned --scale $laid"
     case "$1" in
@@ -29,7 +29,7 @@ _impose_values_of() {
         --scale) echo '0.5 0.7 1' ;;
         --creep) echo '.5mm 1mm 2mm' ;;
         --signature) echo 'auto 4 8 12 16 20 24 28 32' ;;
-        --pages) ;;
+        --pages | --preview) ;;
         *) return 1 ;;
     esac
 }
@@ -65,7 +65,9 @@ _impose() {
         else number=$((number + 1))
         fi
     done
-    if [ -z "$is_behind" ] && values=$(_impose_values_of "$before"); then
+    if [ -z "$is_behind" ] && [ "$before" = --preview ]; then
+        _impose_files '*.svg'
+    elif [ -z "$is_behind" ] && values=$(_impose_values_of "$before"); then
         COMPREPLY=($(compgen -W "$values" -- "$cur"))
     elif [ -z "$is_behind" ] && [ "${cur:0:1}" = - ]; then
         COMPREPLY=($(compgen -W "$(_impose_options_of "$command")" -- "$cur"))

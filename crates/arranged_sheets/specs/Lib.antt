@@ -1,7 +1,5 @@
--- Read in this order: sheets whose cells are filled from a row, and how; one scale for all; leaves that creep; how they stand; posters.
-pub mod Filled
-pub mod Shapes
-pub mod SameScale
+-- Read in this order: sheets whose cells are filled from a row, and how; one scale for all; leaves that creep; how they stand;
+-- posters.
 pub mod Filled
 pub mod Shapes
 pub mod SameScale

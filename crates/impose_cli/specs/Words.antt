@@ -1,5 +1,5 @@
 -- What the words ask for, by the rows that the command finds among them.
-use Rattle.std.specs.Prelude.{◌≡◌, ◌⊎◌, ◌||◌, ⊤, [], ℕ, ℤ, pos, Bool, true, false, not, if◌then◌else◌, is_some}
+use Rattle.std.specs.Prelude.{◌≡◌, ◌⊎◌, ◌||◌, ◌&&◌, ⊤, [], ℕ, ℤ, pos, Bool, true, false, not, if◌then◌else◌, is_some, IfSome}
 use Rattle.std.specs.Prelude.{option_and_then, option_map, List, Option, Some, None, codes, nat_eq, string_bytes}
 use Rattle.std.specs.Str.{bytes_eq}
 use Rattle.std.specs.List.{starts_with}
@@ -27,6 +27,8 @@ use Rattle.impose_cli.specs.Sizes.{size_named}
 use Rattle.impose_cli.specs.declared.request.Layout.{Layout}
 use Rattle.impose_cli.specs.declared.request.Layout.TheVariants as layout
 use Rattle.impose_cli.specs.declared.request.Request.{Request}
+use Rattle.impose_cli.specs.declared.request.Product.{Product}
+use Rattle.impose_cli.specs.Products.{is_picture_file, is_plan, is_specification, lays_rows, picture_in}
 use Rattle.impose_cli.specs.Spacings.{keeps_room, nothing_kept}
 use Rattle.impose_cli.specs.declared.request.Spacing.{Spacing}
 use Rattle.impose_cli.specs.declared.fault.CellOption.{CellOption}
@@ -37,6 +39,8 @@ use Rattle.impose_cli.specs.declared.fault.LengthOption.{LengthOption}
 use Rattle.impose_cli.specs.declared.fault.LengthOption.TheVariants.{Margin, Gap, Trim, Creep, Overlap}
 use Rattle.impose_cli.specs.declared.fault.PaperOption.{PaperOption}
 use Rattle.impose_cli.specs.declared.fault.PaperOption.TheVariants.{Paper as OfPages, Sheet as OfSheets}
+use Rattle.impose_cli.specs.declared.fault.ProductOption.{ProductOption}
+use Rattle.impose_cli.specs.declared.fault.ProductOption.TheVariants as instead
 use Rattle.impose_cli.specs.declared.fault.CommandFault.{CommandFault}
 use Rattle.impose_cli.specs.declared.fault.CommandFault.TheVariants as fault
 
@@ -172,6 +176,23 @@ abbrev pub is_outfile : Option Text → Bool
 is_outfile None = true
 is_outfile (Some name) = not (is_like_option name)
 
+-- of the options that ask for something in place of the sheets the first two, if two are there
+abbrev pub two_asked : (printed planned pictured : Bool) → Option (ProductOption × ProductOption)
+two_asked true true pictured = Some (instead.PrintSpec, instead.Plan)
+two_asked true false true = Some (instead.PrintSpec, instead.Preview)
+two_asked false true true = Some (instead.Plan, instead.Preview)
+two_asked true false false = None
+two_asked false true false = None
+two_asked false false pictured = None
+
+abbrev pub two_found : (found : List Row) → Option (ProductOption × ProductOption)
+two_found found = two_asked (has_flag (codes "print-spec") found) (has_flag (codes "plan") found)
+    (is_some (first_of (codes "preview") found))
+
+-- the file after --preview
+abbrev pub picture_found : (found : List Row) → Option (Option Text)
+picture_found found = option_map file_of (first_of (codes "preview") found)
+
 -- ---- the request
 
 -- the subcommand with this name and what was found for it ask for this layout
@@ -209,6 +230,18 @@ SpacesBy true found s = (length_found Margin found ≡ Some s.margin) × (length
     × (length_found Overlap found ≡ Some s.overlap) × (order_found found ≡ Some s.order) × (scale_found found ≡ Some s.scale)
     × (has_flag (codes "same-scale") found ≡ s.same_scale)
 
+-- this is made by what was found; by a layout that doesn't lay rows no plan and no picture is
+pub record MakesBy (rows : Bool) (found : List Row) (p : Product) : Type 0 where
+  pub printed : has_flag (codes "print-spec") found ≡ is_specification p
+  pub planned : (rows && has_flag (codes "plan") found) ≡ is_plan p
+  pub pictured : (if rows then picture_found found else None) ≡ picture_in p
+  pub is_picture : IfSome (picture_in p) (λ file. is_picture_file file ≡ true)
+
+-- the product is the picture in the file of this name
+pub record NamesPicture (name : Text) (p : Product) : Type 0 where
+  pub pictured : Some (file_of name) ≡ picture_in p
+  pub is_picture : is_picture_file (file_of name) ≡ true
+
 -- the request is what was found
 pub record Reads (name : Text) (found : List Row) (r : Request) : Type 0 where
   pub layout : AsksFor name found r.layout
@@ -218,7 +251,7 @@ pub record Reads (name : Text) (found : List Row) (r : Request) : Type 0 where
   pub sheet_paper : size_found OfSheets found ≡ Some r.sheet_paper
   pub border : border_found found ≡ Some r.border
   pub guarded : r.is_guarded ≡ not (has_flag (codes "unguarded") found)
-  pub printed : has_flag (codes "print-spec") found ≡ r.is_printed
+  pub product : MakesBy (lays_rows r.layout) found r.product
   pub quiet : has_flag (codes "quiet") found ≡ r.is_quiet
   pub infile : file_asked (first_of (codes "infile") found) ≡ option_map string_bytes r.infile
   pub outfile : file_asked (first_of (codes "outfile") found) ≡ option_map string_bytes r.outfile
@@ -269,6 +302,18 @@ pub record HasChoice (name : Text) (found : List Row) : Type 0 where
   pub spacing : HasSpacing name found
   pub choice : PageChoice
   pub chosen : ChoosesBy (ranges_id spacing.layout.layout) found choice
+
+-- all that stands before what is made was taken, and the layout lays rows
+pub record MayLook (name : Text) (found : List Row) : Type 0 where
+  pub choice : HasChoice name found
+  pub outfile : is_outfile (file_asked (first_of (codes "outfile") found)) ≡ true
+  pub rows : lays_rows choice.spacing.layout.layout ≡ true
+
+-- a picture alone is asked for, and its file isn't named as one
+pub record NamesNoPicture (found : List Row) (text : Text) : Type 0 where
+  pub alone : two_found found ≡ None
+  pub given : picture_found found ≡ Some (Some text)
+  pub none : is_picture_file (Some text) ≡ false
 
 -- the value of the option names no length, and those of the options before it do
 abbrev pub AreBefore : LengthOption → (found : List Row) → Type 0
@@ -340,9 +385,11 @@ RefusesArguments name found (fault.BadBorder text) = ⊥
 RefusesArguments name found (fault.BadLength option text) = ⊥
 RefusesArguments name found (fault.BadValue option text) = ⊥
 RefusesArguments name found (fault.OptionAsOutfile text) = ⊥
+RefusesArguments name found (fault.TwoProducts one other) = ⊥
+RefusesArguments name found (fault.BadPicture text) = ⊥
 
 -- what a refusal says of what was found, and of what was looked at before: --paper, --sheet, --border, the layout, what is
--- kept free, the pages, OUTFILE
+-- kept free, the pages, OUTFILE, what is made
 abbrev pub RefusesFound : (name : Text) → (found : List Row) → CommandFault → Type 0
 RefusesFound name found (fault.UnknownPaper OfPages text) = NamesNoSize OfPages found (string_bytes text)
 RefusesFound name found (fault.UnknownPaper OfSheets text) = (is_some (size_found OfPages found) ≡ true)
@@ -359,6 +406,8 @@ RefusesFound name found (fault.BadValue option text) = HasLayout name found × H
     × HasNoValue option found (string_bytes text)
 RefusesFound name found fault.Lacking = HasSizes found × RefusesArguments name found fault.Lacking
 RefusesFound name found (fault.OptionAsOutfile text) = HasChoice name found × WritesToOption found (string_bytes text)
+RefusesFound name found (fault.TwoProducts one other) = MayLook name found × (two_found found ≡ Some (one, other))
+RefusesFound name found (fault.BadPicture text) = MayLook name found × NamesNoPicture found (string_bytes text)
 RefusesFound name found fault.NoMemory = ⊤
 RefusesFound name found (fault.Words error) = ⊥
 RefusesFound name found fault.NoText = ⊥
@@ -382,6 +431,9 @@ Refuses words (fault.BadLength option text) =
 Refuses words fault.OddAndEven = Entered words (λ name found. RefusesFound name found fault.OddAndEven)
 Refuses words (fault.OptionAsOutfile text) =
     Entered words (λ name found. RefusesFound name found (fault.OptionAsOutfile text))
+Refuses words (fault.TwoProducts one other) =
+    Entered words (λ name found. RefusesFound name found (fault.TwoProducts one other))
+Refuses words (fault.BadPicture text) = Entered words (λ name found. RefusesFound name found (fault.BadPicture text))
 Refuses words fault.Lacking = (subcommand_of impose words ≡ None)
     ⊎ Entered words (λ name found. RefusesFound name found fault.Lacking)
 

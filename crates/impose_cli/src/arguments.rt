@@ -72,6 +72,8 @@ fn nup<'a>(alloc: Global) -> Result<Command<'a>, AllocError>
         odd(alloc),
         even(alloc),
         reverse(alloc),
+        plan(alloc),
+        preview(alloc),
     ]?;
     subcommand(alloc, "nup", about, own)
 }
@@ -97,6 +99,8 @@ fn cards<'a>(alloc: Global) -> Result<Command<'a>, AllocError>
         odd(alloc),
         even(alloc),
         reverse(alloc),
+        plan(alloc),
+        preview(alloc),
     ]?;
     subcommand(alloc, "cards", about, own)
 }
@@ -125,6 +129,8 @@ fn stack<'a>(alloc: Global) -> Result<Command<'a>, AllocError>
         odd(alloc),
         even(alloc),
         reverse(alloc),
+        plan(alloc),
+        preview(alloc),
     ]?;
     subcommand(alloc, "stack", about, own)
 }
@@ -169,6 +175,8 @@ fn booklet<'a>(alloc: Global) -> Result<Command<'a>, AllocError>
         odd(alloc),
         even(alloc),
         reverse(alloc),
+        plan(alloc),
+        preview(alloc),
     ]?;
     subcommand(alloc, "booklet", about, own)
 }
@@ -178,7 +186,14 @@ fn select<'a>(alloc: Global) -> Result<Command<'a>, AllocError>
 {
     let ranges = required(alloc, "ranges", "RANGES").help(RANGES_HELP);
     let about = "Some pages, in the order in which they are named, each on a sheet of its own";
-    let own = vec![in alloc; ranges, odd(alloc), even(alloc), reverse(alloc)]?;
+    let own = vec![in alloc;
+        ranges,
+        odd(alloc),
+        even(alloc),
+        reverse(alloc),
+        plan(alloc),
+        preview(alloc),
+    ]?;
     subcommand(alloc, "select", about, own)
 }
 
@@ -293,6 +308,20 @@ fn reverse<'a>(alloc: Global) -> Arg<'a>
     ensures { rule_of result ≡ flag_rule (codes "reverse") }
 {
     flag(alloc, "reverse").help("The last of these first")
+}
+
+fn plan<'a>(alloc: Global) -> Arg<'a>
+    ensures { rule_of result ≡ flag_rule (codes "plan") }
+{
+    flag(alloc, "plan").help("Print which page stands where on each sheet, and impose nothing")
+}
+
+fn preview<'a>(alloc: Global) -> Arg<'a>
+    ensures { rule_of result ≡ option_rule (codes "preview") }
+{
+    option(alloc, "preview", "FILE").help(
+        "Draw the sheets into FILE, an SVG, or to standard output for -, and impose nothing",
+    )
 }
 
 fn spec<'a>(alloc: Global) -> Result<Command<'a>, AllocError>

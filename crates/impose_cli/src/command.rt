@@ -4,18 +4,22 @@ ghost use Rattle.clap.specs.Words.{fault_of, first_of, found_of, is_simple, rows
 ghost use Rattle.impose_cli.specs.Command.{impose};
 ghost use Rattle.impose_cli.specs.Words.{AsksFor, Entered, ParseRefuses, Reads, Refuses, RefusesFound};
 ghost use Rattle.impose_cli.specs.Words.{RefusesArguments, border_found, file_asked, is_outfile, paper_id};
-ghost use Rattle.impose_cli.specs.Words.{ChoosesBy, SpacesBy, length_found, length_id, ranges_id, part_by as of_both};
+ghost use Rattle.impose_cli.specs.Words.{ChoosesBy, MakesBy, NamesPicture, SpacesBy, length_found, length_id, ranges_id, part_by as of_both};
 ghost use Rattle.impose_cli.specs.Words.{cells_found, cells_in as cells_of_command, command_name, order_found, run_found, scale_found};
 ghost use Rattle.impose_cli.specs.Words.{signing_found, size_found, turned_found};
+ghost use Rattle.impose_cli.specs.Products.{is_plan, is_specification, lays_rows, picture_in};
 ghost use Rattle.impose_cli.specs.Spacings.{keeps_room};
 ghost use Rattle.impose_cli.specs.Sizing.{ReadsSizes, RefusesBorder, RefusesChoice, RefusesOutfile, RefusesSize};
-ghost use Rattle.impose_cli.specs.Sizing.{RefusesLength, RefusesReading, RefusesSizes, RefusesSpacing, RefusesValue};
+ghost use Rattle.impose_cli.specs.Sizing.{RefusesLength, RefusesPicture, RefusesProduct, RefusesReading, RefusesSizes};
+ghost use Rattle.impose_cli.specs.Sizing.{RefusesSpacing, RefusesValue};
 ghost use Rattle.impose_cli.specs.declared.fault.CellOption.TheVariants as cell;
 
 use crate::arguments::command;
 use crate::arranging::{cells_named, exact_cells, run_named, scale_named, turned_named};
-use crate::fault::{CellOption, CommandFault, GridCommand, LengthOption, PaperOption};
-use crate::request::{Layout, PageChoice, Request, Spacing};
+use crate::fault::{
+    CellOption, CommandFault, GridCommand, LengthOption, PaperOption, ProductOption,
+};
+use crate::request::{Layout, PageChoice, Product, Request, Spacing};
 use crate::signature::signing_named;
 use crate::sizes::size_named;
 use clap::ArgMatches;
@@ -33,7 +37,8 @@ use std::alloc::Global;
 /// Among words that it takes, the first of these is the fault: a paper that there isn't, after `--paper`, then after
 /// `--sheet`; a border that is no length, or below zero; cells that a sheet doesn't take, or a signature that leaves can't have;
 /// a margin, a gap, a trim, a creep or an overlap that is no length; an order that there isn't, no side after `--turned`, no number after
-/// `--scale`; odd and even entries together; an OUTFILE that begins with a minus sign.
+/// `--scale`; odd and even entries together; an OUTFILE that begins with a minus sign; two of `--print-spec`, `--plan` and
+/// `--preview`; a picture whose file isn't named as an SVG is.
 #[tactic(auto, using(crate::proofs::Commands::impose_is_simple))]
 pub fn read_command(alloc: Global, words: &[String]) -> Result<Request, CommandFault>
     // The command takes the words, and the request is what it finds among them.
@@ -99,6 +104,10 @@ fn request_of(alloc: Global, name: &str, found: &ArgMatches<'_>) -> Result<Reque
         Ok(outfile) => outfile,
         Err(fault) => return Err(fault),
     };
+    let product = match product_of(alloc, &layout, found) {
+        Ok(product) => product,
+        Err(fault) => return Err(fault),
+    };
     Ok(Request {
         layout,
         spacing,
@@ -108,7 +117,7 @@ fn request_of(alloc: Global, name: &str, found: &ArgMatches<'_>) -> Result<Reque
         sheet_paper: sizes.sheet_paper,
         border: sizes.border,
         is_guarded: !is_set(found, "unguarded"),
-        is_printed: is_set(found, "print-spec"),
+        product,
         is_quiet: is_set(found, "quiet"),
         infile,
         outfile,
@@ -542,6 +551,66 @@ fn outfile_of(alloc: Global, found: &ArgMatches<'_>) -> Result<Option<String>, C
             Err(CommandFault::OptionAsOutfile(String::from_str(alloc, name)?))
         } else {
             Ok(Some(String::from_str(alloc, name)?))
+        },
+    }
+}
+
+/// What is made. By a layout that doesn't lay rows no plan and no picture is asked for.
+fn product_of(
+    alloc: Global,
+    layout: &Layout,
+    found: &ArgMatches<'_>,
+) -> Result<Product, CommandFault>
+    ensures read { IfOk result (MakesBy (lays_rows layout.now) (rows_of (found_of found.now))) }
+    ensures refused { IfErr result (RefusesProduct (lays_rows layout.now) (rows_of (found_of found.now))) }
+{
+    let printed = is_set(found, "print-spec");
+    if !layout.lays_rows() {
+        return Ok(specification_if(printed));
+    }
+    match (printed, is_set(found, "plan"), text_of(found, "preview")) {
+        (_, false, None) => Ok(specification_if(printed)),
+        (false, true, None) => Ok(Product::Plan),
+        (false, false, Some(name)) => picture_in_file(alloc, name),
+        (true, true, _) => Err(CommandFault::TwoProducts(
+            ProductOption::PrintSpec,
+            ProductOption::Plan,
+        )),
+        (true, false, Some(_)) => Err(CommandFault::TwoProducts(
+            ProductOption::PrintSpec,
+            ProductOption::Preview,
+        )),
+        (false, true, Some(_)) => Err(CommandFault::TwoProducts(
+            ProductOption::Plan,
+            ProductOption::Preview,
+        )),
+    }
+}
+
+/// The specification if it is asked for, and else the sheets.
+fn specification_if(printed: bool) -> Product
+    ensures specification { is_specification result ≡ printed }
+    ensures plan { is_plan result ≡ false }
+    ensures picture { picture_in result ≡ None }
+{
+    if printed {
+        Product::Specification
+    } else {
+        Product::Sheets
+    }
+}
+
+/// The picture in the file of that name, which is named as an SVG is.
+fn picture_in_file(alloc: Global, name: &str) -> Result<Product, CommandFault>
+    ensures picture { IfOk result (NamesPicture name.now) }
+    ensures refused { IfErr result (RefusesPicture name.now) }
+{
+    match file_named(Some(name)) {
+        None => Ok(Product::Picture(None)),
+        Some(name) => if name.as_bytes().ends_with(b".svg") {
+            Ok(Product::Picture(Some(String::from_str(alloc, name)?)))
+        } else {
+            Err(CommandFault::BadPicture(String::from_str(alloc, name)?))
         },
     }
 }

@@ -42,6 +42,14 @@ pub enum CellOption {
     Scale,
 }
 
+/// The option that asks for something in place of the sheets.
+#[derive(Clone, Copy, Debug, PartialEq, Eq)]
+pub enum ProductOption {
+    PrintSpec,
+    Plan,
+    Preview,
+}
+
 /// Why a command line is refused.
 #[derive(Debug, Drop)]
 pub enum CommandFault {
@@ -67,6 +75,10 @@ pub enum CommandFault {
     OddAndEven,
     /// OUTFILE, this text, begins with a minus sign, as options do.
     OptionAsOutfile(String),
+    /// Both options are there, of which each asks for something else in place of the sheets.
+    TwoProducts(ProductOption, ProductOption),
+    /// The file after `--preview`, this text, isn't named as an SVG is.
+    BadPicture(String),
     /// There was no memory for the request.
     NoMemory,
 }

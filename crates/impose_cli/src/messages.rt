@@ -3,15 +3,17 @@ ghost use Rattle.std.specs.Prelude.{◌≡◌};
 ghost use Rattle.impose_cli.specs.Statuses.{fault_status as status_of_fault, words_status as status_of_words};
 
 use crate::caret::{caret_below, group_place, item_place, large_place};
-use crate::fault::{CellOption, CommandFault, Fault, GridCommand, LengthOption, PaperOption};
+use crate::fault::{
+    CellOption, CommandFault, Fault, GridCommand, LengthOption, PaperOption, ProductOption,
+};
 use crate::mistakes::looks_like_file;
-use crate::request::{Layout, PageChoice, Request};
+use crate::request::{Layout, PageChoice, Product, Request};
 use crate::shown::shown_word;
 use crate::signature::number_in;
 use crate::task::{Finished, PaperOrigin};
 use arranged_sheets::PosterError;
 use clap::error::ErrorKind;
-use command_words::run_status;
+use command_words::{name_of, run_status};
 use document_paper::Comment;
 use dsc::DscError;
 use imposer::{Report, RunError};
@@ -98,8 +100,8 @@ fn blanks_of(request: &Request, report: &Report) -> u64 {
 /// How many leaves of paper it takes, where sheets are printed on both sides.
 fn leaves_text(alloc: Global, layout: &Layout, sheets: u32) -> Result<String, AllocError> {
     match layout {
-        Layout::Booklet { .. } => {
-            let leaves = sheets / 2;
+        Layout::Booklet { .. } | Layout::Stack { duplex: true, .. } => {
+            let leaves = sheets.div_ceil(2);
             let word = if leaves == 1 { "leaf" } else { "leaves" };
             format!(in alloc; " ({leaves} {word})")
         }
@@ -261,18 +263,23 @@ fn input_name(alloc: Global, request: Option<&Request>) -> Result<String, AllocE
     }
 }
 
-/// What is written to; a specification is printed to standard output.
+/// What is written to.
 fn output_name(alloc: Global, request: Option<&Request>) -> Result<String, AllocError> {
-    match request {
-        Some(
-            Request {
-                outfile: Some(name),
-                is_printed: false,
-                ..
-            },
-        ) => file_name(alloc, name.as_str()),
-        _ => String::from_str(alloc, "standard output"),
+    match written_file(request) {
+        Some(name) => file_name(alloc, name),
+        None => String::from_str(alloc, "standard output"),
     }
+}
+
+/// The file that is written, if it isn't standard output.
+fn written_file(request: Option<&Request>) -> Option<&str> {
+    let request = request?;
+    let file = match &request.product {
+        Product::Sheets => &request.outfile,
+        Product::Specification | Product::Plan => return None,
+        Product::Picture(file) => file,
+    };
+    name_of(file)
 }
 
 /// The name of a file as it is shown.
@@ -354,6 +361,18 @@ pub fn command_text(alloc: Global, fault: &CommandFault) -> Result<String, Alloc
                 is written ./{text}"
             )
         }
+        CommandFault::TwoProducts(one, other) => {
+            let one = product_option(*one);
+            let other = product_option(*other);
+            format!(in alloc; "{one} and {other} ask for two things: give one of them")
+        }
+        CommandFault::BadPicture(text) => {
+            let text = shown_word(alloc, text.as_str())?;
+            let text = text.as_str();
+            format!(in alloc;
+                "bad file '{text}' after --preview: it is an SVG, so name it as sheets.svg, or - for standard output"
+            )
+        }
         CommandFault::NoMemory => String::from_str(alloc, "out of memory"),
     }
 }
@@ -433,6 +452,14 @@ fn value_text(alloc: Global, option: CellOption, text: &str) -> Result<String, A
         CellOption::Scale => format!(in alloc;
             "bad scale '{text}' after --scale: give a number as 0.7"
         ),
+    }
+}
+
+fn product_option(option: ProductOption) -> &'static str {
+    match option {
+        ProductOption::PrintSpec => "--print-spec",
+        ProductOption::Plan => "--plan",
+        ProductOption::Preview => "--preview",
     }
 }
 

@@ -2,8 +2,8 @@
 use super::read;
 use dsc::DscError;
 use impose_cli::{
-    CellOption, CommandFault, Fault, GridCommand, LengthOption, PaperOption, Request, fault_status,
-    fault_text,
+    CellOption, CommandFault, Fault, GridCommand, LengthOption, PaperOption, ProductOption,
+    Request, fault_status, fault_text,
 };
 use imposer::RunError;
 use layouts::ArrangementError;
@@ -90,6 +90,21 @@ fn command_lines(rt: HostRuntime) -> Result<(), Fail> {
             2,
             "OUTFILE '-q' begins with a minus, as options do: options stand before --, and a file of this name is \
             written ./-q",
+        ),
+        (
+            CommandFault::TwoProducts(ProductOption::Plan, ProductOption::Preview),
+            2,
+            "--plan and --preview ask for two things: give one of them",
+        ),
+        (
+            CommandFault::TwoProducts(ProductOption::PrintSpec, ProductOption::Plan),
+            2,
+            "--print-spec and --plan ask for two things: give one of them",
+        ),
+        (
+            CommandFault::BadPicture(text("in.ps")?),
+            2,
+            "bad file 'in.ps' after --preview: it is an SVG, so name it as sheets.svg, or - for standard output",
         ),
         (
             CommandFault::NoText,

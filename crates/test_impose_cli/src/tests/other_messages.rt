@@ -277,6 +277,12 @@ fn blanks_and_leaves_are_counted(rt: HostRuntime) -> Result<(), Fail> {
             2,
             "pages 5, sheets 2 (1 leaf), bytes 270;",
         ),
+        (
+            "stack 2 --duplex",
+            4,
+            "pages 5, sheets 4 (2 leaves), bytes 270;",
+        ),
+        ("stack 2", 3, "pages 5, sheets 3, bytes 270;"),
         ("select 1-", 5, "pages 5, sheets 5, bytes 270;"),
     ];
     for (line, sheets, wanted) in rows {
