@@ -8,13 +8,16 @@ use Rattle.clap.specs.declared.parser.matches.ArgMatches.TheViews.{out-ArgMatche
 use Rattle.rules.specs.Papers.{Paper}
 use Rattle.lengths.specs.Lengths.{a4, length_named}
 use Rattle.impose_cli.specs.declared.request.Request.{Request}
-use Rattle.impose_cli.specs.Words.{AreBefore, AreValues, AsksFor, ChoosesBy, Entered, Enters, HasLayout, HasLengths, HasNoValue, HasSizes, HasSpacing, NamesNoLength, ParseRefuses, Reads, Refuses, RefusesFound, RefusesArguments}
-use Rattle.impose_cli.specs.Words.{SpacesBy, cell_id, command_name, is_complete, is_value, length_found, length_id, ranges_id, run_found, size_found, turned_found}
-use Rattle.impose_cli.specs.Sizing.{ReadsSizes, RefusesBorder, RefusesChoice, RefusesLength, RefusesOutfile, RefusesReading, RefusesSize, RefusesSizes, RefusesSpacing, RefusesValue}
+use Rattle.impose_cli.specs.Words.{AreBefore, AreRead, AreValues, AsksFor, ChoosesBy, Entered, Enters, HasLayout, HasLengths, HasNoValue, HasSizes, HasSpacing, NamesNoLength, ParseRefuses, Reads, Refuses, RefusesFound, RefusesArguments}
+use Rattle.impose_cli.specs.Words.{SpacesBy, cell_id, command_name, has_flag, is_complete, is_value, length_found, length_id, marks_found, order_by, ranges_id, run_found, size_found, turned_found}
+use Rattle.impose_cli.specs.Sizing.{ReadsSizes, RefusesBorder, RefusesChoice, RefusesLength, RefusesMarks, RefusesOutfile, RefusesReading, RefusesSize, RefusesSizes, RefusesSpacing, RefusesValue}
 use Rattle.impose_cli.specs.declared.request.Layout.{Layout}
+use Rattle.impose_cli.specs.declared.request.Layout.TheVariants as layout
 use Rattle.impose_cli.specs.declared.request.PageChoice.{PageChoice}
 use Rattle.impose_cli.specs.declared.request.Spacing.{Spacing}
 use Rattle.impose_cli.specs.Spacings.{keeps_room}
+use Rattle.marks.specs.declared.strokes.Marks.{Marks}
+use Rattle.layouts.specs.declared.arrangement.Order.{Order}
 use Rattle.layouts.specs.declared.arrangement.Run.{Run}
 use Rattle.layouts.specs.declared.arrangement.Turned.{Turned}
 use Rattle.impose_cli.specs.declared.fault.CellOption.{CellOption}
@@ -186,9 +189,10 @@ refuses_arguments name found page_paper sheet_paper border (fault.OptionAsOutfil
 abbrev has_layout : (name : Text) (found : List Row) (page_paper sheet_paper : Option Paper) (border : Option ℤ) (layout : Layout) → ReadsSizes found page_paper sheet_paper border → AsksFor name found layout → HasLayout name found
 has_layout name found page_paper sheet_paper border layout r a = record { sizes = has_sizes found page_paper sheet_paper border r; layout = layout; asked = a }
 
-abbrev has_spacing : (name : Text) (found : List Row) (page_paper sheet_paper : Option Paper) (border : Option ℤ) (layout : Layout) (spacing : Spacing) → ReadsSizes found page_paper sheet_paper border → AsksFor name found layout
-    → SpacesBy (keeps_room layout) found spacing → HasSpacing name found
-has_spacing name found page_paper sheet_paper border layout spacing r a k = record { layout = has_layout name found page_paper sheet_paper border layout r a; spacing = spacing; kept = k }
+abbrev has_spacing : (name : Text) (found : List Row) (page_paper sheet_paper : Option Paper) (border : Option ℤ) (layout : Layout) (spacing : Spacing) (marks : Marks) → ReadsSizes found page_paper sheet_paper border → AsksFor name found layout
+    → SpacesBy (keeps_room layout) found spacing → marks_found layout found ≡ Some marks → HasSpacing name found
+has_spacing name found page_paper sheet_paper border layout spacing marks r a k m =
+    record { layout = has_layout name found page_paper sheet_paper border layout r a; spacing = spacing; kept = k; marks = is_there _ marks m }
 
 -- ---- what is kept free
 
@@ -328,37 +332,80 @@ refuses_spacing name found page_paper sheet_paper border layout (fault.OptionAsO
 refuses_spacing name found page_paper sheet_paper border layout (fault.Words error) r a h = h
 refuses_spacing name found page_paper sheet_paper border layout fault.NoText r a h = h
 
-pub refuses_choice : (name : Text) (found : List Row) (page_paper sheet_paper : Option Paper) (border : Option ℤ) (layout : Layout) (spacing : Spacing) (f : CommandFault)
-    → ReadsSizes found page_paper sheet_paper border → AsksFor name found layout → SpacesBy (keeps_room layout) found spacing → RefusesChoice found f → RefusesFound name found f
-refuses_choice name found page_paper sheet_paper border layout spacing fault.OddAndEven r a k h =
-    record { spacing = has_spacing name found page_paper sheet_paper border layout spacing r a k; odd = h.0; even = h.1 }
-refuses_choice name found page_paper sheet_paper border layout spacing (fault.BadLength option text) r a k h = absurd h
-refuses_choice name found page_paper sheet_paper border layout spacing fault.NoMemory r a k h = tt
-refuses_choice name found page_paper sheet_paper border layout spacing (fault.UnknownPaper option text) r a k h = absurd h
-refuses_choice name found page_paper sheet_paper border layout spacing (fault.BadBorder text) r a k h = absurd h
-refuses_choice name found page_paper sheet_paper border layout spacing fault.Lacking r a k h = absurd h
-refuses_choice name found page_paper sheet_paper border layout spacing (fault.BadSignature text) r a k h = absurd h
-refuses_choice name found page_paper sheet_paper border layout spacing (fault.BadCells command text) r a k h = absurd h
-refuses_choice name found page_paper sheet_paper border layout spacing (fault.BadValue which text) r a k h = absurd h
-refuses_choice name found page_paper sheet_paper border layout spacing (fault.OptionAsOutfile text) r a k h = absurd h
-refuses_choice name found page_paper sheet_paper border layout spacing (fault.Words error) r a k h = h
-refuses_choice name found page_paper sheet_paper border layout spacing fault.NoText r a k h = h
+-- ---- the marks
 
-pub refuses_outfile : (name : Text) (found : List Row) (page_paper sheet_paper : Option Paper) (border : Option ℤ) (layout : Layout) (spacing : Spacing) (choice : PageChoice) (f : CommandFault)
-    → ReadsSizes found page_paper sheet_paper border → AsksFor name found layout → SpacesBy (keeps_room layout) found spacing → ChoosesBy (ranges_id layout) found choice → RefusesOutfile found f → RefusesFound name found f
-refuses_outfile name found page_paper sheet_paper border layout spacing choice (fault.OptionAsOutfile text) r a k o h =
-    (record { spacing = has_spacing name found page_paper sheet_paper border layout spacing r a k; choice = choice; chosen = o }, h)
-refuses_outfile name found page_paper sheet_paper border layout spacing choice (fault.BadLength option text) r a k o h = absurd h
-refuses_outfile name found page_paper sheet_paper border layout spacing choice fault.NoMemory r a k o h = tt
-refuses_outfile name found page_paper sheet_paper border layout spacing choice (fault.UnknownPaper option text) r a k o h = absurd h
-refuses_outfile name found page_paper sheet_paper border layout spacing choice (fault.BadBorder text) r a k o h = absurd h
-refuses_outfile name found page_paper sheet_paper border layout spacing choice fault.Lacking r a k o h = absurd h
-refuses_outfile name found page_paper sheet_paper border layout spacing choice fault.OddAndEven r a k o h = absurd h
-refuses_outfile name found page_paper sheet_paper border layout spacing choice (fault.BadSignature text) r a k o h = absurd h
-refuses_outfile name found page_paper sheet_paper border layout spacing choice (fault.BadCells command text) r a k o h = absurd h
-refuses_outfile name found page_paper sheet_paper border layout spacing choice (fault.BadValue which text) r a k o h = absurd h
-refuses_outfile name found page_paper sheet_paper border layout spacing choice (fault.Words error) r a k o h = h
-refuses_outfile name found page_paper sheet_paper border layout spacing choice fault.NoText r a k o h = h
+-- an order that is read has parts that are
+order_parts : (run : Option (Run × Bool)) (rtl : Bool) (turned : Option Turned) (order : Order) → order_by run rtl turned ≡ Some order → (is_some run ≡ true) × (is_some turned ≡ true)
+order_parts None rtl turned order e = cc
+order_parts (Some run) rtl None order e = cc
+order_parts (Some run) rtl (Some turned) order e = (refl, refl)
+
+has_lengths : (found : List Row) (spacing : Spacing) → SpacesBy true found spacing → HasLengths found
+has_lengths found spacing k = record { margin = is_there _ spacing.margin k.0; gap = is_there _ spacing.gap k.1; trim = is_there _ spacing.trim k.2; creep = is_there _ spacing.creep k.3 }
+
+are_read : (found : List Row) (spacing : Spacing) → SpacesBy true found spacing → AreRead found
+are_read found spacing k =
+    let (run, turned) = order_parts (run_found found) (has_flag (codes "rtl") found) (turned_found found) spacing.order k.4 in (run, turned, is_there _ spacing.scale k.5)
+
+-- a value that is none, behind all that was read
+no_marks_named : (option : CellOption) (name : Text) (found : List Row) (f : CommandFault) → HasLayout name found → HasLengths found → AreValues option found → RefusesValue option found f → RefusesFound name found f
+no_marks_named option name found (fault.BadValue which text) l n v h = (l, n, has_no_value option which found (string_bytes text) h.0 h.1 h.2 v)
+no_marks_named option name found fault.NoMemory l n v h = tt
+no_marks_named option name found (fault.Words error) l n v h = h
+no_marks_named option name found fault.NoText l n v h = h
+no_marks_named option name found (fault.BadLength option text) l n v h = absurd h
+no_marks_named option name found (fault.UnknownPaper option text) l n v h = absurd h
+no_marks_named option name found (fault.BadBorder text) l n v h = absurd h
+no_marks_named option name found fault.Lacking l n v h = absurd h
+no_marks_named option name found fault.OddAndEven l n v h = absurd h
+no_marks_named option name found (fault.BadSignature text) l n v h = absurd h
+no_marks_named option name found (fault.BadCells command text) l n v h = absurd h
+no_marks_named option name found (fault.OptionAsOutfile text) l n v h = absurd h
+
+pub refuses_marks : (name : Text) (found : List Row) (page_paper sheet_paper : Option Paper) (border : Option ℤ) (layout : Layout) (spacing : Spacing) (f : CommandFault)
+    → ReadsSizes found page_paper sheet_paper border → AsksFor name found layout → SpacesBy (keeps_room layout) found spacing → RefusesMarks layout found f → RefusesFound name found f
+refuses_marks name found page_paper sheet_paper border (layout.NUp cells) spacing f r a k h =
+    no_marks_named cell.CutMarks name found f (has_layout name found page_paper sheet_paper border (layout.NUp cells) r a) (has_lengths found spacing k) (are_read found spacing k) h
+refuses_marks name found page_paper sheet_paper border (layout.Cards cells) spacing f r a k h =
+    no_marks_named cell.CutMarks name found f (has_layout name found page_paper sheet_paper border (layout.Cards cells) r a) (has_lengths found spacing k) (are_read found spacing k) h
+refuses_marks name found page_paper sheet_paper border (layout.Stack cells duplex) spacing f r a k h =
+    no_marks_named cell.CutMarks name found f (has_layout name found page_paper sheet_paper border (layout.Stack cells duplex) r a) (has_lengths found spacing k) (are_read found spacing k) h
+refuses_marks name found page_paper sheet_paper border (layout.Booklet signing long_edge) spacing f r a k h =
+    no_marks_named cell.FoldMarks name found f (has_layout name found page_paper sheet_paper border (layout.Booklet signing long_edge) r a) (has_lengths found spacing k) (are_read found spacing k) h
+refuses_marks name found page_paper sheet_paper border layout.Selection spacing f r a k h = absurd h
+refuses_marks name found page_paper sheet_paper border (layout.Spec specs) spacing f r a k h = absurd h
+
+pub refuses_choice : (name : Text) (found : List Row) (page_paper sheet_paper : Option Paper) (border : Option ℤ) (layout : Layout) (spacing : Spacing) (marks : Marks) (f : CommandFault)
+    → ReadsSizes found page_paper sheet_paper border → AsksFor name found layout → SpacesBy (keeps_room layout) found spacing → marks_found layout found ≡ Some marks → RefusesChoice found f → RefusesFound name found f
+refuses_choice name found page_paper sheet_paper border layout spacing marks fault.OddAndEven r a k m h =
+    record { spacing = has_spacing name found page_paper sheet_paper border layout spacing marks r a k m; odd = h.0; even = h.1 }
+refuses_choice name found page_paper sheet_paper border layout spacing marks (fault.BadLength option text) r a k m h = absurd h
+refuses_choice name found page_paper sheet_paper border layout spacing marks fault.NoMemory r a k m h = tt
+refuses_choice name found page_paper sheet_paper border layout spacing marks (fault.UnknownPaper option text) r a k m h = absurd h
+refuses_choice name found page_paper sheet_paper border layout spacing marks (fault.BadBorder text) r a k m h = absurd h
+refuses_choice name found page_paper sheet_paper border layout spacing marks fault.Lacking r a k m h = absurd h
+refuses_choice name found page_paper sheet_paper border layout spacing marks (fault.BadSignature text) r a k m h = absurd h
+refuses_choice name found page_paper sheet_paper border layout spacing marks (fault.BadCells command text) r a k m h = absurd h
+refuses_choice name found page_paper sheet_paper border layout spacing marks (fault.BadValue which text) r a k m h = absurd h
+refuses_choice name found page_paper sheet_paper border layout spacing marks (fault.OptionAsOutfile text) r a k m h = absurd h
+refuses_choice name found page_paper sheet_paper border layout spacing marks (fault.Words error) r a k m h = h
+refuses_choice name found page_paper sheet_paper border layout spacing marks fault.NoText r a k m h = h
+
+pub refuses_outfile : (name : Text) (found : List Row) (page_paper sheet_paper : Option Paper) (border : Option ℤ) (layout : Layout) (spacing : Spacing) (marks : Marks) (choice : PageChoice) (f : CommandFault)
+    → ReadsSizes found page_paper sheet_paper border → AsksFor name found layout → SpacesBy (keeps_room layout) found spacing → marks_found layout found ≡ Some marks → ChoosesBy (ranges_id layout) found choice → RefusesOutfile found f → RefusesFound name found f
+refuses_outfile name found page_paper sheet_paper border layout spacing marks choice (fault.OptionAsOutfile text) r a k m o h =
+    (record { spacing = has_spacing name found page_paper sheet_paper border layout spacing marks r a k m; choice = choice; chosen = o }, h)
+refuses_outfile name found page_paper sheet_paper border layout spacing marks choice (fault.BadLength option text) r a k m o h = absurd h
+refuses_outfile name found page_paper sheet_paper border layout spacing marks choice fault.NoMemory r a k m o h = tt
+refuses_outfile name found page_paper sheet_paper border layout spacing marks choice (fault.UnknownPaper option text) r a k m o h = absurd h
+refuses_outfile name found page_paper sheet_paper border layout spacing marks choice (fault.BadBorder text) r a k m o h = absurd h
+refuses_outfile name found page_paper sheet_paper border layout spacing marks choice fault.Lacking r a k m o h = absurd h
+refuses_outfile name found page_paper sheet_paper border layout spacing marks choice fault.OddAndEven r a k m o h = absurd h
+refuses_outfile name found page_paper sheet_paper border layout spacing marks choice (fault.BadSignature text) r a k m o h = absurd h
+refuses_outfile name found page_paper sheet_paper border layout spacing marks choice (fault.BadCells command text) r a k m o h = absurd h
+refuses_outfile name found page_paper sheet_paper border layout spacing marks choice (fault.BadValue which text) r a k m o h = absurd h
+refuses_outfile name found page_paper sheet_paper border layout spacing marks choice (fault.Words error) r a k m o h = h
+refuses_outfile name found page_paper sheet_paper border layout spacing marks choice fault.NoText r a k m o h = h
 
 -- ---- the paper at home
 
@@ -371,6 +418,7 @@ reads_at_home name found r home h = record {
   page_paper = h.page_paper;
   sheet_paper = h.sheet_paper;
   border = h.border;
+  marks = h.marks;
   guarded = h.guarded;
   printed = h.printed;
   quiet = h.quiet;

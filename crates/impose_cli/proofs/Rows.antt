@@ -35,6 +35,7 @@ is_row_job r input t job is of = record {
   signing = ap (option_map signing_of) of.signing ∙ is.signing;
   laying = is.laying ∙ ap Some (sym of.laying);
   border = of.border;
+  marks = of.marks;
 }
 
 -- an accepted document is the whole of its text

@@ -55,12 +55,13 @@ subcommand_app name own = fold with_rule (fold with_rule (new_app name) own) com
 abbrev pub order_rules : List Rule
 order_rules = flag_rule (codes "odd") ∷ flag_rule (codes "even") ∷ flag_rule (codes "reverse") ∷ []
 
--- what is kept free, which pages, and in which order
+-- what is kept free, which marks are drawn, which pages, and in which order
 abbrev pub row_rules : List Rule
 row_rules =
     option_rule (codes "margin")
     ∷ option_rule (codes "gap")
     ∷ option_rule (codes "trim")
+    ∷ option_rule (codes "marks")
     ∷ flag_rule (codes "rtl")
     ∷ option_rule (codes "pages")
     ∷ order_rules

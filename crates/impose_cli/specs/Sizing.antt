@@ -1,5 +1,5 @@
--- The papers, the border, what is kept free, the order and the scale, the pages and OUTFILE that the words ask for: the steps of
--- their reading.
+-- The papers, the border, what is kept free, the order and the scale, the marks, the pages and OUTFILE that the words ask for:
+-- the steps of their reading.
 use Rattle.std.specs.Prelude.{◌≡◌, ⊤, ℤ, true, false, is_some, List, Option, Some, None, codes, string_bytes}
 use Rattle.clap.specs.Words.{Row, first_of}
 use Rattle.rules.specs.Papers.{Paper}
@@ -7,7 +7,10 @@ use Rattle.lengths.specs.Lengths.{a4, length_named}
 use Rattle.impose_cli.specs.Words.{HasLengths, HasNoValue, HasPapers, NamesNoLength, NamesNoSize, WritesToOption, border_found}
 use Rattle.impose_cli.specs.Words.{cell_id, has_flag, is_value, length_id, size_found}
 use Rattle.impose_cli.specs.declared.fault.CellOption.{CellOption}
+use Rattle.impose_cli.specs.declared.fault.CellOption.TheVariants as cell
 use Rattle.impose_cli.specs.declared.fault.LengthOption.{LengthOption}
+use Rattle.impose_cli.specs.declared.request.Layout.{Layout}
+use Rattle.impose_cli.specs.declared.request.Layout.TheVariants as layout
 use Rattle.impose_cli.specs.declared.fault.PaperOption.{PaperOption}
 use Rattle.impose_cli.specs.declared.fault.PaperOption.TheVariants.{Paper as OfPages, Sheet as OfSheets}
 use Rattle.impose_cli.specs.declared.fault.CommandFault.{CommandFault}
@@ -129,6 +132,13 @@ RefusesSpacing found (fault.BadCells command text) = ⊥
 RefusesSpacing found (fault.OptionAsOutfile text) = ⊥
 RefusesSpacing found (fault.Words error) = ⊥
 RefusesSpacing found fault.NoText = ⊥
+
+-- a refusal of the marks, on sheets that have some
+abbrev pub RefusesMarks : Layout → (found : List Row) → CommandFault → Type 0
+RefusesMarks (layout.Booklet signing long_edge) found f = RefusesValue cell.FoldMarks found f
+RefusesMarks layout.Selection found f = ⊥
+RefusesMarks (layout.Spec specs) found f = ⊥
+RefusesMarks other found f = RefusesValue cell.CutMarks found f
 
 -- a refusal of the pages
 abbrev pub RefusesChoice : (found : List Row) → CommandFault → Type 0

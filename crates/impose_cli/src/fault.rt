@@ -31,12 +31,15 @@ pub enum GridCommand {
     Stack,
 }
 
-/// The option that says in which order pages stand in cells, or how large they are.
+/// The option that says in which order pages stand in cells, how large they are, or which marks are drawn: on sheets that
+/// are folded, or on sheets that are cut.
 #[derive(Clone, Copy, Debug, PartialEq, Eq)]
 pub enum CellOption {
     Order,
     Turned,
     Scale,
+    FoldMarks,
+    CutMarks,
 }
 
 /// Why a command line is refused.

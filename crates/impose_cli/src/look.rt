@@ -70,6 +70,7 @@ fn task_text(alloc: Global, request: &Request, task: &RowTask, look: Look) -> Re
             laying: task.laying,
         },
         border: request.border,
+        marks: request.marks,
         workers: WORKERS,
     };
     match job_text(alloc, &job, look) {

@@ -294,6 +294,7 @@ fn impose_task<R: Threads + Wait + Sync, S: Sink>(
             laying: task.laying,
         },
         border: request.border,
+        marks: request.marks,
         workers: WORKERS,
     };
     match impose_row(rt, alloc, &job, &Open {}, sink) {

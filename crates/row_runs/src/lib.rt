@@ -5,6 +5,7 @@ mod asked;
 mod error;
 mod guides;
 mod look;
+mod marked;
 mod run;
 
 pub use asked::{Asked, Laying, asked_sheets};
