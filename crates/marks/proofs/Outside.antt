@@ -1,16 +1,15 @@
 -- Marks go over no cell, and stand in the margin.
-use Rattle.std.proofs.Common.{arith, ◌≡◌, ◌∙◌, ℕ, zero, suc, ◌+◌, ◌-◌, ◌*◌, ◌<◌, ◌≤◌, ◌⊎◌, inl, inr, Bool, true, false, refl, ap, sym, subst, List, [], ◌∷◌, ◌++◌}
+use Rattle.std.proofs.Common.{arith, rules, ◌≡◌, ℕ, zero, suc, ◌+◌, ◌-◌, ◌*◌, ◌<◌, ◌≤◌, ◌⊎◌, inl, inr, Bool, true, false, refl, ap, List, [], ◌∷◌, ◌++◌}
 use Rattle.std.specs.Prelude.{ℤ, pos, ◌≤ℤ◌, ◌-ℤ◌, nat_abs, if◌then◌else◌, flat_map, ◌==◌}
 use Rattle.std.specs.List.{AllByRecursion, range_with_len}
 use Rattle.std.proofs.Math.Nat.{mul-le-mul_right}
 use Rattle.std.proofs.lemmas.Bool.{cases_lt}
 use Rattle.std.proofs.lemmas.Int.{ints}
-use Rattle.rules.specs.Papers.{Paper}
 use Rattle.layouts.specs.Placed.{Room}
 use Rattle.layouts.specs.Cells.{Grid, high, kept, step, wide}
 use Rattle.layouts.specs.Laws.{Cell, cell_at}
-use Rattle.marks.specs.Places.{PiecesAreLike, gap_at, grains_in}
-use Rattle.marks.specs.Strokes.{cells_across, cells_up, cut_marks, far_end, fold_marks, has_room_round, level_at, level_between, level_strokes, longest, marks_between, marks_round, near_end, upright_at, upright_between, upright_strokes}
+use Rattle.marks.specs.Places.{PiecesAreLike, grains_in}
+use Rattle.marks.specs.Strokes.{cells_across, cells_up, cut_marks, far_end, fold_marks, has_room_round, level_at, level_between, longest, near_end, upright_at, upright_between}
 use Rattle.marks.specs.Laws.{IsInMargin, IsOutsideCell, MarksAreInMargin, MarksAreOutside}
 use Rattle.marks.specs.declared.strokes.Stroke.{Stroke}
 
@@ -37,6 +36,9 @@ parted e g s c k some = elim (cases_lt c k) [
   | inl before ↦ let more = mul-le-mul_right s before in let next : suc c * s ≡ c * s + s = omega arith in inr (omega (arith, some, more, next))
   | inr behind ↦ let less = mul-le-mul_right s behind in inl (omega (arith, less))
 ]
+
+at_most : {a b : ℕ} → a ≤ b → pos a ≤ℤ pos b
+at_most le = omega (arith, ints, le)
 
 -- ---- all marks
 
@@ -91,14 +93,14 @@ cell_in room a u c d =
 
 upright_outside : (room : Room) (a u c d : ℕ) → 0 < size_of room (nat_abs room.paper.width) a → (k : ℕ) → AllByRecursion (IsOutsideCell (cell_in room a u c d)) (upright_at room a k)
 upright_outside room a u c d some k = elim (parted (kept room room.edge) (kept room room.gap) (step room (nat_abs room.paper.width) a) c k some) [
-  | inl before ↦ (inl (inl (before, before)), inl (inl (before, before)), tt)
-  | inr behind ↦ (inl (inr (behind, behind)), inl (inr (behind, behind)), tt)
+  | inl before ↦ let le = at_most before in (inl (inl (le, le)), (inl (inl (le, le)), tt))
+  | inr behind ↦ let le = at_most behind in (inl (inr (le, le)), (inl (inr (le, le)), tt))
 ]
 
 level_outside : (room : Room) (a u c d : ℕ) → 0 < size_of room (nat_abs room.paper.height) u → (k : ℕ) → AllByRecursion (IsOutsideCell (cell_in room a u c d)) (level_at room u k)
 level_outside room a u c d some k = elim (parted (kept room room.edge) (kept room room.gap) (step room (nat_abs room.paper.height) u) d k some) [
-  | inl before ↦ (inr (inl (before, before)), inr (inl (before, before)), tt)
-  | inr behind ↦ (inr (inr (behind, behind)), inr (inr (behind, behind)), tt)
+  | inl before ↦ let le = at_most before in (inr (inl (le, le)), (inr (inl (le, le)), tt))
+  | inr behind ↦ let le = at_most behind in (inr (inr (le, le)), (inr (inr (le, le)), tt))
 ]
 
 all_outside : (room : Room) (a u c d : ℕ) → 0 < size_of room (nat_abs room.paper.width) a → 0 < size_of room (nat_abs room.paper.height) u
@@ -119,16 +121,16 @@ marks_are_outside room g row column some_wide some_high in_rows in_columns = out
 
 -- ---- in the margin
 
+not_zero : (n : ℕ) → (suc n == 0) ≡ false
+not_zero n = search rules
+
 far_is : (edge : ℕ) → 0 < edge → (if edge == 0 then longest else edge) ≡ edge
 far_is zero lt = absurd (omega (arith, lt))
-far_is (suc n) lt = refl
+far_is (suc n) lt = rw (not_zero n) refl
 
 -- how far strokes reach from an edge
 reach : (room : Room) → 0 < room.edge → (near_end room ≤ grains_in room.edge) × (far_end room ≤ grains_in room.edge)
 reach room some = let is = ap grains_in (far_is room.edge some) in (omega (arith, is), omega (arith, is))
-
-near : (a e : ℕ) → a ≤ e → pos a ≤ℤ pos e
-near a e le = le
 
 far : (side : ℤ) (a e : ℕ) → a ≤ e → (side -ℤ pos e) ≤ℤ (side -ℤ pos a)
 far side a e le = omega (arith, ints, le)
@@ -138,14 +140,14 @@ upright_in_margin room a some k =
     let (n, f) = reach room some in
     let e = grains_in room.edge in
     let h = room.paper.height in
-    (inr (inl (near (near_end room) e n, near (far_end room) e f)), inr (inr (far h (near_end room) e n, far h (far_end room) e f)), tt)
+    (inr (inl (at_most n, at_most f)), (inr (inr (far h (near_end room) e n, far h (far_end room) e f)), tt))
 
 level_in_margin : (room : Room) (u : ℕ) → 0 < room.edge → (k : ℕ) → AllByRecursion (IsInMargin room) (level_at room u k)
 level_in_margin room u some k =
     let (n, f) = reach room some in
     let e = grains_in room.edge in
     let w = room.paper.width in
-    (inl (inl (near (near_end room) e n, near (far_end room) e f)), inl (inr (far w (near_end room) e n, far w (far_end room) e f)), tt)
+    (inl (inl (at_most n, at_most f)), (inl (inr (far w (near_end room) e n, far w (far_end room) e f)), tt))
 
 pub marks_are_in_margin : MarksAreInMargin
 marks_are_in_margin room g some =

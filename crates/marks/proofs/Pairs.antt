@@ -1,5 +1,5 @@
 -- The strokes along one line more.
-use Rattle.std.proofs.Common.{ℕ, zero, suc, List, [], ◌∷◌, ◌+◌, ◌-◌, ◌≤◌, ◌++◌, ◌≡◌, refl, ap, sym, ◌∙◌, arith}
+use Rattle.std.proofs.Common.{ℕ, zero, suc, List, [], ◌∷◌, ◌+◌, ◌-◌, ◌≤◌, ◌++◌, ◌≡◌, ap, sym, ◌∙◌, arith}
 use Rattle.std.specs.Prelude.{flat_map}
 use Rattle.std.specs.List.{range_with_len}
 use Rattle.std.proofs.lemmas.List.{flat_map_more}

@@ -1,12 +1,10 @@
 -- The lines that draw marks begin nothing.
 use Rattle.std.specs.Prelude.{codes, map, ℤ, true}
 use Rattle.std.proofs.Common.{◌≡◌, ℕ, List, [], ◌∷◌, ◌++◌, refl}
-use Rattle.rules.specs.Papers.{Paper}
 use Rattle.rules.specs.Numbers.{points_text}
 use Rattle.seams.proofs.Plainly.{no_ends_append, no_ends_points}
 use Rattle.seams.specs.Seams.{no_ends}
-use Rattle.made_sheets.specs.Dress.{Dress}
-use Rattle.imposed_again.specs.MadeAgain.{AreTame, IsTame, IsTameDress}
+use Rattle.imposed_again.specs.MadeAgain.{AreTame, IsTame}
 use Rattle.marks.specs.Drawn.{mark_lines, point_text, stroke_line}
 use Rattle.marks.specs.Laws.{MarksAreTame}
 use Rattle.marks.specs.declared.strokes.Stroke.{Stroke}

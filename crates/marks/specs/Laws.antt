@@ -1,5 +1,5 @@
 -- What holds of marks.
-use Rattle.std.specs.Prelude.{◌⊎◌, ℕ, ◌+◌, ◌<◌, ℤ, pos, ◌-ℤ◌, ◌≤ℤ◌, List, [], ◌++◌}
+use Rattle.std.specs.Prelude.{◌⊎◌, ℕ, ◌+◌, ◌<◌, ℤ, pos, ◌-ℤ◌, ◌≤ℤ◌, List, ◌++◌}
 use Rattle.std.specs.List.{AllByRecursion}
 use Rattle.made_sheets.specs.Dress.{Dress}
 use Rattle.imposed_again.specs.MadeAgain.{IsTameDress}

@@ -1,5 +1,5 @@
 -- Which strokes mark where a sheet is cut or folded: short ones along each such line, at both of its ends.
-use Rattle.std.specs.Prelude.{ℕ, ◌+◌, ◌-◌, ◌*◌, ◌==◌, nat_le, nat_abs, ℤ, pos, ◌-ℤ◌, not, Bool, ◌&&◌, if◌then◌else◌}
+use Rattle.std.specs.Prelude.{ℕ, ◌-◌, ◌*◌, ◌==◌, nat_le, nat_abs, pos, ◌-ℤ◌, not, Bool, ◌&&◌, if◌then◌else◌}
 use Rattle.std.specs.Prelude.{List, [], ◌∷◌, ◌++◌, flat_map}
 use Rattle.std.specs.List.{range_with_len}
 use Rattle.layouts.specs.Placed.{Room}

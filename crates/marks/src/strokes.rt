@@ -123,11 +123,7 @@ fn push_upright_between(
 }
 
 /// Adds the marks between so many cells one above another.
-fn push_level_between(
-    room: &Room,
-    parts: u32,
-    strokes: &mut Vec<Stroke>,
-) -> Result<(), AllocError>
+fn push_level_between(room: &Room, parts: u32, strokes: &mut Vec<Stroke>) -> Result<(), AllocError>
     requires { 0 < parts }
     ensures { OnOk result (strokes.new.items ≡ strokes.old.items ++ level_between room.now parts) }
 {
@@ -161,12 +157,7 @@ fn push_upright(
 }
 
 /// Adds the strokes along the line below a cell of so many one above another.
-fn push_level(
-    room: &Room,
-    parts: u32,
-    k: u32,
-    strokes: &mut Vec<Stroke>,
-) -> Result<(), AllocError>
+fn push_level(room: &Room, parts: u32, k: u32, strokes: &mut Vec<Stroke>) -> Result<(), AllocError>
     requires some { 0 < parts }
     requires part { k ≤ parts }
     ensures { OnOk result (strokes.new.items ≡ strokes.old.items ++ level_at room.now parts k) }
@@ -182,9 +173,6 @@ fn push_level(
     })?;
     Ok(())
 }
-
-
-
 
 /// How far from an edge of the sheet strokes end.
 fn far_end(room: &Room) -> Grains

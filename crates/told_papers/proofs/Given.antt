@@ -6,7 +6,7 @@ use Rattle.rules.specs.Papers.{Paper}
 use Rattle.made_sheets.specs.Made.{MadeSheet}
 use Rattle.made_sheets.specs.Dress.{Dress}
 use Rattle.made_sheets.specs.Dressed.{dressed_in}
-use Rattle.page_papers.specs.Told.{box_line, medium_line, size_name, telling_of}
+use Rattle.page_papers.specs.Told.{box_line, medium_line, sheet_lines, size_name, telling_of}
 use Rattle.sheet_text.specs.Dressings.{Dressing, Hem, dressed_by}
 use Rattle.marks.specs.Drawn.{mark_lines, marked}
 use Rattle.marks.specs.declared.strokes.Stroke.{Stroke}
@@ -56,6 +56,13 @@ empty_dress header hems start finish f none a b =
     ap (λ (hs : List Hem). dressing header (hs ++ record { start = start; finish = finish } ∷ [])) none
     ∙ ap (λ (t : List (List ℕ)). dressing header (record { start = t; finish = finish } ∷ [])) a
     ∙ ap (λ (t : List (List ℕ)). dressing header (record { start = []; finish = t } ∷ [])) b
+
+-- a sheet with these lines
+pub told_hem : (f : List (List ℕ)) (p : Paper) (header : List (List ℕ)) (hems : List Hem) (start finish : List (List ℕ)) → start ≡ sheet_lines p → finish ≡ f
+    → dressing header (hems ++ record { start = start; finish = finish } ∷ []) ≡ dressing header (hems ++ hem_of_sheet f p ∷ [])
+told_hem f p header hems start finish a b =
+    ap (λ (t : List (List ℕ)). dressing header (hems ++ record { start = t; finish = finish } ∷ [])) a
+    ∙ ap (λ (t : List (List ℕ)). dressing header (hems ++ record { start = sheet_lines p; finish = t } ∷ [])) b
 
 some_same : (a b : Paper) → Some b ≡ Some a → a ≡ b
 some_same a b e = cc

@@ -1,4 +1,4 @@
-use Rattle.std.proofs.Common.{rules, ◌≡◌, ◌++◌, ◌∷◌, [], sym, subst, List}
+use Rattle.std.proofs.Common.{◌∙◌, ◌≡◌, ◌++◌, ◌∷◌, [], sym, subst, List}
 use Rattle.std.proofs.lemmas.Option.{slice_get_within}
 use Rattle.marks.specs.Drawn.{mark_lines}
 use Rattle.sheet_text.specs.Dressings.{Dressing}
@@ -6,6 +6,7 @@ use Rattle.told_papers.specs.Dressings.{hem_of_sheet}
 use Rattle.told_papers.specs.Firsts.{AreKinds, IsAmong}
 use Rattle.told_papers.specs.declared.dress.Kind.{Kind}
 use Rattle.told_papers.proofs.Earlier.{found_like, kind_more, kinds_stay}
+use Rattle.told_papers.proofs.Given.{told_hem}
 use Rattle.told_papers.proofs.dress.push_sheet.Goals as goal
 
 pub push_like-requires : goal.push_like-requires
@@ -36,7 +37,12 @@ returns-clause-kinds c =
     let kinds = c.args.kinds.now.items in
     let hem = hem_of_sheet (mark_lines c.args.strokes.now) c.args.paper.now in
     let one : Kind = record { size = c.size_in_print-size.result; sheet = c.args.sheet } in
-    let pushed : c.push.new.self ≡ record { header = c.args.dress.now.header; hems = hems ++ hem ∷ [] } = search rules in
+    let pushed : c.push.new.self ≡ record { header = c.args.dress.now.header; hems = hems ++ hem ∷ [] } =
+    c.in_ok-push.ensures.pushed ∙ told_hem (mark_lines c.args.strokes.now) c.args.paper.now c.args.dress.now.header hems _ _ c.in_ok-sheet_lines.ensures c.in_ok-mark_lines.ensures in
     let more = kind_more (mark_lines c.args.strokes.now) hems kinds c.args.paper.now c.args.sheet c.size_in_print-size.result c.requires.next c.size_in_print-size.ensures c.requires.kinds in
     subst (λ (d : Dressing). AreKinds (mark_lines c.args.strokes.now) d.hems c.push-2.new.self.items) (sym pushed)
     (subst (λ (ks : List Kind). AreKinds (mark_lines c.args.strokes.now) (hems ++ hem ∷ []) ks) (sym c.in_ok-push-2.ensures.items) more)
+
+pub returns-clause-pushed : goal.returns-clause-pushed
+returns-clause-pushed c =
+    c.in_ok-push.ensures.pushed ∙ told_hem (mark_lines c.args.strokes.now) c.args.paper.now c.args.dress.now.header c.args.dress.now.hems _ _ c.in_ok-sheet_lines.ensures c.in_ok-mark_lines.ensures

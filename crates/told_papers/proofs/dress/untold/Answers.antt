@@ -10,7 +10,7 @@ pub loop-init : goal.loop-init
 loop-init c =
     let start = c.new.ensures in
     let finish = c.in_ok-mark_lines.ensures in
-    c.in_ok-push.ensures.pushed ∙ empty_dress c.args.dress.header c.args.dress.hems c.new.result c.in_ok-mark_lines.lines (mark_lines c.args.strokes.now) c.requires start finish
+    c.in_ok-push.ensures.pushed ∙ empty_dress c.args.dress.header c.args.dress.hems c.new.result _ (mark_lines c.args.strokes.now) c.requires start finish
 
 pub push_like-requires : goal.push_like-requires
 push_like-requires c =
