@@ -36,6 +36,7 @@ is_row_job r input t job is of = record {
   laying = is.laying ∙ ap Some (sym of.laying);
   same_scale = of.same_scale;
   border = of.border;
+  marks = of.marks;
 }
 
 -- an accepted document is the whole of its text

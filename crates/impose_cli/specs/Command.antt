@@ -59,12 +59,13 @@ look_rules = flag_rule (codes "plan") ∷ option_rule (codes "preview") ∷ []
 abbrev pub order_rules : List Rule
 order_rules = flag_rule (codes "odd") ∷ flag_rule (codes "even") ∷ flag_rule (codes "reverse") ∷ look_rules
 
--- what is kept free, which pages, in which order, and a look at the sheets
+-- what is kept free, which marks are drawn, which pages, in which order, and a look at the sheets
 abbrev pub row_rules : List Rule
 row_rules =
     option_rule (codes "margin")
     ∷ option_rule (codes "gap")
     ∷ option_rule (codes "trim")
+    ∷ option_rule (codes "marks")
     ∷ flag_rule (codes "rtl")
     ∷ option_rule (codes "pages")
     ∷ order_rules

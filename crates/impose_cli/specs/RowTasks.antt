@@ -149,6 +149,7 @@ pub record IsJobOf (r : Request) (t : RowTask) (job : RowJob) : Type 0 where
   pub laying : job.asked.laying ≡ t.laying
   pub same_scale : job.asked.same_scale ≡ r.spacing.same_scale
   pub border : job.border ≡ r.border
+  pub marks : job.marks ≡ r.marks
 
 abbrev pub ImposesTask : Request → RowTask → (old new : Option (List ℕ)) → Report → Type 0
 ImposesTask r t old new report = (job : RowJob) × IsJobOf r t job × Imposes job old new report
@@ -161,9 +162,10 @@ pub record IsRowJob (r : Request) (input : List ℕ) (page_paper : Paper) (job :
   pub laying : laying_in r.layout r.spacing page_paper (sheet_paper_in r.layout r.sheet_paper page_paper) ≡ Some job.asked.laying
   pub same_scale : job.asked.same_scale ≡ r.spacing.same_scale
   pub border : job.border ≡ r.border
+  pub marks : job.marks ≡ r.marks
 
 -- The request was carried out for this document: exactly the output was appended of the sheets on which its layout lays
--- its row, with the lines by which they tell their papers.
+-- its row, with the lines by which they tell their papers and the marks that it asks for.
 pub record FinishesRow (r : Request) (input : List ℕ) (old new : Option (List ℕ)) (done : Finished) : Type 0 where
   pub page_paper : (done.page_paper, done.origin) ≡ page_paper_found r.page_paper r.home_paper input
   pub job : RowJob

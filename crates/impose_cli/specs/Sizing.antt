@@ -1,5 +1,5 @@
--- The papers, the border, what is kept free, the order and the scale, the pages, OUTFILE and what is made that the words ask
--- for: the steps of their reading.
+-- The papers, the border, what is kept free, the order and the scale, the marks, the pages, OUTFILE and what is made that the
+-- words ask for: the steps of their reading.
 use Rattle.std.specs.Prelude.{◌≡◌, ⊤, ℤ, Bool, true, false, is_some, List, Option, Some, None, codes, string_bytes}
 use Rattle.clap.specs.Words.{Row, Text, first_of}
 use Rattle.rules.specs.Papers.{Paper}
@@ -8,7 +8,10 @@ use Rattle.impose_cli.specs.Products.{is_picture_file}
 use Rattle.impose_cli.specs.Words.{HasLengths, HasNoValue, HasPapers, NamesNoLength, NamesNoPicture, NamesNoSize, WritesToOption}
 use Rattle.impose_cli.specs.Words.{border_found, cell_id, file_of, has_flag, is_value, length_id, size_found, two_found}
 use Rattle.impose_cli.specs.declared.fault.CellOption.{CellOption}
+use Rattle.impose_cli.specs.declared.fault.CellOption.TheVariants as cell
 use Rattle.impose_cli.specs.declared.fault.LengthOption.{LengthOption}
+use Rattle.impose_cli.specs.declared.request.Layout.{Layout}
+use Rattle.impose_cli.specs.declared.request.Layout.TheVariants as layout
 use Rattle.impose_cli.specs.declared.fault.PaperOption.{PaperOption}
 use Rattle.impose_cli.specs.declared.fault.PaperOption.TheVariants.{Paper as OfPages, Sheet as OfSheets}
 use Rattle.impose_cli.specs.declared.fault.CommandFault.{CommandFault}
@@ -144,6 +147,14 @@ RefusesSpacing found (fault.TwoProducts one other) = ⊥
 RefusesSpacing found (fault.BadPicture text) = ⊥
 RefusesSpacing found (fault.Words error) = ⊥
 RefusesSpacing found fault.NoText = ⊥
+
+-- a refusal of the marks, on sheets that have some
+abbrev pub RefusesMarks : Layout → (found : List Row) → CommandFault → Type 0
+RefusesMarks (layout.Booklet signing long_edge) found f = RefusesValue cell.FoldMarks found f
+RefusesMarks (layout.Poster columns rows) found f = ⊥
+RefusesMarks layout.Selection found f = ⊥
+RefusesMarks (layout.Spec specs) found f = ⊥
+RefusesMarks other found f = RefusesValue cell.CutMarks found f
 
 -- a refusal of the pages
 abbrev pub RefusesChoice : (found : List Row) → CommandFault → Type 0

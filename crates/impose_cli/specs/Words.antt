@@ -18,7 +18,8 @@ use Rattle.layouts.specs.declared.arrangement.Turned.TheVariants.{Upright}
 use Rattle.rows.specs.declared.sewing.Signing.{Signing}
 use Rattle.rows.specs.declared.choices.Part.{Part}
 use Rattle.rows.specs.declared.choices.Part.TheVariants.{All, Odd, Even}
-use Rattle.impose_cli.specs.Arranging.{cells_named, exact_alone, run_named, scale_named, turned_named}
+use Rattle.marks.specs.declared.strokes.Marks.{Marks}
+use Rattle.impose_cli.specs.Arranging.{cells_named, cut_marks_named, exact_alone, fold_marks_named, no_marks, run_named, scale_named, turned_named}
 use Rattle.impose_cli.specs.Choices.{is_whole}
 use Rattle.impose_cli.specs.declared.request.PageChoice.{PageChoice}
 use Rattle.impose_cli.specs.Command.{impose}
@@ -110,6 +111,8 @@ abbrev pub cell_id : CellOption → Text
 cell_id cell.Order = codes "order"
 cell_id cell.Turned = codes "turned"
 cell_id cell.Scale = codes "scale"
+cell_id cell.FoldMarks = codes "marks"
+cell_id cell.CutMarks = codes "marks"
 
 -- along rows from the left if no order is asked for; and nothing if the text names none
 abbrev pub run_asked : Option Text → Option (Run × Bool)
@@ -144,11 +147,26 @@ order_by (Some run) rtl (Some turned) = Some (record { run = run.0; right_to_lef
 abbrev pub order_found : (found : List Row) → Option Order
 order_found found = order_by (run_found found) (has_flag (codes "rtl") found) (turned_found found)
 
+-- no marks if none are asked for; and nothing if the text names none that such sheets have
+abbrev pub marks_asked : (Text → Option Marks) → Option Text → Option Marks
+marks_asked named None = Some no_marks
+marks_asked named (Some text) = named text
+
+-- a booklet is folded, other sheets with cells are cut, and no others have marks
+abbrev pub marks_found : Layout → (found : List Row) → Option Marks
+marks_found (layout.Booklet signing long_edge) found = marks_asked fold_marks_named (first_of (cell_id cell.FoldMarks) found)
+marks_found (layout.Poster columns rows) found = Some no_marks
+marks_found layout.Selection found = Some no_marks
+marks_found (layout.Spec specs) found = Some no_marks
+marks_found other found = marks_asked cut_marks_named (first_of (cell_id cell.CutMarks) found)
+
 -- the text is a value of the option
 abbrev pub is_value : CellOption → Text → Bool
 is_value cell.Order text = is_some (run_named text)
 is_value cell.Turned text = is_some (turned_named text)
 is_value cell.Scale text = is_some (scale_named text)
+is_value cell.FoldMarks text = is_some (fold_marks_named text)
+is_value cell.CutMarks text = is_some (cut_marks_named text)
 
 abbrev pub part_by : (odd even : Bool) → Option Part
 part_by false false = Some All
@@ -250,6 +268,7 @@ pub record Reads (name : Text) (found : List Row) (r : Request) : Type 0 where
   pub page_paper : size_found OfPages found ≡ Some r.page_paper
   pub sheet_paper : size_found OfSheets found ≡ Some r.sheet_paper
   pub border : border_found found ≡ Some r.border
+  pub marks : marks_found r.layout found ≡ Some r.marks
   pub guarded : r.is_guarded ≡ not (has_flag (codes "unguarded") found)
   pub product : MakesBy (lays_rows r.layout) found r.product
   pub quiet : has_flag (codes "quiet") found ≡ r.is_quiet
@@ -297,6 +316,7 @@ pub record HasSpacing (name : Text) (found : List Row) : Type 0 where
   pub layout : HasLayout name found
   pub spacing : Spacing
   pub kept : SpacesBy (keeps_room layout.layout) found spacing
+  pub marks : is_some (marks_found layout.layout found) ≡ true
 
 pub record HasChoice (name : Text) (found : List Row) : Type 0 where
   pub spacing : HasSpacing name found
@@ -342,10 +362,15 @@ pub record HasLengths (found : List Row) : Type 0 where
   pub creep : is_some (length_found Creep found) ≡ true
   pub overlap : is_some (length_found Overlap found) ≡ true
 
+abbrev pub AreRead : (found : List Row) → Type 0
+AreRead found = (is_some (run_found found) ≡ true) × (is_some (turned_found found) ≡ true) × (is_some (scale_found found) ≡ true)
+
 abbrev pub AreValues : CellOption → (found : List Row) → Type 0
 AreValues cell.Order found = ⊤
 AreValues cell.Turned found = is_some (run_found found) ≡ true
 AreValues cell.Scale found = (is_some (run_found found) ≡ true) × (is_some (turned_found found) ≡ true)
+AreValues cell.FoldMarks found = AreRead found
+AreValues cell.CutMarks found = AreRead found
 
 pub record HasNoValue (option : CellOption) (found : List Row) (text : Text) : Type 0 where
   pub given : first_of (cell_id option) found ≡ Some text
@@ -389,7 +414,7 @@ RefusesArguments name found (fault.TwoProducts one other) = ⊥
 RefusesArguments name found (fault.BadPicture text) = ⊥
 
 -- what a refusal says of what was found, and of what was looked at before: --paper, --sheet, --border, the layout, what is
--- kept free, the pages, OUTFILE, what is made
+-- kept free, the marks, the pages, OUTFILE, what is made
 abbrev pub RefusesFound : (name : Text) → (found : List Row) → CommandFault → Type 0
 RefusesFound name found (fault.UnknownPaper OfPages text) = NamesNoSize OfPages found (string_bytes text)
 RefusesFound name found (fault.UnknownPaper OfSheets text) = (is_some (size_found OfPages found) ≡ true)

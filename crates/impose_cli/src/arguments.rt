@@ -67,6 +67,7 @@ fn nup<'a>(alloc: Global) -> Result<Command<'a>, AllocError>
         margin(alloc),
         gap(alloc, "Keep so much free between pages"),
         trim(alloc),
+        marks(alloc),
         rtl(alloc),
         pages(alloc),
         odd(alloc),
@@ -94,6 +95,7 @@ fn cards<'a>(alloc: Global) -> Result<Command<'a>, AllocError>
         margin(alloc),
         gap(alloc, "Keep so much free between pages"),
         trim(alloc),
+        marks(alloc),
         rtl(alloc),
         pages(alloc),
         odd(alloc),
@@ -124,6 +126,7 @@ fn stack<'a>(alloc: Global) -> Result<Command<'a>, AllocError>
         margin(alloc),
         gap(alloc, "Keep so much free between pages"),
         trim(alloc),
+        marks(alloc),
         rtl(alloc),
         pages(alloc),
         odd(alloc),
@@ -170,6 +173,7 @@ fn booklet<'a>(alloc: Global) -> Result<Command<'a>, AllocError>
             "Keep so much free at the fold, half of it on each side"
         ),
         trim(alloc),
+        marks(alloc),
         rtl(alloc),
         pages(alloc),
         odd(alloc),
@@ -277,6 +281,14 @@ fn trim<'a>(alloc: Global) -> Arg<'a>
 {
     option(alloc, "trim", "LENGTH").help(
         "Take each page as smaller by so much along each side, so that it is printed larger",
+    )
+}
+
+fn marks<'a>(alloc: Global) -> Arg<'a>
+    ensures { rule_of result ≡ option_rule (codes "marks") }
+{
+    option(alloc, "marks", "MARKS").help(
+        "Draw short lines where sheets are folded or cut: fold for a booklet, cut for other sheets",
     )
 }
 

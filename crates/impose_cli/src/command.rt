@@ -6,16 +6,19 @@ ghost use Rattle.impose_cli.specs.Words.{AsksFor, Entered, ParseRefuses, Reads, 
 ghost use Rattle.impose_cli.specs.Words.{RefusesArguments, border_found, file_asked, is_outfile, paper_id};
 ghost use Rattle.impose_cli.specs.Words.{ChoosesBy, MakesBy, NamesPicture, SpacesBy, length_found, length_id, ranges_id, part_by as of_both};
 ghost use Rattle.impose_cli.specs.Words.{cells_found, cells_in as cells_of_command, command_name, order_found, run_found, scale_found};
-ghost use Rattle.impose_cli.specs.Words.{signing_found, size_found, turned_found};
+ghost use Rattle.impose_cli.specs.Words.{marks_asked, marks_found, signing_found, size_found, turned_found};
+ghost use Rattle.impose_cli.specs.Arranging.{cut_marks_named as to_cut, fold_marks_named as to_fold};
 ghost use Rattle.impose_cli.specs.Products.{is_plan, is_specification, lays_rows, picture_in};
 ghost use Rattle.impose_cli.specs.Spacings.{keeps_room};
 ghost use Rattle.impose_cli.specs.Sizing.{ReadsSizes, RefusesBorder, RefusesChoice, RefusesOutfile, RefusesSize};
+ghost use Rattle.impose_cli.specs.Sizing.{RefusesMarks};
 ghost use Rattle.impose_cli.specs.Sizing.{RefusesLength, RefusesPicture, RefusesProduct, RefusesReading, RefusesSizes};
 ghost use Rattle.impose_cli.specs.Sizing.{RefusesSpacing, RefusesValue};
 ghost use Rattle.impose_cli.specs.declared.fault.CellOption.TheVariants as cell;
 
 use crate::arguments::command;
-use crate::arranging::{cells_named, exact_cells, run_named, scale_named, turned_named};
+use crate::arranging::{cells_named, cut_marks_named, exact_cells, fold_marks_named};
+use crate::arranging::{run_named, scale_named, turned_named};
 use crate::fault::{
     CellOption, CommandFault, GridCommand, LengthOption, PaperOption, ProductOption,
 };
@@ -27,6 +30,7 @@ use clap::error::ErrorKind;
 use command_words::{border_named, is_set, number_of, owned, text_of};
 use layouts::{Cells, Order, Run, Turned};
 use lengths::{Grains, Number, Paper, a4, length_named};
+use marks::Marks;
 use rows::{Part, Signing};
 use std::alloc::Global;
 
@@ -37,8 +41,8 @@ use std::alloc::Global;
 /// Among words that it takes, the first of these is the fault: a paper that there isn't, after `--paper`, then after
 /// `--sheet`; a border that is no length, or below zero; cells that a sheet doesn't take, or a signature that leaves can't have;
 /// a margin, a gap, a trim, a creep or an overlap that is no length; an order that there isn't, no side after `--turned`, no number after
-/// `--scale`; odd and even entries together; an OUTFILE that begins with a minus sign; two of `--print-spec`, `--plan` and
-/// `--preview`; a picture whose file isn't named as an SVG is.
+/// `--scale`; marks that sheets of the layout don't have; odd and even entries together; an OUTFILE that begins with a minus sign; two of
+/// `--print-spec`, `--plan` and `--preview`; a picture whose file isn't named as an SVG is.
 #[tactic(auto, using(crate::proofs::Commands::impose_is_simple))]
 pub fn read_command(alloc: Global, words: &[String]) -> Result<Request, CommandFault>
     // The command takes the words, and the request is what it finds among them.
@@ -95,6 +99,10 @@ fn request_of(alloc: Global, name: &str, found: &ArgMatches<'_>) -> Result<Reque
         Ok(spacing) => spacing,
         Err(fault) => return Err(fault),
     };
+    let marks = match marks_of(alloc, &layout, found) {
+        Ok(marks) => marks,
+        Err(fault) => return Err(fault),
+    };
     let choice = match choice_of(alloc, &layout, found) {
         Ok(choice) => choice,
         Err(fault) => return Err(fault),
@@ -116,6 +124,7 @@ fn request_of(alloc: Global, name: &str, found: &ArgMatches<'_>) -> Result<Reque
         home_paper: a4(),
         sheet_paper: sizes.sheet_paper,
         border: sizes.border,
+        marks,
         is_guarded: !is_set(found, "unguarded"),
         product,
         is_quiet: is_set(found, "quiet"),
@@ -490,6 +499,61 @@ fn scale_of(alloc: Global, found: &ArgMatches<'_>) -> Result<Option<Number>, Com
         Some(text) => match scale_named(text) {
             Some(scale) => Ok(Some(scale)),
             None => Err(CommandFault::BadValue(CellOption::Scale, String::from_str(alloc, text)?)),
+        },
+    }
+}
+
+/// The marks that are asked for, of those that sheets of the layout have.
+fn marks_of(
+    alloc: Global,
+    layout: &Layout,
+    found: &ArgMatches<'_>,
+) -> Result<Marks, CommandFault>
+    ensures read { IfOk result (λ marks. marks_found layout.now (rows_of (found_of found.now)) ≡ Some marks) }
+    ensures refused { IfErr result (RefusesMarks layout.now (rows_of (found_of found.now))) }
+{
+    match layout {
+        Layout::Booklet { .. } => fold_marks_of(alloc, found),
+        Layout::NUp(_) | Layout::Cards(_) | Layout::Stack { .. } => cut_marks_of(alloc, found),
+        Layout::Poster { .. } | Layout::Selection | Layout::Spec(_) => Ok(NO_MARKS),
+    }
+}
+
+const NO_MARKS: Marks = Marks {
+    fold: false,
+    cut: false,
+};
+
+fn fold_marks_of(alloc: Global, found: &ArgMatches<'_>) -> Result<Marks, CommandFault>
+    ensures read { IfOk result (λ marks.
+        marks_asked to_fold (first_of (codes "marks") (rows_of (found_of found.now))) ≡ Some marks) }
+    ensures refused { IfErr result (RefusesValue cell.FoldMarks (rows_of (found_of found.now))) }
+{
+    match text_of(found, "marks") {
+        None => Ok(NO_MARKS),
+        Some(text) => match fold_marks_named(text) {
+            Some(marks) => Ok(marks),
+            None => Err(CommandFault::BadValue(
+                CellOption::FoldMarks,
+                String::from_str(alloc, text)?,
+            )),
+        },
+    }
+}
+
+fn cut_marks_of(alloc: Global, found: &ArgMatches<'_>) -> Result<Marks, CommandFault>
+    ensures read { IfOk result (λ marks.
+        marks_asked to_cut (first_of (codes "marks") (rows_of (found_of found.now))) ≡ Some marks) }
+    ensures refused { IfErr result (RefusesValue cell.CutMarks (rows_of (found_of found.now))) }
+{
+    match text_of(found, "marks") {
+        None => Ok(NO_MARKS),
+        Some(text) => match cut_marks_named(text) {
+            Some(marks) => Ok(marks),
+            None => Err(CommandFault::BadValue(
+                CellOption::CutMarks,
+                String::from_str(alloc, text)?,
+            )),
         },
     }
 }

@@ -34,12 +34,15 @@ pub enum GridCommand {
     Poster,
 }
 
-/// The option that says in which order pages stand in cells, or how large they are.
+/// The option that says in which order pages stand in cells, how large they are, or which marks are drawn: on sheets that
+/// are folded, or on sheets that are cut.
 #[derive(Clone, Copy, Debug, PartialEq, Eq)]
 pub enum CellOption {
     Order,
     Turned,
     Scale,
+    FoldMarks,
+    CutMarks,
 }
 
 /// The option that asks for something in place of the sheets.

@@ -452,6 +452,18 @@ fn value_text(alloc: Global, option: CellOption, text: &str) -> Result<String, A
         CellOption::Scale => format!(in alloc;
             "bad scale '{text}' after --scale: give a number as 0.7"
         ),
+        CellOption::FoldMarks => if text.contains("cut") {
+            format!(in alloc; "a booklet isn't cut, so --marks {text} asks too much: give --marks fold")
+        } else {
+            format!(in alloc; "unknown marks '{text}' after --marks: give fold")
+        },
+        CellOption::CutMarks => if text.contains("fold") {
+            format!(in alloc;
+                "only a booklet is folded, so --marks {text} asks too much here: give --marks cut"
+            )
+        } else {
+            format!(in alloc; "unknown marks '{text}' after --marks: give cut")
+        },
     }
 }
 

@@ -7,6 +7,7 @@ ghost use Rattle.impose_cli.specs.Spacings.{arrangement_in, binding_in, keeps_ro
 
 use layouts::{Arrangement, Binding, Cells, Order};
 use lengths::{Grains, Number, Paper};
+use marks::Marks;
 use rows::{Choice, Part, Signing};
 
 /// How the pages are laid out.
@@ -200,6 +201,8 @@ pub struct Request {
     pub sheet_paper: Option<Paper>,
     /// The width of a border round each placed page, if one is asked for.
     pub border: Option<Grains>,
+    /// Which marks are drawn on the sheets.
+    pub marks: Marks,
     /// Whether the guard is put in.
     pub is_guarded: bool,
     /// What is made: the sheets, or in place of them what tells of them.

@@ -295,6 +295,7 @@ fn impose_task<R: Threads + Wait + Sync, S: Sink>(
             same_scale: request.spacing.same_scale,
         },
         border: request.border,
+        marks: request.marks,
         workers: WORKERS,
     };
     match impose_row(rt, alloc, &job, &Open {}, sink) {
