@@ -16,9 +16,10 @@ abbrev pub fold_if : (asked : Bool) → Setting → List Stroke
 fold_if asked setting = if asked then fold_marks setting.room setting.grid else []
 
 -- the strokes on each sheet of a laying, of the marks that are asked for: booklets are folded between their halves, and
--- other sheets cut between their cells; pages as they are have no marks
+-- other sheets cut between their cells; pages as they are and posters have no marks
 abbrev pub strokes_in : Marks → Laying → List Stroke
 strokes_in marks (laying.AsTheyAre blank) = []
+strokes_in marks (laying.Poster poster) = []
 strokes_in marks (laying.Grid setting cells) = cut_if marks.cut setting
 strokes_in marks (laying.Cards setting cells) = cut_if marks.cut setting
 strokes_in marks (laying.Stack setting cells) = cut_if marks.cut setting

@@ -8,7 +8,7 @@ use marks::{Marks, Stroke, cut_marks, fold_marks};
 use std::alloc::{AllocError, Global};
 
 /// The strokes on each sheet of a laying, of the marks that are asked for. A laying that isn't folded has no fold marks,
-/// and one that isn't cut no cut marks.
+/// and one that isn't cut no cut marks; pages as they are and posters have none.
 pub(crate) fn strokes_of(
     alloc: Global,
     marks: Marks,
@@ -17,7 +17,7 @@ pub(crate) fn strokes_of(
     ensures { IfOk result (λ strokes. strokes.items ≡ strokes_in marks laying.now) }
 {
     match laying {
-        Laying::AsTheyAre { .. } => Ok(Vec::new(alloc)),
+        Laying::AsTheyAre { .. } | Laying::Poster { .. } => Ok(Vec::new(alloc)),
         Laying::Grid { setting, .. } => cut_if(alloc, marks.cut, setting),
         Laying::Cards { setting, .. } => cut_if(alloc, marks.cut, setting),
         Laying::Stack { setting, .. } => cut_if(alloc, marks.cut, setting),
