@@ -21,7 +21,7 @@ mod signature;
 mod sizes;
 mod task;
 
-pub use arranging::{cells_named, run_named, scale_named, turned_named};
+pub use arranging::{cells_named, exact_cells, run_named, scale_named, turned_named};
 pub use command::read_command;
 pub use fault::{CellOption, CommandFault, Fault, GridCommand, LengthOption, PaperOption};
 pub use look::{Look, look_text};
