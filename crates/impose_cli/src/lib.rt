@@ -22,7 +22,7 @@ mod sizes;
 mod task;
 mod unread;
 
-pub use arranging::{cells_named, run_named, scale_named, turned_named};
+pub use arranging::{cells_named, exact_cells, run_named, scale_named, turned_named};
 pub use command::read_command;
 pub use fault::{
     CellOption, CommandFault, Fault, GridCommand, LengthOption, PaperOption, ProductOption,
