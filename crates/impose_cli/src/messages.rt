@@ -191,8 +191,8 @@ pub fn fault_text(
         Fault::Sheets(error) => String::from_str(alloc, sheets_message(error)),
         Fault::NoSpecification => String::from_str(
             alloc,
-            "--print-spec: no specification says a selection, cards or a stack, nor --pages, --odd, --even, --reverse or \
-            --creep; leave it out",
+            "--print-spec: no specification says a selection, cards or a stack, nor --pages, --odd, --even, --reverse, \
+            --creep or --marks; leave it out",
         ),
         Fault::NoSuchPage { place, pages } => {
             let message = format!(in alloc;

@@ -59,8 +59,8 @@ fn layouts_plans_and_faulty_documents(rt: HostRuntime) -> Result<(), Fail> {
         ),
         (
             Fault::NoSpecification,
-            "--print-spec: no specification says a selection, cards or a stack, nor --pages, --odd, --even, --reverse or \
-            --creep; leave it out",
+            "--print-spec: no specification says a selection, cards or a stack, nor --pages, --odd, --even, --reverse, \
+            --creep or --marks; leave it out",
         ),
         (
             Fault::Run(RunError::Plan(PlanError::TooManyPages)),
