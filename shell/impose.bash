@@ -6,7 +6,7 @@ _impose_papers='a0 a1 a2 a3 a4 a5 a6 b4 b5 b6 letter legal tabloid ledger statem
 _impose_options_of() {
     local all='--paper --sheet --border --unguarded --print-spec --quiet --help -p -q -h'
     local parts='--odd --even --reverse --plan --preview'
-    local laid="--margin --gap --trim --rtl --same-scale --pages $parts"
+    local laid="--margin --gap --trim --marks --rtl --same-scale --pages $parts"
     local cells="--order --turned --scale $laid"
     case "$1" in
         '') echo '--help --version -h -V' ;;
@@ -29,6 +29,7 @@ _impose_values_of() {
         --order) echo 'right-down down-right left-down down-left' ;;
         --turned) echo 'left right' ;;
         --scale) echo '0.5 0.7 1' ;;
+        --marks) echo 'fold cut' ;;
         --creep) echo '.5mm 1mm 2mm' ;;
         --signature) echo 'auto 4 8 12 16 20 24 28 32' ;;
         --pages | --preview) ;;

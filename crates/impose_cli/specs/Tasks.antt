@@ -20,7 +20,7 @@ use Rattle.document_paper.specs.Media.{document_paper}
 use Rattle.document_paper.specs.declared.media.Comment.{Comment}
 use Rattle.impose_cli.specs.declared.task.PaperOrigin.{PaperOrigin}
 use Rattle.impose_cli.specs.declared.task.PaperOrigin.TheVariants.{Named, ByComment, AtHome}
-use Rattle.impose_cli.specs.Choices.{is_whole}
+use Rattle.impose_cli.specs.Choices.{is_said}
 use Rattle.impose_cli.specs.Spacings.{arrangement_in, binding_in}
 use Rattle.impose_cli.specs.declared.request.Spacing.{Spacing}
 use Rattle.impose_cli.specs.declared.request.Layout.{Layout}
@@ -75,7 +75,7 @@ IsPlaced layout.Selection s page_paper sheet_paper pages text sides = ⊥
 pub record IsTask (request : Request) (input : List ℕ) (task : Task) : Type 0 where
   pub page_count : ℕ
   pub document : HasPages input page_count
-  pub whole : is_whole request.choice ≡ true
+  pub said : is_said request.choice request.marks ≡ true
   pub page_paper : (task.options.paper, task.origin) ≡ page_paper_found request.page_paper request.home_paper input
   pub placed : IsPlaced request.layout request.spacing task.options.paper (sheet_paper_found request.sheet_paper task.options.paper)
       page_count (string_bytes task.spec) task.options.sides

@@ -196,7 +196,7 @@ pub fn fault_text(
         Fault::NoSpecification => String::from_str(
             alloc,
             "--print-spec: no specification says a selection, cards, a stack or a poster, nor --pages, --odd, --even, \
-            --reverse or --creep; leave it out",
+            --reverse, --creep or --marks; leave it out",
         ),
         Fault::NoSuchPage { place, pages } => {
             let message = format!(in alloc;

@@ -15,6 +15,7 @@ ghost use Rattle.impose_cli.specs.Faults.{of_document as document_fault, of_othe
 ghost use Rattle.impose_cli.specs.Tasks.{HasPages, IsPlaced, IsTask, IsWritten, asked_by, page_paper_found};
 ghost use Rattle.impose_cli.specs.Tasks.{IsSpec, sheet_paper_found, taken_text};
 ghost use Rattle.impose_cli.specs.Refusals.{RefusesDocument, RefusesLayout, RefusesTask};
+ghost use Rattle.impose_cli.specs.Choices.{is_said as says};
 ghost use Rattle.impose_cli.specs.Endings.{EndsBySpec};
 ghost use Rattle.impose_cli.specs.Unread.{IsPossible, IsSpecification, RefusesSpecification, RefusesUnread};
 ghost use Rattle.impose_cli.specs.declared.request.Layout.TheVariants as layout;
@@ -22,13 +23,14 @@ ghost use Rattle.impose_cli.specs.declared.fault.Fault.TheVariants as faults;
 
 use crate::fault::Fault;
 use crate::laying::{laying_for, papers_for};
-use crate::request::{Layout, Request, Spacing};
+use crate::request::{Layout, PageChoice, Request, Spacing};
 use document_paper::{Comment, document_paper};
 use dsc::{Document, DscError};
 use guard::put_guard;
 use imposer::{Open, Options, Report, RunError, Sink, Workers, run};
 use layouts::{Binding, Cells, Papers, arrange, bind};
 use lengths::Paper;
+use marks::Marks;
 use own_papers::Cut;
 use pagespec::{Spec, read_spec, write_spec};
 use rows::{Signing, auto_sides};
@@ -108,8 +110,15 @@ fn check_spec(alloc: Global, specs: &str) -> Result<(), Fault>
     }
 }
 
+/// Whether a specification says which pages there are, and with which marks.
+fn is_said(choice: &PageChoice, marks: Marks) -> bool
+    ensures { result ≡ says choice.now marks }
+{
+    choice.is_whole() && !(marks.fold || marks.cut)
+}
+
 /// The specification that says what a request asks for, with what a run by it takes; and the fault if there is none: a
-/// document that is refused, then pages that are chosen, then a layout that there isn't, or that no specification says.
+/// document that is refused, then pages that are chosen or marks, then a layout that there isn't, or that no specification says.
 pub fn task_for(alloc: Global, request: &Request, input: Vec<u8>) -> Result<Task, Fault>
     ensures is_task { IfOk result (IsTask request.now input.items) }
     ensures refused { IfErr result (RefusesTask request.now input.items) }
@@ -119,7 +128,7 @@ pub fn task_for(alloc: Global, request: &Request, input: Vec<u8>) -> Result<Task
         Ok(pages) => pages,
         Err(fault) => return Err(fault),
     };
-    if !request.choice.is_whole() {
+    if !is_said(&request.choice, request.marks) {
         return Err(Fault::NoSpecification);
     }
     let (page_paper, origin) = paper_of_pages(request, input.as_slice());

@@ -416,6 +416,36 @@ fn posters(rt: HostRuntime) -> Result<(), Fail> {
 }
 
 #[test]
+fn marks_that_sheets_have(rt: HostRuntime) -> Result<(), Fail> {
+    let none = read(rt.alloc(), "booklet")?.marks;
+    assert!(rt; !none.fold && !none.cut);
+    let fold = read(rt.alloc(), "booklet --marks fold")?.marks;
+    assert!(rt; fold.fold && !fold.cut);
+    let cut = read(rt.alloc(), "cards 8 --marks=cut")?.marks;
+    assert!(rt; !cut.fold && cut.cut);
+    for (line, option, text) in [
+        ("booklet --marks cut", CellOption::FoldMarks, "cut"),
+        (
+            "booklet --marks fold,cut --odd --even",
+            CellOption::FoldMarks,
+            "fold,cut",
+        ),
+        ("nup 2 --marks fold", CellOption::CutMarks, "fold"),
+        ("stack 2 --marks x", CellOption::CutMarks, "x"),
+        ("nup 2 --marks x --scale y", CellOption::Scale, "y"),
+    ] {
+        assert!(rt; has_no_value(&rt, line, option, text), "at {line}");
+    }
+    assert!(rt;
+        matches!(
+            read(rt.alloc(), "select 1 --marks cut"),
+            Err(CommandFault::Words(_))
+        )
+    );
+    Ok(())
+}
+
+#[test]
 fn signatures_that_leaves_cannot_have(rt: HostRuntime) {
     for word in ["0", "2", "6", "1000004", "-4", "x", "Auto", "16 "] {
         assert_eq!(rt; signing_named(word), None, "at {word}");

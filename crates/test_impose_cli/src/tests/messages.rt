@@ -161,6 +161,18 @@ fn words_of_cells(rt: HostRuntime) -> Result<(), Fail> {
             CommandFault::BadValue(CellOption::Scale, text("70%")?),
             "bad scale '70%' after --scale: give a number as 0.7",
         ),
+        (
+            CommandFault::BadValue(CellOption::FoldMarks, text("fold,cut")?),
+            "a booklet isn't cut, so --marks fold,cut asks too much: give --marks fold",
+        ),
+        (
+            CommandFault::BadValue(CellOption::CutMarks, text("fold")?),
+            "only a booklet is folded, so --marks fold asks too much here: give --marks cut",
+        ),
+        (
+            CommandFault::BadValue(CellOption::CutMarks, text("x")?),
+            "unknown marks 'x' after --marks: give cut",
+        ),
     ];
     for (fault, message) in rows {
         assert_told(&rt, &request, Fault::Command(fault), 2, message)?;

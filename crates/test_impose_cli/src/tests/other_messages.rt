@@ -77,7 +77,7 @@ fn layouts_plans_and_faulty_documents(rt: HostRuntime) -> Result<(), Fail> {
         (
             Fault::NoSpecification,
             "--print-spec: no specification says a selection, cards, a stack or a poster, nor --pages, --odd, --even, \
-            --reverse or --creep; leave it out",
+            --reverse, --creep or --marks; leave it out",
         ),
         (
             Fault::Run(RunError::Plan(PlanError::TooManyPages)),

@@ -11,7 +11,7 @@ pub returns-clause-is_task : goal.returns-clause-is_task
 returns-clause-is_task c = record {
   page_count = c.in-Ok.pages;
   document = rw c.as_slice.ensures.value at c.in-Ok.ensures.counted;
-  whole = search rules;
+  said = search rules;
   page_paper = rw c.as_slice-2.ensures.value at c.paper_of_pages-page_paper.ensures;
   placed = rw c.paper_of_sheets.ensures at c.in-Ok-placing.ensures.placed;
   text = rw c.paper_of_sheets.ensures at c.in-Ok-text_to_impose.ensures;
