@@ -1,5 +1,6 @@
 -- What is told of a request in place of carrying it out: the plan of its sheets, or their picture.
 use Rattle.std.specs.Prelude.{⊤, ◌≡◌, ◌⊎◌, ℕ, List, Option}
+use Rattle.rules.specs.Papers.{Paper}
 use Rattle.own_papers.specs.declared.cuts.Cut.{Cut}
 use Rattle.row_runs.specs.Looks.{RefusesLook, TellsPicture, TellsPlan}
 use Rattle.row_runs.specs.Runs.{page_count}
@@ -8,8 +9,7 @@ use Rattle.row_runs.specs.declared.run.RowJob.{RowJob}
 use Rattle.impose_cli.specs.Endings.{RefusesText}
 use Rattle.impose_cli.specs.Faults.{of_asked}
 use Rattle.impose_cli.specs.Refusals.{RefusesRowTask}
-use Rattle.impose_cli.specs.RowTasks.{ArePapersOf, IsJobOf, IsRowJob, IsRowTask, LaysRows}
-use Rattle.impose_cli.specs.Tasks.{page_paper_found}
+use Rattle.impose_cli.specs.RowTasks.{ArePapersOf, IsJobOf, IsRowJob, IsRowPaper, IsRowTask, LaysRows}
 use Rattle.impose_cli.specs.declared.fault.Fault.{Fault}
 use Rattle.impose_cli.specs.declared.look.Look.{Look}
 use Rattle.impose_cli.specs.declared.look.Look.TheVariants.{Plan, Picture}
@@ -18,6 +18,7 @@ use Rattle.impose_cli.specs.declared.request.Product.{Product}
 use Rattle.impose_cli.specs.declared.request.Product.TheVariants as product
 use Rattle.impose_cli.specs.declared.request.Request.{Request}
 use Rattle.impose_cli.specs.declared.row_task.RowTask.{RowTask}
+use Rattle.impose_cli.specs.declared.task.PaperOrigin.{PaperOrigin}
 
 -- a plan or a picture is asked for of a layout that lays rows
 abbrev pub MayBeMade : Product → Layout → Type 0
@@ -40,10 +41,12 @@ TellsTask r t look text = (job : RowJob) × IsJobOf r t job × Tells look job te
 
 -- the text tells of the sheets on which the layout of the request lays its row of this document
 pub record TellsRow (r : Request) (input : List ℕ) (look : Look) (text : List ℕ) : Type 0 where
-  pub job : RowJob
+  pub page_paper : Paper × PaperOrigin
+  pub found : IsRowPaper r input page_paper
   pub cut : Option Cut
+  pub job : RowJob
   pub papers : ArePapersOf r input job.papers.now cut
-  pub is_job : IsRowJob r input (page_paper_found r.page_paper r.home_paper input).0 job
+  pub is_job : IsRowJob r input page_paper.0 job
   pub told : Tells look job text
 
 -- the fault is that of the run of a task's job

@@ -132,6 +132,21 @@ pub fn cut_text(alloc: Global, done: &Finished) -> Result<Option<String>, AllocE
     Ok(Some(format!(in alloc; "--paper cuts {pages}: {own} on {named}")?))
 }
 
+/// What is said of pages that stand behind the document's trailer.
+pub fn behind_text(alloc: Global, done: &Finished) -> Result<Option<String>, AllocError> {
+    let pages = done.behind;
+    match pages {
+        0 => Ok(None),
+        1 => Ok(Some(String::from_str(
+            alloc,
+            "1 page stands behind %%Trailer or %%EOF and is not imposed",
+        )?)),
+        _ => Ok(Some(format!(in alloc;
+            "{pages} pages stand behind %%Trailer or %%EOF and are not imposed"
+        )?)),
+    }
+}
+
 /// The pages that are cut, counted from 1.
 fn cut_pages_text(alloc: Global, cut: &Cut) -> Result<String, AllocError> {
     let first = cut.first.saturating_add(1);
@@ -171,6 +186,7 @@ fn origin_text(origin: PaperOrigin) -> &'static str {
         PaperOrigin::ByComment(Comment::DocumentPaperSizes) => "by its %%DocumentPaperSizes",
         PaperOrigin::ByComment(Comment::BoundingBox) => "by its %%BoundingBox",
         PaperOrigin::AtHome => "the usual one here, as the document names none",
+        PaperOrigin::FirstPage => "that of page 1, as no page has the document's",
     }
 }
 

@@ -12,7 +12,7 @@ ghost use Rattle.layouts.specs.declared.error.ArrangementError.{ArrangementError
 ghost use Rattle.sheet_writer.specs.Sinks.{IsCountable};
 ghost use Rattle.imposer.specs.Runs.{Accepted, FailedIn, HasWritten, IsRefusal, Reports, frame_of};
 ghost use Rattle.impose_cli.specs.Faults.{of_document as document_fault, of_other_input, without_memory};
-ghost use Rattle.impose_cli.specs.Tasks.{HasPages, IsPlaced, IsTask, IsWritten, asked_by, page_paper_found};
+ghost use Rattle.impose_cli.specs.Tasks.{HasBehind, HasPages, IsPlaced, IsTask, IsWritten, asked_by, page_paper_found};
 ghost use Rattle.impose_cli.specs.Tasks.{IsSpec, sheet_paper_found, taken_text};
 ghost use Rattle.impose_cli.specs.Refusals.{RefusesDocument, RefusesLayout, RefusesTask};
 ghost use Rattle.impose_cli.specs.Choices.{is_said as says};
@@ -47,6 +47,8 @@ pub enum PaperOrigin {
     ByComment(Comment),
     /// Nothing tells it, and so it is the paper at home.
     AtHome,
+    /// It is the first page's own, as no page has the document's.
+    FirstPage,
 }
 
 /// What is imposed, and how.
@@ -59,6 +61,8 @@ pub struct Task {
     pub options: Options,
     /// Where the paper of the pages was found.
     pub origin: PaperOrigin,
+    /// How many pages stand behind the document's trailer.
+    pub behind: usize,
 }
 
 /// How a request was carried out.
@@ -71,6 +75,8 @@ pub struct Finished {
     pub origin: PaperOrigin,
     /// The pages that the paper cuts which was named for them. By a specification none are told.
     pub cut: Option<Cut>,
+    /// How many pages stand behind the document's trailer, which aren't imposed.
+    pub behind: usize,
 }
 
 /// As many preparers and imposers as `pstops` has.
@@ -124,8 +130,8 @@ pub fn task_for(alloc: Global, request: &Request, input: Vec<u8>) -> Result<Task
     ensures refused { IfErr result (RefusesTask request.now input.items) }
 {
     // The document is read as it came, so that a fault has its place there.
-    let pages = match pages_of(alloc, input.as_slice()) {
-        Ok(pages) => pages,
+    let (pages, behind) = match pages_of(alloc, input.as_slice()) {
+        Ok(counts) => counts,
         Err(fault) => return Err(fault),
     };
     if !is_said(&request.choice, request.marks) {
@@ -156,6 +162,7 @@ pub fn task_for(alloc: Global, request: &Request, input: Vec<u8>) -> Result<Task
         spec,
         options,
         origin,
+        behind,
     })
 }
 
@@ -197,15 +204,16 @@ pub(crate) fn paper_of_sheets<'p>(named: &'p Option<Paper>, page_paper: &'p Pape
     }
 }
 
-/// How many pages the document has.
-pub(crate) fn pages_of(alloc: Global, input: &[u8]) -> Result<u32, Fault>
-    ensures counted { IfOk result (HasPages input.now) }
-    ensures some { IfOk result (λ pages. 0 < pages) }
-    ensures within { IfOk result (λ pages. pages ≤ most_pages) }
+/// How many pages the document has, and how many stand behind its trailer.
+pub(crate) fn pages_of(alloc: Global, input: &[u8]) -> Result<(u32, usize), Fault>
+    ensures counted { IfOk result (λ counts. HasPages input.now counts.0) }
+    ensures behind { IfOk result (λ counts. HasBehind input.now counts.1) }
+    ensures some { IfOk result (λ counts. 0 < counts.0) }
+    ensures within { IfOk result (λ counts. counts.0 ≤ most_pages) }
     ensures refused { IfErr result (RefusesDocument input.now) }
 {
     match Document::read(alloc, input) {
-        Ok(document) => Ok(document.pages()),
+        Ok(document) => Ok((document.pages(), document.pages_behind_trailer())),
         Err(error) => Err(of_document(error, input)),
     }
 }
@@ -358,6 +366,7 @@ pub(crate) fn run_spec<R: Threads + Wait + Sync, S: Sink>(
         page_paper: task.options.paper,
         origin: task.origin,
         cut: None,
+        behind: task.behind,
     })
 }
 
