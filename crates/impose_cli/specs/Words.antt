@@ -274,18 +274,20 @@ pub record NamesNoLength (option : LengthOption) (found : List Row) (text : Text
 abbrev pub NamesNoCells : (found : List Row) → (text : Text) → Type 0
 NamesNoCells found text = (first_of (codes "count") found ≡ Some text) × (cells_named text ≡ None)
 
--- the value of the option is none, and those of the options before it are, and the lengths
+-- what is to be kept free, and the creep, are lengths
 pub record HasLengths (found : List Row) : Type 0 where
   pub margin : is_some (length_found Margin found) ≡ true
   pub gap : is_some (length_found Gap found) ≡ true
   pub trim : is_some (length_found Trim found) ≡ true
   pub creep : is_some (length_found Creep found) ≡ true
 
+-- the values of the options before it are some
 abbrev pub AreValues : CellOption → (found : List Row) → Type 0
 AreValues cell.Order found = ⊤
 AreValues cell.Turned found = is_some (run_found found) ≡ true
 AreValues cell.Scale found = (is_some (run_found found) ≡ true) × (is_some (turned_found found) ≡ true)
 
+-- the value of the option is none, and those of the options before it are some
 pub record HasNoValue (option : CellOption) (found : List Row) (text : Text) : Type 0 where
   pub given : first_of (cell_id option) found ≡ Some text
   pub none : is_value option text ≡ false
