@@ -354,7 +354,7 @@ pub record NamesNoLength (option : LengthOption) (found : List Row) (text : Text
 abbrev pub NamesNoCells : GridCommand → (found : List Row) → (text : Text) → Type 0
 NamesNoCells command found text = (first_of (codes "count") found ≡ Some text) × (cells_in command text ≡ None)
 
--- the value of the option is none, and those of the options before it are, and the lengths
+-- what is to be kept free, and the creep, are lengths
 pub record HasLengths (found : List Row) : Type 0 where
   pub margin : is_some (length_found Margin found) ≡ true
   pub gap : is_some (length_found Gap found) ≡ true
@@ -365,6 +365,7 @@ pub record HasLengths (found : List Row) : Type 0 where
 abbrev pub AreRead : (found : List Row) → Type 0
 AreRead found = (is_some (run_found found) ≡ true) × (is_some (turned_found found) ≡ true) × (is_some (scale_found found) ≡ true)
 
+-- the values of the options before it are some
 abbrev pub AreValues : CellOption → (found : List Row) → Type 0
 AreValues cell.Order found = ⊤
 AreValues cell.Turned found = is_some (run_found found) ≡ true
@@ -372,6 +373,7 @@ AreValues cell.Scale found = (is_some (run_found found) ≡ true) × (is_some (t
 AreValues cell.FoldMarks found = AreRead found
 AreValues cell.CutMarks found = AreRead found
 
+-- the value of the option is none, and those of the options before it are some
 pub record HasNoValue (option : CellOption) (found : List Row) (text : Text) : Type 0 where
   pub given : first_of (cell_id option) found ≡ Some text
   pub none : is_value option text ≡ false
