@@ -1,5 +1,5 @@
 //! The sheets that are asked for.
-ghost use Rattle.std.specs.Prelude.{◌≡◌, ◌<◌, ◌≤◌, IfErr, IfOk, IfSome, Ok, length, option_map};
+ghost use Rattle.std.specs.Prelude.{◌≡◌, ◌<◌, ◌≤◌, All, IfErr, IfOk, IfSome, Ok, length, option_map};
 ghost use Rattle.made_sheets.specs.Choice.{most_entries};
 ghost use Rattle.rows.specs.Choices.{choice_of};
 ghost use Rattle.rows.specs.Sewing.{MayBeSewn, signing_of};
@@ -9,6 +9,7 @@ ghost use Rattle.layouts.specs.declared.error.ArrangementError.TheVariants as Ar
 ghost use Rattle.row_runs.specs.Errors.{of_arrangement, of_row};
 ghost use Rattle.row_runs.specs.Sheets.{AreAsked, MayBeAsked, MayBeLaid, RefusesAsked, WhyNotLaid};
 ghost use Rattle.row_runs.specs.Sheets.{leaves_in as leaves_of_signature, sheets_laid};
+ghost use Rattle.row_runs.specs.Standing.{StandAsLaid, StandsAlone};
 
 use crate::error::AskedError;
 use arranged_sheets::{
@@ -76,6 +77,7 @@ pub fn asked_sheets(
     requires pages { pages ≤ most_entries }
     requires asked { MayBeAsked asked.now }
     ensures made { IfOk result (AreAsked pages papers.now asked.now) }
+    ensures stands { IfOk result (StandAsLaid asked.now.laying) }
     ensures refused { IfErr result (RefusesAsked pages papers.now asked.now) }
 {
     let row = match chosen_row(alloc, pages, &asked.choice) {
@@ -136,6 +138,7 @@ fn laid(
 ) -> Result<MadeSheets, ArrangementError>
     requires { MayBeLaid laying.now }
     ensures made { IfOk result (λ made. made ≡ sheets_laid laying.now leaves papers.now row.now) }
+    ensures stands { IfOk result (StandAsLaid laying.now) }
     ensures refused { IfErr result (WhyNotLaid laying.now leaves papers.now row.now) }
 {
     match laying {
@@ -166,6 +169,7 @@ fn selected(
     row: &[Option<u32>],
 ) -> Result<MadeSheets, ArrangementError>
     ensures made { IfOk result (λ made. made ≡ selected_of papers.now blank.now row.now) }
+    ensures stands { IfOk result (All StandsAlone) }
     ensures refused { IfErr result (λ error. error ≡ ArrangementError.NoMemory) }
 {
     let Ok(list) = list_of(alloc, papers) else {
