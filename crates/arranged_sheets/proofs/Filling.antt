@@ -1,5 +1,5 @@
 -- Cells that are filled one after the other.
-use Rattle.std.proofs.Common.{arith, ◌≡◌, ℕ, Bool, ◌+◌, ◌<◌, ◌⊎◌, inl, inr, List, [], ◌∷◌, ◌++◌, sym, ap, subst, ◌∙◌, Option}
+use Rattle.std.proofs.Common.{arith, ◌≡◌, ℕ, Bool, ◌+◌, ◌<◌, ◌⊎◌, inl, inr, List, [], ◌∷◌, ◌++◌, sym, ap, subst, refl, append_assoc, ◌∙◌, Option}
 use Rattle.std.specs.Prelude.{map}
 use Rattle.std.specs.List.{range_with_len}
 use Rattle.std.proofs.Math.Nat.{eq-or-lt_of_le}
@@ -36,3 +36,11 @@ one_more P k so_far here n less = either (eq-or-lt_of_le (omega (arith, less)))
     either : (n ≡ k) ⊎ (n < k) → P n
     either (inl e) = subst P (sym e) here
     either (inr h) = so_far n h
+
+-- and behind others
+pub sheet_behind : (paper : Paper) (slots_of : ℕ → List MadeSlot) (first old new : List MadeSheet) (slots : List MadeSlot) (k : ℕ) → old ≡ first ++ map (λ s. sheet paper (slots_of s)) (range_with_len 0 k) → slots ≡ slots_of k
+    → new ≡ old ++ sheet paper slots ∷ [] → new ≡ first ++ map (λ s. sheet paper (slots_of s)) (range_with_len 0 (k + 1))
+sheet_behind paper slots_of first old new slots k so_far here e =
+    let sheets = map (λ s. sheet paper (slots_of s)) (range_with_len 0 k) in
+    e ∙ (ap (λ zs. zs ++ sheet paper slots ∷ []) so_far
+    ∙ (append_assoc first sheets (sheet paper slots ∷ []) ∙ ap (λ zs. first ++ zs) (sheet_more paper slots_of sheets (sheets ++ sheet paper slots ∷ []) slots k refl here refl)))

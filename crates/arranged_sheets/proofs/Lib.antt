@@ -7,6 +7,7 @@ mod Leaves
 mod Creeping
 mod AtRest
 mod Tiles
+mod OneScale
 mod Examples
 mod Filling
 mod Offsets

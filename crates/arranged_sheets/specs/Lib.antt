@@ -1,6 +1,8 @@
--- Read in this order: sheets whose cells are filled from a row, and how; leaves that creep; how they stand; posters.
+-- Read in this order: sheets whose cells are filled from a row, and how; one scale for all; leaves that creep; how they stand;
+-- posters.
 pub mod Filled
 pub mod Shapes
+pub mod SameScale
 pub mod Creep
 pub mod Standing
 pub mod Posters

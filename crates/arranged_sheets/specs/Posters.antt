@@ -1,6 +1,6 @@
 -- Posters: one page over several sheets, which are its tiles. All here is this project's own rules.
 use Rattle.std.specs.Prelude.{◌≡◌, ◌⊎◌, ℕ, ◌+◌, ◌-◌, ◌*◌, ◌/◌, ◌%◌, ◌<◌, min, pos, ◌+ℤ◌, ◌-ℤ◌, ◌≤ℤ◌, nat_abs, nat_le, nat_lt, ◌&&◌}
-use Rattle.std.specs.Prelude.{false, if◌then◌else◌, List, [], ◌∷◌, map, Option, Some, None}
+use Rattle.std.specs.Prelude.{false, if◌then◌else◌, List, [], ◌∷◌, map, flat_map, slice_index_or, Option, Some, None}
 use Rattle.std.specs.List.{range_with_len}
 use Rattle.rules.specs.Papers.{Paper}
 use Rattle.rules.specs.Specification.{Item, Upright}
@@ -9,7 +9,9 @@ use Rattle.layouts.specs.Placed.{fine, stands, IsOfPage}
 use Rattle.layouts.specs.Cells.{fitting, slack, in_points, whole}
 use Rattle.layouts.specs.Refusals.{are_reached, is_scale}
 use Rattle.layouts.specs.Laws.{IsPaper}
-use Rattle.made_sheets.specs.Made.{MadeSheet, Placed}
+use Rattle.rules.specs.Signatures.{entry_of}
+use Rattle.made_sheets.specs.Made.{MadeSheet, Blank, Placed}
+use Rattle.made_sheets.specs.Rows.{Row}
 use Rattle.arranged_sheets.specs.declared.poster.Poster.{Poster}
 use Rattle.arranged_sheets.specs.declared.poster.Laid.{Laid}
 use Rattle.arranged_sheets.specs.declared.poster.PosterError.{PosterError}
@@ -62,10 +64,14 @@ poster_sheets page p k = map (λ n. record {
   slots = Placed k (tile_item page p k (n % p.columns) (p.rows - (n / p.columns + 1))) page ∷ [];
 }) (range_with_len 0 (p.rows * p.columns))
 
+-- how many sheets a poster has at most
+abbrev pub most_tiles : ℕ
+most_tiles = 1_024
+
 -- the first reason why there is no such poster, if there is one
 abbrev pub why_no_poster : (page : Paper) → Poster → Option PosterError
 why_no_poster page p =
-    if nat_le 1 (p.rows * p.columns) && nat_le (p.rows * p.columns) 1_024
+    if nat_le 1 (p.rows * p.columns) && nat_le (p.rows * p.columns) most_tiles
     then (if are_reached p.sheet
     then (if nat_lt p.overlap (tile (nat_abs p.sheet.width) p.edge) && nat_lt p.overlap (tile (nat_abs p.sheet.height) p.edge)
     then (if nat_lt (poster_width p) 10_000_000_000 && nat_lt (poster_height p) 10_000_000_000
@@ -78,6 +84,36 @@ why_no_poster page p =
 -- the error is that one, or out of memory
 abbrev pub IsNoPoster : Option PosterError → PosterError → Type 0
 IsNoPoster found e = (e ≡ why.NoMemory) ⊎ (found ≡ Some e)
+
+-- ---- the pages of a row
+
+-- as many blank sheets
+abbrev pub blank_tiles : Poster → List MadeSheet
+blank_tiles p = map (λ n. record { paper = p.sheet; slots = Blank ∷ [] }) (range_with_len 0 (p.rows * p.columns))
+
+-- the paper of a page; one whose paper isn't told has the sheets'
+abbrev pub poster_paper : Poster → List Paper → (page : ℕ) → Paper
+poster_paper p papers page = slice_index_or papers page p.sheet
+
+-- a page on its tiles; for a blank they are blank
+abbrev pub entry_tiles : Poster → List Paper → Option ℕ → List MadeSheet
+entry_tiles p papers None = blank_tiles p
+entry_tiles p papers (Some page) = poster_sheets (poster_paper p papers page) p page
+
+-- the tiles of all entries, one entry after the other
+abbrev pub row_tiles : Poster → List Paper → Row → List MadeSheet
+row_tiles p papers row = flat_map (entry_tiles p papers) row
+
+-- this is why the entry's page can't be a poster
+abbrev pub IsNoPosterFrom : Poster → List Paper → (entry : Option ℕ) → PosterError → Type 0
+IsNoPosterFrom p papers entry e =
+    (page : ℕ) × (entry ≡ Some page) × (why_no_poster (poster_paper p papers page) p ≡ Some e)
+
+-- it is out of memory, or the reason for a page of the row
+abbrev pub IsNoPosterFor : Poster → List Paper → Row → PosterError → Type 0
+IsNoPosterFor p papers row e = (e ≡ why.NoMemory) ⊎ ((i : ℕ) × IsNoPosterFrom p papers (entry_of row i) e)
+
+-- ---- the page on the tiles
 
 -- the page on the tiles: its scale, where it begins on the first one, and how far the next ones are
 abbrev pub laid_of : (page : Paper) → Poster → Laid

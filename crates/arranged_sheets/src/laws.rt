@@ -3,6 +3,7 @@ ghost use Rattle.arranged_sheets.specs.Filled.{GridRunsOn, StackRunsOn, DuplexRu
 ghost use Rattle.arranged_sheets.specs.Filled.{FilledIsInside, FilledIsApart, SidesAreInside, SidesAreApart, BookletIsGrid, BookletKeepsFold};
 ghost use Rattle.arranged_sheets.specs.Creep.{CreepMoves, CreepGrows, CreepKeepsSides, NoCreepIsPlain};
 ghost use Rattle.arranged_sheets.specs.Posters.{PosterCovers, TilesOverlap};
+ghost use Rattle.arranged_sheets.specs.SameScale.{HaveOneScale, OneScaleStands};
 
 /// The cells of the sheets of a grid, sheet by sheet, are the row.
 pub fn grid_runs_on()
@@ -82,4 +83,14 @@ pub fn poster_covers()
 /// Neighbouring tiles of a poster share exactly the overlap.
 pub fn tiles_overlap()
     ensures { TilesOverlap }
+{}
+
+/// With one scale for a row all its pages have that of the largest paper, the least of their own.
+pub fn have_one_scale()
+    ensures { HaveOneScale }
+{}
+
+/// And each stands in its cell then.
+pub fn one_scale_stands()
+    ensures { OneScaleStands }
 {}

@@ -6,7 +6,11 @@ mod creep;
 mod fill;
 pub mod laws;
 mod poster;
+mod poster_rows;
+mod same_scale;
 
 pub use creep::{Creep, creeping_booklet_sheets};
 pub use fill::{booklet_sheets, card_sheets, grid_sheets, leaf_sheets, stack_sheets};
-pub use poster::{Poster, PosterError, poster_sheets};
+pub use poster::{Poster, PosterError, check_poster, poster_sheets};
+pub use poster_rows::poster_row_sheets;
+pub use same_scale::at_one_scale;

@@ -1,12 +1,12 @@
 //! Posters: one page over several sheets.
-ghost use Rattle.std.specs.Prelude.{◌≡◌, ◌+◌, ◌-◌, ◌*◌, ◌<◌, ◌≤◌, ◌-ℤ◌, pos, nat_abs, IfOk, IfErr, OnOk, Some, None, IsTrue};
+ghost use Rattle.std.specs.Prelude.{◌≡◌, ◌++◌, ◌+◌, ◌-◌, ◌*◌, ◌<◌, ◌≤◌, ◌-ℤ◌, pos, nat_abs, IfOk, IfErr, OnOk, Some, None, IsTrue};
 ghost use Rattle.rules.specs.Papers.{is_side, longest_side};
 ghost use Rattle.pagespec.specs.Items.{item_of, measure_of};
 ghost use Rattle.rules.specs.Numbers.{greatest_number};
 ghost use Rattle.layouts.specs.Cells.{in_points, fitting as fits, slack as slack_of};
 ghost use Rattle.layouts.specs.Refusals.{is_scale as may_be_scale};
 ghost use Rattle.arranged_sheets.specs.Posters.{tile as tile_of, stride as stride_of, length_of, poster_sheets as sheets_of};
-ghost use Rattle.arranged_sheets.specs.Posters.{why_no_poster, IsNoPoster, laid_of, laid_item, IsNear};
+ghost use Rattle.arranged_sheets.specs.Posters.{most_tiles, why_no_poster, IsNoPoster, laid_of, laid_item, IsNear};
 
 use lengths::{Grains, Number, Paper, Unit};
 use pagespec::{Item, Measure, Turn};
@@ -60,6 +60,19 @@ struct Laid {
     down: u64,
 }
 
+/// Whether pages of this paper can be such a poster.
+pub fn check_poster(poster: &Poster, page_paper: &Paper) -> Result<(), PosterError>
+    ensures tiles { OnOk result (poster.now.rows * poster.now.columns ≤ most_tiles) }
+    ensures edge { OnOk result (poster.now.edge ≤ 10_000_000_000) }
+    ensures possible { OnOk result (why_no_poster page_paper.now poster.now ≡ None) }
+    ensures refused { IfErr result (λ error. why_no_poster page_paper.now poster.now ≡ Some error) }
+{
+    match laid_on(poster, page_paper) {
+        Ok(_) => Ok(()),
+        Err(error) => Err(error),
+    }
+}
+
 /// One page over the sheets of a poster, row by row from the head, and each from the left: as large as they allow, and in
 /// the middle of them all.
 pub fn poster_sheets(
@@ -72,11 +85,28 @@ pub fn poster_sheets(
     ensures possible { OnOk result (why_no_poster page_paper.now poster.now ≡ None) }
     ensures refused { IfErr result (IsNoPoster (why_no_poster page_paper.now poster.now)) }
 {
+    let mut made = MadeSheets::new(alloc);
+    match push_poster(poster, page_paper, page, &mut made) {
+        Ok(()) => Ok(made),
+        Err(error) => Err(error),
+    }
+}
+
+/// Adds the sheets of a page.
+pub(crate) fn push_poster(
+    poster: &Poster,
+    page_paper: &Paper,
+    page: u32,
+    made: &mut MadeSheets,
+) -> Result<(), PosterError>
+    ensures pushed { OnOk result (made.new ≡ made.old ++ sheets_of page_paper.now poster.now page) }
+    ensures possible { OnOk result (why_no_poster page_paper.now poster.now ≡ None) }
+    ensures refused { IfErr result (IsNoPoster (why_no_poster page_paper.now poster.now)) }
+{
     let laid = match laid_on(poster, page_paper) {
         Ok(laid) => laid,
         Err(error) => return Err(error),
     };
-    let mut made = MadeSheets::new(alloc);
     for n in 0..poster.rows * poster.columns {
         let (column, row) = (n % poster.columns, poster.rows - (n / poster.columns + 1));
         let slots = [MadeSlot::Placed {
@@ -89,13 +119,14 @@ pub fn poster_sheets(
             Err(_) => return Err(PosterError::NoMemory),
         }
     }
-    Ok(made)
+    Ok(())
 }
 
 /// The page on the tiles.
 fn laid_on(poster: &Poster, page_paper: &Paper) -> Result<Laid, PosterError>
     ensures value { IfOk result (λ laid. laid ≡ laid_of page_paper.now poster.now) }
-    ensures tiles { IfOk result (λ laid. poster.now.rows * poster.now.columns ≤ 1_024) }
+    ensures tiles { IfOk result (λ laid. poster.now.rows * poster.now.columns ≤ most_tiles) }
+    ensures edge { IfOk result (λ laid. poster.now.edge ≤ 10_000_000_000) }
     ensures possible { OnOk result (why_no_poster page_paper.now poster.now ≡ None) }
     ensures refused { IfErr result (λ error. why_no_poster page_paper.now poster.now ≡ Some error) }
 {

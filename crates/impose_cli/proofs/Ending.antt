@@ -29,6 +29,7 @@ placed_as_named (layout.Booklet signature long_edge) s named page_paper sheet_pa
 placed_as_named layout.Selection s named page_paper sheet_paper pages text sides is h = absurd is
 placed_as_named (layout.Cards n) s named page_paper sheet_paper pages text sides is h = absurd is
 placed_as_named (layout.Stack n duplex) s named page_paper sheet_paper pages text sides is h = absurd is
+placed_as_named (layout.Poster columns rows) s named page_paper sheet_paper pages text sides is h = absurd is
 placed_as_named (layout.Spec specs) s named page_paper sheet_paper pages text sides is h = (h.0 ∙ sym is, h.1)
 
 pub finishes : (r : Request) (input : List ℕ) (task : Task) (old new : Option (List ℕ)) (report : Report) → ((text : List ℕ) × IsSpec r.layout text) → IsTask r input task

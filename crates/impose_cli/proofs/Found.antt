@@ -1,6 +1,6 @@
 -- What was found for a subcommand, and what its refusals say of the words.
-use Rattle.std.proofs.Common.{◌≡◌, ℤ, ap, ap₂, refl, inr, subst, sym, Bool, List, Option, Some, None, unwrap_or, true, false}
-use Rattle.std.specs.Prelude.{codes, is_some, option_map, string_bytes}
+use Rattle.std.proofs.Common.{◌≡◌, ℕ, ℤ, ap, ap₂, refl, inr, subst, sym, Bool, List, Option, Some, None, unwrap_or, true, false}
+use Rattle.std.specs.Prelude.{codes, is_some, option_and_then, option_map, string_bytes}
 use Rattle.std.specs.Box.{box_value}
 use Rattle.clap.specs.Words.{Row, Text, first_of, found_of, rows_of, subcommand_name_of, subcommand_rows, subcommand_rows_of}
 use Rattle.clap.specs.declared.parser.matches.ArgMatches.{ArgMatches}
@@ -9,7 +9,10 @@ use Rattle.rules.specs.Papers.{Paper}
 use Rattle.lengths.specs.Lengths.{a4, length_named}
 use Rattle.impose_cli.specs.declared.request.Request.{Request}
 use Rattle.impose_cli.specs.Words.{AreBefore, AreValues, AsksFor, ChoosesBy, Entered, Enters, HasLayout, HasLengths, HasNoValue, HasSizes, HasSpacing, NamesNoLength, ParseRefuses, Reads, Refuses, RefusesFound, RefusesArguments}
-use Rattle.impose_cli.specs.Words.{SpacesBy, cell_id, command_name, is_complete, is_value, length_found, length_id, ranges_id, run_found, size_found, turned_found}
+use Rattle.layouts.specs.declared.arrangement.Cells.{Cells}
+use Rattle.layouts.specs.declared.arrangement.Cells.TheVariants.{AtLeast, Exactly}
+use Rattle.impose_cli.specs.Arranging.{cells_named, exact_alone}
+use Rattle.impose_cli.specs.Words.{SpacesBy, cell_id, cells_in, command_name, is_complete, is_value, length_found, length_id, ranges_id, run_found, size_found, turned_found}
 use Rattle.impose_cli.specs.Sizing.{ReadsSizes, RefusesBorder, RefusesChoice, RefusesLength, RefusesOutfile, RefusesReading, RefusesSize, RefusesSizes, RefusesSpacing, RefusesValue}
 use Rattle.impose_cli.specs.declared.request.Layout.{Layout}
 use Rattle.impose_cli.specs.declared.request.PageChoice.{PageChoice}
@@ -22,7 +25,7 @@ use Rattle.impose_cli.specs.declared.fault.CellOption.TheVariants as cell
 use Rattle.impose_cli.specs.declared.fault.GridCommand.{GridCommand}
 use Rattle.impose_cli.specs.declared.fault.GridCommand.TheVariants as grid
 use Rattle.impose_cli.specs.declared.fault.LengthOption.{LengthOption}
-use Rattle.impose_cli.specs.declared.fault.LengthOption.TheVariants.{Margin, Gap, Trim, Creep}
+use Rattle.impose_cli.specs.declared.fault.LengthOption.TheVariants.{Margin, Gap, Trim, Creep, Overlap}
 use Rattle.impose_cli.specs.declared.fault.PaperOption.TheVariants.{Paper as OfPages, Sheet as OfSheets}
 use Rattle.impose_cli.specs.declared.fault.CommandFault.{CommandFault}
 use Rattle.impose_cli.specs.declared.fault.CommandFault.TheVariants as fault
@@ -91,6 +94,17 @@ pub lacks_cells : (command : GridCommand) (found : List Row) → is_some (first_
 lacks_cells grid.NUp found e = e
 lacks_cells grid.Cards found e = e
 lacks_cells grid.Stack found e = e
+lacks_cells grid.Poster found e = e
+
+-- those of a poster are columns and rows
+no_number : (cells : Option Cells) (n : ℕ) → exact_alone cells ≡ Some (AtLeast n) → ⊥
+no_number None n e = cc
+no_number (Some (AtLeast m)) n e = cc
+no_number (Some (Exactly columns rows)) n e = cc
+
+pub no_number_found : (text : Option Text) (n : ℕ) → option_and_then (cells_in grid.Poster) text ≡ Some (AtLeast n) → ⊥
+no_number_found None n e = cc
+no_number_found (Some text) n e = no_number (cells_named text) n e
 
 -- ---- a step behind the others
 
@@ -251,6 +265,20 @@ refuses_creep found margin gap trim fault.NoText m g t h = h
 refuses_creep found margin gap trim (fault.BadCells command text) m g t h = h
 refuses_creep found margin gap trim (fault.BadValue which text) m g t h = absurd h
 
+pub refuses_overlap : (found : List Row) (margin gap trim creep : ℤ) (f : CommandFault) → length_found Margin found ≡ Some margin → length_found Gap found ≡ Some gap → length_found Trim found ≡ Some trim → length_found Creep found ≡ Some creep → RefusesLength Overlap found f → RefusesSpacing found f
+refuses_overlap found margin gap trim creep (fault.BadLength option text) m g t c h = names_none Overlap option found (string_bytes text) h.0 h.1 h.2 (is_there _ margin m, is_there _ gap g, is_there _ trim t, is_there _ creep c)
+refuses_overlap found margin gap trim creep fault.NoMemory m g t c h = tt
+refuses_overlap found margin gap trim creep (fault.UnknownPaper option text) m g t c h = h
+refuses_overlap found margin gap trim creep (fault.BadBorder text) m g t c h = h
+refuses_overlap found margin gap trim creep fault.Lacking m g t c h = h
+refuses_overlap found margin gap trim creep fault.OddAndEven m g t c h = h
+refuses_overlap found margin gap trim creep (fault.BadSignature text) m g t c h = h
+refuses_overlap found margin gap trim creep (fault.OptionAsOutfile text) m g t c h = h
+refuses_overlap found margin gap trim creep (fault.Words error) m g t c h = h
+refuses_overlap found margin gap trim creep fault.NoText m g t c h = h
+refuses_overlap found margin gap trim creep (fault.BadCells command text) m g t c h = h
+refuses_overlap found margin gap trim creep (fault.BadValue which text) m g t c h = absurd h
+
 -- ---- the order of cells, and the scale
 
 has_no_value : (option other : CellOption) (found : List Row) (text : Text) → other ≡ option → first_of (cell_id option) found ≡ Some text → is_value option text ≡ false → AreValues option found → HasNoValue other found text
@@ -298,20 +326,20 @@ refuses_scale found run turned (fault.Words error) r t h = h
 refuses_scale found run turned fault.NoText r t h = h
 refuses_scale found run turned (fault.BadLength option text) r t h = h
 
-pub refuses_reading : (found : List Row) (margin gap trim creep : ℤ) (f : CommandFault) → length_found Margin found ≡ Some margin → length_found Gap found ≡ Some gap → length_found Trim found ≡ Some trim → length_found Creep found ≡ Some creep
+pub refuses_reading : (found : List Row) (margin gap trim creep overlap : ℤ) (f : CommandFault) → length_found Margin found ≡ Some margin → length_found Gap found ≡ Some gap → length_found Trim found ≡ Some trim → length_found Creep found ≡ Some creep → length_found Overlap found ≡ Some overlap
     → RefusesReading found f → RefusesSpacing found f
-refuses_reading found margin gap trim creep (fault.BadValue option text) m g t c h = (record { margin = is_there _ margin m; gap = is_there _ gap g; trim = is_there _ trim t; creep = is_there _ creep c }, h)
-refuses_reading found margin gap trim creep fault.NoMemory m g t c h = tt
-refuses_reading found margin gap trim creep (fault.UnknownPaper option text) m g t c h = h
-refuses_reading found margin gap trim creep (fault.BadBorder text) m g t c h = h
-refuses_reading found margin gap trim creep fault.Lacking m g t c h = h
-refuses_reading found margin gap trim creep fault.OddAndEven m g t c h = h
-refuses_reading found margin gap trim creep (fault.BadSignature text) m g t c h = h
-refuses_reading found margin gap trim creep (fault.BadCells command text) m g t c h = h
-refuses_reading found margin gap trim creep (fault.OptionAsOutfile text) m g t c h = h
-refuses_reading found margin gap trim creep (fault.Words error) m g t c h = h
-refuses_reading found margin gap trim creep fault.NoText m g t c h = h
-refuses_reading found margin gap trim creep (fault.BadLength option text) m g t c h = absurd h
+refuses_reading found margin gap trim creep overlap (fault.BadValue option text) m g t c o h = (record { margin = is_there _ margin m; gap = is_there _ gap g; trim = is_there _ trim t; creep = is_there _ creep c; overlap = is_there _ overlap o }, h)
+refuses_reading found margin gap trim creep overlap fault.NoMemory m g t c o h = tt
+refuses_reading found margin gap trim creep overlap (fault.UnknownPaper option text) m g t c o h = h
+refuses_reading found margin gap trim creep overlap (fault.BadBorder text) m g t c o h = h
+refuses_reading found margin gap trim creep overlap fault.Lacking m g t c o h = h
+refuses_reading found margin gap trim creep overlap fault.OddAndEven m g t c o h = h
+refuses_reading found margin gap trim creep overlap (fault.BadSignature text) m g t c o h = h
+refuses_reading found margin gap trim creep overlap (fault.BadCells command text) m g t c o h = h
+refuses_reading found margin gap trim creep overlap (fault.OptionAsOutfile text) m g t c o h = h
+refuses_reading found margin gap trim creep overlap (fault.Words error) m g t c o h = h
+refuses_reading found margin gap trim creep overlap fault.NoText m g t c o h = h
+refuses_reading found margin gap trim creep overlap (fault.BadLength option text) m g t c o h = absurd h
 
 pub refuses_spacing : (name : Text) (found : List Row) (page_paper sheet_paper : Option Paper) (border : Option ℤ) (layout : Layout) (f : CommandFault)
     → ReadsSizes found page_paper sheet_paper border → AsksFor name found layout → RefusesSpacing found f → RefusesFound name found f

@@ -1,6 +1,6 @@
 -- What the fault of a layout's error says of the layout.
 use Rattle.std.proofs.Common.{◌≡◌, ◌∙◌, ap, refl, sym, inl, inr, Bool, Option, Some, Result, Ok, Err, IfOk}
-use Rattle.std.specs.Prelude.{◌⊎◌, pos}
+use Rattle.std.specs.Prelude.{◌⊎◌, pos, option_map}
 use Rattle.rules.specs.Papers.{Paper}
 use Rattle.layouts.specs.Refusals.{IsFault, first_of, is_length, why_not_bound}
 use Rattle.layouts.specs.declared.arrangement.Binding.{Binding}
@@ -37,10 +37,15 @@ refuses_layout found ScaleOutOfRange h = inr (ScaleOutOfRange, refl, unless foun
 refuses_layout found ScaleTooLarge h = inr (ScaleTooLarge, refl, unless found ScaleTooLarge (λ bad. cc) h)
 refuses_layout found CreepOverFold h = inr (CreepOverFold, refl, unless found CreepOverFold (λ bad. cc) h)
 
+-- the fault is that of the reason
+pub refuses_laid : (found : Option ArrangementError) (f : Fault) → (f ≡ without_memory) ⊎ ((why : ArrangementError) × (f ≡ fault.Layout why) × (found ≡ Some why)) → (f ≡ without_memory) ⊎ (option_map fault.Layout found ≡ Some f)
+refuses_laid found f (inl h) = inl h
+refuses_laid found f (inr (e, told, why)) = inr (ap (option_map fault.Layout) why ∙ ap Some (sym told))
+
 -- of a booklet whose leaves don't creep it is why they can't be bound
 pub refuses_booklet : (signing : Signing) (long_edge : Bool) (s : Spacing) (page sheet : Paper) (b : Binding) (f : Fault) → s.creep ≡ pos 0 → b ≡ binding_in s long_edge
     → (f ≡ without_memory) ⊎ ((e : ArrangementError) × (f ≡ fault.Layout e) × (why_not_bound page sheet b ≡ Some e))
     → (f ≡ without_memory) ⊎ RefusesLayout (layout.Booklet signing long_edge) s page sheet f
 refuses_booklet signing long_edge s page sheet b f none is (inl h) = inl h
 refuses_booklet signing long_edge s page sheet b f none is (inr (e, told, why)) =
-    inr (inr (inr (e, told, ap (λ z. first_of (is_length z) LengthOutOfRange (why_not_bound page sheet (binding_in s long_edge))) none ∙ (ap (why_not_bound page sheet) (sym is) ∙ why))))
+    inr (inr (inr (ap (option_map fault.Layout) (ap (λ z. first_of (is_length z) LengthOutOfRange (why_not_bound page sheet (binding_in s long_edge))) none ∙ (ap (why_not_bound page sheet) (sym is) ∙ why)) ∙ ap Some (sym told))))

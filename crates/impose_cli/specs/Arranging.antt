@@ -40,6 +40,12 @@ cells_from (Some (n, b ∷ rest)) = if b == letter_x then with_rows n (digits_at
 abbrev pub cells_named : List ℕ → Option Cells
 cells_named text = cells_from (digits_at text)
 
+-- columns and rows alone
+abbrev pub exact_alone : Option Cells → Option Cells
+exact_alone None = None
+exact_alone (Some (AtLeast n)) = None
+exact_alone (Some (Exactly columns rows)) = Some (Exactly columns rows)
+
 -- ---- in which order
 
 -- along what pages run, and whether from the right: what stands first says where the second page stands

@@ -1,5 +1,5 @@
--- The command line: impose nup N, impose booklet, impose cards N, impose stack N, impose select RANGES or impose spec
--- SPECS, with [OPTIONS] [INFILE [OUTFILE]]. N is a number of pages, or columns and rows.
+-- The command line: impose nup N, impose booklet, impose cards N, impose stack N, impose poster CxR, impose select RANGES or
+-- impose spec SPECS, with [OPTIONS] [INFILE [OUTFILE]]. N is a number of pages, or columns and rows.
 use Rattle.std.specs.Prelude.{ℕ, pos, true, List, [], ◌∷◌, Some, codes}
 use Rattle.std.specs.List.{fold}
 use Rattle.clap.specs.Words.{App, Rule, Shape, Text, new_app, new_rule, with_rule, with_subcommand}
@@ -75,6 +75,7 @@ cell_rules =
     option_rule (codes "order")
     ∷ option_rule (codes "turned")
     ∷ option_rule (codes "scale")
+    ∷ flag_rule (codes "same-scale")
     ∷ row_rules
 
 abbrev pub nup_app : App
@@ -86,9 +87,15 @@ cards_app = subcommand_app (codes "cards") (count_rule ∷ cell_rules)
 abbrev pub stack_app : App
 stack_app = subcommand_app (codes "stack") (count_rule ∷ flag_rule (codes "duplex") ∷ cell_rules)
 
+-- columns and rows of sheets, how far these overlap, and which pages
+abbrev pub poster_app : App
+poster_app = subcommand_app (codes "poster")
+    (count_rule ∷ option_rule (codes "overlap") ∷ option_rule (codes "margin") ∷ option_rule (codes "pages") ∷ order_rules)
+
 abbrev pub booklet_app : App
 booklet_app = subcommand_app (codes "booklet")
-    (option_rule (codes "signature") ∷ option_rule (codes "creep") ∷ flag_rule (codes "long-edge") ∷ row_rules)
+    (option_rule (codes "signature") ∷ option_rule (codes "creep") ∷ flag_rule (codes "long-edge")
+    ∷ flag_rule (codes "same-scale") ∷ row_rules)
 
 abbrev pub select_app : App
 select_app = subcommand_app (codes "select") (required_rule (codes "ranges") ∷ order_rules)
@@ -97,7 +104,7 @@ abbrev pub spec_app : App
 spec_app = subcommand_app (codes "spec") (required_rule (codes "specs") ∷ [])
 
 abbrev pub apps : List App
-apps = nup_app ∷ booklet_app ∷ cards_app ∷ stack_app ∷ select_app ∷ spec_app ∷ []
+apps = nup_app ∷ booklet_app ∷ cards_app ∷ stack_app ∷ poster_app ∷ select_app ∷ spec_app ∷ []
 
 -- the command itself: it has a version, and a subcommand must stand among the words
 abbrev pub with_top : Shape → Shape

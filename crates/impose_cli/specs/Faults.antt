@@ -30,6 +30,7 @@ of_row pages other = fault.Row other
 abbrev pub of_asked : (pages : ℕ) → AskedError → Fault
 of_asked pages (asked.Row e) = of_row pages e
 of_asked pages (asked.Arrangement e) = fault.Layout e
+of_asked pages (asked.Poster e) = fault.Poster e
 of_asked pages (asked.Sheets e) = fault.Sheets e
 of_asked pages (asked.NoMemory written) = fault.Run (run.NoMemory written)
 of_asked pages (asked.Write written) = fault.Run (run.Write written)

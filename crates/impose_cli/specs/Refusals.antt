@@ -3,7 +3,6 @@ use Rattle.std.specs.Prelude.{◌≡◌, ◌≢◌, ◌⊎◌, ℕ, pos, IfSome,
 use Rattle.rules.specs.Papers.{Paper}
 use Rattle.rules.specs.Run.{document_of}
 use Rattle.rows.specs.Sewing.{MayBeSewn}
-use Rattle.layouts.specs.declared.error.ArrangementError.{ArrangementError}
 use Rattle.imposer.specs.declared.outcome.RunError.TheVariants as run
 use Rattle.dsc.specs.declared.errors.DscError.{DscError}
 use Rattle.dsc.specs.Faults as dsc
@@ -34,14 +33,14 @@ RefusesDocument input f = (why : DscError) × (f ≡ of_document why input) × I
 
 -- the fault is why the layout can't lay pages of this paper on sheets of that
 abbrev pub RefusesLaying : Layout → Spacing → (page_paper sheet_paper : Paper) → Fault → Type 0
-RefusesLaying l s page_paper sheet_paper f =
-    (e : ArrangementError) × (f ≡ fault.Layout e) × (why_not_laid l s page_paper sheet_paper ≡ Some e)
+RefusesLaying l s page_paper sheet_paper f = why_not_laid l s page_paper sheet_paper ≡ Some f
 
 -- why no specification is printed: out of memory, or there is no such layout, or one that no specification says
 abbrev pub RefusesLayout : Layout → Spacing → (page_paper sheet_paper : Paper) → Fault → Type 0
 RefusesLayout layout.Selection s page_paper sheet_paper f = f ≡ fault.NoSpecification
 RefusesLayout (layout.Cards cells) s page_paper sheet_paper f = f ≡ fault.NoSpecification
 RefusesLayout (layout.Stack cells duplex) s page_paper sheet_paper f = f ≡ fault.NoSpecification
+RefusesLayout (layout.Poster columns rows) s page_paper sheet_paper f = f ≡ fault.NoSpecification
 RefusesLayout (layout.Booklet signing long_edge) s page_paper sheet_paper f =
     ((f ≡ fault.NoSpecification) × (s.creep ≢ pos 0))
     ⊎ ((f ≡ without_memory) ⊎ RefusesLaying (layout.Booklet signing long_edge) s page_paper sheet_paper f)

@@ -1,5 +1,5 @@
 -- What is imposed of a row of pages, and how: a request for a document, if its layout lays rows on sheets.
-use Rattle.std.specs.Prelude.{◌≡◌, ⊤, ℕ, Bool, true, false, List, [], ◌∷◌, length, Option, Some, None, Result, Ok, Err, IfSome, option_map}
+use Rattle.std.specs.Prelude.{◌≡◌, ⊤, ℕ, Bool, true, false, ◌&&◌, if◌then◌else◌, List, [], ◌∷◌, length, Option, Some, None, Result, Ok, Err, IfSome, option_map}
 use Rattle.rules.specs.Papers.{Paper}
 use Rattle.rules.specs.Parts.{NestedUnit}
 use Rattle.rules.specs.Run.{document_of}
@@ -12,7 +12,6 @@ use Rattle.layouts.specs.Fitted.{binding_setting_of, setting_of}
 use Rattle.layouts.specs.Grids.{count_of, rounded_down}
 use Rattle.layouts.specs.Refusals.{first_of, is_length, why_not_arranged, why_not_bound}
 use Rattle.layouts.specs.declared.setting.Setting.{Setting}
-use Rattle.layouts.specs.declared.error.ArrangementError.{ArrangementError}
 use Rattle.layouts.specs.declared.error.ArrangementError.TheVariants as why
 use Rattle.paper_names.specs.Names.{paper_named}
 use Rattle.page_papers.specs.Own.{own_papers}
@@ -26,9 +25,12 @@ use Rattle.row_runs.specs.declared.asked.Laying.{Laying}
 use Rattle.row_runs.specs.declared.asked.Laying.TheVariants as laying
 use Rattle.row_runs.specs.declared.run.RowJob.{RowJob}
 use Rattle.impose_cli.specs.Choices.{choice_in}
-use Rattle.impose_cli.specs.Spacings.{arrangement_in, binding_in}
+use Rattle.arranged_sheets.specs.Posters.{why_no_poster}
+use Rattle.impose_cli.specs.Spacings.{arrangement_in, binding_in, poster_in}
 use Rattle.impose_cli.specs.declared.request.Spacing.{Spacing}
 use Rattle.impose_cli.specs.Tasks.{page_paper_found, sheet_paper_found, taken_text}
+use Rattle.impose_cli.specs.declared.fault.Fault.{Fault}
+use Rattle.impose_cli.specs.declared.fault.Fault.TheVariants as fault
 use Rattle.impose_cli.specs.declared.request.Layout.{Layout}
 use Rattle.impose_cli.specs.declared.request.Layout.TheVariants as layout
 use Rattle.impose_cli.specs.declared.request.Request.{Request}
@@ -41,6 +43,7 @@ signing_in (layout.Booklet signing long_edge) = Some (signing_of signing)
 signing_in (layout.NUp cells) = None
 signing_in (layout.Cards cells) = None
 signing_in (layout.Stack cells duplex) = None
+signing_in (layout.Poster columns rows) = None
 signing_in layout.Selection = None
 signing_in (layout.Spec specs) = None
 
@@ -64,19 +67,24 @@ laying_in (layout.Stack cells duplex) s page_paper sheet_paper =
     Some (stacked duplex (setting_of page_paper sheet_paper (arrangement_in s cells)) (count_of cells))
 laying_in (layout.Booklet signing long_edge) s page_paper sheet_paper =
     Some (laying.Booklet (binding_setting_of sheet_paper (binding_in s long_edge)) long_edge (rounded_down s.creep))
+laying_in (layout.Poster columns rows) s page_paper sheet_paper =
+    Some (laying.Poster (poster_in s columns rows sheet_paper))
 laying_in layout.Selection s page_paper sheet_paper = Some (laying.AsTheyAre sheet_paper)
 laying_in (layout.Spec specs) s page_paper sheet_paper = None
 
--- why it can't
-abbrev pub why_not_laid : Layout → Spacing → (page_paper sheet_paper : Paper) → Option ArrangementError
+-- the fault that says why it can't
+abbrev pub why_not_laid : Layout → Spacing → (page_paper sheet_paper : Paper) → Option Fault
 why_not_laid (layout.NUp cells) s page_paper sheet_paper =
-    why_not_arranged page_paper sheet_paper (arrangement_in s cells)
+    option_map fault.Layout (why_not_arranged page_paper sheet_paper (arrangement_in s cells))
 why_not_laid (layout.Cards cells) s page_paper sheet_paper =
-    why_not_arranged page_paper sheet_paper (arrangement_in s cells)
+    option_map fault.Layout (why_not_arranged page_paper sheet_paper (arrangement_in s cells))
 why_not_laid (layout.Stack cells duplex) s page_paper sheet_paper =
-    why_not_arranged page_paper sheet_paper (arrangement_in s cells)
-why_not_laid (layout.Booklet signing long_edge) s page_paper sheet_paper =
-    first_of (is_length s.creep) why.LengthOutOfRange (why_not_bound page_paper sheet_paper (binding_in s long_edge))
+    option_map fault.Layout (why_not_arranged page_paper sheet_paper (arrangement_in s cells))
+why_not_laid (layout.Booklet signing long_edge) s page_paper sheet_paper = option_map fault.Layout
+    (first_of (is_length s.creep) why.LengthOutOfRange (why_not_bound page_paper sheet_paper (binding_in s long_edge)))
+why_not_laid (layout.Poster columns rows) s page_paper sheet_paper = if is_length s.margin && is_length s.overlap
+    then option_map fault.Poster (why_no_poster page_paper (poster_in s columns rows sheet_paper))
+    else Some (fault.Layout why.LengthOutOfRange)
 why_not_laid layout.Selection s page_paper sheet_paper = None
 why_not_laid (layout.Spec specs) s page_paper sheet_paper = None
 
@@ -139,6 +147,7 @@ pub record IsJobOf (r : Request) (t : RowTask) (job : RowJob) : Type 0 where
   pub choice : choice_of job.asked.choice ≡ choice_in r.choice
   pub signing : job.asked.signing ≡ t.signing
   pub laying : job.asked.laying ≡ t.laying
+  pub same_scale : job.asked.same_scale ≡ r.spacing.same_scale
   pub border : job.border ≡ r.border
 
 abbrev pub ImposesTask : Request → RowTask → (old new : Option (List ℕ)) → Report → Type 0
@@ -150,6 +159,7 @@ pub record IsRowJob (r : Request) (input : List ℕ) (page_paper : Paper) (job :
   pub choice : choice_of job.asked.choice ≡ choice_in r.choice
   pub signing : option_map signing_of job.asked.signing ≡ signing_in r.layout
   pub laying : laying_in r.layout r.spacing page_paper (sheet_paper_in r.layout r.sheet_paper page_paper) ≡ Some job.asked.laying
+  pub same_scale : job.asked.same_scale ≡ r.spacing.same_scale
   pub border : job.border ≡ r.border
 
 -- The request was carried out for this document: exactly the output was appended of the sheets on which its layout lays

@@ -1,7 +1,9 @@
--- What is kept free on the sheets of a request, how far leaves creep, in which order one reads sheets, and at which scale the
--- pages are.
-use Rattle.std.specs.Prelude.{pos, Bool, true, false, None}
-use Rattle.layouts.specs.Grids.{plain_order}
+-- What is kept free on the sheets of a request, how far leaves creep and sheets overlap, in which order one reads sheets, and
+-- at which scale the pages are.
+use Rattle.std.specs.Prelude.{ℕ, pos, Bool, true, false, None}
+use Rattle.rules.specs.Papers.{Paper}
+use Rattle.arranged_sheets.specs.declared.poster.Poster.{Poster}
+use Rattle.layouts.specs.Grids.{plain_order, rounded_up}
 use Rattle.layouts.specs.declared.arrangement.Arrangement.{Arrangement}
 use Rattle.layouts.specs.declared.arrangement.Binding.{Binding}
 use Rattle.layouts.specs.declared.arrangement.Cells.{Cells}
@@ -15,13 +17,23 @@ keeps_room (layout.NUp cells) = true
 keeps_room (layout.Cards cells) = true
 keeps_room (layout.Stack cells duplex) = true
 keeps_room (layout.Booklet signing long_edge) = true
+keeps_room (layout.Poster columns rows) = true
 keeps_room layout.Selection = false
 keeps_room (layout.Spec specs) = false
 
 -- nothing is asked for: nothing is kept free, one reads along rows from the left, and pages are as large as they can be
 abbrev pub nothing_kept : Spacing
 nothing_kept =
-    record { margin = pos 0; gap = pos 0; trim = pos 0; creep = pos 0; order = plain_order; scale = None }
+    record {
+      margin = pos 0;
+      gap = pos 0;
+      trim = pos 0;
+      creep = pos 0;
+      overlap = pos 0;
+      order = plain_order;
+      scale = None;
+      same_scale = false;
+    }
 
 -- these cells
 abbrev pub arrangement_in : Spacing → Cells → Arrangement
@@ -42,4 +54,14 @@ binding_in s long_edge = record {
   right_to_left = s.order.right_to_left;
   trim = s.trim;
   long_edge = long_edge;
+}
+
+-- so many columns and rows of sheets of a paper: of margin and overlap none is lost
+abbrev pub poster_in : Spacing → (columns rows : ℕ) → (sheet : Paper) → Poster
+poster_in s columns rows sheet = record {
+  sheet = sheet;
+  columns = columns;
+  rows = rows;
+  edge = rounded_up s.margin;
+  overlap = rounded_up s.overlap;
 }

@@ -6,6 +6,8 @@ use Rattle.clap.specs.declared.error.kind.ErrorKind.{ErrorKind}
 use Rattle.clap.specs.declared.error.kind.ErrorKind.TheVariants.{DisplayHelp, DisplayVersion}
 use Rattle.layouts.specs.declared.error.ArrangementError.{ArrangementError}
 use Rattle.layouts.specs.declared.error.ArrangementError.TheVariants as layout
+use Rattle.arranged_sheets.specs.declared.poster.PosterError.{PosterError}
+use Rattle.arranged_sheets.specs.declared.poster.PosterError.TheVariants as poster
 use Rattle.rows.specs.declared.error.RowError.{RowError}
 use Rattle.rows.specs.declared.error.RowError.TheVariants as row
 use Rattle.sheet_plan.specs.declared.error.MadeError.{MadeError}
@@ -30,6 +32,10 @@ abbrev pub layout_status : ArrangementError → ℕ
 layout_status layout.NoMemory = 3
 layout_status other = 1
 
+abbrev pub poster_status : PosterError → ℕ
+poster_status poster.NoMemory = 3
+poster_status other = 1
+
 abbrev pub row_status : RowError → ℕ
 row_status row.NoMemory = 3
 row_status other = 1
@@ -41,6 +47,7 @@ sheets_status other = 1
 abbrev pub fault_status : Fault → ℕ
 fault_status (fault.Command f) = command_status f
 fault_status (fault.Layout e) = layout_status e
+fault_status (fault.Poster e) = poster_status e
 fault_status (fault.Row e) = row_status e
 fault_status (fault.NoSuchPage place pages) = 1
 fault_status (fault.Sheets e) = sheets_status e

@@ -55,7 +55,7 @@ abbrev pub IsWritten : Spec → (text : List ℕ) → Type 0
 IsWritten spec text = (text ≡ canonical spec) × Takes most_slots text spec
 
 -- The text of the specification and the sides of a signature to which a layout comes, for so many pages of a paper. None
--- says a selection, cards, a stack, or leaves that creep.
+-- says a selection, cards, a stack, a poster, or leaves that creep.
 abbrev pub IsPlaced : Layout → Spacing → (page_paper sheet_paper : Paper) → (pages : ℕ) → (text : List ℕ)
     → (sides : Option ℕ) → Type 0
 IsPlaced (layout.NUp cells) s page_paper sheet_paper pages text sides = let a = arrangement_in s cells in
@@ -68,6 +68,7 @@ IsPlaced (layout.Booklet signing long_edge) s page_paper sheet_paper pages text 
 IsPlaced (layout.Spec specs) s page_paper sheet_paper pages text sides = (text ≡ string_bytes specs) × (sides ≡ None)
 IsPlaced (layout.Cards cells) s page_paper sheet_paper pages text sides = ⊥
 IsPlaced (layout.Stack cells duplex) s page_paper sheet_paper pages text sides = ⊥
+IsPlaced (layout.Poster columns rows) s page_paper sheet_paper pages text sides = ⊥
 IsPlaced layout.Selection s page_paper sheet_paper pages text sides = ⊥
 
 -- the task is what the request asks for with this document

@@ -9,6 +9,7 @@ use Rattle.lengths.specs.Lengths.{a4, length_named}
 use Rattle.command_words.specs.Borders.{border_named}
 use Rattle.command_words.specs.Matches.{has_true, number_named}
 use Rattle.layouts.specs.declared.arrangement.Cells.{Cells}
+use Rattle.layouts.specs.declared.arrangement.Cells.TheVariants.{Exactly}
 use Rattle.layouts.specs.declared.arrangement.Order.{Order}
 use Rattle.layouts.specs.declared.arrangement.Run.{Run}
 use Rattle.layouts.specs.declared.arrangement.Run.TheVariants.{Rows}
@@ -17,7 +18,7 @@ use Rattle.layouts.specs.declared.arrangement.Turned.TheVariants.{Upright}
 use Rattle.rows.specs.declared.sewing.Signing.{Signing}
 use Rattle.rows.specs.declared.choices.Part.{Part}
 use Rattle.rows.specs.declared.choices.Part.TheVariants.{All, Odd, Even}
-use Rattle.impose_cli.specs.Arranging.{cells_named, run_named, scale_named, turned_named}
+use Rattle.impose_cli.specs.Arranging.{cells_named, exact_alone, run_named, scale_named, turned_named}
 use Rattle.impose_cli.specs.Choices.{is_whole}
 use Rattle.impose_cli.specs.declared.request.PageChoice.{PageChoice}
 use Rattle.impose_cli.specs.Command.{impose}
@@ -33,7 +34,7 @@ use Rattle.impose_cli.specs.declared.fault.CellOption.TheVariants as cell
 use Rattle.impose_cli.specs.declared.fault.GridCommand.{GridCommand}
 use Rattle.impose_cli.specs.declared.fault.GridCommand.TheVariants as grid
 use Rattle.impose_cli.specs.declared.fault.LengthOption.{LengthOption}
-use Rattle.impose_cli.specs.declared.fault.LengthOption.TheVariants.{Margin, Gap, Trim, Creep}
+use Rattle.impose_cli.specs.declared.fault.LengthOption.TheVariants.{Margin, Gap, Trim, Creep, Overlap}
 use Rattle.impose_cli.specs.declared.fault.PaperOption.{PaperOption}
 use Rattle.impose_cli.specs.declared.fault.PaperOption.TheVariants.{Paper as OfPages, Sheet as OfSheets}
 use Rattle.impose_cli.specs.declared.fault.CommandFault.{CommandFault}
@@ -70,6 +71,7 @@ length_id Margin = codes "margin"
 length_id Gap = codes "gap"
 length_id Trim = codes "trim"
 length_id Creep = codes "creep"
+length_id Overlap = codes "overlap"
 
 -- no length is 0; and nothing if the text names none
 abbrev pub length_asked : Option Text → Option ℤ
@@ -87,10 +89,18 @@ abbrev pub command_name : GridCommand → Text
 command_name grid.NUp = codes "nup"
 command_name grid.Cards = codes "cards"
 command_name grid.Stack = codes "stack"
+command_name grid.Poster = codes "poster"
+
+-- the cells that a text behind such a command means; those of a poster are its sheets, in so many columns and rows
+abbrev pub cells_in : GridCommand → Text → Option Cells
+cells_in grid.NUp text = cells_named text
+cells_in grid.Cards text = cells_named text
+cells_in grid.Stack text = cells_named text
+cells_in grid.Poster text = exact_alone (cells_named text)
 
 -- the cells that stand behind such a command
-abbrev pub cells_found : (found : List Row) → Option Cells
-cells_found found = option_and_then cells_named (first_of (codes "count") found)
+abbrev pub cells_found : GridCommand → (found : List Row) → Option Cells
+cells_found command found = option_and_then (cells_in command) (first_of (codes "count") found)
 
 abbrev pub cell_id : CellOption → Text
 cell_id cell.Order = codes "order"
@@ -166,10 +176,12 @@ is_outfile (Some name) = not (is_like_option name)
 
 -- the subcommand with this name and what was found for it ask for this layout
 abbrev pub AsksFor : (name : Text) → (found : List Row) → Layout → Type 0
-AsksFor name found (layout.NUp cells) = (name ≡ codes "nup") × (cells_found found ≡ Some cells)
-AsksFor name found (layout.Cards cells) = (name ≡ codes "cards") × (cells_found found ≡ Some cells)
-AsksFor name found (layout.Stack cells duplex) = (name ≡ codes "stack") × (cells_found found ≡ Some cells)
+AsksFor name found (layout.NUp cells) = (name ≡ codes "nup") × (cells_found grid.NUp found ≡ Some cells)
+AsksFor name found (layout.Cards cells) = (name ≡ codes "cards") × (cells_found grid.Cards found ≡ Some cells)
+AsksFor name found (layout.Stack cells duplex) = (name ≡ codes "stack") × (cells_found grid.Stack found ≡ Some cells)
     × (has_flag (codes "duplex") found ≡ duplex)
+AsksFor name found (layout.Poster columns rows) = (name ≡ codes "poster")
+    × (cells_found grid.Poster found ≡ Some (Exactly columns rows))
 AsksFor name found (layout.Booklet signing long_edge) = (name ≡ codes "booklet") × (signing_found found ≡ Some signing)
     × (has_flag (codes "long-edge") found ≡ long_edge)
 AsksFor name found layout.Selection = (name ≡ codes "select") × (is_some (first_of (codes "ranges") found) ≡ true)
@@ -188,13 +200,14 @@ ChoosesBy None found choice = is_whole choice ≡ true
 ChoosesBy (Some id) found choice = (first_of id found ≡ option_map string_bytes choice.ranges)
     × (part_found found ≡ Some choice.part) × (has_flag (codes "reverse") found ≡ choice.backwards)
 
--- what was found asks for this to be kept free, for this creep, and for this order and scale, by a layout that keeps room; or
--- nothing is
+-- what was found asks for this to be kept free, for this creep and overlap, and for this order and scale, by a layout that
+-- keeps room; or nothing is
 abbrev pub SpacesBy : (keeps : Bool) → (found : List Row) → Spacing → Type 0
 SpacesBy false found s = s ≡ nothing_kept
 SpacesBy true found s = (length_found Margin found ≡ Some s.margin) × (length_found Gap found ≡ Some s.gap)
     × (length_found Trim found ≡ Some s.trim) × (length_found Creep found ≡ Some s.creep)
-    × (order_found found ≡ Some s.order) × (scale_found found ≡ Some s.scale)
+    × (length_found Overlap found ≡ Some s.overlap) × (order_found found ≡ Some s.order) × (scale_found found ≡ Some s.scale)
+    × (has_flag (codes "same-scale") found ≡ s.same_scale)
 
 -- the request is what was found
 pub record Reads (name : Text) (found : List Row) (r : Request) : Type 0 where
@@ -264,6 +277,8 @@ AreBefore Gap found = is_some (length_found Margin found) ≡ true
 AreBefore Trim found = (is_some (length_found Margin found) ≡ true) × (is_some (length_found Gap found) ≡ true)
 AreBefore Creep found = (is_some (length_found Margin found) ≡ true) × (is_some (length_found Gap found) ≡ true)
     × (is_some (length_found Trim found) ≡ true)
+AreBefore Overlap found = (is_some (length_found Margin found) ≡ true) × (is_some (length_found Gap found) ≡ true)
+    × (is_some (length_found Trim found) ≡ true) × (is_some (length_found Creep found) ≡ true)
 
 pub record NamesNoLength (option : LengthOption) (found : List Row) (text : Text) : Type 0 where
   pub given : first_of (length_id option) found ≡ Some text
@@ -271,8 +286,8 @@ pub record NamesNoLength (option : LengthOption) (found : List Row) (text : Text
   pub before : AreBefore option found
 
 -- what stands behind the command names no cells
-abbrev pub NamesNoCells : (found : List Row) → (text : Text) → Type 0
-NamesNoCells found text = (first_of (codes "count") found ≡ Some text) × (cells_named text ≡ None)
+abbrev pub NamesNoCells : GridCommand → (found : List Row) → (text : Text) → Type 0
+NamesNoCells command found text = (first_of (codes "count") found ≡ Some text) × (cells_in command text ≡ None)
 
 -- the value of the option is none, and those of the options before it are, and the lengths
 pub record HasLengths (found : List Row) : Type 0 where
@@ -280,6 +295,7 @@ pub record HasLengths (found : List Row) : Type 0 where
   pub gap : is_some (length_found Gap found) ≡ true
   pub trim : is_some (length_found Trim found) ≡ true
   pub creep : is_some (length_found Creep found) ≡ true
+  pub overlap : is_some (length_found Overlap found) ≡ true
 
 abbrev pub AreValues : CellOption → (found : List Row) → Type 0
 AreValues cell.Order found = ⊤
@@ -304,15 +320,16 @@ is_complete name found =
     else (if bytes_eq name (codes "booklet") then true
     else (if bytes_eq name (codes "cards") then is_some (first_of (codes "count") found)
     else (if bytes_eq name (codes "stack") then is_some (first_of (codes "count") found)
+    else (if bytes_eq name (codes "poster") then is_some (first_of (codes "count") found)
     else (if bytes_eq name (codes "select") then is_some (first_of (codes "ranges") found)
-    else (if bytes_eq name (codes "spec") then is_some (first_of (codes "specs") found) else false)))))
+    else (if bytes_eq name (codes "spec") then is_some (first_of (codes "specs") found) else false))))))
 
 -- what a refusal of a layout says of what was found
 abbrev pub RefusesArguments : (name : Text) → (found : List Row) → CommandFault → Type 0
 RefusesArguments name found (fault.BadSignature text) = (name ≡ codes "booklet")
     × (first_of (codes "signature") found ≡ Some (string_bytes text)) × (signing_found found ≡ None)
 RefusesArguments name found (fault.BadCells command text) = (name ≡ command_name command)
-    × NamesNoCells found (string_bytes text)
+    × NamesNoCells command found (string_bytes text)
 RefusesArguments name found fault.OddAndEven = ⊥
 RefusesArguments name found fault.Lacking = is_complete name found ≡ false
 RefusesArguments name found fault.NoMemory = ⊤

@@ -5,7 +5,7 @@ ghost use Rattle.clap.specs.Words.{app_of, new_app, rule_of, with_rule};
 ghost use Rattle.command_words.specs.Arguments.{fits};
 ghost use Rattle.impose_cli.specs.Command.{apps, booklet_app, cards_app, common_rules, count_rule, flag_rule, impose};
 ghost use Rattle.impose_cli.specs.Command.{nup_app, option_rule, positional_rule, required_rule, select_app, spec_app};
-ghost use Rattle.impose_cli.specs.Command.{stack_app};
+ghost use Rattle.impose_cli.specs.Command.{poster_app, stack_app};
 
 use clap::{Arg, ArgAction, Command, value_parser};
 use std::alloc::{AllocError, Global};
@@ -20,6 +20,7 @@ Examples:
   impose booklet in.ps out.ps         print on both sides, fold, staple
   impose cards 8 in.ps out.ps         each page eight times on a sheet
   impose stack 2 in.ps out.ps         cut the pile in two, and the pages run on
+  impose poster 2x2 in.ps out.ps      each page over four sheets, to be glued together
   impose select 9-3,12- in.ps out.ps  pages 9 down to 3, then 12 to the last
   impose booklet --pages 3-14 in.ps out.ps
   pdftops in.pdf - | impose nup 4 --sheet a3 - | ps2pdf - out.pdf";
@@ -44,9 +45,10 @@ fn subcommands<'a>(alloc: Global) -> Result<Vec<Command<'a>>, AllocError>
     let booklet = booklet(alloc)?;
     let cards = cards(alloc)?;
     let stack = stack(alloc)?;
+    let poster = poster(alloc)?;
     let select = select(alloc)?;
     let spec = spec(alloc)?;
-    Ok(vec![in alloc; nup, booklet, cards, stack, select, spec]?)
+    Ok(vec![in alloc; nup, booklet, cards, stack, poster, select, spec]?)
 }
 
 fn nup<'a>(alloc: Global) -> Result<Command<'a>, AllocError>
@@ -61,6 +63,7 @@ fn nup<'a>(alloc: Global) -> Result<Command<'a>, AllocError>
         order(alloc),
         turned(alloc),
         scale(alloc),
+        same_scale(alloc),
         margin(alloc),
         gap(alloc, "Keep so much free between pages"),
         trim(alloc),
@@ -85,6 +88,7 @@ fn cards<'a>(alloc: Global) -> Result<Command<'a>, AllocError>
         order(alloc),
         turned(alloc),
         scale(alloc),
+        same_scale(alloc),
         margin(alloc),
         gap(alloc, "Keep so much free between pages"),
         trim(alloc),
@@ -112,6 +116,7 @@ fn stack<'a>(alloc: Global) -> Result<Command<'a>, AllocError>
         order(alloc),
         turned(alloc),
         scale(alloc),
+        same_scale(alloc),
         margin(alloc),
         gap(alloc, "Keep so much free between pages"),
         trim(alloc),
@@ -124,6 +129,25 @@ fn stack<'a>(alloc: Global) -> Result<Command<'a>, AllocError>
     subcommand(alloc, "stack", about, own)
 }
 
+fn poster<'a>(alloc: Global) -> Result<Command<'a>, AllocError>
+    ensures { IfOk result (λ c. app_of c ≡ poster_app) }
+{
+    let count = required(alloc, "count", "CxR").help(
+        "Columns and rows of sheets, as 2x3, at most 1024 sheets in all",
+    );
+    let about = "Each page over several sheets, to be glued together";
+    let own = vec![in alloc;
+        count,
+        overlap(alloc),
+        margin(alloc),
+        pages(alloc),
+        odd(alloc),
+        even(alloc),
+        reverse(alloc),
+    ]?;
+    subcommand(alloc, "poster", about, own)
+}
+
 fn booklet<'a>(alloc: Global) -> Result<Command<'a>, AllocError>
     ensures { IfOk result (λ c. app_of c ≡ booklet_app) }
 {
@@ -133,6 +157,7 @@ fn booklet<'a>(alloc: Global) -> Result<Command<'a>, AllocError>
         signature(alloc),
         creep(alloc),
         long_edge,
+        same_scale(alloc),
         margin(alloc),
         gap(
             alloc,
@@ -190,6 +215,12 @@ fn scale<'a>(alloc: Global) -> Arg<'a>
     )
 }
 
+fn same_scale<'a>(alloc: Global) -> Arg<'a>
+    ensures { rule_of result ≡ flag_rule (codes "same-scale") }
+{
+    flag(alloc, "same-scale").help("Pages of smaller papers have the scale of the largest one")
+}
+
 fn signature<'a>(alloc: Global) -> Arg<'a>
     ensures { rule_of result ≡ option_rule (codes "signature") }
 {
@@ -203,6 +234,14 @@ fn creep<'a>(alloc: Global) -> Arg<'a>
 {
     option(alloc, "creep", "LENGTH").help(
         "Move pages of the innermost leaf so much towards the fold, and of others less, as 2mm",
+    )
+}
+
+fn overlap<'a>(alloc: Global) -> Arg<'a>
+    ensures { rule_of result ≡ option_rule (codes "overlap") }
+{
+    option(alloc, "overlap", "LENGTH").help(
+        "So much of the page stands on both of two neighbouring sheets, as 1cm",
     )
 }
 

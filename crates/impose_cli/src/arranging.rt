@@ -52,6 +52,16 @@ fn exactly(columns: u32, rows: u32) -> Option<Cells>
     }
 }
 
+/// The columns and rows that the text means.
+pub fn exact_cells(text: &str) -> Option<Cells>
+    ensures { result ≡ meaning.exact_alone (meaning.cells_named text.now) }
+{
+    match cells_named(text) {
+        Some(Cells::AtLeast(_)) => None,
+        cells => cells,
+    }
+}
+
 /// Along what pages run, and whether from the right to the left.
 pub fn run_named(text: &str) -> Option<(Run, bool)>
     ensures { result ≡ meaning.run_named text.now }

@@ -5,7 +5,7 @@ ghost use Rattle.impose_cli.specs.Command.{impose};
 ghost use Rattle.impose_cli.specs.Words.{AsksFor, Entered, ParseRefuses, Reads, Refuses, RefusesFound};
 ghost use Rattle.impose_cli.specs.Words.{RefusesArguments, border_found, file_asked, is_outfile, paper_id};
 ghost use Rattle.impose_cli.specs.Words.{ChoosesBy, SpacesBy, length_found, length_id, ranges_id, part_by as of_both};
-ghost use Rattle.impose_cli.specs.Words.{cells_found, command_name, order_found, run_found, scale_found};
+ghost use Rattle.impose_cli.specs.Words.{cells_found, cells_in as cells_of_command, command_name, order_found, run_found, scale_found};
 ghost use Rattle.impose_cli.specs.Words.{signing_found, size_found, turned_found};
 ghost use Rattle.impose_cli.specs.Spacings.{keeps_room};
 ghost use Rattle.impose_cli.specs.Sizing.{ReadsSizes, RefusesBorder, RefusesChoice, RefusesOutfile, RefusesSize};
@@ -13,7 +13,7 @@ ghost use Rattle.impose_cli.specs.Sizing.{RefusesLength, RefusesReading, Refuses
 ghost use Rattle.impose_cli.specs.declared.fault.CellOption.TheVariants as cell;
 
 use crate::arguments::command;
-use crate::arranging::{cells_named, run_named, scale_named, turned_named};
+use crate::arranging::{cells_named, exact_cells, run_named, scale_named, turned_named};
 use crate::fault::{CellOption, CommandFault, GridCommand, LengthOption, PaperOption};
 use crate::request::{Layout, PageChoice, Request, Spacing};
 use crate::signature::signing_named;
@@ -32,7 +32,7 @@ use std::alloc::Global;
 /// Words that the command doesn't take are `Words`, with clap's message, and so is a call for help or for the version.
 /// Among words that it takes, the first of these is the fault: a paper that there isn't, after `--paper`, then after
 /// `--sheet`; a border that is no length, or below zero; cells that a sheet doesn't take, or a signature that leaves can't have;
-/// a margin, a gap, a trim or a creep that is no length; an order that there isn't, no side after `--turned`, no number after
+/// a margin, a gap, a trim, a creep or an overlap that is no length; an order that there isn't, no side after `--turned`, no number after
 /// `--scale`; odd and even entries together; an OUTFILE that begins with a minus sign.
 #[tactic(auto, using(crate::proofs::Commands::impose_is_simple))]
 pub fn read_command(alloc: Global, words: &[String]) -> Result<Request, CommandFault>
@@ -201,6 +201,8 @@ fn layout_of(alloc: Global, name: &str, found: &ArgMatches<'_>) -> Result<Layout
         cards_of(alloc, found)
     } else if name == "stack" {
         stack_of(alloc, found)
+    } else if name == "poster" {
+        poster_of(alloc, found)
     } else if name == "select" {
         selection_of(found)
     } else if name == "spec" {
@@ -243,21 +245,42 @@ fn stack_of(alloc: Global, found: &ArgMatches<'_>) -> Result<Layout, CommandFaul
     }
 }
 
+fn poster_of(alloc: Global, found: &ArgMatches<'_>) -> Result<Layout, CommandFault>
+    ensures read { IfOk result (AsksFor (codes "poster") (rows_of (found_of found.now))) }
+    ensures refused { IfErr result (RefusesArguments (codes "poster") (rows_of (found_of found.now))) }
+{
+    match cells_of(alloc, GridCommand::Poster, found) {
+        Ok(Cells::Exactly { columns, rows }) => Ok(Layout::Poster { columns, rows }),
+        Ok(Cells::AtLeast(_)) => unreachable!(),
+        Err(fault) => Err(fault),
+    }
+}
+
 /// The cells that stand behind the command.
 fn cells_of(
     alloc: Global,
     command: GridCommand,
     found: &ArgMatches<'_>,
 ) -> Result<Cells, CommandFault>
-    ensures read { IfOk result (λ cells. cells_found (rows_of (found_of found.now)) ≡ Some cells) }
+    ensures read { IfOk result (λ cells. cells_found command (rows_of (found_of found.now)) ≡ Some cells) }
     ensures refused { IfErr result (RefusesArguments (command_name command) (rows_of (found_of found.now))) }
 {
     match text_of(found, "count") {
         None => Err(CommandFault::Lacking),
-        Some(text) => match cells_named(text) {
+        Some(text) => match cells_in(command, text) {
             Some(cells) => Ok(cells),
             None => Err(CommandFault::BadCells(command, String::from_str(alloc, text)?)),
         },
+    }
+}
+
+/// The cells that a text behind the command means. Those of a poster are its sheets, in so many columns and rows.
+fn cells_in(command: GridCommand, text: &str) -> Option<Cells>
+    ensures { result ≡ cells_of_command command text.now }
+{
+    match command {
+        GridCommand::Poster => exact_cells(text),
+        GridCommand::NUp | GridCommand::Cards | GridCommand::Stack => cells_named(text),
     }
 }
 
@@ -336,14 +359,20 @@ fn spacing_of(
         Ok(creep) => creep,
         Err(fault) => return Err(fault),
     };
+    let overlap = match length_of(alloc, found, LengthOption::Overlap) {
+        Ok(overlap) => overlap,
+        Err(fault) => return Err(fault),
+    };
     match reading_of(alloc, found) {
         Ok(Reading { order, scale }) => Ok(Spacing {
             margin,
             gap,
             trim,
             creep,
+            overlap,
             order,
             scale,
+            same_scale: is_set(found, "same-scale"),
         }),
         Err(fault) => Err(fault),
     }
@@ -376,6 +405,7 @@ fn length_name(option: LengthOption) -> &'static str
         LengthOption::Gap => "gap",
         LengthOption::Trim => "trim",
         LengthOption::Creep => "creep",
+        LengthOption::Overlap => "overlap",
     }
 }
 
@@ -466,6 +496,7 @@ fn choice_of(
 {
     match layout {
         Layout::NUp(_) | Layout::Cards(_) => choice_by(alloc, "pages", found),
+        Layout::Poster { .. } => choice_by(alloc, "pages", found),
         Layout::Stack { .. } | Layout::Booklet { .. } => choice_by(alloc, "pages", found),
         Layout::Selection => choice_by(alloc, "ranges", found),
         Layout::Spec(_) => Ok(PageChoice::whole()),

@@ -1,4 +1,5 @@
 //! Why nothing, or not all, was imposed.
+use arranged_sheets::PosterError;
 use clap::Error as WordsError;
 use imposer::RunError;
 use layouts::ArrangementError;
@@ -21,14 +22,16 @@ pub enum LengthOption {
     Gap,
     Trim,
     Creep,
+    Overlap,
 }
 
-/// The command that puts pages into the cells of a grid.
+/// The command that puts pages into the cells of a grid, or over its sheets.
 #[derive(Clone, Copy, Debug, PartialEq, Eq)]
 pub enum GridCommand {
     NUp,
     Cards,
     Stack,
+    Poster,
 }
 
 /// The option that says in which order pages stand in cells, or how large they are.
@@ -75,6 +78,8 @@ pub enum Fault {
     Command(CommandFault),
     /// There is no such layout.
     Layout(ArrangementError),
+    /// There is no such poster.
+    Poster(PosterError),
     /// There is no such row of pages.
     Row(RowError),
     /// The document has only so many pages, and not all of the range at this place of the text.

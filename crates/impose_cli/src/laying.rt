@@ -2,8 +2,8 @@
 ghost use Rattle.std.specs.Prelude.{◌≡◌, ◌↔◌, ◌<◌, ◌≤◌, IfErr, IfOk, IfSome, IsTrue, OnOk, None, Some, option_map};
 ghost use Rattle.layouts.specs.Cells.{size};
 ghost use Rattle.layouts.specs.Fitted.{setting_of};
-ghost use Rattle.layouts.specs.Grids.{count_of, rounded_down as rounded_down_of};
-ghost use Rattle.layouts.specs.Refusals.{is_length as may_be_length, why_not_arranged};
+ghost use Rattle.layouts.specs.Grids.{count_of, rounded_down as rounded_down_of, rounded_up as rounded_up_of};
+ghost use Rattle.layouts.specs.Refusals.{is_length as may_be_length};
 ghost use Rattle.rows.specs.Sewing.{MayBeSewn, signing_of};
 ghost use Rattle.row_runs.specs.Sheets.{MayBeLaid};
 ghost use Rattle.impose_cli.specs.Refusals.{RefusesLaying, RefusesSides};
@@ -13,6 +13,7 @@ ghost use Rattle.impose_cli.specs.declared.request.Layout.TheVariants as layout;
 
 use crate::fault::Fault;
 use crate::request::{Layout, Spacing};
+use arranged_sheets::{Poster, check_poster};
 use imposer::RunError;
 use layouts::{ArrangementError, Cells, Papers, Setting};
 use lengths::{Grains, Paper};
@@ -52,6 +53,7 @@ pub(crate) fn laying_for(
         Layout::Booklet { signing, long_edge } => {
             booklet_laying(*signing, *long_edge, spacing, papers)
         }
+        Layout::Poster { columns, rows } => poster_laying(*columns, *rows, spacing, papers),
         Layout::Selection => Ok(Some(Laying::AsTheyAre {
             blank: papers.sheet,
         })),
@@ -117,7 +119,7 @@ fn cells_for(cells: Cells, spacing: &Spacing, papers: &Papers) -> Result<(Settin
     ensures some { IfOk result (λ x. 0 < x.1) }
     ensures within { IfOk result (λ x. x.1 ≤ size x.0.grid) }
     ensures possible { OnOk result
-        (why_not_arranged papers.now.page papers.now.sheet (arrangement_in spacing.now cells) ≡ None) }
+        (why_not_laid (layout.NUp cells) spacing.now papers.now.page papers.now.sheet ≡ None) }
     ensures refused { IfErr result
         (RefusesLaying (layout.NUp cells) spacing.now papers.now.page papers.now.sheet) }
 {
@@ -155,6 +157,36 @@ fn booklet_laying(
     }
 }
 
+fn poster_laying(
+    columns: u32,
+    rows: u32,
+    spacing: &Spacing,
+    papers: &Papers,
+) -> Result<Option<Laying>, Fault>
+    ensures laying { IfOk result (λ laying.
+        laying ≡ laying_in (layout.Poster columns rows) spacing.now papers.now.page papers.now.sheet) }
+    ensures may_be { IfOk result (λ laying. IfSome laying MayBeLaid) }
+    ensures possible { OnOk result
+        (why_not_laid (layout.Poster columns rows) spacing.now papers.now.page papers.now.sheet ≡ None) }
+    ensures refused { IfErr result
+        (RefusesLaying (layout.Poster columns rows) spacing.now papers.now.page papers.now.sheet) }
+{
+    if !(is_length(spacing.margin) && is_length(spacing.overlap)) {
+        return Err(Fault::Layout(ArrangementError::LengthOutOfRange));
+    }
+    let poster = Poster {
+        sheet: papers.sheet,
+        columns,
+        rows,
+        edge: rounded_up(spacing.margin),
+        overlap: rounded_up(spacing.overlap),
+    };
+    match check_poster(&poster, &papers.page) {
+        Ok(()) => Ok(Some(Laying::Poster { poster })),
+        Err(error) => Err(Fault::Poster(error)),
+    }
+}
+
 /// Whether a length is from 0 to 99,999 points and five nines behind the dot.
 fn is_length(length: Grains) -> bool
     ensures { result ≡ may_be_length length }
@@ -169,6 +201,14 @@ fn rounded_down(length: Grains) -> u64
     ensures { result ≡ rounded_down_of length }
 {
     length.get() as u64 / 1_270_000
+}
+
+/// A length in whole 10^-5 of a point, of which none is lost.
+fn rounded_up(length: Grains) -> u64
+    requires { IsTrue (may_be_length length) }
+    ensures { result ≡ rounded_up_of length }
+{
+    (length.get() as u64 + 1_269_999) / 1_270_000
 }
 
 /// How a layout is sewn, if it is.

@@ -68,6 +68,7 @@ fn task_text(alloc: Global, request: &Request, task: &RowTask, look: Look) -> Re
             choice: request.choice.as_choice(),
             signing: task.signing,
             laying: task.laying,
+            same_scale: request.spacing.same_scale,
         },
         border: request.border,
         workers: WORKERS,

@@ -9,6 +9,7 @@ use crate::request::{Layout, PageChoice, Request};
 use crate::shown::shown_word;
 use crate::signature::number_in;
 use crate::task::{Finished, PaperOrigin};
+use arranged_sheets::PosterError;
 use clap::error::ErrorKind;
 use command_words::run_status;
 use document_paper::Comment;
@@ -34,9 +35,9 @@ pub fn fault_status(fault: &Fault) -> u8
         Fault::Command(CommandFault::NoMemory) => 3,
         Fault::Command(CommandFault::Words(error)) => words_status(error.kind()),
         Fault::Command(_) => 2,
-        Fault::Layout(ArrangementError::NoMemory) => 3,
+        Fault::Layout(ArrangementError::NoMemory) | Fault::Poster(PosterError::NoMemory) => 3,
         Fault::Row(RowError::NoMemory) | Fault::Sheets(MadeError::NoMemory) => 3,
-        Fault::Layout(_) | Fault::Row(_) | Fault::Sheets(_) => 1,
+        Fault::Layout(_) | Fault::Poster(_) | Fault::Row(_) | Fault::Sheets(_) => 1,
         Fault::NoSuchPage { .. } | Fault::NoSpecification | Fault::NoInput => 1,
         Fault::Pdf | Fault::Compressed | Fault::JobLanguage | Fault::TooLong => 1,
         Fault::Read(_) | Fault::Write { .. } => 3,
@@ -187,12 +188,13 @@ pub fn fault_text(
     match fault {
         Fault::Command(fault) => command_text(alloc, fault),
         Fault::Layout(error) => String::from_str(alloc, layout_text(error, request)),
+        Fault::Poster(error) => String::from_str(alloc, poster_message(error)),
         Fault::Row(error) => row_text(alloc, error, request),
         Fault::Sheets(error) => String::from_str(alloc, sheets_message(error)),
         Fault::NoSpecification => String::from_str(
             alloc,
-            "--print-spec: no specification says a selection, cards or a stack, nor --pages, --odd, --even, --reverse or \
-            --creep; leave it out",
+            "--print-spec: no specification says a selection, cards, a stack or a poster, nor --pages, --odd, --even, \
+            --reverse or --creep; leave it out",
         ),
         Fault::NoSuchPage { place, pages } => {
             let message = format!(in alloc;
@@ -382,6 +384,7 @@ fn cells_text(alloc: Global, command: GridCommand, text: &str) -> Result<String,
         GridCommand::NUp => ("nup", "impose nup 2 in.ps out.ps"),
         GridCommand::Cards => ("cards", "impose cards 8 in.ps out.ps"),
         GridCommand::Stack => ("stack", "impose stack 2 in.ps out.ps"),
+        GridCommand::Poster => return tiles_text(alloc, text),
     };
     let shown = shown_word(alloc, text)?;
     let shown = shown.as_str();
@@ -396,6 +399,22 @@ fn cells_text(alloc: Global, command: GridCommand, text: &str) -> Result<String,
     } else {
         format!(in alloc;
             "bad number of pages '{shown}' behind {command}: give one from 1 to 1024, or columns and rows as 2x4"
+        )
+    }
+}
+
+/// What is said of a text behind `poster` that names no columns and rows.
+fn tiles_text(alloc: Global, text: &str) -> Result<String, AllocError> {
+    let shown = shown_word(alloc, text)?;
+    let shown = shown.as_str();
+    if looks_like_file(text) {
+        format!(in alloc;
+            "columns and rows of sheets are missing before '{shown}': they stand behind poster, as in: \
+            impose poster 2x2 in.ps out.ps"
+        )
+    } else {
+        format!(in alloc;
+            "bad grid '{shown}' behind poster: give columns and rows of sheets as 2x3, at most 1024 in all"
         )
     }
 }
@@ -423,6 +442,7 @@ fn length_option(option: LengthOption) -> &'static str {
         LengthOption::Gap => "--gap",
         LengthOption::Trim => "--trim",
         LengthOption::Creep => "--creep",
+        LengthOption::Overlap => "--overlap",
     }
 }
 
@@ -544,7 +564,7 @@ fn layout_message(error: &ArrangementError) -> &'static str {
             "a side of a paper is 100,000 points or more: name a smaller paper"
         }
         ArrangementError::LengthOutOfRange => {
-            "a margin, a gap, a trim or a creep is below 0, or 100,000 points or more"
+            "a margin, a gap, a trim, a creep or an overlap is below 0, or 100,000 points or more"
         }
         ArrangementError::NothingLeftOfPage =>
             "nothing is left of a page that is trimmed so: trim less",
@@ -562,6 +582,25 @@ fn layout_message(error: &ArrangementError) -> &'static str {
             "there is no room at the fold for leaves to creep so far: take a smaller --creep or a larger --gap"
         }
         ArrangementError::NoMemory => "out of memory",
+    }
+}
+
+/// What is said of pages that can't be such a poster.
+fn poster_message(error: &PosterError) -> &'static str {
+    match error {
+        PosterError::TilesOutOfRange => {
+            "a poster has from 1 to 1,024 sheets: give other columns and rows"
+        }
+        PosterError::SideTooLong => {
+            "a side of a sheet or of the whole poster is 100,000 points or more: take fewer or smaller sheets"
+        }
+        PosterError::NothingButOverlap => {
+            "margins and overlap leave nothing of a sheet: take a smaller --margin or --overlap, or a larger --sheet"
+        }
+        PosterError::ScaleOutOfRange => {
+            "the page would be too small or too large on the poster: name other papers by --paper and --sheet"
+        }
+        PosterError::NoMemory => "out of memory",
     }
 }
 

@@ -104,6 +104,7 @@ fn is_command(word: &str) -> bool {
         || word == "booklet"
         || word == "cards"
         || word == "stack"
+        || word == "poster"
         || word == "select"
         || word == "spec"
 }
@@ -129,6 +130,10 @@ fn tip_on_argument(command: &str) -> Option<&'static str> {
         Some("the number of pages stands behind cards, as in: impose cards 8 in.ps out.ps")
     } else if command == "stack" {
         Some("the number of pages stands behind stack, as in: impose stack 2 in.ps out.ps")
+    } else if command == "poster" {
+        Some(
+            "columns and rows of sheets stand behind poster, as in: impose poster 2x2 in.ps out.ps",
+        )
     } else if command == "booklet" {
         Some("a signature is a number of sides, as in: impose booklet --signature 16 in.ps out.ps")
     } else if command == "select" {
@@ -186,6 +191,8 @@ fn tip_on_negative(command: &str, before: &str) -> &'static str {
         "the number of pages has no sign, as in: impose cards 8 in.ps out.ps"
     } else if command == "stack" {
         "the number of pages has no sign, as in: impose stack 2 in.ps out.ps"
+    } else if command == "poster" {
+        "the columns and rows of sheets have no sign, as in: impose poster 2x2 in.ps out.ps"
     } else if command == "spec" {
         "a specification that begins with a minus is written with its modulo: 1:-0"
     } else {
@@ -194,7 +201,11 @@ fn tip_on_negative(command: &str, before: &str) -> &'static str {
 }
 
 fn takes_length(option: &str) -> bool {
-    option == "--margin" || option == "--gap" || option == "--trim" || option == "--border"
+    option == "--margin"
+        || option == "--gap"
+        || option == "--trim"
+        || option == "--border"
+        || option == "--overlap"
 }
 
 const TIP_ON_RANGES: &str =

@@ -18,6 +18,8 @@ pub enum Layout {
     /// A page in each of these cells, so that the parts of the sheets, cut and laid on one another, are in order; on both
     /// sides if it is a duplex one.
     Stack { cells: Cells, duplex: bool },
+    /// Each page over so many columns and rows of sheets.
+    Poster { columns: u32, rows: u32 },
     /// Two pages on each side of a sheet, to be folded and sewn so.
     Booklet { signing: Signing, long_edge: bool },
     /// Each page as it is, on a sheet of its own paper.
@@ -34,6 +36,7 @@ impl Layout {
         match self {
             Layout::NUp(_) | Layout::Cards(_) | Layout::Stack { .. } | Layout::Booklet { .. } =>
                 true,
+            Layout::Poster { .. } => true,
             Layout::Selection | Layout::Spec(_) => false,
         }
     }
@@ -50,10 +53,14 @@ pub struct Spacing {
     pub trim: Grains,
     /// Pages of a booklet's innermost leaves are moved towards the fold by this.
     pub creep: Grains,
+    /// Neighbouring sheets of a poster overlap by this.
+    pub overlap: Grains,
     /// In which order pages stand in the cells. A booklet is bound at the right if they stand from the right to the left.
     pub order: Order,
     /// The scale of the pages; without it they are as large as they can be.
     pub scale: Option<Number>,
+    /// Whether all pages have the scale of the largest paper among them.
+    pub same_scale: bool,
 }
 
 impl Spacing {
@@ -67,8 +74,10 @@ impl Spacing {
             gap: plain.gap,
             trim: plain.trim,
             creep: plain.trim,
+            overlap: plain.trim,
             order: plain.order,
             scale: plain.scale,
+            same_scale: false,
         }
     }
 

@@ -292,6 +292,7 @@ fn impose_task<R: Threads + Wait + Sync, S: Sink>(
             choice: request.choice.as_choice(),
             signing: task.signing,
             laying: task.laying,
+            same_scale: request.spacing.same_scale,
         },
         border: request.border,
         workers: WORKERS,
@@ -309,6 +310,7 @@ pub(crate) fn asked_fault_of(error: AskedError, pages: u32) -> Fault
     match error {
         AskedError::Row(error) => row_fault_of(error, pages),
         AskedError::Arrangement(error) => Fault::Layout(error),
+        AskedError::Poster(error) => Fault::Poster(error),
         AskedError::Sheets(error) => Fault::Sheets(error),
         AskedError::NoMemory { written } => Fault::Run(RunError::NoMemory { written }),
         AskedError::Write { written } => Fault::Run(RunError::Write { written }),

@@ -256,6 +256,7 @@ fn placing(
             booklet_placing(alloc, &spacing.binding(*long_edge), papers, sides)
         }
         Layout::Cards(_) | Layout::Stack { .. } | Layout::Selection => Err(Fault::NoSpecification),
+        Layout::Poster { .. } => Err(Fault::NoSpecification),
         Layout::Spec(specs) => match String::from_str(alloc, specs.as_str()) {
             Ok(text) => Ok((text, None)),
             Err(_) => Err(Fault::no_memory()),

@@ -3,6 +3,8 @@ use Rattle.rows.specs.declared.error.RowError.{RowError}
 use Rattle.rows.specs.declared.error.RowError.TheVariants as row
 use Rattle.layouts.specs.declared.error.ArrangementError.{ArrangementError}
 use Rattle.layouts.specs.declared.error.ArrangementError.TheVariants as arrangement
+use Rattle.arranged_sheets.specs.declared.poster.PosterError.{PosterError}
+use Rattle.arranged_sheets.specs.declared.poster.PosterError.TheVariants as poster
 use Rattle.sheet_runs.specs.declared.error.SheetsError.{SheetsError}
 use Rattle.sheet_runs.specs.declared.error.SheetsError.TheVariants as sheets
 use Rattle.row_runs.specs.declared.error.AskedError.{AskedError}
@@ -15,6 +17,10 @@ of_row other = error.Row other
 abbrev pub of_arrangement : ArrangementError → AskedError
 of_arrangement arrangement.NoMemory = error.NoMemory 0
 of_arrangement other = error.Arrangement other
+
+abbrev pub of_poster : PosterError → AskedError
+of_poster poster.NoMemory = error.NoMemory 0
+of_poster other = error.Poster other
 
 abbrev pub of_sheets : SheetsError → AskedError
 of_sheets (sheets.Sheets e) = error.Sheets e

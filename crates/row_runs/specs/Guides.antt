@@ -5,6 +5,7 @@ use Rattle.rules.specs.Papers.{Paper}
 use Rattle.layouts.specs.Placed.{Room}
 use Rattle.layouts.specs.Cells.{Grid, kept, step}
 use Rattle.layouts.specs.declared.setting.Setting.{Setting}
+use Rattle.arranged_sheets.specs.declared.poster.Poster.{Poster}
 use Rattle.preview.specs.declared.guides.Guide.{Guide}
 use Rattle.preview.specs.declared.guides.GuideKind.{GuideKind}
 use Rattle.preview.specs.declared.guides.GuideKind.TheVariants.{Margin, Fold, Cut}
@@ -63,6 +64,10 @@ lines_between kind room g =
 abbrev pub lines_in : GuideKind → Setting → List Guide
 lines_in kind setting = margin_lines setting.room ++ lines_between kind setting.room setting.grid
 
+-- a sheet of a poster, with its margin
+abbrev pub tile_room : Poster → Room
+tile_room p = record { paper = p.sheet; edge = p.edge; gap = 0; trim = 0 }
+
 -- the lines of a laying: stacks and cards are cut between their cells, booklets are folded
 abbrev pub guides_in : Laying → List Guide
 guides_in (laying.AsTheyAre blank) = []
@@ -71,3 +76,4 @@ guides_in (laying.Cards setting cells) = lines_in Cut setting
 guides_in (laying.Stack setting cells) = lines_in Cut setting
 guides_in (laying.Leaves setting) = lines_in Cut setting
 guides_in (laying.Booklet setting turned_backs creep) = lines_in Fold setting
+guides_in (laying.Poster poster) = margin_lines (tile_room poster)

@@ -1,6 +1,7 @@
--- Read in this order: what errors are called; the sheets that are asked for; how their pages stand; what the answers
--- mean; lines on sheets; what is told of sheets before they are imposed.
+-- Read in this order: what errors are called; layings with one scale; the sheets that are asked for; how their pages
+-- stand; what the answers mean; lines on sheets; what is told of sheets before they are imposed.
 pub mod Errors
+pub mod Evened
 pub mod Sheets
 pub mod Standing
 pub mod Runs

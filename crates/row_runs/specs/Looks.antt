@@ -21,6 +21,7 @@ sides_in (laying.AsTheyAre blank) = sides.One
 sides_in (laying.Grid setting cells) = sides.One
 sides_in (laying.Cards setting cells) = sides.One
 sides_in (laying.Stack setting cells) = sides.One
+sides_in (laying.Poster poster) = sides.One
 sides_in leaves = sides.Both
 
 -- the text of the plan of the sheets that a run would impose

@@ -42,15 +42,17 @@ pub record Imposes (j : RowJob) (old new : Option (List ℕ)) (done : Report) : 
 abbrev pub AfterError : AskedError → (refused : Type 0) → (spent failed : ℕ → Type 0) → Type 0
 AfterError (error.Row e) refused spent failed = refused
 AfterError (error.Arrangement e) refused spent failed = refused
+AfterError (error.Poster e) refused spent failed = refused
 AfterError (error.Sheets e) refused spent failed = refused
 AfterError (error.NoMemory written) refused spent failed = spent written
 AfterError (error.Write written) refused spent failed = failed written
 
--- a refusal names the first fault: of the row; if there is one, of a page in its cell; if its pages have their places, of
+-- a refusal names the first fault: of the row; if there is one, of a page in its cell or as a poster; if its pages have their places, of
 -- the sheets. A failed write comes after all of these, and out of memory after the checks of the row
 abbrev pub RefusesRun : RowJob → AskedError → Type 0
 RefusesRun j (error.Row e) = sheets.RefusesAsked (page_count j) j.papers.now j.asked (error.Row e)
 RefusesRun j (error.Arrangement e) = sheets.RefusesAsked (page_count j) j.papers.now j.asked (error.Arrangement e)
+RefusesRun j (error.Poster e) = sheets.RefusesAsked (page_count j) j.papers.now j.asked (error.Poster e)
 RefusesRun j (error.Sheets e) =
     (made : List MadeSheet) × AreAsked (page_count j) j.papers.now j.asked made × RefusesMade (page_count j) made e
 RefusesRun j (error.NoMemory written) = IsOk (row_chosen (page_count j) j.asked)

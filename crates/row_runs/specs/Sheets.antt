@@ -1,5 +1,5 @@
 -- The sheets that are asked for.
-use Rattle.std.specs.Prelude.{◌≡◌, ⊤, ℕ, ◌/◌, ◌<◌, ◌≤◌, List, length, IsOk, IfSome, Option, Some, None, Ok, Result, option_map}
+use Rattle.std.specs.Prelude.{◌≡◌, ◌⊎◌, true, ⊤, ℕ, ◌*◌, ◌/◌, ◌<◌, ◌≤◌, List, length, IsOk, IfSome, Option, Some, None, Ok, Result, option_map}
 use Rattle.rules.specs.Papers.{Paper}
 use Rattle.made_sheets.specs.Made.{MadeSheet}
 use Rattle.made_sheets.specs.Rows.{Row}
@@ -14,13 +14,17 @@ use Rattle.row_sheets.specs.RowSheets.{selected}
 use Rattle.arranged_sheets.specs.Filled.{card_sheets, duplex_sheets, grid_sheets, stack_sheets}
 use Rattle.arranged_sheets.specs.Creep.{AreHalves, IsRefusedCreeping, creeping_sheets}
 use Rattle.arranged_sheets.specs.Shapes.{IsRefusedFor, filling}
+use Rattle.arranged_sheets.specs.Posters.{IsNoPosterFor, most_tiles, row_tiles}
+use Rattle.arranged_sheets.specs.declared.poster.PosterError.{PosterError}
+use Rattle.row_runs.specs.Evened.{WhyNotEven, evened_if}
 use Rattle.row_runs.specs.declared.asked.Asked.{Asked}
 use Rattle.row_runs.specs.declared.asked.Laying.{Laying}
 use Rattle.row_runs.specs.declared.asked.Laying.TheVariants as laying
 use Rattle.row_runs.specs.declared.error.AskedError.{AskedError}
 use Rattle.row_runs.specs.declared.error.AskedError.TheVariants as error
 
--- so many cells are some, and the sheet has them; those of a booklet are its halves
+-- so many cells are some, and the sheet has them; those of a booklet are its halves; a poster has no more sheets than it may
+-- have, and no wider margins
 abbrev pub MayBeLaid : Laying → Type 0
 MayBeLaid (laying.AsTheyAre blank) = ⊤
 MayBeLaid (laying.Grid setting cells) = (0 < cells) × (cells ≤ size setting.grid)
@@ -28,6 +32,12 @@ MayBeLaid (laying.Cards setting cells) = (0 < cells) × (cells ≤ size setting.
 MayBeLaid (laying.Stack setting cells) = (0 < cells) × (cells ≤ size setting.grid)
 MayBeLaid (laying.Leaves setting) = ⊤
 MayBeLaid (laying.Booklet setting turned_backs creep) = AreHalves setting
+MayBeLaid (laying.Poster poster) = (poster.rows * poster.columns ≤ most_tiles) × (poster.edge ≤ 10_000_000_000)
+
+-- each page stands whole on a sheet
+abbrev pub IsWhole : Laying → Type 0
+IsWhole (laying.Poster poster) = ⊥
+IsWhole other = ⊤
 
 -- and a signature may have so many sides
 pub record MayBeAsked (a : Asked) : Type 0 where
@@ -50,6 +60,7 @@ sheets_laid (laying.Stack setting cells) leaves papers row = stack_sheets (filli
 sheets_laid (laying.Leaves setting) leaves papers row = duplex_sheets (filling setting papers) row
 sheets_laid (laying.Booklet setting turned_backs creep) leaves papers row =
     creeping_sheets (filling setting papers) turned_backs creep leaves row
+sheets_laid (laying.Poster poster) leaves papers row = row_tiles poster papers row
 
 -- why it can't be laid: out of memory, or a page that can't stand in its cell
 abbrev pub WhyNotLaid : Laying → (leaves : ℕ) → List Paper → Row → ArrangementError → Type 0
@@ -60,6 +71,21 @@ WhyNotLaid (laying.Stack setting cells) leaves papers row e = IsRefusedFor (fill
 WhyNotLaid (laying.Leaves setting) leaves papers row e = IsRefusedFor (filling setting papers) row e
 WhyNotLaid (laying.Booklet setting turned_backs creep) leaves papers row e =
     IsRefusedCreeping (filling setting papers) creep leaves row e
+WhyNotLaid (laying.Poster poster) leaves papers row e = ⊥
+
+-- why it can't be on posters: out of memory, or a page that can't be one
+abbrev pub WhyNoPosters : Laying → List Paper → Row → PosterError → Type 0
+WhyNoPosters (laying.Poster poster) papers row e = IsNoPosterFor poster papers row e
+WhyNoPosters other papers row e = ⊥
+
+-- a refusal tells why
+abbrev pub RefusesLaying : Laying → (leaves : ℕ) → List Paper → Row → AskedError → Type 0
+RefusesLaying l leaves papers row (error.Arrangement e) = WhyNotLaid l leaves papers row e
+RefusesLaying l leaves papers row (error.Poster e) = WhyNoPosters l papers row e
+RefusesLaying l leaves papers row (error.NoMemory written) = written ≡ 0
+RefusesLaying l leaves papers row (error.Row e) = ⊥
+RefusesLaying l leaves papers row (error.Sheets e) = ⊥
+RefusesLaying l leaves papers row (error.Write written) = ⊥
 
 -- ---- what is asked for
 
@@ -71,17 +97,24 @@ row_chosen pages a = chosen pages (choice_of a.choice)
 abbrev pub sewn : Asked → Option Signing
 sewn a = option_map signing_of a.signing
 
+-- how the row that is chosen is laid: at one scale if that is asked for
+abbrev pub laying_for : Asked → List Paper → Row → Laying
+laying_for a papers row = evened_if a.same_scale a.laying papers (signed (sewn a) row)
+
 -- these are the sheets that are asked for: the row that is chosen, in signatures if there are to be some, laid as is asked
 pub record AreAsked (pages : ℕ) (papers : List Paper) (a : Asked) (made : List MadeSheet) : Type 0 where
   pub row : Row
   pub is_chosen : row_chosen pages a ≡ Ok row
-  pub are_laid : made ≡ sheets_laid a.laying (leaves_in (sewn a) row) papers (signed (sewn a) row)
+  pub are_laid : made ≡ sheets_laid (laying_for a papers row) (leaves_in (sewn a) row) papers (signed (sewn a) row)
 
 -- a refusal tells the fault of the row, or, if there is one, why it can't be laid
 abbrev pub RefusesAsked : (pages : ℕ) → List Paper → Asked → AskedError → Type 0
 RefusesAsked pages papers a (error.Row e) = RefusesRow (row_chosen pages a) e
 RefusesAsked pages papers a (error.Arrangement e) = (row : Row) × (row_chosen pages a ≡ Ok row)
-    × WhyNotLaid a.laying (leaves_in (sewn a) row) papers (signed (sewn a) row) e
+    × (((a.same_scale ≡ true) × WhyNotEven a.laying papers (signed (sewn a) row) e)
+    ⊎ WhyNotLaid (laying_for a papers row) (leaves_in (sewn a) row) papers (signed (sewn a) row) e)
+RefusesAsked pages papers a (error.Poster e) = (row : Row) × (row_chosen pages a ≡ Ok row)
+    × WhyNoPosters (laying_for a papers row) papers (signed (sewn a) row) e
 RefusesAsked pages papers a (error.Sheets e) = ⊥
 RefusesAsked pages papers a (error.NoMemory written) = (written ≡ 0) × IsOk (row_chosen pages a)
 RefusesAsked pages papers a (error.Write written) = ⊥

@@ -22,7 +22,8 @@ pub record StandsAlone (sheet : MadeSheet) : Type 0 where
   pub stands : StandsIn (bare sheet.paper) sheet
 
 -- the sheets of a laying: in cells each page lies on what the margin leaves of its sheet, and each two of a sheet are apart
--- by the gap; on leaves nothing crosses the fold; as they are, each stands alone
+-- by the gap; on leaves nothing crosses the fold; as they are, each stands alone. What stands on the tiles of a poster is
+-- said by laws of their own
 abbrev pub StandAsLaid : Laying → List MadeSheet → Type 0
 StandAsLaid (laying.AsTheyAre blank) made = All StandsAlone made
 StandAsLaid (laying.Grid setting cells) made = AllStand setting.room made
@@ -30,3 +31,4 @@ StandAsLaid (laying.Cards setting cells) made = AllStand setting.room made
 StandAsLaid (laying.Stack setting cells) made = AllStand setting.room made
 StandAsLaid (laying.Leaves setting) made = AllStand setting.room made
 StandAsLaid (laying.Booklet setting turned_backs creep) made = LeavesStand setting turned_backs creep made
+StandAsLaid (laying.Poster poster) made = ⊤

@@ -6,14 +6,16 @@ ghost use Rattle.rows.specs.Sewing.{MayBeSewn, signing_of};
 ghost use Rattle.rows.specs.Refusals.{RefusesRow};
 ghost use Rattle.row_sheets.specs.RowSheets.{selected as selected_of};
 ghost use Rattle.layouts.specs.declared.error.ArrangementError.TheVariants as ArrangementError;
-ghost use Rattle.row_runs.specs.Errors.{of_arrangement, of_row};
-ghost use Rattle.row_runs.specs.Sheets.{AreAsked, MayBeAsked, MayBeLaid, RefusesAsked, WhyNotLaid};
+ghost use Rattle.row_runs.specs.Errors.{of_arrangement, of_poster, of_row};
+ghost use Rattle.row_runs.specs.Sheets.{AreAsked, IsWhole, MayBeAsked, MayBeLaid, RefusesAsked, RefusesLaying, WhyNotLaid};
 ghost use Rattle.row_runs.specs.Sheets.{leaves_in as leaves_of_signature, sheets_laid};
 ghost use Rattle.row_runs.specs.Standing.{StandAsLaid, StandsAlone};
 
 use crate::error::AskedError;
+use crate::evened::evened_if;
 use arranged_sheets::{
-    Creep, card_sheets, creeping_booklet_sheets, grid_sheets, leaf_sheets, stack_sheets,
+    Creep, Poster, PosterError, card_sheets, creeping_booklet_sheets, grid_sheets, leaf_sheets,
+    poster_row_sheets, stack_sheets,
 };
 use layouts::{ArrangementError, Setting};
 use lengths::Paper;
@@ -56,6 +58,10 @@ pub enum Laying {
         turned_backs: bool,
         creep: u64,
     },
+    /// Each page over several sheets, one page after the other; a blank leaves as many sheets blank.
+    Poster {
+        poster: Poster,
+    },
 }
 
 /// What is imposed of a document, and how: which pages, in signatures or not, laid so on sheets.
@@ -64,10 +70,13 @@ pub struct Asked<'t> {
     pub choice: Choice<'t>,
     pub signing: Option<Signing>,
     pub laying: Laying,
+    /// Whether all pages that are fitted into cells have the scale of the largest paper.
+    pub same_scale: bool,
 }
 
 /// The sheets that are asked for of a document with so many pages, whose papers stand in their order. A page whose paper
-/// isn't told has the sheet's. What is wrong with the row is refused first, then a page that can't stand in a cell.
+/// isn't told has the sheet's. What is wrong with the row is refused first, then a page that can't stand in a cell, or be
+/// a poster.
 pub fn asked_sheets(
     alloc: Global,
     pages: u32,
@@ -89,9 +98,14 @@ pub fn asked_sheets(
         Ok(printed) => printed,
         Err(_) => return Err(AskedError::NoMemory { written: 0 }),
     };
-    match laid(alloc, &asked.laying, leaves, papers, printed.as_slice()) {
+    let entries = printed.as_slice();
+    let laying = match evened_if(asked.same_scale, &asked.laying, papers, entries) {
+        Ok(laying) => laying,
+        Err(error) => return Err(arrangement_error(error)),
+    };
+    match laid(alloc, &laying, leaves, papers, entries) {
         Ok(sheets) => Ok(sheets),
-        Err(error) => Err(arrangement_error(error)),
+        Err(error) => Err(error),
     }
 }
 
@@ -128,6 +142,16 @@ fn arrangement_error(error: ArrangementError) -> AskedError
     }
 }
 
+/// What a refusal of a poster is called.
+fn poster_error(error: PosterError) -> AskedError
+    ensures { result ≡ of_poster error }
+{
+    match error {
+        PosterError::NoMemory => AskedError::NoMemory { written: 0 },
+        error => AskedError::Poster(error),
+    }
+}
+
 /// The row on sheets; if it is in signatures, each has so many leaves.
 fn laid(
     alloc: Global,
@@ -135,8 +159,34 @@ fn laid(
     leaves: u32,
     papers: &[Paper],
     row: &[Option<u32>],
-) -> Result<MadeSheets, ArrangementError>
+) -> Result<MadeSheets, AskedError>
     requires { MayBeLaid laying.now }
+    ensures made { IfOk result (λ made. made ≡ sheets_laid laying.now leaves papers.now row.now) }
+    ensures stands { IfOk result (StandAsLaid laying.now) }
+    ensures refused { IfErr result (RefusesLaying laying.now leaves papers.now row.now) }
+{
+    match laying {
+        Laying::Poster { poster } => match poster_row_sheets(alloc, poster, papers, row) {
+            Ok(sheets) => Ok(sheets),
+            Err(error) => Err(poster_error(error)),
+        },
+        _ => match laid_whole(alloc, laying, leaves, papers, row) {
+            Ok(sheets) => Ok(sheets),
+            Err(error) => Err(arrangement_error(error)),
+        },
+    }
+}
+
+/// A row of which each page stands whole on a sheet.
+fn laid_whole(
+    alloc: Global,
+    laying: &Laying,
+    leaves: u32,
+    papers: &[Paper],
+    row: &[Option<u32>],
+) -> Result<MadeSheets, ArrangementError>
+    requires laid { MayBeLaid laying.now }
+    requires whole { IsWhole laying.now }
     ensures made { IfOk result (λ made. made ≡ sheets_laid laying.now leaves papers.now row.now) }
     ensures stands { IfOk result (StandAsLaid laying.now) }
     ensures refused { IfErr result (WhyNotLaid laying.now leaves papers.now row.now) }
@@ -158,6 +208,7 @@ fn laid(
             };
             creeping_booklet_sheets(alloc, setting, papers, *turned_backs, creep, row)
         }
+        Laying::Poster { .. } => unreachable!(),
     }
 }
 

@@ -1,4 +1,5 @@
 //! Why a row wasn't imposed.
+use arranged_sheets::PosterError;
 use layouts::ArrangementError;
 use rows::RowError;
 use sheet_plan::MadeError;
@@ -13,6 +14,9 @@ pub enum AskedError {
     /// A page of the row can't stand in a cell, never for memory. Nothing was written.
     #[error(transparent)]
     Arrangement(ArrangementError),
+    /// A page of the row can't be such a poster, never for memory. Nothing was written.
+    #[error(transparent)]
+    Poster(PosterError),
     /// The sheets can't be planned, never for memory. Nothing was written.
     #[error(transparent)]
     Sheets(MadeError),

@@ -6,8 +6,11 @@ ghost use Rattle.layouts.specs.Cells.{kept as kept_of, step as step_of};
 ghost use Rattle.row_runs.specs.Guides.{edge_of, gap_at as gap_of, guides_in, level as level_of, level_line as level_line_of};
 ghost use Rattle.row_runs.specs.Guides.{level_lines, level_margin, lines_between, lines_in, margin_lines};
 ghost use Rattle.row_runs.specs.Guides.{upright as upright_of, upright_line as upright_line_of, upright_lines, upright_margin};
+ghost use Rattle.row_runs.specs.Guides.{tile_room as tile_room_of};
+ghost use Rattle.row_runs.specs.Sheets.{MayBeLaid};
 
 use crate::asked::Laying;
+use arranged_sheets::Poster;
 use layouts::{Grid, Room, Setting};
 use lengths::{Grains, Paper};
 use preview::{Guide, GuideKind};
@@ -16,6 +19,7 @@ use std::alloc::{AllocError, Global};
 /// The lines of a laying: its margin, where sheets are cut between their cells, and where the leaves of a booklet are
 /// folded.
 pub(crate) fn guides_of(alloc: Global, laying: &Laying) -> Result<Vec<Guide>, AllocError>
+    requires { MayBeLaid laying.now }
     ensures { IfOk result (λ guides. guides.items ≡ guides_in laying.now) }
 {
     let mut guides = Vec::new(alloc);
@@ -24,6 +28,7 @@ pub(crate) fn guides_of(alloc: Global, laying: &Laying) -> Result<Vec<Guide>, Al
 }
 
 fn push_guides(laying: &Laying, guides: &mut Vec<Guide>) -> Result<(), AllocError>
+    requires { MayBeLaid laying.now }
     ensures { OnOk result (guides.new.items ≡ guides.old.items ++ guides_in laying.now) }
 {
     match laying {
@@ -33,6 +38,20 @@ fn push_guides(laying: &Laying, guides: &mut Vec<Guide>) -> Result<(), AllocErro
         Laying::Stack { setting, .. } => push_lines(GuideKind::Cut, setting, guides),
         Laying::Leaves { setting } => push_lines(GuideKind::Cut, setting, guides),
         Laying::Booklet { setting, .. } => push_lines(GuideKind::Fold, setting, guides),
+        Laying::Poster { poster } => push_margin(&tile_room(poster), guides),
+    }
+}
+
+/// A sheet of a poster, with its margin.
+fn tile_room(poster: &Poster) -> Room
+    requires { poster.now.edge ≤ 10_000_000_000 }
+    ensures { result ≡ tile_room_of poster.now }
+{
+    Room {
+        paper: poster.sheet,
+        edge: poster.edge,
+        gap: 0,
+        trim: 0,
     }
 }
 

@@ -3,6 +3,7 @@
 
 mod asked;
 mod error;
+mod evened;
 mod guides;
 mod look;
 mod run;

@@ -4,7 +4,7 @@ ghost use Rattle.made_sheets.specs.MadePlans.{made_plan_of};
 ghost use Rattle.sheet_plan.specs.MadeRefusals.{RefusesMade};
 ghost use Rattle.preview.specs.Drawing.{preview_text as picture_of};
 ghost use Rattle.row_runs.specs.Guides.{guides_in};
-ghost use Rattle.row_runs.specs.Sheets.{MayBeAsked};
+ghost use Rattle.row_runs.specs.Sheets.{MayBeAsked, MayBeLaid};
 ghost use Rattle.row_runs.specs.Runs.{ArePlanned};
 ghost use Rattle.row_runs.specs.Looks.{RefusesLook, TellsPicture, TellsPlan, of_plan, sides_in};
 
@@ -57,6 +57,7 @@ fn drawn(
     laying: &Laying,
     most: u32,
 ) -> Result<Vec<u8>, AllocError>
+    requires { MayBeLaid laying.now }
     ensures { IfOk result (λ text. text.items
         ≡ picture_of (sides_in laying.now) (guides_in laying.now) most sheets.now) }
 {

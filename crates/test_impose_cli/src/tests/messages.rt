@@ -76,6 +76,11 @@ fn command_lines(rt: HostRuntime) -> Result<(), Fail> {
             "bad length '2x' after --creep: give it as 5mm, .2in or 14pt",
         ),
         (
+            CommandFault::BadLength(LengthOption::Overlap, text("2x")?),
+            2,
+            "bad length '2x' after --overlap: give it as 5mm, .2in or 14pt",
+        ),
+        (
             CommandFault::OddAndEven,
             2,
             "--odd and --even leave no page together: give one of them",
@@ -119,6 +124,15 @@ fn words_of_cells(rt: HostRuntime) -> Result<(), Fail> {
         (
             CommandFault::BadCells(GridCommand::NUp, text("2x")?),
             "bad grid '2x' behind nup: give columns and rows as 2x4, at most 1024 cells in all",
+        ),
+        (
+            CommandFault::BadCells(GridCommand::Poster, text("4")?),
+            "bad grid '4' behind poster: give columns and rows of sheets as 2x3, at most 1024 in all",
+        ),
+        (
+            CommandFault::BadCells(GridCommand::Poster, text("in.ps")?),
+            "columns and rows of sheets are missing before 'in.ps': they stand behind poster, as in: impose poster 2x2 \
+            in.ps out.ps",
         ),
         (
             CommandFault::BadValue(CellOption::Order, text("down")?),

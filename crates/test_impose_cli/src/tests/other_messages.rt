@@ -1,5 +1,6 @@
 //! Messages that the README has no example of, and what is said of a finished run.
 use super::read;
+use arranged_sheets::PosterError;
 use document_paper::Comment;
 use dsc::DscError;
 use impose_cli::{
@@ -50,6 +51,22 @@ fn layouts_plans_and_faulty_documents(rt: HostRuntime) -> Result<(), Fail> {
             "there is no room at the fold for leaves to creep so far: take a smaller --creep or a larger --gap",
         ),
         (
+            Fault::Poster(PosterError::NothingButOverlap),
+            "margins and overlap leave nothing of a sheet: take a smaller --margin or --overlap, or a larger --sheet",
+        ),
+        (
+            Fault::Poster(PosterError::SideTooLong),
+            "a side of a sheet or of the whole poster is 100,000 points or more: take fewer or smaller sheets",
+        ),
+        (
+            Fault::Poster(PosterError::ScaleOutOfRange),
+            "the page would be too small or too large on the poster: name other papers by --paper and --sheet",
+        ),
+        (
+            Fault::Poster(PosterError::TilesOutOfRange),
+            "a poster has from 1 to 1,024 sheets: give other columns and rows",
+        ),
+        (
             Fault::Row(RowError::NoEntries),
             "page ranges: no page is left by --odd or --even; pages are counted from 1",
         ),
@@ -59,8 +76,8 @@ fn layouts_plans_and_faulty_documents(rt: HostRuntime) -> Result<(), Fail> {
         ),
         (
             Fault::NoSpecification,
-            "--print-spec: no specification says a selection, cards or a stack, nor --pages, --odd, --even, --reverse or \
-            --creep; leave it out",
+            "--print-spec: no specification says a selection, cards, a stack or a poster, nor --pages, --odd, --even, \
+            --reverse or --creep; leave it out",
         ),
         (
             Fault::Run(RunError::Plan(PlanError::TooManyPages)),

@@ -1,5 +1,6 @@
 //! Requests with documents: which paper and specification they come to, what is printed of them, and what is refused.
 use super::read;
+use arranged_sheets::PosterError;
 use document_paper::Comment;
 use dsc::DscError;
 use impose_cli::{
@@ -255,6 +256,43 @@ fn rows_that_are_refused(rt: HostRuntime) -> Result<(), Fail> {
     Ok(())
 }
 
+#[test]
+fn posters_that_are_refused(rt: HostRuntime) {
+    let alloc = rt.alloc();
+    for (line, error) in [
+        (
+            "poster 2x2 -p a4 --overlap 21cm",
+            PosterError::NothingButOverlap,
+        ),
+        (
+            "poster 2x2 -p a4 --margin 10cm --overlap 1cm",
+            PosterError::NothingButOverlap,
+        ),
+        ("poster 1x1000 -p a0", PosterError::SideTooLong),
+        (
+            "poster 2x2 -p 0.001x0.001pt --sheet a4",
+            PosterError::ScaleOutOfRange,
+        ),
+    ] {
+        match fault_of(alloc, line, "") {
+            Err(Fault::Poster(found)) => assert_eq!(rt; found, error, "at {line}"),
+            _ => assert!(rt; false, "at {line}"),
+        }
+    }
+    assert!(rt;
+        matches!(
+            fault_of(alloc, "poster 2x2 -p a4 --overlap=-1pt", ""),
+            Err(Fault::Layout(ArrangementError::LengthOutOfRange))
+        )
+    );
+    assert!(rt;
+        matches!(
+            fault_of(alloc, "poster 2x2", ONE_PAGE),
+            Err(Fault::NoSpecification)
+        )
+    );
+}
+
 // What doesn't ask for the document comes before it.
 #[test]
 fn layouts_that_are_refused(rt: HostRuntime) {
@@ -437,5 +475,40 @@ fn inner_leaves_creep(rt: HostRuntime) -> Result<(), Fail> {
             "at {options}"
         );
     }
+    Ok(())
+}
+
+/// The matrix of each page, sheet by sheet.
+fn matrices(rt: &(impl Threads + Wait + Sync + AllocGlobal), line: &str) -> Result<String, Fail> {
+    let request = read(rt.alloc(), line)?;
+    let mut sink = MemorySink::new(rt.alloc(), 40_000, 40_000, 40_000)?;
+    run_request(
+        rt,
+        rt.alloc(),
+        &request,
+        owned(rt.alloc(), THREE_PAGES)?,
+        &mut sink,
+    )?;
+    let mut matrices = String::new(rt.alloc());
+    for text in str::from_utf8(sink.bytes()).unwrap_or("").lines() {
+        if text.starts_with("%%Page: ") {
+            matrices.push('|')?;
+        }
+        if let Some(matrix) = text.strip_suffix("] concat") {
+            matrices.push_str(matrix)?;
+        }
+    }
+    Ok(matrices)
+}
+
+// What the margin leaves of a sheet is 500 by 800 points, so the sheets without their overlap have room for 980 by 1,580
+// points. The page is 1.96 times as large then, 980 by 1,568 points, and 6 points are left below and above it.
+#[test]
+fn a_page_over_four_sheets(rt: HostRuntime) -> Result<(), Fail> {
+    let line = "poster 2x2 -p 500x800 --sheet 520x820 --margin 10pt --overlap 20pt --pages blank,1";
+    assert_eq!(rt;
+        matrices(&rt, line)?.as_str(),
+        "|||||[1.96 0 0 1.96 10 -764|[1.96 0 0 1.96 -470 -764|[1.96 0 0 1.96 10 16|[1.96 0 0 1.96 -470 16"
+    );
     Ok(())
 }

@@ -4,7 +4,8 @@ ghost use Rattle.layouts.specs.Cells.{size};
 
 use super::plans::sheets_text;
 use arranged_sheets::{
-    Poster, PosterError, card_sheets, grid_sheets, leaf_sheets, poster_sheets, stack_sheets,
+    Poster, PosterError, card_sheets, check_poster, grid_sheets, leaf_sheets, poster_row_sheets,
+    poster_sheets, stack_sheets,
 };
 use layouts::{Arrangement, ArrangementError, Cells, Order, Papers, Run, Setting, Turned};
 use lengths::{Grains, Paper, paper_by_name};
@@ -182,6 +183,34 @@ fn posters_that_are_refused(rt: HostRuntime) -> Result<(), Fail> {
         poster.overlap = overlap;
         let made = poster_sheets(rt.alloc(), &poster, &page, 0);
         assert_eq!(rt; made.err(), Some(wanted));
+        assert_eq!(rt; check_poster(&poster, &page).err(), Some(wanted));
     }
+    Ok(())
+}
+
+/// The pages of a row, each on two such tiles; the second page has a paper of its own.
+fn row_of_posters(alloc: Global, row: &[Option<u32>]) -> Option<MadeSheets> {
+    let a4 = paper_by_name("a4")?;
+    let poster = Poster {
+        sheet: a4,
+        columns: 2,
+        rows: 1,
+        edge: 1_000_000,
+        overlap: 2_000_000,
+    };
+    let papers = [a4, paper(565, 411)?];
+    poster_row_sheets(alloc, &poster, &papers, row).ok()
+}
+
+#[test]
+fn posters_of_a_row(rt: HostRuntime) -> Result<(), Fail> {
+    let row = [None, Some(1)];
+    let made = row_of_posters(rt.alloc(), &row).expect(&rt, "sheets");
+    assert_eq!(rt; made.len(), 4);
+    assert_eq!(rt; offset_on(&made, 1), None);
+    assert_eq!(rt;
+        offset_on(&made, 3),
+        Some((-545_000_000_000, 10_000_000_000))
+    );
     Ok(())
 }

@@ -5,10 +5,11 @@ use Rattle.layouts.specs.Grids.{arranged}
 use Rattle.layouts.specs.Laws.{IsArranged}
 use Rattle.layouts.specs.Refusals.{IsFault, why_not_arranged}
 use Rattle.impose_cli.specs.Spacings.{arrangement_in}
+use Rattle.impose_cli.specs.Faults.{of_layout}
 use Rattle.impose_cli.specs.Tasks.{IsWritten}
 use Rattle.impose_cli.specs.Refusals.{RefusesLayout}
 use Rattle.impose_cli.specs.declared.request.Layout.TheVariants as layout
-use Rattle.impose_cli.proofs.Placing.{ok_both, refuses_layout}
+use Rattle.impose_cli.proofs.Placing.{ok_both, refuses_laid, refuses_layout}
 use Rattle.impose_cli.proofs.task.nup_placing.Goals as goal
 
 pub returns-in-Err-clause-refused : goal.returns-in-Err-clause-refused
@@ -17,7 +18,7 @@ returns-in-Err-clause-refused c =
     let a = arrangement_in c.args.spacing.now c.args.cells in
     let found = subst (λ b. IsFault (why_not_arranged papers.page papers.sheet b) c.in-Err.error) c.arrangement.ensures c.in-Err.ensures.refused in
     subst (RefusesLayout (layout.NUp c.args.cells) c.args.spacing.now papers.page papers.sheet) (sym c.from.ensures)
-    (refuses_layout (why_not_arranged papers.page papers.sheet a) c.in-Err.error found)
+    (refuses_laid (why_not_arranged papers.page papers.sheet a) (of_layout c.in-Err.error) (refuses_layout (why_not_arranged papers.page papers.sheet a) c.in-Err.error found))
 
 pub returns-in-Ok-clause-placed : goal.returns-in-Ok-clause-placed
 returns-in-Ok-clause-placed c =

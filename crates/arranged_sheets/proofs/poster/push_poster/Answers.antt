@@ -2,9 +2,9 @@ use Rattle.std.proofs.Common.{rules, ◌≡◌, ◌<◌, ◌*◌, ◌-◌, ◌+�
 use Rattle.pagespec.specs.Items.{item_of}
 use Rattle.made_sheets.specs.Made.{Placed}
 use Rattle.arranged_sheets.specs.Posters.{IsNear, tile_item, laid_item}
-use Rattle.arranged_sheets.proofs.Filling.{sheet, sheet_more}
+use Rattle.arranged_sheets.proofs.Filling.{sheet, sheet_behind}
 use Rattle.arranged_sheets.proofs.Offsets.{tile_in, tile_near}
-use Rattle.arranged_sheets.proofs.poster.poster_sheets.Goals as goal
+use Rattle.arranged_sheets.proofs.poster.push_poster.Goals as goal
 
 pub tile_item-requires-clause-near : goal.tile_item-requires-clause-near
 tile_item-requires-clause-near c =
@@ -25,4 +25,4 @@ loop-n-preserved c =
     let is = c.tile_item.ensures ∙ ap (λ l. laid_item l k (n % p.columns) (p.rows - (n / p.columns + 1))) c.in-Ok.ensures.value in
     let here = ap (λ i. Placed k i page ∷ []) is in
     let e : c.push.new.self ≡ c.loop-n.made ++ sheet p.sheet (Placed k item page ∷ []) ∷ [] = search rules in
-    sheet_more p.sheet (λ m. Placed k (tile_item page p k (m % p.columns) (p.rows - (m / p.columns + 1))) page ∷ []) c.loop-n.made c.push.new.self (Placed k item page ∷ []) n c.loop-n.invariant here e
+    sheet_behind p.sheet (λ m. Placed k (tile_item page p k (m % p.columns) (p.rows - (m / p.columns + 1))) page ∷ []) c.args.made.now c.loop-n.made c.push.new.self (Placed k item page ∷ []) n c.loop-n.invariant here e
