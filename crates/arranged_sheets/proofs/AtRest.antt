@@ -1,21 +1,21 @@
 -- Leaves that don't creep.
 use Rattle.std.proofs.Common.{arith, rules, ◌≡◌, ℕ, ◌+◌, ◌-◌, ◌*◌, ◌/◌, ◌%◌, Bool, true, false, inl, inr, Option, Some, None, List, [], ◌∷◌, refl, sym, ap, ap₂, ◌∙◌}
-use Rattle.std.specs.Prelude.{ℤ, pos, neg_ℤ, ◌+ℤ◌, ◌-ℤ◌, nat_le, if◌then◌else◌, map}
+use Rattle.std.specs.Prelude.{ℤ, pos, neg_ℤ, ◌-ℤ◌, nat_le, if◌then◌else◌, map}
 use Rattle.std.specs.List.{range_with_len}
 use Rattle.std.proofs.Math.IntN.{+ℤ_idr}
 use Rattle.rules.specs.Papers.{Paper, Pt}
 use Rattle.rules.specs.Specification.{Item}
-use Rattle.made_sheets.specs.Made.{Placed, MadeSheet}
+use Rattle.made_sheets.specs.Made.{Placed}
 use Rattle.made_sheets.specs.Rows.{Row}
 use Rattle.layouts.specs.declared.error.ArrangementError.{ArrangementError}
 use Rattle.layouts.specs.declared.error.ArrangementError.TheVariants as why
 use Rattle.layouts.specs.declared.setting.Setting.{Setting}
 use Rattle.layouts.specs.Refusals.{first_of}
 use Rattle.layouts.specs.Placed.{Room}
-use Rattle.layouts.specs.Fitted.{fitted, fitted_back, scale_on, why_not_fitted}
-use Rattle.arranged_sheets.specs.Filled.{Filling, booklet_sheets, grid_entry, is_turned, slot_on}
+use Rattle.layouts.specs.Fitted.{fitted, fitted_back, why_not_fitted}
+use Rattle.arranged_sheets.specs.Filled.{Filling, grid_entry, is_turned, slot_on}
 use Rattle.arranged_sheets.specs.Shapes.{IsRefusedFor}
-use Rattle.arranged_sheets.specs.Creep.{AreHalves, IsRefusedCreep, IsRefusedCreeping, NoCreepIsPlain, creep_on, creeping, creeping_sheets, creeping_slot, is_before_fold, may_creep, moved_up, or_else, up_to_fold, why_not_creeping}
+use Rattle.arranged_sheets.specs.Creep.{AreHalves, IsRefusedCreeping, NoCreepIsPlain, creep_on, creeping, creeping_slot, is_before_fold, moved_up, or_else, up_to_fold, why_not_creeping}
 use Rattle.arranged_sheets.proofs.Creeping.{halves, of_halves}
 use Rattle.arranged_sheets.proofs.Filling.{sheet}
 

@@ -1,5 +1,5 @@
 -- Pages on leaves that creep stay within reach, as long as there is room at the fold.
-use Rattle.std.proofs.Common.{arith, rules, ◌≡◌, ℕ, suc, zero, ◌+◌, ◌-◌, ◌*◌, ◌<◌, ◌≤◌, Bool, true, false, inr, Option, Some, None, [], ◌∷◌, refl, sym, ap, subst, ◌∙◌}
+use Rattle.std.proofs.Common.{arith, rules, ◌≡◌, ℕ, suc, zero, ◌+◌, ◌*◌, ◌<◌, ◌≤◌, Bool, true, false, inr, Option, Some, None, [], ◌∷◌, refl, sym, ap, subst, ◌∙◌}
 use Rattle.std.specs.Prelude.{ℤ, pos, neg_ℤ, ◌+ℤ◌, ◌-ℤ◌, ◌*ℤ◌, nat_abs, nat_le, nat_lt, IsTrue, if◌then◌else◌, map}
 use Rattle.std.specs.List.{range_with_len}
 use Rattle.std.proofs.lemmas.Int.{ints}
@@ -15,7 +15,7 @@ use Rattle.layouts.specs.declared.setting.Setting.{Setting}
 use Rattle.layouts.specs.Placed.{Room}
 use Rattle.layouts.specs.Cells.{slack, slack_x, trimmed, whole}
 use Rattle.layouts.specs.Grids.{beside, leaf_order}
-use Rattle.layouts.specs.Refusals.{first_of, is_near}
+use Rattle.layouts.specs.Refusals.{first_of}
 use Rattle.layouts.specs.Fitted.{fitted, fitted_back, is_whole, scale_on, why_no_scale_on}
 use Rattle.layouts.proofs.AlongSide.{in_cell, cells_fit}
 use Rattle.layouts.proofs.OnSide.{HasCell, cell, shown, from_start}

@@ -1,9 +1,8 @@
 -- Sheets whose pages have their places stand well.
-use Rattle.std.proofs.Common.{arith, ◌≡◌, ◌≢◌, ℕ, ◌+◌, ◌<◌, ◌≤◌, Bool, true, false, Option, Some, None, List, length, refl, sym, subst}
+use Rattle.std.proofs.Common.{arith, ◌≡◌, ◌≢◌, ℕ, ◌<◌, ◌≤◌, Bool, true, false, Option, Some, None, length, refl, sym, subst}
 use Rattle.std.specs.Prelude.{All, AllPairs, map, slice_index_or}
 use Rattle.std.specs.List.{range_with_len}
 use Rattle.std.proofs.lemmas.List.FromFn.{get_or-map-range_with_len, length-map-range_with_len}
-use Rattle.made_sheets.specs.Made.{MadeSlot, MadeSheet}
 use Rattle.layouts.specs.Cells.{size}
 use Rattle.layouts.proofs.Fitting.{fitted_stands, fitted_is_apart, stands_back, scale_of_many, backs_are_apart}
 use Rattle.arranged_sheets.specs.Filled.{Filling, slot_on, sides, is_turned, SlotIsInside, SlotsAreApart}

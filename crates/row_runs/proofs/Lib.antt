@@ -1,1 +1,3 @@
 pub mod Lines
+mod Alone
+mod OneScale

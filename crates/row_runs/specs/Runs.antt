@@ -12,6 +12,7 @@ use Rattle.row_runs.specs.Sheets.{AreAsked, WhyNotLaid, row_chosen}
 use Rattle.row_runs.specs.Sheets as sheets
 use Rattle.row_runs.specs.Marked.{strokes_in}
 use Rattle.marks.specs.declared.strokes.Stroke.{Stroke}
+use Rattle.row_runs.specs.Standing.{StandAsLaid}
 use Rattle.row_runs.specs.declared.run.RowJob.{RowJob}
 use Rattle.row_runs.specs.declared.error.AskedError.{AskedError}
 use Rattle.row_runs.specs.declared.error.AskedError.TheVariants as error
@@ -20,9 +21,10 @@ use Rattle.row_runs.specs.declared.error.AskedError.TheVariants as error
 abbrev pub page_count : RowJob → ℕ
 page_count j = length (pages j.document.now)
 
--- these sheets are asked for, and can be planned
+-- these sheets are asked for, their pages stand as they are to be laid, and they can be planned
 pub record ArePlanned (j : RowJob) (made : List MadeSheet) : Type 0 where
   pub asked : AreAsked (page_count j) j.papers.now j.asked made
+  pub stand : StandAsLaid j.asked.laying made
   pub planned : made_plan_of (page_count j) made ≡ Ok made
 
 -- the strokes on each of them, of the marks that are asked for
@@ -33,7 +35,8 @@ strokes_on j = strokes_in j.marks j.asked.laying
 abbrev pub output_on : RowJob → List MadeSheet → List ℕ
 output_on j made = told_output j.border (strokes_on j) made j.document.now
 
--- exactly the output of the sheets that are asked for was appended, and the report has its numbers
+-- exactly the output of the sheets that are asked for was appended, and the report has its numbers: so these pages are
+-- printed in this order, inside and apart, each at its place, and nothing else
 pub record Imposes (j : RowJob) (old new : Option (List ℕ)) (done : Report) : Type 0 where
   pub made : List MadeSheet
   pub planned : ArePlanned j made

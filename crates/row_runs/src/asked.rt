@@ -1,5 +1,5 @@
 //! The sheets that are asked for.
-ghost use Rattle.std.specs.Prelude.{◌≡◌, ◌<◌, ◌≤◌, IfErr, IfOk, IfSome, Ok, length, option_map};
+ghost use Rattle.std.specs.Prelude.{◌≡◌, ◌<◌, ◌≤◌, All, IfErr, IfOk, IfSome, Ok, length, option_map};
 ghost use Rattle.made_sheets.specs.Choice.{most_entries};
 ghost use Rattle.rows.specs.Choices.{choice_of};
 ghost use Rattle.rows.specs.Sewing.{MayBeSewn, signing_of};
@@ -9,6 +9,7 @@ ghost use Rattle.layouts.specs.declared.error.ArrangementError.TheVariants as Ar
 ghost use Rattle.row_runs.specs.Errors.{of_arrangement, of_poster, of_row};
 ghost use Rattle.row_runs.specs.Sheets.{AreAsked, IsWhole, MayBeAsked, MayBeLaid, RefusesAsked, RefusesLaying, WhyNotLaid};
 ghost use Rattle.row_runs.specs.Sheets.{leaves_in as leaves_of_signature, sheets_laid};
+ghost use Rattle.row_runs.specs.Standing.{StandAsLaid, StandsAlone};
 
 use crate::error::AskedError;
 use crate::evened::evened_if;
@@ -85,6 +86,7 @@ pub fn asked_sheets(
     requires pages { pages ≤ most_entries }
     requires asked { MayBeAsked asked.now }
     ensures made { IfOk result (AreAsked pages papers.now asked.now) }
+    ensures stands { IfOk result (StandAsLaid asked.now.laying) }
     ensures refused { IfErr result (RefusesAsked pages papers.now asked.now) }
 {
     let row = match chosen_row(alloc, pages, &asked.choice) {
@@ -160,6 +162,7 @@ fn laid(
 ) -> Result<MadeSheets, AskedError>
     requires { MayBeLaid laying.now }
     ensures made { IfOk result (λ made. made ≡ sheets_laid laying.now leaves papers.now row.now) }
+    ensures stands { IfOk result (StandAsLaid laying.now) }
     ensures refused { IfErr result (RefusesLaying laying.now leaves papers.now row.now) }
 {
     match laying {
@@ -185,6 +188,7 @@ fn laid_whole(
     requires laid { MayBeLaid laying.now }
     requires whole { IsWhole laying.now }
     ensures made { IfOk result (λ made. made ≡ sheets_laid laying.now leaves papers.now row.now) }
+    ensures stands { IfOk result (StandAsLaid laying.now) }
     ensures refused { IfErr result (WhyNotLaid laying.now leaves papers.now row.now) }
 {
     match laying {
@@ -216,6 +220,7 @@ fn selected(
     row: &[Option<u32>],
 ) -> Result<MadeSheets, ArrangementError>
     ensures made { IfOk result (λ made. made ≡ selected_of papers.now blank.now row.now) }
+    ensures stands { IfOk result (All StandsAlone) }
     ensures refused { IfErr result (λ error. error ≡ ArrangementError.NoMemory) }
 {
     let Ok(list) = list_of(alloc, papers) else {

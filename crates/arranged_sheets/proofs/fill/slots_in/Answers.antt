@@ -1,4 +1,4 @@
-use Rattle.std.proofs.Common.{ap, sym, subst, ◌∙◌}
+use Rattle.std.proofs.Common.{ap, subst, ◌∙◌}
 use Rattle.rules.specs.Signatures.{entry_of}
 use Rattle.sheet_plan.specs.OfSheets.{slot_of}
 use Rattle.arranged_sheets.specs.Filled.{slot_on, is_turned}

@@ -1,0 +1,34 @@
+-- How the pages of the sheets that are asked for stand.
+use Rattle.std.specs.Prelude.{◌≡◌, ⊤, List, [], ◌∷◌, All}
+use Rattle.rules.specs.Papers.{Paper}
+use Rattle.made_sheets.specs.Made.{MadeSlot, Blank, Placed, MadeSheet}
+use Rattle.layouts.specs.Placed.{bare}
+use Rattle.row_sheets.specs.RowSheets.{as_it_is}
+use Rattle.arranged_sheets.specs.Standing.{AllStand, LeavesStand, StandsIn}
+use Rattle.row_runs.specs.declared.asked.Laying.{Laying}
+use Rattle.row_runs.specs.declared.asked.Laying.TheVariants as laying
+
+-- a page as it is, on a sheet of this paper
+abbrev pub SlotIsAsItIs : (sheet : Paper) → MadeSlot → Type 0
+SlotIsAsItIs sheet Blank = ⊤
+SlotIsAsItIs sheet (Placed page item paper) = (item ≡ as_it_is) × (paper ≡ sheet)
+
+-- a sheet with one page, which is as it is and on a sheet of its own paper, or with a blank. So no point of the page lies
+-- outside of the sheet
+pub record StandsAlone (sheet : MadeSheet) : Type 0 where
+  pub slot : MadeSlot
+  pub alone : sheet.slots ≡ slot ∷ []
+  pub is_as_it_is : SlotIsAsItIs sheet.paper slot
+  pub stands : StandsIn (bare sheet.paper) sheet
+
+-- the sheets of a laying: in cells each page lies on what the margin leaves of its sheet, and each two of a sheet are apart
+-- by the gap; on leaves nothing crosses the fold; as they are, each stands alone. What stands on the tiles of a poster is
+-- said by laws of their own
+abbrev pub StandAsLaid : Laying → List MadeSheet → Type 0
+StandAsLaid (laying.AsTheyAre blank) made = All StandsAlone made
+StandAsLaid (laying.Grid setting cells) made = AllStand setting.room made
+StandAsLaid (laying.Cards setting cells) made = AllStand setting.room made
+StandAsLaid (laying.Stack setting cells) made = AllStand setting.room made
+StandAsLaid (laying.Leaves setting) made = AllStand setting.room made
+StandAsLaid (laying.Booklet setting turned_backs creep) made = LeavesStand setting turned_backs creep made
+StandAsLaid (laying.Poster poster) made = ⊤
