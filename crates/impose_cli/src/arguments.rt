@@ -153,6 +153,8 @@ fn poster<'a>(alloc: Global) -> Result<Command<'a>, AllocError>
         odd(alloc),
         even(alloc),
         reverse(alloc),
+        plan(alloc),
+        preview(alloc),
     ]?;
     subcommand(alloc, "poster", about, own)
 }
