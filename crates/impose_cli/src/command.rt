@@ -17,8 +17,10 @@ ghost use Rattle.impose_cli.specs.Sizing.{RefusesSpacing, RefusesValue};
 ghost use Rattle.impose_cli.specs.declared.fault.CellOption.TheVariants as cell;
 
 use crate::arguments::command;
-use crate::arranging::{cells_named, cut_marks_named, exact_cells, fold_marks_named};
-use crate::arranging::{run_named, scale_named, turned_named};
+use crate::arranging::{
+    cells_named, cut_marks_named, exact_cells, fold_marks_named, run_named, scale_named,
+    turned_named,
+};
 use crate::fault::{
     CellOption, CommandFault, GridCommand, LengthOption, PaperOption, ProductOption,
 };
@@ -504,11 +506,7 @@ fn scale_of(alloc: Global, found: &ArgMatches<'_>) -> Result<Option<Number>, Com
 }
 
 /// The marks that are asked for, of those that sheets of the layout have.
-fn marks_of(
-    alloc: Global,
-    layout: &Layout,
-    found: &ArgMatches<'_>,
-) -> Result<Marks, CommandFault>
+fn marks_of(alloc: Global, layout: &Layout, found: &ArgMatches<'_>) -> Result<Marks, CommandFault>
     ensures read { IfOk result (λ marks. marks_found layout.now (rows_of (found_of found.now)) ≡ Some marks) }
     ensures refused { IfErr result (RefusesMarks layout.now (rows_of (found_of found.now))) }
 {

@@ -2,3 +2,4 @@ pub mod Lines
 mod Alone
 mod OneScale
 pub mod Refused
+pub mod Written
