@@ -1,5 +1,5 @@
 //! Layings with one scale for all pages of a row.
-ghost use Rattle.std.specs.Prelude.{◌≡◌, ◌×◌, IfErr, IfOk, true};
+ghost use Rattle.std.specs.Prelude.{◌≡◌, IfErr, IfOk, true};
 ghost use Rattle.row_runs.specs.Evened.{WhyNotEven, evened as evened_of, evened_if as evened_if_asked};
 ghost use Rattle.row_runs.specs.Evened.{setting_in as setting_of, with_setting as with_setting_of};
 ghost use Rattle.row_runs.specs.Sheets.{MayBeLaid};
