@@ -1,18 +1,19 @@
 # bash completion for impose and impose-pdf: commands, options, names of papers, files. No function of others is needed.
 
 # The words that can stand in a place; `checks/options` compares them with `impose --help`.
-_impose_commands='nup booklet cards stack select spec help'
+_impose_commands='nup booklet cards stack poster select spec help'
 _impose_papers='a0 a1 a2 a3 a4 a5 a6 b4 b5 b6 letter legal tabloid ledger statement executive folio quarto 10x14'
 _impose_options_of() {
     local all='--paper --sheet --border --unguarded --print-spec --quiet --help -p -q -h'
-    local parts='--odd --even --reverse'
-    local laid="--margin --gap --trim --rtl --pages $parts"
+    local parts='--odd --even --reverse --plan --preview'
+    local laid="--margin --gap --trim --marks --rtl --same-scale --pages $parts"
     local cells="--order --turned --scale $laid"
     case "$1" in
         '') echo '--help --version -h -V' ;;
         nup | cards) echo "$cells $all" ;;
         booklet) echo "--signature --creep --long-edge $laid $all" ;;
         stack) echo "--duplex $cells $all" ;;
+        poster) echo "--overlap --margin --pages $parts $all" ;;
         select) echo "$parts $all" ;;
         spec) echo "$all" ;;
     esac
@@ -24,12 +25,14 @@ _impose_values_of() {
         --paper | --sheet | -p) echo "$_impose_papers" ;;
         --border) echo '.5pt 1pt .5mm' ;;
         --margin | --gap | --trim) echo '2mm 5mm 1cm' ;;
+        --overlap) echo '5mm 1cm 2cm' ;;
         --order) echo 'right-down down-right left-down down-left' ;;
         --turned) echo 'left right' ;;
         --scale) echo '0.5 0.7 1' ;;
+        --marks) echo 'fold cut' ;;
         --creep) echo '.5mm 1mm 2mm' ;;
         --signature) echo 'auto 4 8 12 16 20 24 28 32' ;;
-        --pages) ;;
+        --pages | --preview) ;;
         *) return 1 ;;
     esac
 }
@@ -65,7 +68,9 @@ _impose() {
         else number=$((number + 1))
         fi
     done
-    if [ -z "$is_behind" ] && values=$(_impose_values_of "$before"); then
+    if [ -z "$is_behind" ] && [ "$before" = --preview ]; then
+        _impose_files '*.svg'
+    elif [ -z "$is_behind" ] && values=$(_impose_values_of "$before"); then
         COMPREPLY=($(compgen -W "$values" -- "$cur"))
     elif [ -z "$is_behind" ] && [ "${cur:0:1}" = - ]; then
         COMPREPLY=($(compgen -W "$(_impose_options_of "$command")" -- "$cur"))
@@ -76,6 +81,7 @@ _impose() {
             help:0) COMPREPLY=($(compgen -W "$_impose_commands" -- "$cur")) ;;
             help:*) ;;
             nup:0 | cards:0 | stack:0) COMPREPLY=($(compgen -W '1 2 4 6 8 9 16 2x4' -- "$cur")) ;;
+            poster:0) COMPREPLY=($(compgen -W '2x2 2x3 3x2 3x3 4x4' -- "$cur")) ;;
             select:0 | spec:0) ;;
             *) _impose_files "${patterns[@]}" ;;
         esac

@@ -14,6 +14,7 @@ pub mod DataLengths
 pub mod Alone
 pub mod Scans
 pub mod Seeking
+pub mod CountingPages
 pub mod BodyMarks
 pub mod PartMarks
 pub mod Reading

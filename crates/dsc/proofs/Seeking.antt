@@ -1,6 +1,6 @@
 -- One pass over the units finds the box of the trailer.
 use Rattle.std.specs.Prelude.{Result, Ok, Err, Option, Some, None}
-use Rattle.std.proofs.Common.{Bool, true, false, cond, ◌≡◌, ℕ, ◌+◌, ◌<◌, List, [], ◌∷◌, length, refl, ap, arith, sym, ◌∙◌}
+use Rattle.std.proofs.Common.{Bool, true, false, cond, ◌≡◌, ℕ, ◌<◌, List, [], ◌∷◌, length, refl, ap, arith, sym, ◌∙◌}
 use Rattle.rules.specs.Units.{TextUnit, BlockFault, FaultyBlock, cut, first_unit}
 use Rattle.rules.proofs.CutUnits.{same_ok}
 use Rattle.rules.specs.Parts.{NestedUnit, begins_page, begins_trailer, nested, nested_from, starting_at, trailer}
@@ -13,7 +13,7 @@ use Rattle.dsc.specs.declared.boxes.Part.TheVariants.{Preamble, Pages, Trailer}
 use Rattle.dsc.specs.TrailerBoxes.{box_among, box_in, first_of, found_after, part_after, trailer_box}
 use Rattle.dsc.proofs.Cut.{cut_fault}
 use Rattle.dsc.proofs.PartMarks.{exclusive, from-cons}
-use Rattle.dsc.proofs.PlainUnits.{IsPlain, plain_box, plain_page, plain_trailer}
+use Rattle.dsc.proofs.PlainUnits.{plain_box, plain_page, plain_trailer}
 use Rattle.dsc.proofs.Walking.{Follows, on_rest, piece_on}
 
 -- what was found up to a unit of this part

@@ -1,5 +1,5 @@
--- Who asks what the calls promise reads `Units`, `Views`, `Faults`, `Bodies`, `TrailerBoxes` and `Laws`, in this order; the others are
--- of parts of the code.
+-- Who asks what the calls promise reads `Units`, `Views`, `Faults`, `Bodies`, `TrailerBoxes`, `PagesBehind` and `Laws`, in this order;
+-- the others are of parts of the code.
 pub mod Bodies
 pub mod Plain
 pub mod Walks
@@ -14,4 +14,5 @@ pub mod Units
 pub mod Documents
 pub mod Filters
 pub mod TrailerBoxes
+pub mod PagesBehind
 pub mod Header

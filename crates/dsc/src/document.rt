@@ -10,11 +10,13 @@ ghost use Rattle.dsc.specs.Units.{units_of};
 ghost use Rattle.dsc.specs.Views.{Gives};
 ghost use Rattle.dsc.specs.Faults.{fault_told, PassedFirstChecks};
 ghost use Rattle.dsc.specs.Laws.{HasBody};
+ghost use Rattle.dsc.specs.PagesBehind.{pages_behind};
 
 use crate::bodies::Body;
 use crate::errors::{DscError, widen};
 use crate::filters::{end_line, filter_header, with_count};
 use crate::lines::{content_end, line_end_after};
+use crate::page_lines::page_lines;
 use crate::scan::scan;
 use std::alloc::{AllocError, Global};
 use std::marker::Model;
@@ -172,6 +174,15 @@ impl<'d> Document<'d> {
     {
         let (_, rest) = self.text.split_at(self.stop);
         filter_header(Vec::new(*self.starts.allocator()), rest)
+    }
+
+    /// How many pages stand behind the trailer's first line, outside embedded documents and data. They are none of the
+    /// document's pages: another document was put behind it.
+    pub fn pages_behind_trailer(&self) -> usize
+        ensures { result ≡ pages_behind self.now }
+    {
+        let (_, trailer) = self.text.split_at(self.stop);
+        page_lines(trailer)
     }
 }
 

@@ -14,6 +14,7 @@ mod header;
 mod keys;
 pub mod laws;
 mod lines;
+mod page_lines;
 mod plain;
 mod scan;
 mod units;

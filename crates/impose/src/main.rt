@@ -2,7 +2,7 @@
 #![tactic(auto)]
 
 use impose_cli::{
-    CommandFault, Done, Fault, Request, command_text, cut_text, fault_status, fault_text, impose,
+    CommandFault, Done, Fault, Request, behind_text, command_text, cut_text, fault_status, fault_text, impose,
     note_text, report_text, words_text,
 };
 use std::env::Env;
@@ -74,6 +74,9 @@ fn say_report(rt: &HostRuntime, done: &Done, request: &Option<Request>) {
                 say(rt, text.as_str());
             }
             if let Ok(Some(text)) = cut_text(rt.alloc(), finished) {
+                say(rt, text.as_str());
+            }
+            if let Ok(Some(text)) = behind_text(rt.alloc(), finished) {
                 say(rt, text.as_str());
             }
             if let Ok(Some(text)) = note_text(rt.alloc(), request) {

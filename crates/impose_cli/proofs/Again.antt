@@ -1,5 +1,5 @@
 -- What was written for a request is a document again.
-use Rattle.std.proofs.Common.{◌≤◌, ◌<◌, ◌≡◌, ◌∙◌, ℕ, ◌++◌, List, ap, drop, length, subst, sym, inl, inr, true, false, Bool, None, Result, Ok, refl}
+use Rattle.std.proofs.Common.{◌≤◌, ◌<◌, ◌≡◌, ◌∙◌, ℕ, ◌++◌, List, ap, drop, length, subst, sym, inl, inr, true, false, Bool, None, Option, Result, Ok, refl}
 use Rattle.std.specs.Prelude.{Some, nat_lt}
 use Rattle.std.proofs.Math.Seq.{drop-append_seam}
 use Rattle.std.proofs.lemmas.Bool.{ltb-false}
@@ -12,7 +12,10 @@ use Rattle.imposed_again.proofs.Again.{imposed_again, trailer_shuts}
 use Rattle.imposed_again.proofs.MadeAgain.{made_is_document}
 use Rattle.page_papers.specs.Told.{telling}
 use Rattle.page_papers.proofs.Tame.{telling_is_tame}
-use Rattle.row_runs.specs.Runs.{output_on}
+use Rattle.made_sheets.specs.Dress.{Dress}
+use Rattle.marks.specs.Drawn.{marked}
+use Rattle.marks.proofs.Tame.{marks_are_tame}
+use Rattle.row_runs.specs.Runs.{output_on, strokes_on}
 use Rattle.impose_cli.specs.Tasks.{FinishesSpec, frame_used, sheet_paper_found, taken_text}
 use Rattle.impose_cli.specs.RowTasks.{FinishesRow, text_for}
 use Rattle.impose_cli.specs.Laws.{IsDocumentAgain, IsMadeDocument, WroteDocument, sheets_named}
@@ -50,14 +53,17 @@ few_sheets pages all e =
     let first = passes (nat_lt most_pages pages) MadeTooManyPages _ all e in
     ltb-false _ _ (passes (nat_lt most_sheets (length all)) MadeTooManySheets _ all first.1).0
 
+abbrev dress_on : {r : Request} {input : List ℕ} {old new : Option (List ℕ)} {done : Finished} → FinishesRow r input old new done → Dress
+dress_on h = marked (strokes_on h.job) (telling h.imposes.made)
+
 row_again : (r : Request) (input old text : List ℕ) (done : Finished) (h : FinishesRow r input (Some old) (Some (old ++ text)) done)
     → length (output_on h.job h.imposes.made) ≤ most_input_bytes → 0 < length h.imposes.made
-    → IsMadeDocument h.job.border (telling h.imposes.made) h.imposes.made h.job.document.now (output_on h.job h.imposes.made)
+    → IsMadeDocument h.job.border (dress_on h) h.imposes.made h.job.document.now (output_on h.job h.imposes.made)
 row_again r input old text done h l some =
     let taken = text_for r h.job.papers.now done.page_paper input in
     let made = h.imposes.made in
     let us = h.job.document.now in
-    let i = made_is_document h.job.border (telling made) made taken us (telling_is_tame made) h.is_job.document some (few_sheets _ made h.imposes.planned.planned) l in
+    let i = made_is_document h.job.border (dress_on h) made taken us (marks_are_tame (strokes_on h.job) (telling made) (telling_is_tame made)) h.is_job.document some (few_sheets _ made h.imposes.planned.planned) l in
     record {
       accepted = i.0;
       again = i.1;
@@ -72,5 +78,5 @@ wrote_document r input old text done (inl h) l =
     (spec_again r input old text done h (subst (λ t. length t ≤ most_input_bytes) (sym e) l))
 wrote_document r input old text done (inr h) l =
     λ some. let e = sym (behind old text _ h.imposes.written) in
-    subst (IsMadeDocument h.job.border (telling h.imposes.made) h.imposes.made h.job.document.now) e
+    subst (IsMadeDocument h.job.border (dress_on h) h.imposes.made h.job.document.now) e
     (row_again r input old text done h (subst (λ t. length t ≤ most_input_bytes) (sym e) l) some)

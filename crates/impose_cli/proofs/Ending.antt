@@ -34,7 +34,7 @@ placed_as_named (layout.Spec specs) s named page_paper sheet_paper pages text si
 
 pub finishes : (r : Request) (input : List ℕ) (task : Task) (old new : Option (List ℕ)) (report : Report) → ((text : List ℕ) × IsSpec r.layout text) → IsTask r input task
     → Accepted (asked_by task) (λ spec us. Appends old new (output (frame_of task.options) task.options.sides spec us) × Reports (frame_of task.options) task.options.sides spec us report)
-    → FinishesSpec r input old new (record { report = report; page_paper = task.options.paper; origin = task.origin; cut = None })
+    → FinishesSpec r input old new (record { report = report; page_paper = task.options.paper; origin = task.origin; cut = None; behind = task.behind })
 finishes r input task old new report named is h =
     let spec = h.0 in
     let units = h.1 in
@@ -52,6 +52,7 @@ finishes r input task old new report named is h =
       units = units;
       taken = ap document_of (sym is.text) ∙ accepted.document;
       cut = refl;
+      behind = is.behind;
       plan = subst (λ s. plan_in s spec n ≡ Ok (sheets_in s spec n)) p.1 accepted.plan;
       written = subst (λ s. Appends old new (output (record { paper = task.options.paper; border = r.border }) s spec units)) p.1
           (subst (λ b. Appends old new (output (record { paper = task.options.paper; border = b }) task.options.sides spec units)) is.border h.3.0);

@@ -1,5 +1,5 @@
 -- What was found for a subcommand, and what its refusals say of the words.
-use Rattle.std.proofs.Common.{◌≡◌, ℕ, ℤ, ap, ap₂, refl, inr, subst, sym, Bool, List, Option, Some, None, unwrap_or, true, false}
+use Rattle.std.proofs.Common.{◌≡◌, ◌∙◌, ℕ, ℤ, ap, ap₂, refl, inr, subst, sym, Bool, List, Option, Some, None, unwrap_or, true, false}
 use Rattle.std.specs.Prelude.{codes, is_some, option_and_then, option_map, string_bytes}
 use Rattle.std.specs.Box.{box_value}
 use Rattle.clap.specs.Words.{Row, Text, first_of, found_of, rows_of, subcommand_name_of, subcommand_rows, subcommand_rows_of}
@@ -8,16 +8,20 @@ use Rattle.clap.specs.declared.parser.matches.ArgMatches.TheViews.{out-ArgMatche
 use Rattle.rules.specs.Papers.{Paper}
 use Rattle.lengths.specs.Lengths.{a4, length_named}
 use Rattle.impose_cli.specs.declared.request.Request.{Request}
-use Rattle.impose_cli.specs.Words.{AreBefore, AreValues, AsksFor, ChoosesBy, Entered, Enters, HasLayout, HasLengths, HasNoValue, HasSizes, HasSpacing, NamesNoLength, ParseRefuses, Reads, Refuses, RefusesFound, RefusesArguments}
+use Rattle.impose_cli.specs.Words.{AreBefore, AreRead, AreValues, AsksFor, ChoosesBy, Entered, Enters, HasLayout, HasLengths, HasNoValue, HasSizes, HasSpacing, NamesNoLength, ParseRefuses, Reads, Refuses, RefusesFound, RefusesArguments}
 use Rattle.layouts.specs.declared.arrangement.Cells.{Cells}
 use Rattle.layouts.specs.declared.arrangement.Cells.TheVariants.{AtLeast, Exactly}
 use Rattle.impose_cli.specs.Arranging.{cells_named, exact_alone}
-use Rattle.impose_cli.specs.Words.{SpacesBy, cell_id, cells_in, command_name, is_complete, is_value, length_found, length_id, ranges_id, run_found, size_found, turned_found}
-use Rattle.impose_cli.specs.Sizing.{ReadsSizes, RefusesBorder, RefusesChoice, RefusesLength, RefusesOutfile, RefusesReading, RefusesSize, RefusesSizes, RefusesSpacing, RefusesValue}
+use Rattle.impose_cli.specs.Products.{lays_rows}
+use Rattle.impose_cli.specs.Words.{MayLook, SpacesBy, cell_id, cells_in, command_name, file_asked, has_flag, is_complete, is_outfile, is_value, length_found, length_id, marks_found, order_by, ranges_id, run_found, size_found, turned_found}
+use Rattle.impose_cli.specs.Sizing.{ReadsSizes, RefusesBorder, RefusesChoice, RefusesLength, RefusesMarks, RefusesOutfile, RefusesProduct, RefusesReading, RefusesSize, RefusesSizes, RefusesSpacing, RefusesValue}
 use Rattle.impose_cli.specs.declared.request.Layout.{Layout}
+use Rattle.impose_cli.specs.declared.request.Layout.TheVariants as layout
 use Rattle.impose_cli.specs.declared.request.PageChoice.{PageChoice}
 use Rattle.impose_cli.specs.declared.request.Spacing.{Spacing}
 use Rattle.impose_cli.specs.Spacings.{keeps_room}
+use Rattle.marks.specs.declared.strokes.Marks.{Marks}
+use Rattle.layouts.specs.declared.arrangement.Order.{Order}
 use Rattle.layouts.specs.declared.arrangement.Run.{Run}
 use Rattle.layouts.specs.declared.arrangement.Turned.{Turned}
 use Rattle.impose_cli.specs.declared.fault.CellOption.{CellOption}
@@ -74,6 +78,8 @@ refuses_parse words (fault.BadSignature text) h = absurd h
 refuses_parse words (fault.BadCells command text) h = absurd h
 refuses_parse words (fault.BadValue which text) h = absurd h
 refuses_parse words (fault.OptionAsOutfile text) h = absurd h
+refuses_parse words (fault.TwoProducts one other) h = absurd h
+refuses_parse words (fault.BadPicture text) h = absurd h
 
 pub refuses_words : (words : List Text) (name : Text) (found : List Row) (f : CommandFault) → Enters words name found → RefusesFound name found f → Refuses words f
 refuses_words words name found (fault.Words error) e h = absurd h
@@ -88,6 +94,8 @@ refuses_words words name found (fault.BadSignature text) e h = (name, found, e, 
 refuses_words words name found (fault.BadCells command text) e h = (name, found, e, h)
 refuses_words words name found (fault.BadValue which text) e h = (name, found, e, h)
 refuses_words words name found (fault.OptionAsOutfile text) e h = (name, found, e, h)
+refuses_words words name found (fault.TwoProducts one other) e h = (name, found, e, h)
+refuses_words words name found (fault.BadPicture text) e h = (name, found, e, h)
 
 -- a command that has cells lacks nothing but them
 pub lacks_cells : (command : GridCommand) (found : List Row) → is_some (first_of (codes "count") found) ≡ false → is_complete (command_name command) found ≡ false
@@ -125,6 +133,8 @@ refuses_page_paper found (fault.BadSignature text) h = h
 refuses_page_paper found (fault.BadCells command text) h = h
 refuses_page_paper found (fault.BadValue which text) h = h
 refuses_page_paper found (fault.OptionAsOutfile text) h = h
+refuses_page_paper found (fault.TwoProducts one other) h = h
+refuses_page_paper found (fault.BadPicture text) h = h
 refuses_page_paper found (fault.Words error) h = h
 refuses_page_paper found fault.NoText h = h
 refuses_page_paper found (fault.BadLength option text) h = h
@@ -143,6 +153,8 @@ refuses_sheet_paper found page_paper (fault.BadSignature text) p h = h
 refuses_sheet_paper found page_paper (fault.BadCells command text) p h = h
 refuses_sheet_paper found page_paper (fault.BadValue which text) p h = h
 refuses_sheet_paper found page_paper (fault.OptionAsOutfile text) p h = h
+refuses_sheet_paper found page_paper (fault.TwoProducts one other) p h = h
+refuses_sheet_paper found page_paper (fault.BadPicture text) p h = h
 refuses_sheet_paper found page_paper (fault.Words error) p h = h
 refuses_sheet_paper found page_paper fault.NoText p h = h
 refuses_sheet_paper found page_paper (fault.BadLength option text) p h = h
@@ -158,6 +170,8 @@ refuses_border found page_paper sheet_paper (fault.BadSignature text) p s h = h
 refuses_border found page_paper sheet_paper (fault.BadCells command text) p s h = h
 refuses_border found page_paper sheet_paper (fault.BadValue which text) p s h = h
 refuses_border found page_paper sheet_paper (fault.OptionAsOutfile text) p s h = h
+refuses_border found page_paper sheet_paper (fault.TwoProducts one other) p s h = h
+refuses_border found page_paper sheet_paper (fault.BadPicture text) p s h = h
 refuses_border found page_paper sheet_paper (fault.Words error) p s h = h
 refuses_border found page_paper sheet_paper fault.NoText p s h = h
 refuses_border found page_paper sheet_paper (fault.BadLength option text) p s h = h
@@ -174,6 +188,8 @@ refuses_sizes name found (fault.BadSignature text) h = absurd h
 refuses_sizes name found (fault.BadCells command text) h = absurd h
 refuses_sizes name found (fault.BadValue which text) h = absurd h
 refuses_sizes name found (fault.OptionAsOutfile text) h = absurd h
+refuses_sizes name found (fault.TwoProducts one other) h = absurd h
+refuses_sizes name found (fault.BadPicture text) h = absurd h
 refuses_sizes name found (fault.Words error) h = h
 refuses_sizes name found fault.NoText h = h
 refuses_sizes name found (fault.BadLength option text) h = absurd h
@@ -196,13 +212,16 @@ refuses_arguments name found page_paper sheet_paper border (fault.BadLength opti
 refuses_arguments name found page_paper sheet_paper border (fault.UnknownPaper option text) r h = absurd h
 refuses_arguments name found page_paper sheet_paper border (fault.BadBorder text) r h = absurd h
 refuses_arguments name found page_paper sheet_paper border (fault.OptionAsOutfile text) r h = absurd h
+refuses_arguments name found page_paper sheet_paper border (fault.TwoProducts one other) r h = absurd h
+refuses_arguments name found page_paper sheet_paper border (fault.BadPicture text) r h = absurd h
 
 abbrev has_layout : (name : Text) (found : List Row) (page_paper sheet_paper : Option Paper) (border : Option ℤ) (layout : Layout) → ReadsSizes found page_paper sheet_paper border → AsksFor name found layout → HasLayout name found
 has_layout name found page_paper sheet_paper border layout r a = record { sizes = has_sizes found page_paper sheet_paper border r; layout = layout; asked = a }
 
-abbrev has_spacing : (name : Text) (found : List Row) (page_paper sheet_paper : Option Paper) (border : Option ℤ) (layout : Layout) (spacing : Spacing) → ReadsSizes found page_paper sheet_paper border → AsksFor name found layout
-    → SpacesBy (keeps_room layout) found spacing → HasSpacing name found
-has_spacing name found page_paper sheet_paper border layout spacing r a k = record { layout = has_layout name found page_paper sheet_paper border layout r a; spacing = spacing; kept = k }
+abbrev has_spacing : (name : Text) (found : List Row) (page_paper sheet_paper : Option Paper) (border : Option ℤ) (layout : Layout) (spacing : Spacing) (marks : Marks) → ReadsSizes found page_paper sheet_paper border → AsksFor name found layout
+    → SpacesBy (keeps_room layout) found spacing → marks_found layout found ≡ Some marks → HasSpacing name found
+has_spacing name found page_paper sheet_paper border layout spacing marks r a k m =
+    record { layout = has_layout name found page_paper sheet_paper border layout r a; spacing = spacing; kept = k; marks = is_there _ marks m }
 
 -- ---- what is kept free
 
@@ -220,6 +239,8 @@ refuses_margin found (fault.BadSignature text) h = h
 refuses_margin found (fault.BadCells command text) h = h
 refuses_margin found (fault.BadValue which text) h = absurd h
 refuses_margin found (fault.OptionAsOutfile text) h = h
+refuses_margin found (fault.TwoProducts one other) h = h
+refuses_margin found (fault.BadPicture text) h = h
 refuses_margin found (fault.Words error) h = h
 refuses_margin found fault.NoText h = h
 
@@ -234,6 +255,8 @@ refuses_gap found margin (fault.BadSignature text) m h = h
 refuses_gap found margin (fault.BadCells command text) m h = h
 refuses_gap found margin (fault.BadValue which text) m h = absurd h
 refuses_gap found margin (fault.OptionAsOutfile text) m h = h
+refuses_gap found margin (fault.TwoProducts one other) m h = h
+refuses_gap found margin (fault.BadPicture text) m h = h
 refuses_gap found margin (fault.Words error) m h = h
 refuses_gap found margin fault.NoText m h = h
 
@@ -248,6 +271,8 @@ refuses_trim found margin gap (fault.BadSignature text) m g h = h
 refuses_trim found margin gap (fault.BadCells command text) m g h = h
 refuses_trim found margin gap (fault.BadValue which text) m g h = absurd h
 refuses_trim found margin gap (fault.OptionAsOutfile text) m g h = h
+refuses_trim found margin gap (fault.TwoProducts one other) m g h = h
+refuses_trim found margin gap (fault.BadPicture text) m g h = h
 refuses_trim found margin gap (fault.Words error) m g h = h
 refuses_trim found margin gap fault.NoText m g h = h
 
@@ -260,6 +285,8 @@ refuses_creep found margin gap trim fault.Lacking m g t h = h
 refuses_creep found margin gap trim fault.OddAndEven m g t h = h
 refuses_creep found margin gap trim (fault.BadSignature text) m g t h = h
 refuses_creep found margin gap trim (fault.OptionAsOutfile text) m g t h = h
+refuses_creep found margin gap trim (fault.TwoProducts one other) m g t h = h
+refuses_creep found margin gap trim (fault.BadPicture text) m g t h = h
 refuses_creep found margin gap trim (fault.Words error) m g t h = h
 refuses_creep found margin gap trim fault.NoText m g t h = h
 refuses_creep found margin gap trim (fault.BadCells command text) m g t h = h
@@ -294,6 +321,8 @@ refuses_order found fault.OddAndEven h = h
 refuses_order found (fault.BadSignature text) h = h
 refuses_order found (fault.BadCells command text) h = h
 refuses_order found (fault.OptionAsOutfile text) h = h
+refuses_order found (fault.TwoProducts one other) h = h
+refuses_order found (fault.BadPicture text) h = h
 refuses_order found (fault.Words error) h = h
 refuses_order found fault.NoText h = h
 refuses_order found (fault.BadLength option text) h = h
@@ -308,6 +337,8 @@ refuses_turned found run fault.OddAndEven r h = h
 refuses_turned found run (fault.BadSignature text) r h = h
 refuses_turned found run (fault.BadCells command text) r h = h
 refuses_turned found run (fault.OptionAsOutfile text) r h = h
+refuses_turned found run (fault.TwoProducts one other) r h = h
+refuses_turned found run (fault.BadPicture text) r h = h
 refuses_turned found run (fault.Words error) r h = h
 refuses_turned found run fault.NoText r h = h
 refuses_turned found run (fault.BadLength option text) r h = h
@@ -322,6 +353,8 @@ refuses_scale found run turned fault.OddAndEven r t h = h
 refuses_scale found run turned (fault.BadSignature text) r t h = h
 refuses_scale found run turned (fault.BadCells command text) r t h = h
 refuses_scale found run turned (fault.OptionAsOutfile text) r t h = h
+refuses_scale found run turned (fault.TwoProducts one other) r t h = h
+refuses_scale found run turned (fault.BadPicture text) r t h = h
 refuses_scale found run turned (fault.Words error) r t h = h
 refuses_scale found run turned fault.NoText r t h = h
 refuses_scale found run turned (fault.BadLength option text) r t h = h
@@ -337,6 +370,8 @@ refuses_reading found margin gap trim creep overlap fault.OddAndEven m g t c o h
 refuses_reading found margin gap trim creep overlap (fault.BadSignature text) m g t c o h = h
 refuses_reading found margin gap trim creep overlap (fault.BadCells command text) m g t c o h = h
 refuses_reading found margin gap trim creep overlap (fault.OptionAsOutfile text) m g t c o h = h
+refuses_reading found margin gap trim creep overlap (fault.TwoProducts one other) m g t c o h = h
+refuses_reading found margin gap trim creep overlap (fault.BadPicture text) m g t c o h = h
 refuses_reading found margin gap trim creep overlap (fault.Words error) m g t c o h = h
 refuses_reading found margin gap trim creep overlap fault.NoText m g t c o h = h
 refuses_reading found margin gap trim creep overlap (fault.BadLength option text) m g t c o h = absurd h
@@ -353,40 +388,117 @@ refuses_spacing name found page_paper sheet_paper border layout (fault.BadSignat
 refuses_spacing name found page_paper sheet_paper border layout (fault.BadCells command text) r a h = absurd h
 refuses_spacing name found page_paper sheet_paper border layout (fault.BadValue which text) r a h = (has_layout name found page_paper sheet_paper border layout r a, h.0, h.1)
 refuses_spacing name found page_paper sheet_paper border layout (fault.OptionAsOutfile text) r a h = absurd h
+refuses_spacing name found page_paper sheet_paper border layout (fault.TwoProducts one other) r a h = absurd h
+refuses_spacing name found page_paper sheet_paper border layout (fault.BadPicture text) r a h = absurd h
 refuses_spacing name found page_paper sheet_paper border layout (fault.Words error) r a h = h
 refuses_spacing name found page_paper sheet_paper border layout fault.NoText r a h = h
 
-pub refuses_choice : (name : Text) (found : List Row) (page_paper sheet_paper : Option Paper) (border : Option ℤ) (layout : Layout) (spacing : Spacing) (f : CommandFault)
-    → ReadsSizes found page_paper sheet_paper border → AsksFor name found layout → SpacesBy (keeps_room layout) found spacing → RefusesChoice found f → RefusesFound name found f
-refuses_choice name found page_paper sheet_paper border layout spacing fault.OddAndEven r a k h =
-    record { spacing = has_spacing name found page_paper sheet_paper border layout spacing r a k; odd = h.0; even = h.1 }
-refuses_choice name found page_paper sheet_paper border layout spacing (fault.BadLength option text) r a k h = absurd h
-refuses_choice name found page_paper sheet_paper border layout spacing fault.NoMemory r a k h = tt
-refuses_choice name found page_paper sheet_paper border layout spacing (fault.UnknownPaper option text) r a k h = absurd h
-refuses_choice name found page_paper sheet_paper border layout spacing (fault.BadBorder text) r a k h = absurd h
-refuses_choice name found page_paper sheet_paper border layout spacing fault.Lacking r a k h = absurd h
-refuses_choice name found page_paper sheet_paper border layout spacing (fault.BadSignature text) r a k h = absurd h
-refuses_choice name found page_paper sheet_paper border layout spacing (fault.BadCells command text) r a k h = absurd h
-refuses_choice name found page_paper sheet_paper border layout spacing (fault.BadValue which text) r a k h = absurd h
-refuses_choice name found page_paper sheet_paper border layout spacing (fault.OptionAsOutfile text) r a k h = absurd h
-refuses_choice name found page_paper sheet_paper border layout spacing (fault.Words error) r a k h = h
-refuses_choice name found page_paper sheet_paper border layout spacing fault.NoText r a k h = h
+-- ---- the marks
 
-pub refuses_outfile : (name : Text) (found : List Row) (page_paper sheet_paper : Option Paper) (border : Option ℤ) (layout : Layout) (spacing : Spacing) (choice : PageChoice) (f : CommandFault)
-    → ReadsSizes found page_paper sheet_paper border → AsksFor name found layout → SpacesBy (keeps_room layout) found spacing → ChoosesBy (ranges_id layout) found choice → RefusesOutfile found f → RefusesFound name found f
-refuses_outfile name found page_paper sheet_paper border layout spacing choice (fault.OptionAsOutfile text) r a k o h =
-    (record { spacing = has_spacing name found page_paper sheet_paper border layout spacing r a k; choice = choice; chosen = o }, h)
-refuses_outfile name found page_paper sheet_paper border layout spacing choice (fault.BadLength option text) r a k o h = absurd h
-refuses_outfile name found page_paper sheet_paper border layout spacing choice fault.NoMemory r a k o h = tt
-refuses_outfile name found page_paper sheet_paper border layout spacing choice (fault.UnknownPaper option text) r a k o h = absurd h
-refuses_outfile name found page_paper sheet_paper border layout spacing choice (fault.BadBorder text) r a k o h = absurd h
-refuses_outfile name found page_paper sheet_paper border layout spacing choice fault.Lacking r a k o h = absurd h
-refuses_outfile name found page_paper sheet_paper border layout spacing choice fault.OddAndEven r a k o h = absurd h
-refuses_outfile name found page_paper sheet_paper border layout spacing choice (fault.BadSignature text) r a k o h = absurd h
-refuses_outfile name found page_paper sheet_paper border layout spacing choice (fault.BadCells command text) r a k o h = absurd h
-refuses_outfile name found page_paper sheet_paper border layout spacing choice (fault.BadValue which text) r a k o h = absurd h
-refuses_outfile name found page_paper sheet_paper border layout spacing choice (fault.Words error) r a k o h = h
-refuses_outfile name found page_paper sheet_paper border layout spacing choice fault.NoText r a k o h = h
+-- an order that is read has parts that are
+order_parts : (run : Option (Run × Bool)) (rtl : Bool) (turned : Option Turned) (order : Order) → order_by run rtl turned ≡ Some order → (is_some run ≡ true) × (is_some turned ≡ true)
+order_parts None rtl turned order e = cc
+order_parts (Some run) rtl None order e = cc
+order_parts (Some run) rtl (Some turned) order e = (refl, refl)
+
+has_lengths : (found : List Row) (spacing : Spacing) → SpacesBy true found spacing → HasLengths found
+has_lengths found spacing k = record { margin = is_there _ spacing.margin k.0; gap = is_there _ spacing.gap k.1; trim = is_there _ spacing.trim k.2; creep = is_there _ spacing.creep k.3; overlap = is_there _ spacing.overlap k.4 }
+
+are_read : (found : List Row) (spacing : Spacing) → SpacesBy true found spacing → AreRead found
+are_read found spacing k =
+    let (run, turned) = order_parts (run_found found) (has_flag (codes "rtl") found) (turned_found found) spacing.order k.5 in (run, turned, is_there _ spacing.scale k.6)
+
+-- a value that is none, behind all that was read
+no_marks_named : (option : CellOption) (name : Text) (found : List Row) (f : CommandFault) → HasLayout name found → HasLengths found → AreValues option found → RefusesValue option found f → RefusesFound name found f
+no_marks_named option name found (fault.BadValue which text) l n v h = (l, n, has_no_value option which found (string_bytes text) h.0 h.1 h.2 v)
+no_marks_named option name found fault.NoMemory l n v h = tt
+no_marks_named option name found (fault.Words error) l n v h = h
+no_marks_named option name found fault.NoText l n v h = h
+no_marks_named option name found (fault.BadLength option text) l n v h = absurd h
+no_marks_named option name found (fault.UnknownPaper option text) l n v h = absurd h
+no_marks_named option name found (fault.BadBorder text) l n v h = absurd h
+no_marks_named option name found fault.Lacking l n v h = absurd h
+no_marks_named option name found fault.OddAndEven l n v h = absurd h
+no_marks_named option name found (fault.BadSignature text) l n v h = absurd h
+no_marks_named option name found (fault.BadCells command text) l n v h = absurd h
+no_marks_named option name found (fault.OptionAsOutfile text) l n v h = absurd h
+no_marks_named option name found (fault.TwoProducts one other) l n v h = absurd h
+no_marks_named option name found (fault.BadPicture text) l n v h = absurd h
+
+pub refuses_marks : (name : Text) (found : List Row) (page_paper sheet_paper : Option Paper) (border : Option ℤ) (layout : Layout) (spacing : Spacing) (f : CommandFault)
+    → ReadsSizes found page_paper sheet_paper border → AsksFor name found layout → SpacesBy (keeps_room layout) found spacing → RefusesMarks layout found f → RefusesFound name found f
+refuses_marks name found page_paper sheet_paper border (layout.NUp cells) spacing f r a k h =
+    no_marks_named cell.CutMarks name found f (has_layout name found page_paper sheet_paper border (layout.NUp cells) r a) (has_lengths found spacing k) (are_read found spacing k) h
+refuses_marks name found page_paper sheet_paper border (layout.Cards cells) spacing f r a k h =
+    no_marks_named cell.CutMarks name found f (has_layout name found page_paper sheet_paper border (layout.Cards cells) r a) (has_lengths found spacing k) (are_read found spacing k) h
+refuses_marks name found page_paper sheet_paper border (layout.Stack cells duplex) spacing f r a k h =
+    no_marks_named cell.CutMarks name found f (has_layout name found page_paper sheet_paper border (layout.Stack cells duplex) r a) (has_lengths found spacing k) (are_read found spacing k) h
+refuses_marks name found page_paper sheet_paper border (layout.Booklet signing long_edge) spacing f r a k h =
+    no_marks_named cell.FoldMarks name found f (has_layout name found page_paper sheet_paper border (layout.Booklet signing long_edge) r a) (has_lengths found spacing k) (are_read found spacing k) h
+refuses_marks name found page_paper sheet_paper border layout.Selection spacing f r a k h = absurd h
+refuses_marks name found page_paper sheet_paper border (layout.Poster columns rows) spacing f r a k h = absurd h
+refuses_marks name found page_paper sheet_paper border (layout.Spec specs) spacing f r a k h = absurd h
+
+pub refuses_choice : (name : Text) (found : List Row) (page_paper sheet_paper : Option Paper) (border : Option ℤ) (layout : Layout) (spacing : Spacing) (marks : Marks) (f : CommandFault)
+    → ReadsSizes found page_paper sheet_paper border → AsksFor name found layout → SpacesBy (keeps_room layout) found spacing → marks_found layout found ≡ Some marks → RefusesChoice found f → RefusesFound name found f
+refuses_choice name found page_paper sheet_paper border layout spacing marks fault.OddAndEven r a k m h =
+    record { spacing = has_spacing name found page_paper sheet_paper border layout spacing marks r a k m; odd = h.0; even = h.1 }
+refuses_choice name found page_paper sheet_paper border layout spacing marks (fault.BadLength option text) r a k m h = absurd h
+refuses_choice name found page_paper sheet_paper border layout spacing marks fault.NoMemory r a k m h = tt
+refuses_choice name found page_paper sheet_paper border layout spacing marks (fault.UnknownPaper option text) r a k m h = absurd h
+refuses_choice name found page_paper sheet_paper border layout spacing marks (fault.BadBorder text) r a k m h = absurd h
+refuses_choice name found page_paper sheet_paper border layout spacing marks fault.Lacking r a k m h = absurd h
+refuses_choice name found page_paper sheet_paper border layout spacing marks (fault.BadSignature text) r a k m h = absurd h
+refuses_choice name found page_paper sheet_paper border layout spacing marks (fault.BadCells command text) r a k m h = absurd h
+refuses_choice name found page_paper sheet_paper border layout spacing marks (fault.BadValue which text) r a k m h = absurd h
+refuses_choice name found page_paper sheet_paper border layout spacing marks (fault.OptionAsOutfile text) r a k m h = absurd h
+refuses_choice name found page_paper sheet_paper border layout spacing marks (fault.TwoProducts one other) r a k m h = absurd h
+refuses_choice name found page_paper sheet_paper border layout spacing marks (fault.BadPicture text) r a k m h = absurd h
+refuses_choice name found page_paper sheet_paper border layout spacing marks (fault.Words error) r a k m h = h
+refuses_choice name found page_paper sheet_paper border layout spacing marks fault.NoText r a k m h = h
+
+pub refuses_outfile : (name : Text) (found : List Row) (page_paper sheet_paper : Option Paper) (border : Option ℤ) (layout : Layout) (spacing : Spacing) (marks : Marks) (choice : PageChoice) (f : CommandFault)
+    → ReadsSizes found page_paper sheet_paper border → AsksFor name found layout → SpacesBy (keeps_room layout) found spacing → marks_found layout found ≡ Some marks → ChoosesBy (ranges_id layout) found choice → RefusesOutfile found f → RefusesFound name found f
+refuses_outfile name found page_paper sheet_paper border layout spacing marks choice (fault.OptionAsOutfile text) r a k m o h =
+    (record { spacing = has_spacing name found page_paper sheet_paper border layout spacing marks r a k m; choice = choice; chosen = o }, h)
+refuses_outfile name found page_paper sheet_paper border layout spacing marks choice (fault.BadLength option text) r a k m o h = absurd h
+refuses_outfile name found page_paper sheet_paper border layout spacing marks choice fault.NoMemory r a k m o h = tt
+refuses_outfile name found page_paper sheet_paper border layout spacing marks choice (fault.UnknownPaper option text) r a k m o h = absurd h
+refuses_outfile name found page_paper sheet_paper border layout spacing marks choice (fault.BadBorder text) r a k m o h = absurd h
+refuses_outfile name found page_paper sheet_paper border layout spacing marks choice fault.Lacking r a k m o h = absurd h
+refuses_outfile name found page_paper sheet_paper border layout spacing marks choice fault.OddAndEven r a k m o h = absurd h
+refuses_outfile name found page_paper sheet_paper border layout spacing marks choice (fault.BadSignature text) r a k m o h = absurd h
+refuses_outfile name found page_paper sheet_paper border layout spacing marks choice (fault.BadCells command text) r a k m o h = absurd h
+refuses_outfile name found page_paper sheet_paper border layout spacing marks choice (fault.BadValue which text) r a k m o h = absurd h
+refuses_outfile name found page_paper sheet_paper border layout spacing marks choice (fault.Words error) r a k m o h = h
+refuses_outfile name found page_paper sheet_paper border layout spacing marks choice fault.NoText r a k m o h = h
+
+may_look : (name : Text) (found : List Row) (page_paper sheet_paper : Option Paper) (border : Option ℤ) (layout : Layout) (spacing : Spacing) (marks : Marks) (choice : PageChoice) (outfile : Option Text)
+    → ReadsSizes found page_paper sheet_paper border → AsksFor name found layout → SpacesBy (keeps_room layout) found spacing → marks_found layout found ≡ Some marks → ChoosesBy (ranges_id layout) found choice
+    → file_asked (first_of (codes "outfile") found) ≡ outfile → is_outfile outfile ≡ true → lays_rows layout ≡ true → MayLook name found
+may_look name found page_paper sheet_paper border layout spacing marks choice outfile r a k m o w n l = record {
+  choice = record { spacing = has_spacing name found page_paper sheet_paper border layout spacing marks r a k m; choice = choice; chosen = o };
+  outfile = ap is_outfile w ∙ n;
+  rows = l;
+}
+
+pub refuses_product : (name : Text) (found : List Row) (page_paper sheet_paper : Option Paper) (border : Option ℤ) (layout : Layout) (spacing : Spacing) (marks : Marks) (choice : PageChoice) (outfile : Option Text) (f : CommandFault)
+    → ReadsSizes found page_paper sheet_paper border → AsksFor name found layout → SpacesBy (keeps_room layout) found spacing → marks_found layout found ≡ Some marks → ChoosesBy (ranges_id layout) found choice
+    → file_asked (first_of (codes "outfile") found) ≡ outfile → is_outfile outfile ≡ true → RefusesProduct (lays_rows layout) found f → RefusesFound name found f
+refuses_product name found page_paper sheet_paper border layout spacing marks choice outfile (fault.TwoProducts one other) r a k m o w n h = (may_look name found page_paper sheet_paper border layout spacing marks choice outfile r a k m o w n h.0, h.1)
+refuses_product name found page_paper sheet_paper border layout spacing marks choice outfile (fault.BadPicture text) r a k m o w n h = (may_look name found page_paper sheet_paper border layout spacing marks choice outfile r a k m o w n h.0, h.1)
+refuses_product name found page_paper sheet_paper border layout spacing marks choice outfile (fault.BadLength option text) r a k m o w n h = absurd h
+refuses_product name found page_paper sheet_paper border layout spacing marks choice outfile fault.NoMemory r a k m o w n h = tt
+refuses_product name found page_paper sheet_paper border layout spacing marks choice outfile (fault.UnknownPaper option text) r a k m o w n h = absurd h
+refuses_product name found page_paper sheet_paper border layout spacing marks choice outfile (fault.BadBorder text) r a k m o w n h = absurd h
+refuses_product name found page_paper sheet_paper border layout spacing marks choice outfile fault.Lacking r a k m o w n h = absurd h
+refuses_product name found page_paper sheet_paper border layout spacing marks choice outfile fault.OddAndEven r a k m o w n h = absurd h
+refuses_product name found page_paper sheet_paper border layout spacing marks choice outfile (fault.BadSignature text) r a k m o w n h = absurd h
+refuses_product name found page_paper sheet_paper border layout spacing marks choice outfile (fault.BadCells command text) r a k m o w n h = absurd h
+refuses_product name found page_paper sheet_paper border layout spacing marks choice outfile (fault.BadValue which text) r a k m o w n h = absurd h
+refuses_product name found page_paper sheet_paper border layout spacing marks choice outfile (fault.Words error) r a k m o w n h = h
+refuses_product name found page_paper sheet_paper border layout spacing marks choice outfile fault.NoText r a k m o w n h = h
+refuses_product name found page_paper sheet_paper border layout spacing marks choice outfile (fault.OptionAsOutfile text) r a k m o w n h = absurd h
 
 -- ---- the paper at home
 
@@ -399,8 +511,9 @@ reads_at_home name found r home h = record {
   page_paper = h.page_paper;
   sheet_paper = h.sheet_paper;
   border = h.border;
+  marks = h.marks;
   guarded = h.guarded;
-  printed = h.printed;
+  product = h.product;
   quiet = h.quiet;
   infile = h.infile;
   outfile = h.outfile;

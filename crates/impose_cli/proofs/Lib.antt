@@ -8,3 +8,4 @@ pub mod Looking
 pub mod Again
 pub mod Examples
 pub mod Programs
+pub mod Unread

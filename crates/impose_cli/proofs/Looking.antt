@@ -1,8 +1,7 @@
 -- What comes of a look at a task.
-use Rattle.std.proofs.Common.{ap, inr, subst, List, ℕ}
-use Rattle.rules.specs.Papers.{Paper}
+use Rattle.std.proofs.Common.{inr, subst, sym, List, ℕ}
 use Rattle.impose_cli.specs.Looks.{RefusesRowLook, RefusesTaskLook, TellsRow, TellsTask}
-use Rattle.impose_cli.specs.RowTasks.{IsRowJob, IsRowTask}
+use Rattle.impose_cli.specs.RowTasks.{ArePapersOf, IsRowTask}
 use Rattle.impose_cli.specs.declared.fault.Fault.{Fault}
 use Rattle.impose_cli.specs.declared.look.Look.{Look}
 use Rattle.impose_cli.specs.declared.request.Request.{Request}
@@ -11,10 +10,12 @@ use Rattle.impose_cli.proofs.Rows.{is_row_job}
 
 pub tells_row : (r : Request) (input : List ℕ) (t : RowTask) (look : Look) (text : List ℕ) → IsRowTask r input t → TellsTask r t look text → TellsRow r input look text
 tells_row r input t look text is h = record {
-  pages = is.pages;
-  document = is.document;
+  page_paper = (t.page_paper, t.origin);
+  found = is.page_paper;
+  cut = t.cut;
   job = h.0;
-  is_job = subst (λ (paper : Paper). IsRowJob r input paper h.0) (ap (λ found. found.0) is.page_paper) (is_row_job r input t h.0 is h.1);
+  papers = subst (λ ps. ArePapersOf r input ps t.cut) (sym h.1.papers) is.papers;
+  is_job = is_row_job r input t h.0 is h.1;
   told = h.2;
 }
 

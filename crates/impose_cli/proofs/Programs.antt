@@ -1,5 +1,6 @@
 -- What comes of a request that was run into an output.
-use Rattle.std.proofs.Common.{◌≡◌, ℕ, List, [], Bool, true, false, Option, Some, None, Result, Ok, Err, inl, inr, subst}
+use Rattle.std.proofs.Common.{◌≡◌, ℕ, List, [], Bool, true, false, Option, Some, None, Result, Ok, Err, inl, inr, refl, subst, sym}
+use Rattle.clap.specs.Words.{Row, Text}
 use Rattle.std.specs.Prelude.{◌⊎◌, if◌then◌else◌, option_map, string_bytes}
 use Rattle.std.specs.Io.KnownBytes.{Appends, Keeps}
 use Rattle.std.proofs.KnownBytes.{Appends-kept}
@@ -11,13 +12,21 @@ use Rattle.row_runs.specs.declared.run.RowJob.{RowJob}
 use Rattle.imposer.specs.declared.outcome.Report.{Report}
 use Rattle.impose_cli.specs.RowTasks.{FinishesRow}
 use Rattle.input.specs.Input.{IsFirst, most_bytes}
-use Rattle.impose_cli.specs.Programs.{CarriesOut, Gives, IsReading, IsSaidOf, Prints, RunsInto}
-use Rattle.impose_cli.specs.Programs.{TakesInput}
-use Rattle.impose_cli.specs.Unread.{IsPossible, RefusesUnread}
+use Rattle.impose_cli.specs.Looks.{MayBeMade, TellsRow}
+use Rattle.impose_cli.specs.Products.{lays_rows}
+use Rattle.impose_cli.specs.Programs.{CarriesOut, Gives, IsReading, IsSaidOf, Makes, Prints, RunsInto, Shows, Writes}
+use Rattle.impose_cli.specs.RowTasks.{LaysRows}
+use Rattle.impose_cli.specs.Words.{MakesBy, Reads}
+use Rattle.impose_cli.specs.Unread.{MayBeRead, RefusesRequest}
 use Rattle.impose_cli.specs.Tasks.{FinishesSpec, IsTask}
 use Rattle.impose_cli.specs.declared.fault.Fault.{Fault}
 use Rattle.impose_cli.specs.declared.program.Done.{Done}
 use Rattle.impose_cli.specs.declared.program.Done.TheVariants as done
+use Rattle.impose_cli.specs.declared.look.Look.{Look}
+use Rattle.impose_cli.specs.declared.request.Layout.{Layout}
+use Rattle.impose_cli.specs.declared.request.Layout.TheVariants as layout
+use Rattle.impose_cli.specs.declared.request.Product.{Product}
+use Rattle.impose_cli.specs.declared.request.Product.TheVariants as product
 use Rattle.impose_cli.specs.declared.request.Request.{Request}
 use Rattle.impose_cli.specs.declared.task.Finished.{Finished}
 use Rattle.impose_cli.specs.declared.task.Task.{Task}
@@ -109,25 +118,59 @@ broke_off r input tells start sink ended (Err f) is_there is_bare written before
       said = said;
     })
 
--- nothing was created: the layout is refused, or the input can't be read
+-- nothing was created: the request is refused unread, or the input can't be read
 pub stopped_before : (r : Request) (gives : Gives) (tells : Bool) (f : Fault) (outcome : Result Done Fault)
     (has_output : Bool) (written : Option (List ℕ)) → outcome ≡ Err f → has_output ≡ false
-    → RefusesUnread r.layout r.spacing r.page_paper r.sheet_paper f ⊎ (IsPossible r.layout r.spacing r.page_paper r.sheet_paper × IsReading f)
+    → RefusesRequest r f ⊎ (MayBeRead r × IsReading f)
     → CarriesOut r gives tells outcome has_output written
 stopped_before r gives tells f outcome has_output written told none why = inl (f, told, none, why)
 
--- the input was read, and is taken
+-- the input was read, and what is asked for was made of it
 pub took : (r : Request) (gives : Gives) (tells : Bool) (input : List ℕ) (name : Option (List ℕ))
     (outcome : Result Done Fault) (has_output : Bool) (written : Option (List ℕ))
     → name ≡ option_map string_bytes r.infile → IsFirst most_bytes (gives name) input
-    → IsPossible r.layout r.spacing r.page_paper r.sheet_paper → TakesInput r input tells outcome has_output written
+    → MayBeRead r → Makes r.product r input tells outcome has_output written
     → CarriesOut r gives tells outcome has_output written
 took r gives tells input name outcome has_output written named read possible taken =
     inr (input, subst (λ n. IsFirst most_bytes (gives n) input) named read, possible, taken)
 
+-- a text was written
+pub wrote_text : (name : Option (List ℕ)) (text : List ℕ) (what : Done) (tells : Bool) (start written : Option (List ℕ))
+    → start ≡ told_if tells name [] → Appends start written text → Writes name text what tells (Ok what) written
+wrote_text name text what tells start written began wrote = (refl, subst (λ s. Appends s written text) began wrote)
+
 -- the specification was printed to standard output
-pub printed : (r : Request) (input : List ℕ) (tells : Bool) (task : Task) (lines : List ℕ) (start written : Option (List ℕ))
-    (has_output : Bool) → IsTask r input task → start ≡ told_if tells None [] → Appends start written lines
-    → Prints r input tells (Ok done.Printed) has_output written
-printed r input tells task lines start written has_output is_task began wrote =
-    (task, lines, is_task, subst (λ s. Appends s written lines) began wrote)
+pub printed : (r : Request) (input : List ℕ) (tells : Bool) (task : Task) (lines : List ℕ) (outcome : Result Done Fault)
+    (has_output : Bool) (written : Option (List ℕ)) → IsTask r input task → Writes None lines done.Printed tells outcome written
+    → Prints r input tells outcome has_output written
+printed r input tells task lines (Ok what) has_output written is_task h =
+    subst (λ d. Prints r input tells (Ok d) has_output written) (sym h.0) (task, lines, is_task, h.1)
+printed r input tells task lines (Err f) has_output written is_task h = inr h
+
+-- the plan or the picture was written to the output of that name
+pub shown : (l : Look) (name : Option (List ℕ)) (r : Request) (input : List ℕ) (tells : Bool) (text : List ℕ)
+    (outcome : Result Done Fault) (has_output : Bool) (written : Option (List ℕ)) → TellsRow r input l text
+    → Writes name text done.Shown tells outcome written → Shows l name r input tells outcome has_output written
+shown l name r input tells text (Ok what) has_output written told h =
+    subst (λ d. Shows l name r input tells (Ok d) has_output written) (sym h.0) (text, told, h.1)
+shown l name r input tells text (Err f) has_output written told h = inr h
+
+lays : (l : Layout) → lays_rows l ≡ true → LaysRows l
+lays (layout.NUp cells) e = tt
+lays (layout.Cards cells) e = tt
+lays (layout.Stack cells duplex) e = tt
+lays (layout.Booklet signing long_edge) e = tt
+lays layout.Selection e = tt
+lays (layout.Spec specs) e = cc
+
+-- only a layout that lays rows is asked for a plan or a picture
+made_by : (rows : Bool) (found : List Row) (p : Product) (l : Layout) → (rows ≡ true → LaysRows l) → MakesBy rows found p → MayBeMade p l
+made_by rows found product.Sheets l lays h = tt
+made_by rows found product.Specification l lays h = tt
+made_by true found product.Plan l lays h = lays refl
+made_by false found product.Plan l lays h = let e = h.planned in cc
+made_by true found (product.Picture file) l lays h = lays refl
+made_by false found (product.Picture file) l lays h = let e = h.pictured in cc
+
+pub may_be_made : (name : Text) (found : List Row) (r : Request) → Reads name found r → MayBeMade r.product r.layout
+may_be_made name found r h = made_by (lays_rows r.layout) found r.product r.layout (lays r.layout) h.product

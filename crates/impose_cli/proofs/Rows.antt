@@ -18,10 +18,12 @@ use Rattle.own_papers.specs.declared.cuts.Cut.{Cut}
 use Rattle.imposer.specs.declared.outcome.RunError.TheVariants as run
 use Rattle.sheet_text.specs.Jobs.{is_border}
 use Rattle.impose_cli.specs.Faults.{without_memory}
-use Rattle.impose_cli.specs.Tasks.{HasPages, page_paper_found}
+use Rattle.dsc.specs.PagesBehind.{pages_behind}
+use Rattle.impose_cli.specs.declared.task.PaperOrigin.{PaperOrigin}
+use Rattle.impose_cli.specs.Tasks.{HasBehind, HasPages}
 use Rattle.impose_cli.specs.declared.fault.Fault.TheVariants as fault
 use Rattle.impose_cli.specs.Refusals.{RefusesDocument, RefusesLaying, RefusesRowTask, RefusesSides}
-use Rattle.impose_cli.specs.RowTasks.{ArePapersOf, cut_in, papers_in, sheet_paper_in, text_for, FinishesRow, ImposesTask, IsJobOf, IsRowJob, IsRowTask}
+use Rattle.impose_cli.specs.RowTasks.{ArePapersOf, cut_in, papers_in, row_paper, sheet_paper_in, text_for, FinishesRow, ImposesTask, IsJobOf, IsRowJob, IsRowPaper, IsRowTask}
 use Rattle.impose_cli.specs.declared.fault.Fault.{Fault}
 use Rattle.impose_cli.specs.declared.request.Request.{Request}
 use Rattle.impose_cli.specs.declared.row_task.RowTask.{RowTask}
@@ -36,6 +38,7 @@ is_row_job r input t job is of = record {
   laying = is.laying ∙ ap Some (sym of.laying);
   same_scale = of.same_scale;
   border = of.border;
+  marks = of.marks;
 }
 
 -- an accepted document is the whole of its text
@@ -47,6 +50,13 @@ pub are_papers : (r : Request) (input : List ℕ) (us : List NestedUnit) (papers
 are_papers r input us papers cut read own cuts = let same = whole input us read in
     record { units = us; document = read; own = own ∙ ap (λ t. papers_in r t us) same; cut_pages = cuts ∙ ap (λ t. cut_in r.page_paper t us) same }
 
+pub is_row_paper : (r : Request) (input : List ℕ) (us : List NestedUnit) (found : Paper × PaperOrigin) → document_of input ≡ Ok us
+    → found ≡ row_paper r (bytes_of us) us → IsRowPaper r input found
+is_row_paper r input us found read e = (us, read, e ∙ ap (λ t. row_paper r t us) (whole input us read))
+
+pub has_behind : (input : List ℕ) (us : List NestedUnit) (n : ℕ) → document_of input ≡ Ok us → n ≡ pages_behind us → HasBehind input n
+has_behind input us n read e = (us, read, e)
+
 pub accepted_has_pages : (input : List ℕ) (us : List NestedUnit) → document_of input ≡ Ok us → (n : ℕ) × HasPages input n
 accepted_has_pages input us read = (length (pages us), (us, read, refl))
 
@@ -56,28 +66,28 @@ pub papers_len : (named : Option Paper) (names : List ℕ → Option Paper) (hom
 papers_len (Some paper) names home text us = length-map (pages us) (λ page. paper)
 papers_len None names home text us = length-map (pages us) (own_paper names home (header text) (trailer_lines us))
 
--- a document whose pages have papers has pages
-pub has_pages : (r : Request) (input : List ℕ) (papers : List Paper) (cut : Option Cut) → ArePapersOf r input papers cut → (n : ℕ) × HasPages input n
-has_pages r input papers cut h = accepted_has_pages input h.units h.document
-
-pub refused_found : (r : Request) (input : List ℕ) (f : Fault) → RefusesDocument input f ⊎ ((n : ℕ) × HasPages input n × (f ≡ without_memory)) → RefusesRowTask r input f
-refused_found r input f h = elim h [ inl refused ↦ inl refused | inr spent ↦ inr (spent.0, spent.1, inr (inr (inr spent.2))) ]
-
--- why there is no task for a document that is accepted
-abbrev pub RefusesAccepted : Request → (input : List ℕ) → Fault → Type 0
-RefusesAccepted r input f = let page_paper = (page_paper_found r.page_paper r.home_paper input).0 in
+-- why there is no task for a document that is accepted, with sheets and cells for this paper
+abbrev pub RefusesAccepted : Request → (page_paper : Paper) → Fault → Type 0
+RefusesAccepted r page_paper f =
     RefusesLaying r.layout r.spacing page_paper (sheet_paper_in r.layout r.sheet_paper page_paper) f
     ⊎ (RefusesSides r.layout f
     ⊎ (((f ≡ fault.Run run.Options) × (is_border r.border ≡ false)) ⊎ (f ≡ without_memory)))
 
-pub refused_after : (r : Request) (input : List ℕ) (papers : List Paper) (cut : Option Cut) (f : Fault) → ArePapersOf r input papers cut → RefusesAccepted r input f
+pub refused_after : (r : Request) (input : List ℕ) (found : Paper × PaperOrigin) (f : Fault) → IsRowPaper r input found → RefusesAccepted r found.0 f
     → RefusesRowTask r input f
-refused_after r input papers cut f is why = let some = has_pages r input papers cut is in inr (some.0, some.1, why)
+refused_after r input found f is why = inr (found, is, why)
+
+pub refused_found : (r : Request) (input : List ℕ) (f : Fault) → RefusesDocument input f ⊎ ((n : ℕ) × HasPages input n × (f ≡ without_memory)) → RefusesRowTask r input f
+refused_found r input f h = elim h [
+  | inl refused ↦ inl refused
+  | inr spent ↦ let us = spent.1.0 in refused_after r input (row_paper r input us) f (us, spent.1.1, refl) (inr (inr (inr spent.2)))
+]
 
 pub finishes_row : (r : Request) (input : List ℕ) (t : RowTask) (old new : Option (List ℕ)) (report : Report) → IsRowTask r input t → ImposesTask r t old new report
-    → FinishesRow r input old new (record { report = report; page_paper = t.page_paper; origin = t.origin; cut = t.cut })
+    → FinishesRow r input old new (record { report = report; page_paper = t.page_paper; origin = t.origin; cut = t.cut; behind = t.behind })
 finishes_row r input t old new report is h = record {
   page_paper = is.page_paper;
+  behind = is.behind;
   job = h.0;
   papers = subst (λ ps. ArePapersOf r input ps t.cut) (sym h.1.papers) is.papers;
   is_job = is_row_job r input t h.0 is h.1;

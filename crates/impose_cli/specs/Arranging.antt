@@ -5,6 +5,7 @@ use Rattle.rules.specs.Numbers.{is_large, number_of}
 use Rattle.lengths.specs.Reading.{digits, is_empty, number_at, past_digits}
 use Rattle.paper_names.specs.Sizes.{letter_x}
 use Rattle.layouts.specs.Refusals.{is_count}
+use Rattle.marks.specs.declared.strokes.Marks.{Marks}
 use Rattle.layouts.specs.declared.arrangement.Cells.{Cells}
 use Rattle.layouts.specs.declared.arrangement.Cells.TheVariants.{AtLeast, Exactly}
 use Rattle.layouts.specs.declared.arrangement.Run.{Run}
@@ -71,3 +72,15 @@ all_of (Some (number, rest)) = if is_large number || not (is_empty rest) then No
 
 abbrev pub scale_named : List ℕ → Option ℤ
 scale_named text = all_of (number_at text)
+
+-- ---- with which marks
+
+abbrev pub no_marks : Marks
+no_marks = record { fold = false; cut = false }
+
+-- on sheets that are folded, and on sheets that are cut
+abbrev pub fold_marks_named : List ℕ → Option Marks
+fold_marks_named text = if bytes_eq text (codes "fold") then Some (record { fold = true; cut = false }) else None
+
+abbrev pub cut_marks_named : List ℕ → Option Marks
+cut_marks_named text = if bytes_eq text (codes "cut") then Some (record { fold = false; cut = true }) else None

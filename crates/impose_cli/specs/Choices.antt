@@ -1,9 +1,10 @@
--- Which pages a request chooses.
-use Rattle.std.specs.Prelude.{Bool, true, false, ◌&&◌, not, is_none, option_map, string_bytes}
+-- Which pages a request chooses, and whether a specification says that.
+use Rattle.std.specs.Prelude.{Bool, true, false, ◌&&◌, ◌||◌, not, is_none, option_map, string_bytes}
 use Rattle.made_sheets.specs.Choice.{Choice}
 use Rattle.rows.specs.Choices.{part_named}
 use Rattle.rows.specs.declared.choices.Part.{Part}
 use Rattle.rows.specs.declared.choices.Part.TheVariants.{All, Odd, Even}
+use Rattle.marks.specs.declared.strokes.Marks.{Marks}
 use Rattle.impose_cli.specs.declared.request.PageChoice.{PageChoice}
 
 -- as the row's definition has it
@@ -18,3 +19,7 @@ is_all Even = false
 -- all pages in their order, without any range
 abbrev pub is_whole : PageChoice → Bool
 is_whole c = is_none c.ranges && is_all c.part && not c.backwards
+
+-- a specification says which pages there are, and with which marks: all, in their order, and with none
+abbrev pub is_said : PageChoice → Marks → Bool
+is_said choice marks = is_whole choice && not (marks.fold || marks.cut)

@@ -51,16 +51,21 @@ common_rules =
 abbrev pub subcommand_app : (name : Text) → (own : List Rule) → App
 subcommand_app name own = fold with_rule (fold with_rule (new_app name) own) common_rules
 
--- which of the pages, and in which order
-abbrev pub order_rules : List Rule
-order_rules = flag_rule (codes "odd") ∷ flag_rule (codes "even") ∷ flag_rule (codes "reverse") ∷ []
+-- what tells of the sheets in place of them
+abbrev pub look_rules : List Rule
+look_rules = flag_rule (codes "plan") ∷ option_rule (codes "preview") ∷ []
 
--- what is kept free, which pages, and in which order
+-- which of the pages, and in which order; and a look at the sheets
+abbrev pub order_rules : List Rule
+order_rules = flag_rule (codes "odd") ∷ flag_rule (codes "even") ∷ flag_rule (codes "reverse") ∷ look_rules
+
+-- what is kept free, which marks are drawn, which pages, in which order, and a look at the sheets
 abbrev pub row_rules : List Rule
 row_rules =
     option_rule (codes "margin")
     ∷ option_rule (codes "gap")
     ∷ option_rule (codes "trim")
+    ∷ option_rule (codes "marks")
     ∷ flag_rule (codes "rtl")
     ∷ option_rule (codes "pages")
     ∷ order_rules

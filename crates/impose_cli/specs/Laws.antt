@@ -11,6 +11,8 @@ use Rattle.made_sheets.specs.Dress.{Dress}
 use Rattle.imposed_again.specs.Again.{IsAgain, depth_behind, sheet_texts}
 use Rattle.imposed_again.specs.MadeAgain.{IsMadeAgain, made_texts}
 use Rattle.page_papers.specs.Told.{telling}
+use Rattle.marks.specs.Drawn.{marked}
+use Rattle.row_runs.specs.Runs.{strokes_on}
 use Rattle.impose_cli.specs.Tasks.{FinishesSpec, frame_used}
 use Rattle.impose_cli.specs.Endings.{Finishes}
 use Rattle.impose_cli.specs.declared.request.Request.{Request}
@@ -46,7 +48,7 @@ IsAgainFor {r} {input} {old} {new} {done} (inl h) text =
     IsDocumentAgain (frame_used r done) (sheets_named h) h.units text
 IsAgainFor (inr h) text =
     0 < length h.imposes.made
-    → IsMadeDocument h.job.border (telling h.imposes.made) h.imposes.made h.job.document.now text
+    → IsMadeDocument h.job.border (marked (strokes_on h.job) (telling h.imposes.made)) h.imposes.made h.job.document.now text
 
 -- what was appended for a request that was carried out is a document again, if it has no more than 2^30 bytes
 abbrev pub WroteDocument : Type 0

@@ -1,5 +1,5 @@
--- Read in this order: the command and its values, sizes, signatures, cells, choices of pages and what is kept free among them; what
--- the words ask for; what is refused; what a request comes to with a document; what its run leaves and says, with which status, and
+-- Read in this order: the command and its values, sizes, signatures, cells, choices of pages, what is kept free and what is made
+-- among them; what the words ask for; what is refused; what a request comes to with a document; what its run leaves and says, with which status, and
 -- what a look tells; the whole program.
 pub mod Command
 pub mod Sizes
@@ -7,6 +7,7 @@ pub mod Signatures
 pub mod Arranging
 pub mod Choices
 pub mod Spacings
+pub mod Products
 pub mod Words
 pub mod Sizing
 pub mod Faults

@@ -1,5 +1,7 @@
 -- What is told of a request in place of carrying it out: the plan of its sheets, or their picture.
-use Rattle.std.specs.Prelude.{◌≡◌, ◌⊎◌, ℕ, List}
+use Rattle.std.specs.Prelude.{⊤, ◌≡◌, ◌⊎◌, ℕ, List, Option}
+use Rattle.rules.specs.Papers.{Paper}
+use Rattle.own_papers.specs.declared.cuts.Cut.{Cut}
 use Rattle.row_runs.specs.Looks.{RefusesLook, TellsPicture, TellsPlan}
 use Rattle.row_runs.specs.Runs.{page_count}
 use Rattle.row_runs.specs.declared.error.AskedError.{AskedError}
@@ -7,13 +9,23 @@ use Rattle.row_runs.specs.declared.run.RowJob.{RowJob}
 use Rattle.impose_cli.specs.Endings.{RefusesText}
 use Rattle.impose_cli.specs.Faults.{of_asked}
 use Rattle.impose_cli.specs.Refusals.{RefusesRowTask}
-use Rattle.impose_cli.specs.RowTasks.{IsJobOf, IsRowJob, IsRowTask}
-use Rattle.impose_cli.specs.Tasks.{HasPages, page_paper_found}
+use Rattle.impose_cli.specs.RowTasks.{ArePapersOf, IsJobOf, IsRowJob, IsRowPaper, IsRowTask, LaysRows}
 use Rattle.impose_cli.specs.declared.fault.Fault.{Fault}
 use Rattle.impose_cli.specs.declared.look.Look.{Look}
 use Rattle.impose_cli.specs.declared.look.Look.TheVariants.{Plan, Picture}
+use Rattle.impose_cli.specs.declared.request.Layout.{Layout}
+use Rattle.impose_cli.specs.declared.request.Product.{Product}
+use Rattle.impose_cli.specs.declared.request.Product.TheVariants as product
 use Rattle.impose_cli.specs.declared.request.Request.{Request}
 use Rattle.impose_cli.specs.declared.row_task.RowTask.{RowTask}
+use Rattle.impose_cli.specs.declared.task.PaperOrigin.{PaperOrigin}
+
+-- a plan or a picture is asked for of a layout that lays rows
+abbrev pub MayBeMade : Product → Layout → Type 0
+MayBeMade product.Sheets l = ⊤
+MayBeMade product.Specification l = ⊤
+MayBeMade product.Plan l = LaysRows l
+MayBeMade (product.Picture file) l = LaysRows l
 
 -- how many sheets or leaves are listed, or sheets drawn
 abbrev pub most_told : ℕ
@@ -29,10 +41,12 @@ TellsTask r t look text = (job : RowJob) × IsJobOf r t job × Tells look job te
 
 -- the text tells of the sheets on which the layout of the request lays its row of this document
 pub record TellsRow (r : Request) (input : List ℕ) (look : Look) (text : List ℕ) : Type 0 where
-  pub pages : ℕ
-  pub document : HasPages input pages
+  pub page_paper : Paper × PaperOrigin
+  pub found : IsRowPaper r input page_paper
+  pub cut : Option Cut
   pub job : RowJob
-  pub is_job : IsRowJob r input (page_paper_found r.page_paper r.home_paper input).0 job
+  pub papers : ArePapersOf r input job.papers.now cut
+  pub is_job : IsRowJob r input page_paper.0 job
   pub told : Tells look job text
 
 -- the fault is that of the run of a task's job

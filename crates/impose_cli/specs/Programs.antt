@@ -11,15 +11,20 @@ use Rattle.rules.specs.Papers.{Paper}
 use Rattle.paper_names.specs.Home.{home_paper}
 use Rattle.impose_cli.specs.Endings.{Ends, Finishes}
 use Rattle.impose_cli.specs.Faults.{without_memory}
+use Rattle.impose_cli.specs.Looks.{RefusesRowLook, TellsRow}
 use Rattle.impose_cli.specs.Refusals.{RefusesTask}
 use Rattle.impose_cli.specs.Statuses.{fault_status}
 use Rattle.impose_cli.specs.Tasks.{IsTask}
-use Rattle.impose_cli.specs.Unread.{IsPossible, RefusesUnread}
+use Rattle.impose_cli.specs.Unread.{MayBeRead, RefusesRequest}
 use Rattle.impose_cli.specs.Words.{Entered, Reads, Refuses}
 use Rattle.impose_cli.specs.declared.fault.Fault.{Fault}
 use Rattle.impose_cli.specs.declared.fault.Fault.TheVariants as fault
 use Rattle.impose_cli.specs.declared.program.Done.{Done}
 use Rattle.impose_cli.specs.declared.program.Done.TheVariants as done
+use Rattle.impose_cli.specs.declared.look.Look.{Look}
+use Rattle.impose_cli.specs.declared.look.Look.TheVariants as look
+use Rattle.impose_cli.specs.declared.request.Product.{Product}
+use Rattle.impose_cli.specs.declared.request.Product.TheVariants as product
 use Rattle.impose_cli.specs.declared.request.Request.{Request}
 use Rattle.impose_cli.specs.declared.task.Finished.{Finished}
 use Rattle.impose_cli.specs.declared.task.Task.{Task}
@@ -98,8 +103,16 @@ abbrev pub RunsInto : Request → (input : List ℕ) → (tells : Bool) → Resu
 RunsInto r input tells (Ok (done.Imposed finished)) has_output written =
     Finishes r input (told_if tells (option_map string_bytes r.outfile) []) written finished
 RunsInto r input tells (Ok done.Printed) has_output written = ⊥
+RunsInto r input tells (Ok done.Shown) has_output written = ⊥
 RunsInto r input tells (Err f) has_output written =
     ((f ≡ without_memory) × (has_output ≡ false)) ⊎ BreaksOff r input tells (Err f) has_output written
+
+-- What comes of a text that is written to the output of this name, if all goes well: the output tells its name and exactly
+-- the text; or a write failed.
+abbrev pub Writes : (name : Option (List ℕ)) → (text : List ℕ) → Done → (tells : Bool) → Result Done Fault
+    → (written : Option (List ℕ)) → Type 0
+Writes name text what tells (Ok said) written = (said ≡ what) × Appends (told_if tells name []) written text
+Writes name text what tells (Err f) written = IsFailedWrite f
 
 -- What comes of a request to print the specification for this input: there is a task, and standard output has what was
 -- printed of it; or there is none, or no memory, and nothing was created; or a write failed.
@@ -108,28 +121,42 @@ abbrev pub Prints : Request → (input : List ℕ) → (tells : Bool) → Result
 Prints r input tells (Ok (done.Imposed finished)) has_output written = ⊥
 Prints r input tells (Ok done.Printed) has_output written =
     (task : Task) × (lines : List ℕ) × IsTask r input task × Appends (told_if tells None []) written lines
+Prints r input tells (Ok done.Shown) has_output written = ⊥
 Prints r input tells (Err f) has_output written =
     ((RefusesTask r input f ⊎ (f ≡ without_memory)) × (has_output ≡ false)) ⊎ IsFailedWrite f
 
+-- What comes of a request to show the sheets for this input: the output of this name has exactly the text that tells of the
+-- sheets that would be imposed; or the request is refused as its run would be, and nothing was created; or a write failed.
+abbrev pub Shows : Look → (name : Option (List ℕ)) → Request → (input : List ℕ) → (tells : Bool) → Result Done Fault
+    → (has_output : Bool) → (written : Option (List ℕ)) → Type 0
+Shows l name r input tells (Ok (done.Imposed finished)) has_output written = ⊥
+Shows l name r input tells (Ok done.Printed) has_output written = ⊥
+Shows l name r input tells (Ok done.Shown) has_output written =
+    (text : List ℕ) × TellsRow r input l text × Appends (told_if tells name []) written text
+Shows l name r input tells (Err f) has_output written =
+    (RefusesRowLook r input f × (has_output ≡ false)) ⊎ IsFailedWrite f
+
 -- ---- all of it
 
--- what the input gives is printed for or imposed, as the request says
-abbrev pub TakesInput : Request → (input : List ℕ) → (tells : Bool) → Result Done Fault → (has_output : Bool)
+-- this is made of what the input gives: the sheets in OUTFILE, a specification or a plan on standard output, or a picture in
+-- its own file
+abbrev pub Makes : Product → Request → (input : List ℕ) → (tells : Bool) → Result Done Fault → (has_output : Bool)
     → (written : Option (List ℕ)) → Type 0
-TakesInput r input tells outcome has_output written =
-    ((r.is_printed ≡ true) × Prints r input tells outcome has_output written)
-    ⊎ ((r.is_printed ≡ false) × RunsInto r input tells outcome has_output written)
+Makes product.Sheets r input tells outcome has_output written = RunsInto r input tells outcome has_output written
+Makes product.Specification r input tells outcome has_output written = Prints r input tells outcome has_output written
+Makes product.Plan r input tells outcome has_output written =
+    Shows look.Plan None r input tells outcome has_output written
+Makes (product.Picture file) r input tells outcome has_output written =
+    Shows look.Picture (option_map string_bytes file) r input tells outcome has_output written
 
--- What comes of a request: its layout is refused unread; or the layout is possible, and its input can't be read, and
--- nothing was created; or the input was read, and is taken.
+-- What comes of a request: it is refused before its input is read; or it isn't, and its input can't be read, and nothing was
+-- created; or the input was read, and what is asked for is made of it.
 abbrev pub CarriesOut : Request → Gives → (tells : Bool) → Result Done Fault → (has_output : Bool)
     → (written : Option (List ℕ)) → Type 0
 CarriesOut r gives tells outcome has_output written =
-    ((f : Fault) × (outcome ≡ Err f) × (has_output ≡ false)
-    × (RefusesUnread r.layout r.spacing r.page_paper r.sheet_paper f
-    ⊎ (IsPossible r.layout r.spacing r.page_paper r.sheet_paper × IsReading f)))
-    ⊎ ((input : List ℕ) × IsFirst most_bytes (gives (option_map string_bytes r.infile)) input
-    × IsPossible r.layout r.spacing r.page_paper r.sheet_paper × TakesInput r input tells outcome has_output written)
+    ((f : Fault) × (outcome ≡ Err f) × (has_output ≡ false) × (RefusesRequest r f ⊎ (MayBeRead r × IsReading f)))
+    ⊎ ((input : List ℕ) × IsFirst most_bytes (gives (option_map string_bytes r.infile)) input × MayBeRead r
+    × Makes r.product r input tells outcome has_output written)
 
 -- How the program ends: the words are refused, and nothing was created; or they make a request, with the paper at home,
 -- and this comes of it.

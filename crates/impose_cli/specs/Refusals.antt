@@ -7,9 +7,9 @@ use Rattle.imposer.specs.declared.outcome.RunError.TheVariants as run
 use Rattle.dsc.specs.declared.errors.DscError.{DscError}
 use Rattle.dsc.specs.Faults as dsc
 use Rattle.impose_cli.specs.Faults.{of_document, without_memory}
-use Rattle.impose_cli.specs.Choices.{is_whole}
+use Rattle.impose_cli.specs.Choices.{is_said}
 use Rattle.sheet_text.specs.Jobs.{is_border}
-use Rattle.impose_cli.specs.RowTasks.{sheet_paper_in, why_not_laid}
+use Rattle.impose_cli.specs.RowTasks.{IsRowPaper, sheet_paper_in, why_not_laid}
 use Rattle.impose_cli.specs.Tasks.{HasPages, page_paper_found, sheet_paper_found}
 use Rattle.impose_cli.specs.declared.request.Spacing.{Spacing}
 use Rattle.impose_cli.specs.declared.request.Layout.{Layout}
@@ -17,6 +17,7 @@ use Rattle.impose_cli.specs.declared.request.Layout.TheVariants as layout
 use Rattle.impose_cli.specs.declared.request.Request.{Request}
 use Rattle.impose_cli.specs.declared.fault.Fault.{Fault}
 use Rattle.impose_cli.specs.declared.fault.Fault.TheVariants as fault
+use Rattle.impose_cli.specs.declared.task.PaperOrigin.{PaperOrigin}
 
 -- ---- the document
 
@@ -48,13 +49,13 @@ RefusesLayout l s page_paper sheet_paper f = (f ≡ without_memory) ⊎ RefusesL
 
 -- ---- the request
 
--- why there is no task: the document is refused; or it isn't, and pages are chosen, which no specification says, or the
--- layout is refused, or memory ran out
+-- why there is no task: the document is refused; or it isn't, and pages are chosen or marks are asked for, which no
+-- specification says, or the layout is refused, or memory ran out
 abbrev pub RefusesTask : Request → (input : List ℕ) → Fault → Type 0
 RefusesTask r input f =
     RefusesDocument input f
     ⊎ ((n : ℕ) × HasPages input n
-    × (((f ≡ fault.NoSpecification) × (is_whole r.choice ≡ false))
+    × (((f ≡ fault.NoSpecification) × (is_said r.choice r.marks ≡ false))
     ⊎ ((f ≡ without_memory)
     ⊎ (let page_paper = (page_paper_found r.page_paper r.home_paper input).0 in
     RefusesLayout r.layout r.spacing page_paper (sheet_paper_found r.sheet_paper page_paper) f))))
@@ -69,8 +70,7 @@ RefusesSides other f = ⊥
 abbrev pub RefusesRowTask : Request → (input : List ℕ) → Fault → Type 0
 RefusesRowTask r input f =
     RefusesDocument input f
-    ⊎ ((n : ℕ) × HasPages input n
-    × (let page_paper = (page_paper_found r.page_paper r.home_paper input).0 in
-    RefusesLaying r.layout r.spacing page_paper (sheet_paper_in r.layout r.sheet_paper page_paper) f
+    ⊎ ((found : Paper × PaperOrigin) × IsRowPaper r input found
+    × (RefusesLaying r.layout r.spacing found.0 (sheet_paper_in r.layout r.sheet_paper found.0) f
     ⊎ (RefusesSides r.layout f
     ⊎ (((f ≡ fault.Run run.Options) × (is_border r.border ≡ false)) ⊎ (f ≡ without_memory)))))

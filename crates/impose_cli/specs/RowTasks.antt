@@ -15,6 +15,7 @@ use Rattle.layouts.specs.declared.setting.Setting.{Setting}
 use Rattle.layouts.specs.declared.error.ArrangementError.TheVariants as why
 use Rattle.paper_names.specs.Names.{paper_named}
 use Rattle.page_papers.specs.Own.{own_papers}
+use Rattle.own_papers.specs.AsOne.{as_one, first_instead_of}
 use Rattle.own_papers.specs.Cuts.{cut_of}
 use Rattle.own_papers.specs.declared.cuts.Cut.{Cut}
 use Rattle.row_runs.specs.Runs.{Imposes}
@@ -28,13 +29,15 @@ use Rattle.impose_cli.specs.Choices.{choice_in}
 use Rattle.arranged_sheets.specs.Posters.{why_no_poster}
 use Rattle.impose_cli.specs.Spacings.{arrangement_in, binding_in, poster_in}
 use Rattle.impose_cli.specs.declared.request.Spacing.{Spacing}
-use Rattle.impose_cli.specs.Tasks.{page_paper_found, sheet_paper_found, taken_text}
+use Rattle.impose_cli.specs.Tasks.{HasBehind, page_paper_found, sheet_paper_found, taken_text}
 use Rattle.impose_cli.specs.declared.fault.Fault.{Fault}
 use Rattle.impose_cli.specs.declared.fault.Fault.TheVariants as fault
 use Rattle.impose_cli.specs.declared.request.Layout.{Layout}
 use Rattle.impose_cli.specs.declared.request.Layout.TheVariants as layout
 use Rattle.impose_cli.specs.declared.request.Request.{Request}
 use Rattle.impose_cli.specs.declared.task.Finished.{Finished}
+use Rattle.impose_cli.specs.declared.task.PaperOrigin.{PaperOrigin}
+use Rattle.impose_cli.specs.declared.task.PaperOrigin.TheVariants.{FirstPage}
 use Rattle.impose_cli.specs.declared.row_task.RowTask.{RowTask}
 
 -- how a layout is sewn
@@ -109,8 +112,28 @@ abbrev pub text_for : Request → (papers : List Paper) → (page_paper : Paper)
 text_for r papers page_paper input = taken_text r.is_guarded (guarded_paper r papers page_paper) input
 
 -- the papers of the document's pages: the one that is named, and else each page's own
+abbrev pub own_in : Request → (input : List ℕ) → List NestedUnit → List Paper
+own_in r input us = own_papers r.page_paper paper_named r.home_paper input us
+
+-- what stands for the document's paper, if it is that of no page: the first page's
+abbrev pub or_first : Paper × PaperOrigin → Option Paper → Paper × PaperOrigin
+or_first found None = found
+or_first found (Some first) = (first, FirstPage)
+
+abbrev pub paper_for : Paper × PaperOrigin → (own : List Paper) → Paper × PaperOrigin
+paper_for found own = or_first found (first_instead_of found.0 own)
+
+-- the paper for which sheets and cells are made, and where it was found: the document's, if a page has it or one that
+-- counts as the same, and else the first page's own
+abbrev pub row_paper : Request → (input : List ℕ) → List NestedUnit → Paper × PaperOrigin
+row_paper r input us = paper_for (page_paper_found r.page_paper r.home_paper input) (own_in r input us)
+
+abbrev pub IsRowPaper : Request → (input : List ℕ) → Paper × PaperOrigin → Type 0
+IsRowPaper r input found = (us : List NestedUnit) × (document_of input ≡ Ok us) × (found ≡ row_paper r input us)
+
+-- the papers by which the pages are placed: with those that count as one taken as one
 abbrev pub papers_in : Request → (input : List ℕ) → List NestedUnit → List Paper
-papers_in r input us = own_papers r.page_paper paper_named r.home_paper input us
+papers_in r input us = as_one (row_paper r input us).0 (own_in r input us)
 
 -- the pages that the named paper cuts: one that tells no paper has the named one
 abbrev pub cut_in : (named : Option Paper) → (input : List ℕ) → List NestedUnit → Option Cut
@@ -132,7 +155,8 @@ LaysRows other = ⊤
 -- the task is what the request asks for with this document
 pub record IsRowTask (r : Request) (input : List ℕ) (t : RowTask) : Type 0 where
   pub papers : ArePapersOf r input t.papers.items t.cut
-  pub page_paper : (t.page_paper, t.origin) ≡ page_paper_found r.page_paper r.home_paper input
+  pub page_paper : IsRowPaper r input (t.page_paper, t.origin)
+  pub behind : HasBehind input t.behind
   pub text : t.text.items ≡ text_for r t.papers.items t.page_paper input
   pub laying : laying_in r.layout r.spacing t.page_paper (sheet_paper_in r.layout r.sheet_paper t.page_paper) ≡ Some t.laying
   pub may_be_laid : MayBeLaid t.laying
@@ -149,6 +173,7 @@ pub record IsJobOf (r : Request) (t : RowTask) (job : RowJob) : Type 0 where
   pub laying : job.asked.laying ≡ t.laying
   pub same_scale : job.asked.same_scale ≡ r.spacing.same_scale
   pub border : job.border ≡ r.border
+  pub marks : job.marks ≡ r.marks
 
 abbrev pub ImposesTask : Request → RowTask → (old new : Option (List ℕ)) → Report → Type 0
 ImposesTask r t old new report = (job : RowJob) × IsJobOf r t job × Imposes job old new report
@@ -161,11 +186,13 @@ pub record IsRowJob (r : Request) (input : List ℕ) (page_paper : Paper) (job :
   pub laying : laying_in r.layout r.spacing page_paper (sheet_paper_in r.layout r.sheet_paper page_paper) ≡ Some job.asked.laying
   pub same_scale : job.asked.same_scale ≡ r.spacing.same_scale
   pub border : job.border ≡ r.border
+  pub marks : job.marks ≡ r.marks
 
 -- The request was carried out for this document: exactly the output was appended of the sheets on which its layout lays
--- its row, with the lines by which they tell their papers.
+-- its row, with the lines by which they tell their papers and the marks that it asks for.
 pub record FinishesRow (r : Request) (input : List ℕ) (old new : Option (List ℕ)) (done : Finished) : Type 0 where
-  pub page_paper : (done.page_paper, done.origin) ≡ page_paper_found r.page_paper r.home_paper input
+  pub page_paper : IsRowPaper r input (done.page_paper, done.origin)
+  pub behind : HasBehind input done.behind
   pub job : RowJob
   pub papers : ArePapersOf r input job.papers.now done.cut
   pub is_job : IsRowJob r input done.page_paper job

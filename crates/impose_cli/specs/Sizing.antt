@@ -1,13 +1,17 @@
--- The papers, the border, what is kept free, the order and the scale, the pages and OUTFILE that the words ask for: the steps of
--- their reading.
-use Rattle.std.specs.Prelude.{◌≡◌, ⊤, ℤ, true, false, is_some, List, Option, Some, None, codes, string_bytes}
-use Rattle.clap.specs.Words.{Row, first_of}
+-- The papers, the border, what is kept free, the order and the scale, the marks, the pages, OUTFILE and what is made that the
+-- words ask for: the steps of their reading.
+use Rattle.std.specs.Prelude.{◌≡◌, ⊤, ℤ, Bool, true, false, is_some, List, Option, Some, None, codes, string_bytes}
+use Rattle.clap.specs.Words.{Row, Text, first_of}
 use Rattle.rules.specs.Papers.{Paper}
 use Rattle.lengths.specs.Lengths.{a4, length_named}
-use Rattle.impose_cli.specs.Words.{HasLengths, HasNoValue, HasPapers, NamesNoLength, NamesNoSize, WritesToOption, border_found}
-use Rattle.impose_cli.specs.Words.{cell_id, has_flag, is_value, length_id, size_found}
+use Rattle.impose_cli.specs.Products.{is_picture_file}
+use Rattle.impose_cli.specs.Words.{HasLengths, HasNoValue, HasPapers, NamesNoLength, NamesNoPicture, NamesNoSize, WritesToOption}
+use Rattle.impose_cli.specs.Words.{border_found, cell_id, file_of, has_flag, is_value, length_id, size_found, two_found}
 use Rattle.impose_cli.specs.declared.fault.CellOption.{CellOption}
+use Rattle.impose_cli.specs.declared.fault.CellOption.TheVariants as cell
 use Rattle.impose_cli.specs.declared.fault.LengthOption.{LengthOption}
+use Rattle.impose_cli.specs.declared.request.Layout.{Layout}
+use Rattle.impose_cli.specs.declared.request.Layout.TheVariants as layout
 use Rattle.impose_cli.specs.declared.fault.PaperOption.{PaperOption}
 use Rattle.impose_cli.specs.declared.fault.PaperOption.TheVariants.{Paper as OfPages, Sheet as OfSheets}
 use Rattle.impose_cli.specs.declared.fault.CommandFault.{CommandFault}
@@ -34,6 +38,8 @@ RefusesSize option found fault.NoText = ⊥
 RefusesSize option found (fault.BadLength which text) = ⊥
 RefusesSize option found (fault.BadBorder text) = ⊥
 RefusesSize option found (fault.OptionAsOutfile text) = ⊥
+RefusesSize option found (fault.TwoProducts one other) = ⊥
+RefusesSize option found (fault.BadPicture text) = ⊥
 
 -- a refusal of the border's
 abbrev pub RefusesBorder : (found : List Row) → CommandFault → Type 0
@@ -47,6 +53,8 @@ RefusesBorder found (fault.BadSignature text) = ⊥
 RefusesBorder found (fault.BadCells command text) = ⊥
 RefusesBorder found (fault.BadValue which text) = ⊥
 RefusesBorder found (fault.OptionAsOutfile text) = ⊥
+RefusesBorder found (fault.TwoProducts one other) = ⊥
+RefusesBorder found (fault.BadPicture text) = ⊥
 RefusesBorder found (fault.Words error) = ⊥
 RefusesBorder found fault.NoText = ⊥
 RefusesBorder found (fault.BadLength option text) = ⊥
@@ -64,6 +72,8 @@ RefusesSizes found (fault.BadSignature text) = ⊥
 RefusesSizes found (fault.BadCells command text) = ⊥
 RefusesSizes found (fault.BadValue which text) = ⊥
 RefusesSizes found (fault.OptionAsOutfile text) = ⊥
+RefusesSizes found (fault.TwoProducts one other) = ⊥
+RefusesSizes found (fault.BadPicture text) = ⊥
 RefusesSizes found (fault.Words error) = ⊥
 RefusesSizes found fault.NoText = ⊥
 RefusesSizes found (fault.BadLength option text) = ⊥
@@ -81,6 +91,8 @@ RefusesLength option found (fault.BadSignature text) = ⊥
 RefusesLength option found (fault.BadCells command text) = ⊥
 RefusesLength option found (fault.BadValue which text) = ⊥
 RefusesLength option found (fault.OptionAsOutfile text) = ⊥
+RefusesLength option found (fault.TwoProducts one other) = ⊥
+RefusesLength option found (fault.BadPicture text) = ⊥
 RefusesLength option found (fault.Words error) = ⊥
 RefusesLength option found fault.NoText = ⊥
 
@@ -96,6 +108,8 @@ RefusesValue option found fault.OddAndEven = ⊥
 RefusesValue option found (fault.BadSignature sides) = ⊥
 RefusesValue option found (fault.BadCells command text) = ⊥
 RefusesValue option found (fault.OptionAsOutfile text) = ⊥
+RefusesValue option found (fault.TwoProducts one other) = ⊥
+RefusesValue option found (fault.BadPicture text) = ⊥
 RefusesValue option found (fault.Words error) = ⊥
 RefusesValue option found fault.NoText = ⊥
 RefusesValue option found (fault.BadLength which text) = ⊥
@@ -111,6 +125,8 @@ RefusesReading found fault.OddAndEven = ⊥
 RefusesReading found (fault.BadSignature sides) = ⊥
 RefusesReading found (fault.BadCells command text) = ⊥
 RefusesReading found (fault.OptionAsOutfile text) = ⊥
+RefusesReading found (fault.TwoProducts one other) = ⊥
+RefusesReading found (fault.BadPicture text) = ⊥
 RefusesReading found (fault.Words error) = ⊥
 RefusesReading found fault.NoText = ⊥
 RefusesReading found (fault.BadLength which text) = ⊥
@@ -127,8 +143,18 @@ RefusesSpacing found fault.OddAndEven = ⊥
 RefusesSpacing found (fault.BadSignature text) = ⊥
 RefusesSpacing found (fault.BadCells command text) = ⊥
 RefusesSpacing found (fault.OptionAsOutfile text) = ⊥
+RefusesSpacing found (fault.TwoProducts one other) = ⊥
+RefusesSpacing found (fault.BadPicture text) = ⊥
 RefusesSpacing found (fault.Words error) = ⊥
 RefusesSpacing found fault.NoText = ⊥
+
+-- a refusal of the marks, on sheets that have some
+abbrev pub RefusesMarks : Layout → (found : List Row) → CommandFault → Type 0
+RefusesMarks (layout.Booklet signing long_edge) found f = RefusesValue cell.FoldMarks found f
+RefusesMarks (layout.Poster columns rows) found f = ⊥
+RefusesMarks layout.Selection found f = ⊥
+RefusesMarks (layout.Spec specs) found f = ⊥
+RefusesMarks other found f = RefusesValue cell.CutMarks found f
 
 -- a refusal of the pages
 abbrev pub RefusesChoice : (found : List Row) → CommandFault → Type 0
@@ -141,6 +167,8 @@ RefusesChoice found (fault.BadSignature text) = ⊥
 RefusesChoice found (fault.BadCells command text) = ⊥
 RefusesChoice found (fault.BadValue which text) = ⊥
 RefusesChoice found (fault.OptionAsOutfile text) = ⊥
+RefusesChoice found (fault.TwoProducts one other) = ⊥
+RefusesChoice found (fault.BadPicture text) = ⊥
 RefusesChoice found (fault.Words error) = ⊥
 RefusesChoice found fault.NoText = ⊥
 RefusesChoice found (fault.BadLength option text) = ⊥
@@ -148,6 +176,8 @@ RefusesChoice found (fault.BadLength option text) = ⊥
 -- a refusal of the file that is written
 abbrev pub RefusesOutfile : (found : List Row) → CommandFault → Type 0
 RefusesOutfile found (fault.OptionAsOutfile text) = WritesToOption found (string_bytes text)
+RefusesOutfile found (fault.TwoProducts one other) = ⊥
+RefusesOutfile found (fault.BadPicture text) = ⊥
 RefusesOutfile found fault.NoMemory = ⊤
 RefusesOutfile found (fault.UnknownPaper option text) = ⊥
 RefusesOutfile found (fault.BadBorder text) = ⊥
@@ -159,3 +189,38 @@ RefusesOutfile found (fault.BadValue which text) = ⊥
 RefusesOutfile found (fault.Words error) = ⊥
 RefusesOutfile found fault.NoText = ⊥
 RefusesOutfile found (fault.BadLength option text) = ⊥
+
+-- a refusal of the file of a picture
+abbrev pub RefusesPicture : (name : Text) → CommandFault → Type 0
+RefusesPicture name (fault.BadPicture text) = (file_of name ≡ Some (string_bytes text))
+    × (is_picture_file (Some (string_bytes text)) ≡ false)
+RefusesPicture name fault.NoMemory = ⊤
+RefusesPicture name (fault.UnknownPaper option text) = ⊥
+RefusesPicture name (fault.BadBorder text) = ⊥
+RefusesPicture name fault.Lacking = ⊥
+RefusesPicture name fault.OddAndEven = ⊥
+RefusesPicture name (fault.BadSignature text) = ⊥
+RefusesPicture name (fault.BadCells command text) = ⊥
+RefusesPicture name (fault.BadValue which text) = ⊥
+RefusesPicture name (fault.Words error) = ⊥
+RefusesPicture name fault.NoText = ⊥
+RefusesPicture name (fault.BadLength option text) = ⊥
+RefusesPicture name (fault.OptionAsOutfile text) = ⊥
+RefusesPicture name (fault.TwoProducts one other) = ⊥
+
+-- a refusal of what is made
+abbrev pub RefusesProduct : (rows : Bool) → (found : List Row) → CommandFault → Type 0
+RefusesProduct rows found (fault.TwoProducts one other) = (rows ≡ true) × (two_found found ≡ Some (one, other))
+RefusesProduct rows found (fault.BadPicture text) = (rows ≡ true) × NamesNoPicture found (string_bytes text)
+RefusesProduct rows found fault.NoMemory = ⊤
+RefusesProduct rows found (fault.UnknownPaper option text) = ⊥
+RefusesProduct rows found (fault.BadBorder text) = ⊥
+RefusesProduct rows found fault.Lacking = ⊥
+RefusesProduct rows found fault.OddAndEven = ⊥
+RefusesProduct rows found (fault.BadSignature text) = ⊥
+RefusesProduct rows found (fault.BadCells command text) = ⊥
+RefusesProduct rows found (fault.BadValue which text) = ⊥
+RefusesProduct rows found (fault.Words error) = ⊥
+RefusesProduct rows found fault.NoText = ⊥
+RefusesProduct rows found (fault.BadLength option text) = ⊥
+RefusesProduct rows found (fault.OptionAsOutfile text) = ⊥

@@ -7,6 +7,7 @@ use Rattle.rules.specs.Admissible.{Takes, most_slots}
 use Rattle.rules.specs.Parts.{NestedUnit, pages}
 use Rattle.rules.specs.Run.{document_of, plan_in}
 use Rattle.rules.specs.Sheets.{sheets}
+use Rattle.dsc.specs.PagesBehind.{pages_behind}
 use Rattle.made_sheets.specs.Choice.{sides_for}
 use Rattle.rows.specs.Sewing.{signing_of}
 use Rattle.guard.specs.Guard.{guarded}
@@ -20,7 +21,7 @@ use Rattle.document_paper.specs.Media.{document_paper}
 use Rattle.document_paper.specs.declared.media.Comment.{Comment}
 use Rattle.impose_cli.specs.declared.task.PaperOrigin.{PaperOrigin}
 use Rattle.impose_cli.specs.declared.task.PaperOrigin.TheVariants.{Named, ByComment, AtHome}
-use Rattle.impose_cli.specs.Choices.{is_whole}
+use Rattle.impose_cli.specs.Choices.{is_said}
 use Rattle.impose_cli.specs.Spacings.{arrangement_in, binding_in}
 use Rattle.impose_cli.specs.declared.request.Spacing.{Spacing}
 use Rattle.impose_cli.specs.declared.request.Layout.{Layout}
@@ -50,6 +51,10 @@ taken_text is_guarded sheet_paper input = if is_guarded then guarded (Some sheet
 abbrev pub HasPages : (input : List ℕ) → ℕ → Type 0
 HasPages input n = (us : List NestedUnit) × (document_of input ≡ Ok us) × (n ≡ length (pages us))
 
+-- the document is accepted, and so many pages stand behind its trailer
+abbrev pub HasBehind : (input : List ℕ) → ℕ → Type 0
+HasBehind input n = (us : List NestedUnit) × (document_of input ≡ Ok us) × (n ≡ pages_behind us)
+
 -- the text is the canonical one of the specification, and is read as that
 abbrev pub IsWritten : Spec → (text : List ℕ) → Type 0
 IsWritten spec text = (text ≡ canonical spec) × Takes most_slots text spec
@@ -75,7 +80,8 @@ IsPlaced layout.Selection s page_paper sheet_paper pages text sides = ⊥
 pub record IsTask (request : Request) (input : List ℕ) (task : Task) : Type 0 where
   pub page_count : ℕ
   pub document : HasPages input page_count
-  pub whole : is_whole request.choice ≡ true
+  pub behind : HasBehind input task.behind
+  pub said : is_said request.choice request.marks ≡ true
   pub page_paper : (task.options.paper, task.origin) ≡ page_paper_found request.page_paper request.home_paper input
   pub placed : IsPlaced request.layout request.spacing task.options.paper (sheet_paper_found request.sheet_paper task.options.paper)
       page_count (string_bytes task.spec) task.options.sides
@@ -112,6 +118,7 @@ pub record FinishesSpec (r : Request) (input : List ℕ) (old new : Option (List
   pub units : List NestedUnit
   pub taken : document_of (taken_text r.is_guarded (sheet_paper_found r.sheet_paper done.page_paper) input) ≡ Ok units
   pub cut : done.cut ≡ None
+  pub behind : HasBehind input done.behind
   pub plan : plan_in None spec (length (pages units)) ≡ Ok (sheets spec (length (pages units)))
   pub written : Appends old new (output (frame_used r done) None spec units)
   pub report : Reports (frame_used r done) None spec units done.report

@@ -1,8 +1,10 @@
--- What can be said of a layout before the document is read.
-use Rattle.std.specs.Prelude.{◌≡◌, ⊤, ℕ, List, Option, None, Some, string_bytes}
+-- What can be said of a request before its document is read.
+use Rattle.std.specs.Prelude.{◌≡◌, ◌≢◌, ◌⊎◌, ⊤, ℕ, List, Option, None, Some, Err, IfSome, option_map, string_bytes}
 use Rattle.rules.specs.Papers.{Paper}
 use Rattle.rules.specs.Specification.{Spec}
 use Rattle.rules.specs.Admissible.{Takes, most_slots}
+use Rattle.made_sheets.specs.Choice.{NotARange, row_of_text}
+use Rattle.rows.specs.declared.error.RowError.TheVariants as row
 use Rattle.pagespec.specs.Refusals.{IsRefusal}
 use Rattle.pagespec.specs.declared.error.SpecError.{SpecError}
 use Rattle.imposer.specs.Outcomes.{of_spec}
@@ -11,6 +13,8 @@ use Rattle.impose_cli.specs.Refusals.{RefusesLaying}
 use Rattle.impose_cli.specs.declared.request.Spacing.{Spacing}
 use Rattle.impose_cli.specs.declared.request.Layout.{Layout}
 use Rattle.impose_cli.specs.declared.request.Layout.TheVariants as layout
+use Rattle.impose_cli.specs.declared.request.PageChoice.{PageChoice}
+use Rattle.impose_cli.specs.declared.request.Request.{Request}
 use Rattle.impose_cli.specs.declared.fault.Fault.{Fault}
 use Rattle.impose_cli.specs.declared.fault.Fault.TheVariants as fault
 
@@ -35,3 +39,22 @@ RefusesUnread (layout.Spec specs) s page_paper sheet_paper f = RefusesSpecificat
 RefusesUnread other s None sheet_paper f = ⊥
 RefusesUnread other s (Some page_paper) sheet_paper f =
     RefusesLaying other s page_paper (sheet_paper_in other sheet_paper page_paper) f
+
+-- pages aren't named by what is no range, in whatever document
+abbrev pub AreRanges : PageChoice → Type 0
+AreRanges c = IfSome c.ranges (λ text. (pages at : ℕ) → row_of_text pages (string_bytes text) ≢ Err (NotARange at))
+
+-- a fault says that they are: what begins at this byte is no range in any document
+abbrev pub RefusesRanges : PageChoice → Fault → Type 0
+RefusesRanges c f = (text : List ℕ) × (at : ℕ) × (option_map string_bytes c.ranges ≡ Some text)
+    × (f ≡ fault.Row (row.NotARange at)) × ((pages : ℕ) → row_of_text pages text ≡ Err (NotARange at))
+
+-- the request is none that can be refused unread
+pub record MayBeRead (r : Request) : Type 0 where
+  pub layout : IsPossible r.layout r.spacing r.page_paper r.sheet_paper
+  pub ranges : AreRanges r.choice
+
+-- its layout is refused; or it isn't, and its ranges are
+abbrev pub RefusesRequest : Request → Fault → Type 0
+RefusesRequest r f = RefusesUnread r.layout r.spacing r.page_paper r.sheet_paper f
+    ⊎ (IsPossible r.layout r.spacing r.page_paper r.sheet_paper × RefusesRanges r.choice f)

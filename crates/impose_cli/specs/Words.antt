@@ -1,5 +1,5 @@
 -- What the words ask for, by the rows that the command finds among them.
-use Rattle.std.specs.Prelude.{◌≡◌, ◌⊎◌, ◌||◌, ⊤, [], ℕ, ℤ, pos, Bool, true, false, not, if◌then◌else◌, is_some}
+use Rattle.std.specs.Prelude.{◌≡◌, ◌⊎◌, ◌||◌, ◌&&◌, ⊤, [], ℕ, ℤ, pos, Bool, true, false, not, if◌then◌else◌, is_some, IfSome}
 use Rattle.std.specs.Prelude.{option_and_then, option_map, List, Option, Some, None, codes, nat_eq, string_bytes}
 use Rattle.std.specs.Str.{bytes_eq}
 use Rattle.std.specs.List.{starts_with}
@@ -18,7 +18,8 @@ use Rattle.layouts.specs.declared.arrangement.Turned.TheVariants.{Upright}
 use Rattle.rows.specs.declared.sewing.Signing.{Signing}
 use Rattle.rows.specs.declared.choices.Part.{Part}
 use Rattle.rows.specs.declared.choices.Part.TheVariants.{All, Odd, Even}
-use Rattle.impose_cli.specs.Arranging.{cells_named, exact_alone, run_named, scale_named, turned_named}
+use Rattle.marks.specs.declared.strokes.Marks.{Marks}
+use Rattle.impose_cli.specs.Arranging.{cells_named, cut_marks_named, exact_alone, fold_marks_named, no_marks, run_named, scale_named, turned_named}
 use Rattle.impose_cli.specs.Choices.{is_whole}
 use Rattle.impose_cli.specs.declared.request.PageChoice.{PageChoice}
 use Rattle.impose_cli.specs.Command.{impose}
@@ -27,6 +28,8 @@ use Rattle.impose_cli.specs.Sizes.{size_named}
 use Rattle.impose_cli.specs.declared.request.Layout.{Layout}
 use Rattle.impose_cli.specs.declared.request.Layout.TheVariants as layout
 use Rattle.impose_cli.specs.declared.request.Request.{Request}
+use Rattle.impose_cli.specs.declared.request.Product.{Product}
+use Rattle.impose_cli.specs.Products.{is_picture_file, is_plan, is_specification, lays_rows, picture_in}
 use Rattle.impose_cli.specs.Spacings.{keeps_room, nothing_kept}
 use Rattle.impose_cli.specs.declared.request.Spacing.{Spacing}
 use Rattle.impose_cli.specs.declared.fault.CellOption.{CellOption}
@@ -37,6 +40,8 @@ use Rattle.impose_cli.specs.declared.fault.LengthOption.{LengthOption}
 use Rattle.impose_cli.specs.declared.fault.LengthOption.TheVariants.{Margin, Gap, Trim, Creep, Overlap}
 use Rattle.impose_cli.specs.declared.fault.PaperOption.{PaperOption}
 use Rattle.impose_cli.specs.declared.fault.PaperOption.TheVariants.{Paper as OfPages, Sheet as OfSheets}
+use Rattle.impose_cli.specs.declared.fault.ProductOption.{ProductOption}
+use Rattle.impose_cli.specs.declared.fault.ProductOption.TheVariants as instead
 use Rattle.impose_cli.specs.declared.fault.CommandFault.{CommandFault}
 use Rattle.impose_cli.specs.declared.fault.CommandFault.TheVariants as fault
 
@@ -106,6 +111,8 @@ abbrev pub cell_id : CellOption → Text
 cell_id cell.Order = codes "order"
 cell_id cell.Turned = codes "turned"
 cell_id cell.Scale = codes "scale"
+cell_id cell.FoldMarks = codes "marks"
+cell_id cell.CutMarks = codes "marks"
 
 -- along rows from the left if no order is asked for; and nothing if the text names none
 abbrev pub run_asked : Option Text → Option (Run × Bool)
@@ -140,11 +147,26 @@ order_by (Some run) rtl (Some turned) = Some (record { run = run.0; right_to_lef
 abbrev pub order_found : (found : List Row) → Option Order
 order_found found = order_by (run_found found) (has_flag (codes "rtl") found) (turned_found found)
 
+-- no marks if none are asked for; and nothing if the text names none that such sheets have
+abbrev pub marks_asked : (Text → Option Marks) → Option Text → Option Marks
+marks_asked named None = Some no_marks
+marks_asked named (Some text) = named text
+
+-- a booklet is folded, other sheets with cells are cut, and no others have marks
+abbrev pub marks_found : Layout → (found : List Row) → Option Marks
+marks_found (layout.Booklet signing long_edge) found = marks_asked fold_marks_named (first_of (cell_id cell.FoldMarks) found)
+marks_found (layout.Poster columns rows) found = Some no_marks
+marks_found layout.Selection found = Some no_marks
+marks_found (layout.Spec specs) found = Some no_marks
+marks_found other found = marks_asked cut_marks_named (first_of (cell_id cell.CutMarks) found)
+
 -- the text is a value of the option
 abbrev pub is_value : CellOption → Text → Bool
 is_value cell.Order text = is_some (run_named text)
 is_value cell.Turned text = is_some (turned_named text)
 is_value cell.Scale text = is_some (scale_named text)
+is_value cell.FoldMarks text = is_some (fold_marks_named text)
+is_value cell.CutMarks text = is_some (cut_marks_named text)
 
 abbrev pub part_by : (odd even : Bool) → Option Part
 part_by false false = Some All
@@ -171,6 +193,23 @@ is_like_option text = starts_with nat_eq text (codes "-")
 abbrev pub is_outfile : Option Text → Bool
 is_outfile None = true
 is_outfile (Some name) = not (is_like_option name)
+
+-- of the options that ask for something in place of the sheets the first two, if two are there
+abbrev pub two_asked : (printed planned pictured : Bool) → Option (ProductOption × ProductOption)
+two_asked true true pictured = Some (instead.PrintSpec, instead.Plan)
+two_asked true false true = Some (instead.PrintSpec, instead.Preview)
+two_asked false true true = Some (instead.Plan, instead.Preview)
+two_asked true false false = None
+two_asked false true false = None
+two_asked false false pictured = None
+
+abbrev pub two_found : (found : List Row) → Option (ProductOption × ProductOption)
+two_found found = two_asked (has_flag (codes "print-spec") found) (has_flag (codes "plan") found)
+    (is_some (first_of (codes "preview") found))
+
+-- the file after --preview
+abbrev pub picture_found : (found : List Row) → Option (Option Text)
+picture_found found = option_map file_of (first_of (codes "preview") found)
 
 -- ---- the request
 
@@ -209,6 +248,18 @@ SpacesBy true found s = (length_found Margin found ≡ Some s.margin) × (length
     × (length_found Overlap found ≡ Some s.overlap) × (order_found found ≡ Some s.order) × (scale_found found ≡ Some s.scale)
     × (has_flag (codes "same-scale") found ≡ s.same_scale)
 
+-- this is made by what was found; by a layout that doesn't lay rows no plan and no picture is
+pub record MakesBy (rows : Bool) (found : List Row) (p : Product) : Type 0 where
+  pub printed : has_flag (codes "print-spec") found ≡ is_specification p
+  pub planned : (rows && has_flag (codes "plan") found) ≡ is_plan p
+  pub pictured : (if rows then picture_found found else None) ≡ picture_in p
+  pub is_picture : IfSome (picture_in p) (λ file. is_picture_file file ≡ true)
+
+-- the product is the picture in the file of this name
+pub record NamesPicture (name : Text) (p : Product) : Type 0 where
+  pub pictured : Some (file_of name) ≡ picture_in p
+  pub is_picture : is_picture_file (file_of name) ≡ true
+
 -- the request is what was found
 pub record Reads (name : Text) (found : List Row) (r : Request) : Type 0 where
   pub layout : AsksFor name found r.layout
@@ -217,8 +268,9 @@ pub record Reads (name : Text) (found : List Row) (r : Request) : Type 0 where
   pub page_paper : size_found OfPages found ≡ Some r.page_paper
   pub sheet_paper : size_found OfSheets found ≡ Some r.sheet_paper
   pub border : border_found found ≡ Some r.border
+  pub marks : marks_found r.layout found ≡ Some r.marks
   pub guarded : r.is_guarded ≡ not (has_flag (codes "unguarded") found)
-  pub printed : has_flag (codes "print-spec") found ≡ r.is_printed
+  pub product : MakesBy (lays_rows r.layout) found r.product
   pub quiet : has_flag (codes "quiet") found ≡ r.is_quiet
   pub infile : file_asked (first_of (codes "infile") found) ≡ option_map string_bytes r.infile
   pub outfile : file_asked (first_of (codes "outfile") found) ≡ option_map string_bytes r.outfile
@@ -264,11 +316,24 @@ pub record HasSpacing (name : Text) (found : List Row) : Type 0 where
   pub layout : HasLayout name found
   pub spacing : Spacing
   pub kept : SpacesBy (keeps_room layout.layout) found spacing
+  pub marks : is_some (marks_found layout.layout found) ≡ true
 
 pub record HasChoice (name : Text) (found : List Row) : Type 0 where
   pub spacing : HasSpacing name found
   pub choice : PageChoice
   pub chosen : ChoosesBy (ranges_id spacing.layout.layout) found choice
+
+-- all that stands before what is made was taken, and the layout lays rows
+pub record MayLook (name : Text) (found : List Row) : Type 0 where
+  pub choice : HasChoice name found
+  pub outfile : is_outfile (file_asked (first_of (codes "outfile") found)) ≡ true
+  pub rows : lays_rows choice.spacing.layout.layout ≡ true
+
+-- a picture alone is asked for, and its file isn't named as one
+pub record NamesNoPicture (found : List Row) (text : Text) : Type 0 where
+  pub alone : two_found found ≡ None
+  pub given : picture_found found ≡ Some (Some text)
+  pub none : is_picture_file (Some text) ≡ false
 
 -- the value of the option names no length, and those of the options before it do
 abbrev pub AreBefore : LengthOption → (found : List Row) → Type 0
@@ -289,7 +354,7 @@ pub record NamesNoLength (option : LengthOption) (found : List Row) (text : Text
 abbrev pub NamesNoCells : GridCommand → (found : List Row) → (text : Text) → Type 0
 NamesNoCells command found text = (first_of (codes "count") found ≡ Some text) × (cells_in command text ≡ None)
 
--- the value of the option is none, and those of the options before it are, and the lengths
+-- what is to be kept free, and the creep, are lengths
 pub record HasLengths (found : List Row) : Type 0 where
   pub margin : is_some (length_found Margin found) ≡ true
   pub gap : is_some (length_found Gap found) ≡ true
@@ -297,11 +362,18 @@ pub record HasLengths (found : List Row) : Type 0 where
   pub creep : is_some (length_found Creep found) ≡ true
   pub overlap : is_some (length_found Overlap found) ≡ true
 
+abbrev pub AreRead : (found : List Row) → Type 0
+AreRead found = (is_some (run_found found) ≡ true) × (is_some (turned_found found) ≡ true) × (is_some (scale_found found) ≡ true)
+
+-- the values of the options before it are some
 abbrev pub AreValues : CellOption → (found : List Row) → Type 0
 AreValues cell.Order found = ⊤
 AreValues cell.Turned found = is_some (run_found found) ≡ true
 AreValues cell.Scale found = (is_some (run_found found) ≡ true) × (is_some (turned_found found) ≡ true)
+AreValues cell.FoldMarks found = AreRead found
+AreValues cell.CutMarks found = AreRead found
 
+-- the value of the option is none, and those of the options before it are some
 pub record HasNoValue (option : CellOption) (found : List Row) (text : Text) : Type 0 where
   pub given : first_of (cell_id option) found ≡ Some text
   pub none : is_value option text ≡ false
@@ -340,9 +412,11 @@ RefusesArguments name found (fault.BadBorder text) = ⊥
 RefusesArguments name found (fault.BadLength option text) = ⊥
 RefusesArguments name found (fault.BadValue option text) = ⊥
 RefusesArguments name found (fault.OptionAsOutfile text) = ⊥
+RefusesArguments name found (fault.TwoProducts one other) = ⊥
+RefusesArguments name found (fault.BadPicture text) = ⊥
 
 -- what a refusal says of what was found, and of what was looked at before: --paper, --sheet, --border, the layout, what is
--- kept free, the pages, OUTFILE
+-- kept free, the marks, the pages, OUTFILE, what is made
 abbrev pub RefusesFound : (name : Text) → (found : List Row) → CommandFault → Type 0
 RefusesFound name found (fault.UnknownPaper OfPages text) = NamesNoSize OfPages found (string_bytes text)
 RefusesFound name found (fault.UnknownPaper OfSheets text) = (is_some (size_found OfPages found) ≡ true)
@@ -359,6 +433,8 @@ RefusesFound name found (fault.BadValue option text) = HasLayout name found × H
     × HasNoValue option found (string_bytes text)
 RefusesFound name found fault.Lacking = HasSizes found × RefusesArguments name found fault.Lacking
 RefusesFound name found (fault.OptionAsOutfile text) = HasChoice name found × WritesToOption found (string_bytes text)
+RefusesFound name found (fault.TwoProducts one other) = MayLook name found × (two_found found ≡ Some (one, other))
+RefusesFound name found (fault.BadPicture text) = MayLook name found × NamesNoPicture found (string_bytes text)
 RefusesFound name found fault.NoMemory = ⊤
 RefusesFound name found (fault.Words error) = ⊥
 RefusesFound name found fault.NoText = ⊥
@@ -382,6 +458,9 @@ Refuses words (fault.BadLength option text) =
 Refuses words fault.OddAndEven = Entered words (λ name found. RefusesFound name found fault.OddAndEven)
 Refuses words (fault.OptionAsOutfile text) =
     Entered words (λ name found. RefusesFound name found (fault.OptionAsOutfile text))
+Refuses words (fault.TwoProducts one other) =
+    Entered words (λ name found. RefusesFound name found (fault.TwoProducts one other))
+Refuses words (fault.BadPicture text) = Entered words (λ name found. RefusesFound name found (fault.BadPicture text))
 Refuses words fault.Lacking = (subcommand_of impose words ≡ None)
     ⊎ Entered words (λ name found. RefusesFound name found fault.Lacking)
 

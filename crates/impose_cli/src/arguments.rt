@@ -67,11 +67,14 @@ fn nup<'a>(alloc: Global) -> Result<Command<'a>, AllocError>
         margin(alloc),
         gap(alloc, "Keep so much free between pages"),
         trim(alloc),
+        marks(alloc),
         rtl(alloc),
         pages(alloc),
         odd(alloc),
         even(alloc),
         reverse(alloc),
+        plan(alloc),
+        preview(alloc),
     ]?;
     subcommand(alloc, "nup", about, own)
 }
@@ -92,11 +95,14 @@ fn cards<'a>(alloc: Global) -> Result<Command<'a>, AllocError>
         margin(alloc),
         gap(alloc, "Keep so much free between pages"),
         trim(alloc),
+        marks(alloc),
         rtl(alloc),
         pages(alloc),
         odd(alloc),
         even(alloc),
         reverse(alloc),
+        plan(alloc),
+        preview(alloc),
     ]?;
     subcommand(alloc, "cards", about, own)
 }
@@ -120,11 +126,14 @@ fn stack<'a>(alloc: Global) -> Result<Command<'a>, AllocError>
         margin(alloc),
         gap(alloc, "Keep so much free between pages"),
         trim(alloc),
+        marks(alloc),
         rtl(alloc),
         pages(alloc),
         odd(alloc),
         even(alloc),
         reverse(alloc),
+        plan(alloc),
+        preview(alloc),
     ]?;
     subcommand(alloc, "stack", about, own)
 }
@@ -144,6 +153,8 @@ fn poster<'a>(alloc: Global) -> Result<Command<'a>, AllocError>
         odd(alloc),
         even(alloc),
         reverse(alloc),
+        plan(alloc),
+        preview(alloc),
     ]?;
     subcommand(alloc, "poster", about, own)
 }
@@ -164,11 +175,14 @@ fn booklet<'a>(alloc: Global) -> Result<Command<'a>, AllocError>
             "Keep so much free at the fold, half of it on each side"
         ),
         trim(alloc),
+        marks(alloc),
         rtl(alloc),
         pages(alloc),
         odd(alloc),
         even(alloc),
         reverse(alloc),
+        plan(alloc),
+        preview(alloc),
     ]?;
     subcommand(alloc, "booklet", about, own)
 }
@@ -178,7 +192,14 @@ fn select<'a>(alloc: Global) -> Result<Command<'a>, AllocError>
 {
     let ranges = required(alloc, "ranges", "RANGES").help(RANGES_HELP);
     let about = "Some pages, in the order in which they are named, each on a sheet of its own";
-    let own = vec![in alloc; ranges, odd(alloc), even(alloc), reverse(alloc)]?;
+    let own = vec![in alloc;
+        ranges,
+        odd(alloc),
+        even(alloc),
+        reverse(alloc),
+        plan(alloc),
+        preview(alloc),
+    ]?;
     subcommand(alloc, "select", about, own)
 }
 
@@ -265,6 +286,14 @@ fn trim<'a>(alloc: Global) -> Arg<'a>
     )
 }
 
+fn marks<'a>(alloc: Global) -> Arg<'a>
+    ensures { rule_of result ≡ option_rule (codes "marks") }
+{
+    option(alloc, "marks", "MARKS").help(
+        "Draw short lines where sheets are folded or cut: fold for a booklet, cut for other sheets",
+    )
+}
+
 fn rtl<'a>(alloc: Global) -> Arg<'a>
     ensures { rule_of result ≡ flag_rule (codes "rtl") }
 {
@@ -293,6 +322,20 @@ fn reverse<'a>(alloc: Global) -> Arg<'a>
     ensures { rule_of result ≡ flag_rule (codes "reverse") }
 {
     flag(alloc, "reverse").help("The last of these first")
+}
+
+fn plan<'a>(alloc: Global) -> Arg<'a>
+    ensures { rule_of result ≡ flag_rule (codes "plan") }
+{
+    flag(alloc, "plan").help("Print which page stands where on each sheet, and impose nothing")
+}
+
+fn preview<'a>(alloc: Global) -> Arg<'a>
+    ensures { rule_of result ≡ option_rule (codes "preview") }
+{
+    option(alloc, "preview", "FILE").help(
+        "Draw the sheets into FILE, an SVG, or to standard output for -, and impose nothing",
+    )
 }
 
 fn spec<'a>(alloc: Global) -> Result<Command<'a>, AllocError>

@@ -4,6 +4,7 @@ ghost use Rattle.impose_cli.specs.Arranging as meaning;
 
 use layouts::{Cells, Run, Turned};
 use lengths::{Number, read_digits, read_number};
+use marks::Marks;
 
 /// How many cells a sheet has at most.
 const MOST_CELLS: u64 = 1_024;
@@ -99,5 +100,33 @@ pub fn scale_named(text: &str) -> Option<Number>
     match read_number(text.as_bytes()) {
         Ok((number, len)) if len == text.len() => Some(number),
         _ => None,
+    }
+}
+
+/// The marks that the text means on sheets that are folded.
+pub fn fold_marks_named(text: &str) -> Option<Marks>
+    ensures { result ≡ meaning.fold_marks_named text.now }
+{
+    if text == "fold" {
+        Some(Marks {
+            fold: true,
+            cut: false,
+        })
+    } else {
+        None
+    }
+}
+
+/// The marks that the text means on sheets that are cut.
+pub fn cut_marks_named(text: &str) -> Option<Marks>
+    ensures { result ≡ meaning.cut_marks_named text.now }
+{
+    if text == "cut" {
+        Some(Marks {
+            fold: false,
+            cut: true,
+        })
+    } else {
+        None
     }
 }

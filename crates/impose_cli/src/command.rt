@@ -4,18 +4,25 @@ ghost use Rattle.clap.specs.Words.{fault_of, first_of, found_of, is_simple, rows
 ghost use Rattle.impose_cli.specs.Command.{impose};
 ghost use Rattle.impose_cli.specs.Words.{AsksFor, Entered, ParseRefuses, Reads, Refuses, RefusesFound};
 ghost use Rattle.impose_cli.specs.Words.{RefusesArguments, border_found, file_asked, is_outfile, paper_id};
-ghost use Rattle.impose_cli.specs.Words.{ChoosesBy, SpacesBy, length_found, length_id, ranges_id, part_by as of_both};
+ghost use Rattle.impose_cli.specs.Words.{ChoosesBy, MakesBy, NamesPicture, SpacesBy, length_found, length_id, ranges_id, part_by as of_both};
 ghost use Rattle.impose_cli.specs.Words.{cells_found, cells_in as cells_of_command, command_name, order_found, run_found, scale_found};
-ghost use Rattle.impose_cli.specs.Words.{signing_found, size_found, turned_found};
+ghost use Rattle.impose_cli.specs.Words.{marks_asked, marks_found, signing_found, size_found, turned_found};
+ghost use Rattle.impose_cli.specs.Arranging.{cut_marks_named as to_cut, fold_marks_named as to_fold};
+ghost use Rattle.impose_cli.specs.Products.{is_plan, is_specification, lays_rows, picture_in};
 ghost use Rattle.impose_cli.specs.Spacings.{keeps_room};
 ghost use Rattle.impose_cli.specs.Sizing.{ReadsSizes, RefusesBorder, RefusesChoice, RefusesOutfile, RefusesSize};
-ghost use Rattle.impose_cli.specs.Sizing.{RefusesLength, RefusesReading, RefusesSizes, RefusesSpacing, RefusesValue};
+ghost use Rattle.impose_cli.specs.Sizing.{RefusesMarks};
+ghost use Rattle.impose_cli.specs.Sizing.{RefusesLength, RefusesPicture, RefusesProduct, RefusesReading, RefusesSizes};
+ghost use Rattle.impose_cli.specs.Sizing.{RefusesSpacing, RefusesValue};
 ghost use Rattle.impose_cli.specs.declared.fault.CellOption.TheVariants as cell;
 
 use crate::arguments::command;
-use crate::arranging::{cells_named, exact_cells, run_named, scale_named, turned_named};
-use crate::fault::{CellOption, CommandFault, GridCommand, LengthOption, PaperOption};
-use crate::request::{Layout, PageChoice, Request, Spacing};
+use crate::arranging::{cells_named, cut_marks_named, exact_cells, fold_marks_named};
+use crate::arranging::{run_named, scale_named, turned_named};
+use crate::fault::{
+    CellOption, CommandFault, GridCommand, LengthOption, PaperOption, ProductOption,
+};
+use crate::request::{Layout, PageChoice, Product, Request, Spacing};
 use crate::signature::signing_named;
 use crate::sizes::size_named;
 use clap::ArgMatches;
@@ -23,6 +30,7 @@ use clap::error::ErrorKind;
 use command_words::{border_named, is_set, number_of, owned, text_of};
 use layouts::{Cells, Order, Run, Turned};
 use lengths::{Grains, Number, Paper, a4, length_named};
+use marks::Marks;
 use rows::{Part, Signing};
 use std::alloc::Global;
 
@@ -33,7 +41,8 @@ use std::alloc::Global;
 /// Among words that it takes, the first of these is the fault: a paper that there isn't, after `--paper`, then after
 /// `--sheet`; a border that is no length, or below zero; cells that a sheet doesn't take, or a signature that leaves can't have;
 /// a margin, a gap, a trim, a creep or an overlap that is no length; an order that there isn't, no side after `--turned`, no number after
-/// `--scale`; odd and even entries together; an OUTFILE that begins with a minus sign.
+/// `--scale`; marks that sheets of the layout don't have; odd and even entries together; an OUTFILE that begins with a minus sign; two of
+/// `--print-spec`, `--plan` and `--preview`; a picture whose file isn't named as an SVG is.
 #[tactic(auto, using(crate::proofs::Commands::impose_is_simple))]
 pub fn read_command(alloc: Global, words: &[String]) -> Result<Request, CommandFault>
     // The command takes the words, and the request is what it finds among them.
@@ -90,6 +99,10 @@ fn request_of(alloc: Global, name: &str, found: &ArgMatches<'_>) -> Result<Reque
         Ok(spacing) => spacing,
         Err(fault) => return Err(fault),
     };
+    let marks = match marks_of(alloc, &layout, found) {
+        Ok(marks) => marks,
+        Err(fault) => return Err(fault),
+    };
     let choice = match choice_of(alloc, &layout, found) {
         Ok(choice) => choice,
         Err(fault) => return Err(fault),
@@ -97,6 +110,10 @@ fn request_of(alloc: Global, name: &str, found: &ArgMatches<'_>) -> Result<Reque
     let infile = owned(alloc, file_named(text_of(found, "infile")))?;
     let outfile = match outfile_of(alloc, found) {
         Ok(outfile) => outfile,
+        Err(fault) => return Err(fault),
+    };
+    let product = match product_of(alloc, &layout, found) {
+        Ok(product) => product,
         Err(fault) => return Err(fault),
     };
     Ok(Request {
@@ -107,8 +124,9 @@ fn request_of(alloc: Global, name: &str, found: &ArgMatches<'_>) -> Result<Reque
         home_paper: a4(),
         sheet_paper: sizes.sheet_paper,
         border: sizes.border,
+        marks,
         is_guarded: !is_set(found, "unguarded"),
-        is_printed: is_set(found, "print-spec"),
+        product,
         is_quiet: is_set(found, "quiet"),
         infile,
         outfile,
@@ -485,6 +503,61 @@ fn scale_of(alloc: Global, found: &ArgMatches<'_>) -> Result<Option<Number>, Com
     }
 }
 
+/// The marks that are asked for, of those that sheets of the layout have.
+fn marks_of(
+    alloc: Global,
+    layout: &Layout,
+    found: &ArgMatches<'_>,
+) -> Result<Marks, CommandFault>
+    ensures read { IfOk result (λ marks. marks_found layout.now (rows_of (found_of found.now)) ≡ Some marks) }
+    ensures refused { IfErr result (RefusesMarks layout.now (rows_of (found_of found.now))) }
+{
+    match layout {
+        Layout::Booklet { .. } => fold_marks_of(alloc, found),
+        Layout::NUp(_) | Layout::Cards(_) | Layout::Stack { .. } => cut_marks_of(alloc, found),
+        Layout::Poster { .. } | Layout::Selection | Layout::Spec(_) => Ok(NO_MARKS),
+    }
+}
+
+const NO_MARKS: Marks = Marks {
+    fold: false,
+    cut: false,
+};
+
+fn fold_marks_of(alloc: Global, found: &ArgMatches<'_>) -> Result<Marks, CommandFault>
+    ensures read { IfOk result (λ marks.
+        marks_asked to_fold (first_of (codes "marks") (rows_of (found_of found.now))) ≡ Some marks) }
+    ensures refused { IfErr result (RefusesValue cell.FoldMarks (rows_of (found_of found.now))) }
+{
+    match text_of(found, "marks") {
+        None => Ok(NO_MARKS),
+        Some(text) => match fold_marks_named(text) {
+            Some(marks) => Ok(marks),
+            None => Err(CommandFault::BadValue(
+                CellOption::FoldMarks,
+                String::from_str(alloc, text)?,
+            )),
+        },
+    }
+}
+
+fn cut_marks_of(alloc: Global, found: &ArgMatches<'_>) -> Result<Marks, CommandFault>
+    ensures read { IfOk result (λ marks.
+        marks_asked to_cut (first_of (codes "marks") (rows_of (found_of found.now))) ≡ Some marks) }
+    ensures refused { IfErr result (RefusesValue cell.CutMarks (rows_of (found_of found.now))) }
+{
+    match text_of(found, "marks") {
+        None => Ok(NO_MARKS),
+        Some(text) => match cut_marks_named(text) {
+            Some(marks) => Ok(marks),
+            None => Err(CommandFault::BadValue(
+                CellOption::CutMarks,
+                String::from_str(alloc, text)?,
+            )),
+        },
+    }
+}
+
 /// Which pages of the document are laid out so, and in which order.
 fn choice_of(
     alloc: Global,
@@ -542,6 +615,66 @@ fn outfile_of(alloc: Global, found: &ArgMatches<'_>) -> Result<Option<String>, C
             Err(CommandFault::OptionAsOutfile(String::from_str(alloc, name)?))
         } else {
             Ok(Some(String::from_str(alloc, name)?))
+        },
+    }
+}
+
+/// What is made. By a layout that doesn't lay rows no plan and no picture is asked for.
+fn product_of(
+    alloc: Global,
+    layout: &Layout,
+    found: &ArgMatches<'_>,
+) -> Result<Product, CommandFault>
+    ensures read { IfOk result (MakesBy (lays_rows layout.now) (rows_of (found_of found.now))) }
+    ensures refused { IfErr result (RefusesProduct (lays_rows layout.now) (rows_of (found_of found.now))) }
+{
+    let printed = is_set(found, "print-spec");
+    if !layout.lays_rows() {
+        return Ok(specification_if(printed));
+    }
+    match (printed, is_set(found, "plan"), text_of(found, "preview")) {
+        (_, false, None) => Ok(specification_if(printed)),
+        (false, true, None) => Ok(Product::Plan),
+        (false, false, Some(name)) => picture_in_file(alloc, name),
+        (true, true, _) => Err(CommandFault::TwoProducts(
+            ProductOption::PrintSpec,
+            ProductOption::Plan,
+        )),
+        (true, false, Some(_)) => Err(CommandFault::TwoProducts(
+            ProductOption::PrintSpec,
+            ProductOption::Preview,
+        )),
+        (false, true, Some(_)) => Err(CommandFault::TwoProducts(
+            ProductOption::Plan,
+            ProductOption::Preview,
+        )),
+    }
+}
+
+/// The specification if it is asked for, and else the sheets.
+fn specification_if(printed: bool) -> Product
+    ensures specification { is_specification result ≡ printed }
+    ensures plan { is_plan result ≡ false }
+    ensures picture { picture_in result ≡ None }
+{
+    if printed {
+        Product::Specification
+    } else {
+        Product::Sheets
+    }
+}
+
+/// The picture in the file of that name, which is named as an SVG is.
+fn picture_in_file(alloc: Global, name: &str) -> Result<Product, CommandFault>
+    ensures picture { IfOk result (NamesPicture name.now) }
+    ensures refused { IfErr result (RefusesPicture name.now) }
+{
+    match file_named(Some(name)) {
+        None => Ok(Product::Picture(None)),
+        Some(name) => if name.as_bytes().ends_with(b".svg") {
+            Ok(Product::Picture(Some(String::from_str(alloc, name)?)))
+        } else {
+            Err(CommandFault::BadPicture(String::from_str(alloc, name)?))
         },
     }
 }

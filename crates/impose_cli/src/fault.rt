@@ -34,12 +34,23 @@ pub enum GridCommand {
     Poster,
 }
 
-/// The option that says in which order pages stand in cells, or how large they are.
+/// The option that says in which order pages stand in cells, how large they are, or which marks are drawn: on sheets that
+/// are folded, or on sheets that are cut.
 #[derive(Clone, Copy, Debug, PartialEq, Eq)]
 pub enum CellOption {
     Order,
     Turned,
     Scale,
+    FoldMarks,
+    CutMarks,
+}
+
+/// The option that asks for something in place of the sheets.
+#[derive(Clone, Copy, Debug, PartialEq, Eq)]
+pub enum ProductOption {
+    PrintSpec,
+    Plan,
+    Preview,
 }
 
 /// Why a command line is refused.
@@ -67,6 +78,10 @@ pub enum CommandFault {
     OddAndEven,
     /// OUTFILE, this text, begins with a minus sign, as options do.
     OptionAsOutfile(String),
+    /// Both options are there, of which each asks for something else in place of the sheets.
+    TwoProducts(ProductOption, ProductOption),
+    /// The file after `--preview`, this text, isn't named as an SVG is.
+    BadPicture(String),
     /// There was no memory for the request.
     NoMemory,
 }

@@ -20,17 +20,21 @@ mod shown;
 mod signature;
 mod sizes;
 mod task;
+mod unread;
 
-pub use arranging::{cells_named, run_named, scale_named, turned_named};
+pub use arranging::{cells_named, exact_cells, run_named, scale_named, turned_named};
 pub use command::read_command;
-pub use fault::{CellOption, CommandFault, Fault, GridCommand, LengthOption, PaperOption};
+pub use fault::{
+    CellOption, CommandFault, Fault, GridCommand, LengthOption, PaperOption, ProductOption,
+};
 pub use look::{Look, look_text};
-pub use messages::{command_text, cut_text, fault_status, fault_text, note_text, report_text};
+pub use messages::{behind_text, command_text, cut_text, fault_status, fault_text, note_text, report_text};
 pub use mistakes::words_text;
 pub use printed::printed_task;
 pub use program::{Done, Ended, impose};
-pub use request::{Layout, PageChoice, Request, Spacing};
+pub use request::{Layout, PageChoice, Product, Request, Spacing};
 pub use row_task::run_request;
 pub use signature::signing_named;
 pub use sizes::size_named;
 pub use task::{Finished, PaperOrigin, Task, check_layout, task_for};
+pub use unread::check_request;

@@ -71,6 +71,7 @@ fn task_text(alloc: Global, request: &Request, task: &RowTask, look: Look) -> Re
             same_scale: request.spacing.same_scale,
         },
         border: request.border,
+        marks: request.marks,
         workers: WORKERS,
     };
     match job_text(alloc, &job, look) {

@@ -3,15 +3,17 @@ ghost use Rattle.std.specs.Prelude.{◌≡◌};
 ghost use Rattle.impose_cli.specs.Statuses.{fault_status as status_of_fault, words_status as status_of_words};
 
 use crate::caret::{caret_below, group_place, item_place, large_place};
-use crate::fault::{CellOption, CommandFault, Fault, GridCommand, LengthOption, PaperOption};
+use crate::fault::{
+    CellOption, CommandFault, Fault, GridCommand, LengthOption, PaperOption, ProductOption,
+};
 use crate::mistakes::looks_like_file;
-use crate::request::{Layout, PageChoice, Request};
+use crate::request::{Layout, PageChoice, Product, Request};
 use crate::shown::shown_word;
 use crate::signature::number_in;
 use crate::task::{Finished, PaperOrigin};
 use arranged_sheets::PosterError;
 use clap::error::ErrorKind;
-use command_words::run_status;
+use command_words::{name_of, run_status};
 use document_paper::Comment;
 use dsc::DscError;
 use imposer::{Report, RunError};
@@ -98,8 +100,8 @@ fn blanks_of(request: &Request, report: &Report) -> u64 {
 /// How many leaves of paper it takes, where sheets are printed on both sides.
 fn leaves_text(alloc: Global, layout: &Layout, sheets: u32) -> Result<String, AllocError> {
     match layout {
-        Layout::Booklet { .. } => {
-            let leaves = sheets / 2;
+        Layout::Booklet { .. } | Layout::Stack { duplex: true, .. } => {
+            let leaves = sheets.div_ceil(2);
             let word = if leaves == 1 { "leaf" } else { "leaves" };
             format!(in alloc; " ({leaves} {word})")
         }
@@ -128,6 +130,21 @@ pub fn cut_text(alloc: Global, done: &Finished) -> Result<Option<String>, AllocE
     let named = size_text(alloc, &done.page_paper)?;
     let named = named.as_str();
     Ok(Some(format!(in alloc; "--paper cuts {pages}: {own} on {named}")?))
+}
+
+/// What is said of pages that stand behind the document's trailer.
+pub fn behind_text(alloc: Global, done: &Finished) -> Result<Option<String>, AllocError> {
+    let pages = done.behind;
+    match pages {
+        0 => Ok(None),
+        1 => Ok(Some(String::from_str(
+            alloc,
+            "1 page stands behind %%Trailer or %%EOF and is not imposed",
+        )?)),
+        _ => Ok(Some(format!(in alloc;
+            "{pages} pages stand behind %%Trailer or %%EOF and are not imposed"
+        )?)),
+    }
 }
 
 /// The pages that are cut, counted from 1.
@@ -169,6 +186,7 @@ fn origin_text(origin: PaperOrigin) -> &'static str {
         PaperOrigin::ByComment(Comment::DocumentPaperSizes) => "by its %%DocumentPaperSizes",
         PaperOrigin::ByComment(Comment::BoundingBox) => "by its %%BoundingBox",
         PaperOrigin::AtHome => "the usual one here, as the document names none",
+        PaperOrigin::FirstPage => "that of page 1, as no page has the document's",
     }
 }
 
@@ -194,7 +212,7 @@ pub fn fault_text(
         Fault::NoSpecification => String::from_str(
             alloc,
             "--print-spec: no specification says a selection, cards, a stack or a poster, nor --pages, --odd, --even, \
-            --reverse or --creep; leave it out",
+            --reverse, --creep or --marks; leave it out",
         ),
         Fault::NoSuchPage { place, pages } => {
             let message = format!(in alloc;
@@ -261,18 +279,23 @@ fn input_name(alloc: Global, request: Option<&Request>) -> Result<String, AllocE
     }
 }
 
-/// What is written to; a specification is printed to standard output.
+/// What is written to.
 fn output_name(alloc: Global, request: Option<&Request>) -> Result<String, AllocError> {
-    match request {
-        Some(
-            Request {
-                outfile: Some(name),
-                is_printed: false,
-                ..
-            },
-        ) => file_name(alloc, name.as_str()),
-        _ => String::from_str(alloc, "standard output"),
+    match written_file(request) {
+        Some(name) => file_name(alloc, name),
+        None => String::from_str(alloc, "standard output"),
     }
+}
+
+/// The file that is written, if it isn't standard output.
+fn written_file(request: Option<&Request>) -> Option<&str> {
+    let request = request?;
+    let file = match &request.product {
+        Product::Sheets => &request.outfile,
+        Product::Specification | Product::Plan => return None,
+        Product::Picture(file) => file,
+    };
+    name_of(file)
 }
 
 /// The name of a file as it is shown.
@@ -354,6 +377,18 @@ pub fn command_text(alloc: Global, fault: &CommandFault) -> Result<String, Alloc
                 is written ./{text}"
             )
         }
+        CommandFault::TwoProducts(one, other) => {
+            let one = product_option(*one);
+            let other = product_option(*other);
+            format!(in alloc; "{one} and {other} ask for two things: give one of them")
+        }
+        CommandFault::BadPicture(text) => {
+            let text = shown_word(alloc, text.as_str())?;
+            let text = text.as_str();
+            format!(in alloc;
+                "bad file '{text}' after --preview: it is an SVG, so name it as sheets.svg, or - for standard output"
+            )
+        }
         CommandFault::NoMemory => String::from_str(alloc, "out of memory"),
     }
 }
@@ -433,6 +468,26 @@ fn value_text(alloc: Global, option: CellOption, text: &str) -> Result<String, A
         CellOption::Scale => format!(in alloc;
             "bad scale '{text}' after --scale: give a number as 0.7"
         ),
+        CellOption::FoldMarks => if text.contains("cut") {
+            format!(in alloc; "a booklet isn't cut, so --marks {text} asks too much: give --marks fold")
+        } else {
+            format!(in alloc; "unknown marks '{text}' after --marks: give fold")
+        },
+        CellOption::CutMarks => if text.contains("fold") {
+            format!(in alloc;
+                "only a booklet is folded, so --marks {text} asks too much here: give --marks cut"
+            )
+        } else {
+            format!(in alloc; "unknown marks '{text}' after --marks: give cut")
+        },
+    }
+}
+
+fn product_option(option: ProductOption) -> &'static str {
+    match option {
+        ProductOption::PrintSpec => "--print-spec",
+        ProductOption::Plan => "--plan",
+        ProductOption::Preview => "--preview",
     }
 }
 

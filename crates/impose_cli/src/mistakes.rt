@@ -85,17 +85,8 @@ fn tip(kind: ErrorKind, words: &[String]) -> Option<&'static str> {
     }
     match kind {
         ErrorKind::UnknownArgument => tip_on_unknown(command, behind),
-        ErrorKind::ValueValidation | ErrorKind::InvalidValue | ErrorKind::MissingRequiredArgument
-            if !lacks_value(behind) => tip_on_argument(command),
+        ErrorKind::MissingRequiredArgument => tip_on_argument(command),
         _ => None,
-    }
-}
-
-/// Whether the last word is an option, whose value may be missing.
-fn lacks_value(behind: &[String]) -> bool {
-    match behind {
-        [.., last] => last.as_str().starts_with("--"),
-        [] => false,
     }
 }
 
@@ -122,7 +113,7 @@ fn tip_on_command(word: &str) -> Option<&'static str> {
     }
 }
 
-/// The argument that the command begins with is missing, or it is none.
+/// The argument that the command begins with is missing.
 fn tip_on_argument(command: &str) -> Option<&'static str> {
     if command == "nup" {
         Some("the number of pages stands behind nup, as in: impose nup 2 in.ps out.ps")
@@ -134,8 +125,6 @@ fn tip_on_argument(command: &str) -> Option<&'static str> {
         Some(
             "columns and rows of sheets stand behind poster, as in: impose poster 2x2 in.ps out.ps",
         )
-    } else if command == "booklet" {
-        Some("a signature is a number of sides, as in: impose booklet --signature 16 in.ps out.ps")
     } else if command == "select" {
         Some("the pages stand behind select, and 1- are all: impose select 1- --odd in.ps out.ps")
     } else {
@@ -151,6 +140,12 @@ fn tip_on_unknown(command: &str, behind: &[String]) -> Option<&'static str> {
         if word.starts_with("-o") || word.starts_with("--out") {
             return Some(
                 "the sheets go to the second file, without an option: impose nup 2 in.ps out.ps",
+            );
+        }
+        if command == "spec" && (word == "--plan" || word.starts_with("--preview")) {
+            return Some(
+                "plans and pictures are made for nup, booklet, cards, stack and select; without one: impose spec 0,0 in.ps \
+                out.ps",
             );
         }
         if begins_with_minus_and_number(word) {
@@ -204,6 +199,7 @@ fn takes_length(option: &str) -> bool {
     option == "--margin"
         || option == "--gap"
         || option == "--trim"
+        || option == "--creep"
         || option == "--border"
         || option == "--overlap"
 }

@@ -2,18 +2,22 @@
 ghost use Rattle.std.specs.Prelude.{◌≡◌, false, is_some, map, option_and_then, option_map, string_bytes};
 ghost use Rattle.std.specs.Prelude.{Some, Err, IfOk, IfErr};
 ghost use Rattle.input.specs.Input.{IsFirst, most_bytes};
-ghost use Rattle.impose_cli.specs.Programs.{CarriesOut, EndsProgram, IsFailedWrite, IsHome, IsReading, IsSaidAs, Prints};
-ghost use Rattle.impose_cli.specs.Programs.{RunsInto, status_of};
+ghost use Rattle.impose_cli.specs.Looks.{MayBeMade};
+ghost use Rattle.impose_cli.specs.Programs.{CarriesOut, EndsProgram, IsFailedWrite, IsHome, IsReading, IsSaidAs, Makes};
+ghost use Rattle.impose_cli.specs.Programs.{Prints, RunsInto, Shows, Writes, status_of};
+ghost use Rattle.impose_cli.specs.RowTasks.{LaysRows};
 ghost use Rattle.impose_cli.specs.declared.fault.Fault.TheVariants as faults;
 
 use crate::command::read_command;
 use crate::fault::Fault;
 use crate::keeping_reader::KeepingReader;
+use crate::look::{Look, look_text};
 use crate::messages::fault_status;
 use crate::printed::printed_task;
-use crate::request::Request;
+use crate::request::{Product, Request};
 use crate::row_task::run_request;
-use crate::task::{Finished, check_layout, task_for};
+use crate::task::{Finished, task_for};
+use crate::unread::check_request;
 use command_words::name_of;
 use imposer::RunError;
 use input::{ReadFault, ReadSource, read_input};
@@ -33,6 +37,8 @@ pub enum Done {
     Imposed(Finished),
     /// The specification was printed.
     Printed,
+    /// The plan or the picture of the sheets was written.
+    Shown,
 }
 
 /// How the program ended.
@@ -69,8 +75,8 @@ struct Left<W: World> {
 }
 
 /// The program: it reads the words, of which the first is its name, finds the paper at home by the value of `PAPERSIZE`
-/// and by `/etc/papersize`, and checks the layout; then it reads its input whole and closes it; then it prints the
-/// specification, or imposes.
+/// and by `/etc/papersize`, and checks what it asks for; then it reads its input whole and closes it; then it imposes,
+/// or prints the specification, or writes the plan or the picture of the sheets.
 ///
 /// The output is created when its first byte is to be written, so that a request that is refused creates none, and
 /// input and output may be one file.
@@ -127,24 +133,46 @@ fn home_of<W: World>(alloc: Global, paper_size: &[u8], world: &W) -> Paper
     }
 }
 
-/// Checks the layout, reads the input, and then prints the specification or imposes.
+/// Checks the request, reads the input, and then makes what is asked for.
 fn carry_out<R: Threads + Wait + Sync, W: World>(
     rt: &R,
     alloc: Global,
     request: &Request,
     world: W,
 ) -> Left<W>
+    requires { MayBeMade request.now.product request.now.layout }
     ensures { CarriesOut request.now (W.gives world) (W.tells world) result.outcome (is_some result.output)
         (option_and_then W.Output.contents result.output) }
 {
-    match check_layout(alloc, request) {
+    match check_request(alloc, request) {
         Ok(()) => {}
         Err(fault) => return stopped(fault, world),
     }
     match input_of(alloc, name_of(&request.infile), &world) {
-        Ok(input) if request.is_printed => print_input(alloc, request, input, world),
-        Ok(input) => run_into(rt, alloc, request, input, world),
+        Ok(input) => make(rt, alloc, request, input, world),
         Err(fault) => stopped(fault, world),
+    }
+}
+
+/// Makes what the request asks for.
+fn make<R: Threads + Wait + Sync, W: World>(
+    rt: &R,
+    alloc: Global,
+    request: &Request,
+    input: Vec<u8>,
+    world: W,
+) -> Left<W>
+    requires { MayBeMade request.now.product request.now.layout }
+    ensures { Makes request.now.product request.now input.items (W.tells world) result.outcome (is_some result.output)
+        (option_and_then W.Output.contents result.output) }
+{
+    match &request.product {
+        Product::Sheets => run_into(rt, alloc, request, input, world),
+        Product::Specification => print_input(alloc, request, input, world),
+        Product::Plan => show_input(alloc, request, input, Look::Plan, None, world),
+        Product::Picture(file) => {
+            show_input(alloc, request, input, Look::Picture, name_of(file), world)
+        }
     }
 }
 
@@ -201,12 +229,39 @@ fn print_input<W: World>(alloc: Global, request: &Request, input: Vec<u8>, world
         Ok(lines) => lines,
         Err(_) => return stopped(Fault::no_memory(), world),
     };
-    let mut output = match world.create(None) {
+    write_text(None, lines.as_slice(), Done::Printed, world)
+}
+
+/// Writes the plan or the picture of the sheets to the output of that name.
+fn show_input<W: World>(
+    alloc: Global,
+    request: &Request,
+    input: Vec<u8>,
+    look: Look,
+    name: Option<&str>,
+    world: W,
+) -> Left<W>
+    requires rows { LaysRows request.now.layout }
+    ensures { Shows look (option_map (λ n. n.now) name.entry) request.now input.items (W.tells world) result.outcome
+        (is_some result.output) (option_and_then W.Output.contents result.output) }
+{
+    match look_text(alloc, request, input, look) {
+        Ok(text) => write_text(name, text.as_slice(), Done::Shown, world),
+        Err(fault) => stopped(fault, world),
+    }
+}
+
+/// Writes a text to the output of that name, which is created for it.
+fn write_text<W: World>(name: Option<&str>, text: &[u8], done: Done, world: W) -> Left<W>
+    ensures { Writes (option_map (λ n. n.now) name.entry) text.now done (W.tells world) result.outcome
+        (option_and_then W.Output.contents result.output) }
+{
+    let mut output = match world.create(name) {
         Ok(output) => output,
         Err(refused) => return stopped(unwritten(refused.cause), refused.world),
     };
-    match output.write_all(lines.as_slice()) {
-        Ok(()) => wrote(Ok(Done::Printed), output),
+    match output.write_all(text) {
+        Ok(()) => wrote(Ok(done), output),
         Err(cause) => wrote(Err(unwritten(cause)), output),
     }
 }

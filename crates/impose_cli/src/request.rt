@@ -2,10 +2,12 @@
 ghost use Rattle.std.specs.Prelude.{◌≡◌, option_map, string_bytes, true};
 ghost use Rattle.rows.specs.Choices.{choice_of};
 ghost use Rattle.impose_cli.specs.Choices.{choice_in, is_whole};
+ghost use Rattle.impose_cli.specs.Products.{lays_rows};
 ghost use Rattle.impose_cli.specs.Spacings.{arrangement_in, binding_in, keeps_room, nothing_kept};
 
 use layouts::{Arrangement, Binding, Cells, Order};
 use lengths::{Grains, Number, Paper};
+use marks::Marks;
 use rows::{Choice, Part, Signing};
 
 /// How the pages are laid out.
@@ -38,6 +40,16 @@ impl Layout {
                 true,
             Layout::Poster { .. } => true,
             Layout::Selection | Layout::Spec(_) => false,
+        }
+    }
+
+    /// Whether it lays rows of pages on sheets, of which a plan and a picture can be made.
+    pub fn lays_rows(&self) -> bool
+        ensures { result ≡ lays_rows self.now }
+    {
+        match self {
+            Layout::Spec(_) => false,
+            _ => true,
         }
     }
 }
@@ -160,6 +172,19 @@ fn ranges_of(ranges: &Option<String>) -> Option<&[u8]>
     }
 }
 
+/// What is made.
+#[derive(Debug, Drop)]
+pub enum Product {
+    /// The sheets.
+    Sheets,
+    /// The specification that says them, with a line of pstops, on standard output.
+    Specification,
+    /// The plan of the sheets, on standard output.
+    Plan,
+    /// A picture of the sheets in this file, or without a name on standard output.
+    Picture(Option<String>),
+}
+
 /// What a command line asks for.
 #[derive(Debug, Drop)]
 pub struct Request {
@@ -176,14 +201,16 @@ pub struct Request {
     pub sheet_paper: Option<Paper>,
     /// The width of a border round each placed page, if one is asked for.
     pub border: Option<Grains>,
+    /// Which marks are drawn on the sheets.
+    pub marks: Marks,
     /// Whether the guard is put in.
     pub is_guarded: bool,
-    /// Whether the specification is printed and nothing imposed.
-    pub is_printed: bool,
+    /// What is made: the sheets, or in place of them what tells of them.
+    pub product: Product,
     /// Whether the report is left out.
     pub is_quiet: bool,
     /// The file that is read; standard input if there is none.
     pub infile: Option<String>,
-    /// The file that is written; standard output if there is none.
+    /// The file into which sheets are written; standard output if there is none.
     pub outfile: Option<String>,
 }

@@ -11,9 +11,11 @@ ghost use Rattle.rules.specs.Run.{most_pages};
 ghost use Rattle.made_sheets.specs.Choice.{imposed_row as row_of};
 ghost use Rattle.impose_cli.specs.Choices.{choice_in};
 ghost use Rattle.impose_cli.specs.RowTasks.{guarded_in, first_paper as first_paper_of};
-ghost use Rattle.impose_cli.specs.RowTasks.{ArePapersOf, ImposesTask, IsRowTask, LaysRows, cut_in, papers_in as papers_found};
+ghost use Rattle.impose_cli.specs.RowTasks.{ArePapersOf, ImposesTask, IsRowPaper, IsRowTask, LaysRows};
+ghost use Rattle.impose_cli.specs.RowTasks.{cut_in, paper_for, papers_in as papers_found, row_paper};
 ghost use Rattle.impose_cli.specs.Refusals.{RefusesDocument, RefusesRowTask};
-ghost use Rattle.impose_cli.specs.Tasks.{HasPages};
+ghost use Rattle.impose_cli.specs.Tasks.{HasBehind, HasPages, page_paper_found};
+ghost use Rattle.dsc.specs.PagesBehind.{pages_behind};
 
 use crate::fault::Fault;
 use crate::laying::{laying_for, papers_for, signing_for};
@@ -24,7 +26,7 @@ use crate::task::{
 use dsc::Document;
 use imposer::{Open, Report, RunError, Sink};
 use lengths::{Grains, Paper};
-use own_papers::{Cut, cut_by, own_papers};
+use own_papers::{Cut, as_one, cut_by, first_instead_of, own_papers};
 use row_runs::{Asked, AskedError, Laying, RowJob, impose_row};
 use rows::{RowError, Signing, imposed_row};
 use std::alloc::{AllocError, Global};
@@ -80,6 +82,7 @@ fn run_row<R: Threads + Wait + Sync, S: Sink>(
         page_paper: task.page_paper,
         origin: task.origin,
         cut: task.cut,
+        behind: task.behind,
     })
 }
 
@@ -94,6 +97,8 @@ pub struct RowTask {
     pub(crate) papers: Vec<Paper>,
     /// The pages that the paper cuts which is named for them.
     cut: Option<Cut>,
+    /// How many pages stand behind its trailer.
+    behind: usize,
     pub(crate) laying: Laying,
     pub(crate) signing: Option<Signing>,
 }
@@ -109,8 +114,7 @@ pub(crate) fn row_task(alloc: Global, request: &Request, input: Vec<u8>) -> Resu
         Ok(found) => found,
         Err(fault) => return Err(fault),
     };
-    let (page_paper, origin) = paper_of_pages(request, input.as_slice());
-    let papers = papers_for(&request.layout, request.sheet_paper, page_paper);
+    let papers = papers_for(&request.layout, request.sheet_paper, found.page_paper);
     let laying = match laying_for(&request.layout, &request.spacing, &papers) {
         Ok(Some(laying)) => laying,
         Ok(None) => unreachable!(),
@@ -130,10 +134,11 @@ pub(crate) fn row_task(alloc: Global, request: &Request, input: Vec<u8>) -> Resu
     match text_to_impose(request.is_guarded, &sheet, input) {
         Ok(text) => Ok(RowTask {
             text,
-            page_paper,
-            origin,
+            page_paper: found.page_paper,
+            origin: found.origin,
             papers: found.papers,
             cut: found.cut,
+            behind: found.behind,
             laying,
             signing,
         }),
@@ -146,14 +151,23 @@ pub(crate) fn row_task(alloc: Global, request: &Request, input: Vec<u8>) -> Resu
 struct FoundPapers {
     /// How many they are.
     pages: u32,
+    /// The paper for which sheets and cells are made.
+    page_paper: Paper,
+    /// Where that was found.
+    origin: PaperOrigin,
+    /// The papers by which the pages are placed.
     papers: Vec<Paper>,
     /// The pages that the paper cuts which is named for them.
     cut: Option<Cut>,
+    /// How many pages stand behind the trailer.
+    behind: usize,
 }
 
 /// The papers of the pages of this document, or why it is refused.
 fn papers_of(alloc: Global, request: &Request, input: &[u8]) -> Result<FoundPapers, Fault>
     ensures found { IfOk result (λ found. ArePapersOf request.now input.now found.papers.items found.cut) }
+    ensures paper { IfOk result (λ found. IsRowPaper request.now input.now (found.page_paper, found.origin)) }
+    ensures behind { IfOk result (λ found. HasBehind input.now found.behind) }
     ensures count { IfOk result (λ found. found.pages ≡ length found.papers.items) }
     ensures few { IfOk result (λ found. found.pages ≤ most_pages) }
     ensures refused { IfErr result (λ f.
@@ -176,27 +190,54 @@ fn papers_in(
 ) -> Result<FoundPapers, AllocError>
     ensures papers { IfOk result (λ found.
         found.papers.items ≡ papers_found request.now (bytes_of document.now) document.now) }
+    ensures paper { IfOk result (λ found.
+        (found.page_paper, found.origin) ≡ row_paper request.now (bytes_of document.now) document.now) }
     ensures cut { IfOk result (λ found.
         found.cut ≡ cut_in request.now.page_paper (bytes_of document.now) document.now) }
+    ensures behind { IfOk result (λ found. found.behind ≡ pages_behind document.now) }
     ensures count { IfOk result (λ found. found.pages ≡ length found.papers.items) }
     ensures few { IfOk result (λ found. found.pages ≤ most_pages) }
 {
-    let pages = document.pages();
-    let papers = own_papers(alloc, document, request.page_paper, &request.home_paper)?;
-    match request.page_paper {
-        None => Ok(FoundPapers {
-            pages,
-            papers,
-            cut: None,
-        }),
+    let own = own_papers(alloc, document, request.page_paper, &request.home_paper)?;
+    let (page_paper, origin) = paper_of_row(request, document.text(), own.as_slice());
+    let papers = as_one(alloc, &page_paper, own.as_slice())?;
+    let cut = cut_pages(alloc, request.page_paper, document)?;
+    Ok(FoundPapers {
+        pages: document.pages(),
+        page_paper,
+        origin,
+        papers,
+        cut,
+        behind: document.pages_behind_trailer(),
+    })
+}
+
+/// The paper for which sheets and cells are made: that of the pages, if a page has it or one that counts as the same,
+/// and else the first page's own.
+fn paper_of_row(request: &Request, input: &[u8], own: &[Paper]) -> (Paper, PaperOrigin)
+    ensures { result ≡ paper_for (page_paper_found request.now.page_paper request.now.home_paper input.now) own.now }
+{
+    let (page_paper, origin) = paper_of_pages(request, input);
+    match first_instead_of(&page_paper, own) {
+        Some(first) => (first, PaperOrigin::FirstPage),
+        None => (page_paper, origin),
+    }
+}
+
+/// The pages that the paper cuts which is named for them.
+fn cut_pages(
+    alloc: Global,
+    named: Option<Paper>,
+    document: &Document<'_>,
+) -> Result<Option<Cut>, AllocError>
+    ensures { IfOk result (λ cut. cut ≡ cut_in named (bytes_of document.now) document.now) }
+{
+    match named {
+        None => Ok(None),
         Some(named) => {
             // A page that tells no paper has the one that is named, which doesn't cut it.
             let own = own_papers(alloc, document, None, &named)?;
-            Ok(FoundPapers {
-                pages,
-                papers,
-                cut: cut_by(&named, own.as_slice()),
-            })
+            Ok(cut_by(&named, own.as_slice()))
         }
     }
 }
@@ -295,6 +336,7 @@ fn impose_task<R: Threads + Wait + Sync, S: Sink>(
             same_scale: request.spacing.same_scale,
         },
         border: request.border,
+        marks: request.marks,
         workers: WORKERS,
     };
     match impose_row(rt, alloc, &job, &Open {}, sink) {

@@ -12,9 +12,10 @@ ghost use Rattle.layouts.specs.declared.error.ArrangementError.{ArrangementError
 ghost use Rattle.sheet_writer.specs.Sinks.{IsCountable};
 ghost use Rattle.imposer.specs.Runs.{Accepted, FailedIn, HasWritten, IsRefusal, Reports, frame_of};
 ghost use Rattle.impose_cli.specs.Faults.{of_document as document_fault, of_other_input, without_memory};
-ghost use Rattle.impose_cli.specs.Tasks.{HasPages, IsPlaced, IsTask, IsWritten, asked_by, page_paper_found};
+ghost use Rattle.impose_cli.specs.Tasks.{HasBehind, HasPages, IsPlaced, IsTask, IsWritten, asked_by, page_paper_found};
 ghost use Rattle.impose_cli.specs.Tasks.{IsSpec, sheet_paper_found, taken_text};
 ghost use Rattle.impose_cli.specs.Refusals.{RefusesDocument, RefusesLayout, RefusesTask};
+ghost use Rattle.impose_cli.specs.Choices.{is_said as says};
 ghost use Rattle.impose_cli.specs.Endings.{EndsBySpec};
 ghost use Rattle.impose_cli.specs.Unread.{IsPossible, IsSpecification, RefusesSpecification, RefusesUnread};
 ghost use Rattle.impose_cli.specs.declared.request.Layout.TheVariants as layout;
@@ -22,13 +23,14 @@ ghost use Rattle.impose_cli.specs.declared.fault.Fault.TheVariants as faults;
 
 use crate::fault::Fault;
 use crate::laying::{laying_for, papers_for};
-use crate::request::{Layout, Request, Spacing};
+use crate::request::{Layout, PageChoice, Request, Spacing};
 use document_paper::{Comment, document_paper};
 use dsc::{Document, DscError};
 use guard::put_guard;
 use imposer::{Open, Options, Report, RunError, Sink, Workers, run};
 use layouts::{Binding, Cells, Papers, arrange, bind};
 use lengths::Paper;
+use marks::Marks;
 use own_papers::Cut;
 use pagespec::{Spec, read_spec, write_spec};
 use rows::{Signing, auto_sides};
@@ -45,6 +47,8 @@ pub enum PaperOrigin {
     ByComment(Comment),
     /// Nothing tells it, and so it is the paper at home.
     AtHome,
+    /// It is the first page's own, as no page has the document's.
+    FirstPage,
 }
 
 /// What is imposed, and how.
@@ -57,6 +61,8 @@ pub struct Task {
     pub options: Options,
     /// Where the paper of the pages was found.
     pub origin: PaperOrigin,
+    /// How many pages stand behind the document's trailer.
+    pub behind: usize,
 }
 
 /// How a request was carried out.
@@ -69,6 +75,8 @@ pub struct Finished {
     pub origin: PaperOrigin,
     /// The pages that the paper cuts which was named for them. By a specification none are told.
     pub cut: Option<Cut>,
+    /// How many pages stand behind the document's trailer, which aren't imposed.
+    pub behind: usize,
 }
 
 /// As many preparers and imposers as `pstops` has.
@@ -108,18 +116,25 @@ fn check_spec(alloc: Global, specs: &str) -> Result<(), Fault>
     }
 }
 
+/// Whether a specification says which pages there are, and with which marks.
+fn is_said(choice: &PageChoice, marks: Marks) -> bool
+    ensures { result ≡ says choice.now marks }
+{
+    choice.is_whole() && !(marks.fold || marks.cut)
+}
+
 /// The specification that says what a request asks for, with what a run by it takes; and the fault if there is none: a
-/// document that is refused, then pages that are chosen, then a layout that there isn't, or that no specification says.
+/// document that is refused, then pages that are chosen or marks, then a layout that there isn't, or that no specification says.
 pub fn task_for(alloc: Global, request: &Request, input: Vec<u8>) -> Result<Task, Fault>
     ensures is_task { IfOk result (IsTask request.now input.items) }
     ensures refused { IfErr result (RefusesTask request.now input.items) }
 {
     // The document is read as it came, so that a fault has its place there.
-    let pages = match pages_of(alloc, input.as_slice()) {
-        Ok(pages) => pages,
+    let (pages, behind) = match pages_of(alloc, input.as_slice()) {
+        Ok(counts) => counts,
         Err(fault) => return Err(fault),
     };
-    if !request.choice.is_whole() {
+    if !is_said(&request.choice, request.marks) {
         return Err(Fault::NoSpecification);
     }
     let (page_paper, origin) = paper_of_pages(request, input.as_slice());
@@ -147,6 +162,7 @@ pub fn task_for(alloc: Global, request: &Request, input: Vec<u8>) -> Result<Task
         spec,
         options,
         origin,
+        behind,
     })
 }
 
@@ -188,15 +204,16 @@ pub(crate) fn paper_of_sheets<'p>(named: &'p Option<Paper>, page_paper: &'p Pape
     }
 }
 
-/// How many pages the document has.
-pub(crate) fn pages_of(alloc: Global, input: &[u8]) -> Result<u32, Fault>
-    ensures counted { IfOk result (HasPages input.now) }
-    ensures some { IfOk result (λ pages. 0 < pages) }
-    ensures within { IfOk result (λ pages. pages ≤ most_pages) }
+/// How many pages the document has, and how many stand behind its trailer.
+pub(crate) fn pages_of(alloc: Global, input: &[u8]) -> Result<(u32, usize), Fault>
+    ensures counted { IfOk result (λ counts. HasPages input.now counts.0) }
+    ensures behind { IfOk result (λ counts. HasBehind input.now counts.1) }
+    ensures some { IfOk result (λ counts. 0 < counts.0) }
+    ensures within { IfOk result (λ counts. counts.0 ≤ most_pages) }
     ensures refused { IfErr result (RefusesDocument input.now) }
 {
     match Document::read(alloc, input) {
-        Ok(document) => Ok(document.pages()),
+        Ok(document) => Ok((document.pages(), document.pages_behind_trailer())),
         Err(error) => Err(of_document(error, input)),
     }
 }
@@ -349,6 +366,7 @@ pub(crate) fn run_spec<R: Threads + Wait + Sync, S: Sink>(
         page_paper: task.options.paper,
         origin: task.origin,
         cut: None,
+        behind: task.behind,
     })
 }
 

@@ -1,6 +1,6 @@
 -- Pages that a paper cuts, one more at a time.
 use Rattle.std.proofs.Common.{Bool, true, false, ◌≡◌, ℕ, suc, ◌+◌, ◌<◌, ◌≤◌, List, [], ◌∷◌, ◌++◌, length, take, refl, ap, arith, sym, ◌∙◌}
-use Rattle.std.specs.Prelude.{if◌then◌else◌, Option, Some, None, IfSome, get_or}
+use Rattle.std.specs.Prelude.{Option, Some, None, IfSome, get_or}
 use Rattle.std.proofs.Math.Seq.{take-suc}
 use Rattle.std.proofs.lemmas.List.{append-nil, length-take-le}
 use Rattle.rules.specs.Papers.{Paper}

@@ -1,6 +1,6 @@
 -- The head of a page, a line at a time.
-use Rattle.std.specs.Prelude.{if◌then◌else◌, option_map}
-use Rattle.std.proofs.Common.{Bool, true, false, ◌≡◌, ℕ, zero, suc, ◌+◌, ◌<◌, ◌≤◌, List, [], ◌∷◌, Option, Some, None, length, length-drop, drop, refl, sym, ap, arith, ◌∙◌}
+use Rattle.std.specs.Prelude.{if◌then◌else◌}
+use Rattle.std.proofs.Common.{Bool, true, false, ◌≡◌, ℕ, zero, suc, ◌<◌, ◌≤◌, List, [], ◌∷◌, Option, Some, None, length, length-drop, drop, refl, sym, ap, arith, ◌∙◌}
 use Rattle.rules.specs.Units.{content_of, fields, is_comment, line_len}
 use Rattle.dsc.proofs.LineByLine.{by_line}
 use Rattle.dsc.proofs.LineLengths.{line_len-pos}

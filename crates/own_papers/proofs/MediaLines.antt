@@ -1,7 +1,7 @@
 -- Media, a line at a time.
 use Rattle.std.specs.Prelude.{if◌then◌else◌, nat_eq, codes}
 use Rattle.std.specs.List.{starts_with}
-use Rattle.std.proofs.Common.{Bool, true, false, true≢false, ◌≡◌, ℕ, zero, suc, ◌+◌, ◌<◌, List, [], ◌∷◌, ◌++◌, length, drop, refl, sym, ap, arith, ◌∙◌}
+use Rattle.std.proofs.Common.{Bool, true, false, true≢false, ◌≡◌, ℕ, zero, suc, ◌<◌, List, [], ◌∷◌, ◌++◌, length, drop, refl, sym, ap, arith, ◌∙◌}
 use Rattle.rules.specs.Units.{content_of, fields, is_comment, line_len}
 use Rattle.dsc.proofs.LineByLine.{by_line}
 use Rattle.document_paper.specs.Media.{contents, contents_of}

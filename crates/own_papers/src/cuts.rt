@@ -71,7 +71,7 @@ fn covers(paper: &Paper, other: &Paper) -> bool
 }
 
 /// Whether they count as one paper.
-fn is_near(paper: &Paper, other: &Paper) -> bool
+pub(crate) fn is_near(paper: &Paper, other: &Paper) -> bool
     ensures { result ≡ is_near_to paper.now other.now }
 {
     difference(paper.width().get(), other.width().get()) <= NEARNESS

@@ -1,5 +1,5 @@
 -- Documents and the papers of their pages, and sheets that tell theirs, computed from the definitions.
-use Rattle.std.proofs.Common.{◌≡◌, ℕ, List, [], ◌∷◌, false, Some, None, refl}
+use Rattle.std.proofs.Common.{◌≡◌, ℕ, List, [], ◌∷◌, true, false, Some, None, refl}
 use Rattle.std.specs.Prelude.{codes, pos, Result, Ok}
 use Rattle.std.specs.Fmt.{digits}
 use Rattle.rules.specs.Papers.{Paper, Pt, points, paper_named}
@@ -9,7 +9,7 @@ use Rattle.rules.specs.Run.{document_of, DocumentFault}
 use Rattle.lengths.specs.Reading.{number_at}
 use Rattle.made_sheets.specs.Made.{MadeSheet, Blank, Placed}
 use Rattle.made_sheets.specs.MadeOutput.{made_output}
-use Rattle.page_papers.specs.Own.{as_one, own_papers}
+use Rattle.page_papers.specs.Own.{covering, is_near, own_papers}
 use Rattle.page_papers.specs.Told.{telling}
 
 abbrev home : Paper
@@ -83,15 +83,16 @@ asked_for : (document_of (codes "%!PS\n%%Page: 1 1\n%%PageBoundingBox: 0 0 842 5
     ≡ Ok (points 1 2 ∷ [])
 asked_for = refl
 
--- ---- papers that count as one
+-- ---- two papers
 
-sizes_of_a4 : as_one (points 595 841 ∷ points 842 595 ∷ points 595 842 ∷ points 596 842 ∷ [])
-    ≡ points 596 842 ∷ points 842 595 ∷ points 596 842 ∷ points 596 842 ∷ []
-sizes_of_a4 = refl
+near_by_fifteen : is_near (points 600 800) (points 615 785) ≡ true
+near_by_fifteen = refl
 
--- within 15 points of the first, and not of the one between
-no_chain : as_one (points 600 800 ∷ points 615 800 ∷ points 616 800 ∷ []) ≡ points 615 800 ∷ points 615 800 ∷ points 616 800 ∷ []
-no_chain = refl
+apart_by_sixteen : is_near (points 600 800) (points 600 816) ≡ false
+apart_by_sixteen = refl
+
+covers_both : covering (points 595 842) (points 842 595) ≡ points 842 842
+covers_both = refl
 
 -- ---- sheets that tell their paper
 

@@ -1,4 +1,3 @@
-pub mod Covering
 pub mod Tame
 pub mod Found
 pub mod Examples

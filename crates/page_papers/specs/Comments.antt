@@ -1,8 +1,8 @@
 -- Papers that comments tell. The comments are of DSC 3.0: %%DocumentMedia and %%+ of General Header Comments,
 -- %%PageMedia and %%PageBoundingBox of Page Requirement and General Page Comments; %%DocumentPaperSizes is of DSC 2.1.
 -- Which of them count, and in which order, is this project's own rules.
-use Rattle.std.specs.Prelude.{ℕ, zero, suc, Bool, false, not, ◌&&◌, ◌||◌, nat_eq, nat_lt, if◌then◌else◌, List, [], ◌∷◌, ◌++◌}
-use Rattle.std.specs.Prelude.{length, drop, filter, map, codes, Option, Some, None, option_and_then}
+use Rattle.std.specs.Prelude.{ℕ, zero, suc, Bool, not, ◌&&◌, ◌||◌, nat_eq, nat_lt, if◌then◌else◌, List, [], ◌∷◌, ◌++◌}
+use Rattle.std.specs.Prelude.{length, drop, filter, codes, Option, Some, None, option_and_then}
 use Rattle.std.specs.List.{starts_with, slice_split}
 use Rattle.std.specs.Str.{bytes_eq}
 use Rattle.rules.specs.Papers.{Paper}

@@ -1,8 +1,7 @@
--- A page's own paper, and which papers count as one. All here is this project's own rules.
-use Rattle.std.specs.Prelude.{◌≡◌, ℕ, ◌+◌, ◌*◌, ◌<◌, ℤ, pos, ◌-ℤ◌, nat_abs, int_le, Bool, true, ◌&&◌, ◌==◌, nat_le}
-use Rattle.std.specs.Prelude.{if◌then◌else◌, List, [], length}
-use Rattle.std.specs.Prelude.{◌∷◌, ◌++◌, map, fold, filter, Option, Some, None, slice_index_or}
-use Rattle.std.specs.List.{list_any}
+-- A page's own paper, which papers are near to one another, and which covers which. All here is this project's own rules.
+use Rattle.std.specs.Prelude.{ℕ, ◌*◌, ℤ, pos, ◌-ℤ◌, nat_abs, int_le, Bool, ◌&&◌, nat_le}
+use Rattle.std.specs.Prelude.{if◌then◌else◌, List, []}
+use Rattle.std.specs.Prelude.{◌∷◌, map, fold, Option, Some, None}
 use Rattle.rules.specs.Papers.{Paper}
 use Rattle.rules.specs.Parts.{NestedUnit, pages}
 use Rattle.document_paper.specs.Media.{header, trailer_lines}
@@ -25,7 +24,7 @@ abbrev pub own_papers : (asked : Option Paper) → (named : List ℕ → Option 
 own_papers (Some paper) named home text us = map (λ page. paper) (pages us)
 own_papers None named home text us = map (own_paper named home (header text) (trailer_lines us)) (pages us)
 
--- ---- papers that count as one
+-- ---- two papers
 
 -- by so much, 15 points, programs' sizes of one paper may differ
 abbrev pub nearness : ℕ
@@ -33,19 +32,6 @@ nearness = 15 * 127_000_000_000
 
 abbrev pub is_near : Paper → Paper → Bool
 is_near a b = nat_le (nat_abs (a.width -ℤ b.width)) nearness && nat_le (nat_abs (a.height -ℤ b.height)) nearness
-
--- the papers that are like no earlier one: each paper that is near to none of those found before it is one more
-abbrev pub kinds_from : (found : List Paper) → List Paper → List Paper
-kinds_from found [] = found
-kinds_from found (p ∷ ps) = if list_any (is_near p) found then kinds_from found ps else kinds_from (found ++ p ∷ []) ps
-
-abbrev pub kinds : List Paper → List Paper
-kinds all = kinds_from [] all
-
--- of which kind a paper is: the first to which it is near
-abbrev pub kind_of : List Paper → Paper → ℕ
-kind_of [] p = 0
-kind_of (k ∷ ks) p = if is_near p k then 0 else kind_of ks p + 1
 
 -- the larger side
 abbrev pub larger : ℤ → ℤ → ℤ
@@ -64,19 +50,6 @@ abbrev pub covering_all : List Paper → Paper
 covering_all [] = no_size
 covering_all (p ∷ ps) = fold covering p ps
 
--- the paper of a kind: the least one that covers all of the kind, so that no page is cut for another one's sake
-abbrev pub paper_of_kind : List Paper → (kind : ℕ) → Paper
-paper_of_kind all kind = fold covering no_size (filter (λ q. kind_of (kinds all) q == kind) all)
-
--- each paper of a list as the paper of its kind
-abbrev pub as_one : List Paper → List Paper
-as_one all = map (λ p. paper_of_kind all (kind_of (kinds all) p)) all
-
 -- it covers it: no side is shorter
 abbrev pub covers : (large small : Paper) → Bool
 covers large small = int_le small.width large.width && int_le small.height large.height
-
--- each paper is covered by the one that it counts as: a law
-abbrev pub NothingIsCut : Type 0
-NothingIsCut = (all : List Paper) (k : ℕ) (d : Paper) → k < length all
-    → covers (slice_index_or (as_one all) k d) (slice_index_or all k d) ≡ true

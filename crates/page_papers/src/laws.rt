@@ -1,12 +1,6 @@
 //! Laws of the definitions. The functions do nothing.
-ghost use Rattle.page_papers.specs.Own.{NothingIsCut};
 ghost use Rattle.page_papers.specs.Told.{TellingIsTame};
 ghost use Rattle.page_papers.specs.Found.{OneIsFound};
-
-/// Each paper is covered by the one that it counts as.
-pub fn nothing_is_cut()
-    ensures { NothingIsCut }
-{}
 
 /// The lines by which sheets tell their paper begin nothing.
 pub fn telling_is_tame()

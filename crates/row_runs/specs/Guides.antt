@@ -1,9 +1,10 @@
 -- Lines that are drawn on the sheets of a setting: its margin, and lines between its cells.
-use Rattle.std.specs.Prelude.{ℕ, ◌+◌, ◌-◌, ◌*◌, ℤ, pos, ◌-ℤ◌, nat_abs, if◌then◌else◌, List, [], ◌∷◌, ◌++◌, map}
+use Rattle.std.specs.Prelude.{ℕ, ◌-◌, ℤ, pos, ◌-ℤ◌, nat_abs, if◌then◌else◌, List, [], ◌∷◌, ◌++◌, map}
 use Rattle.std.specs.List.{range_with_len}
 use Rattle.rules.specs.Papers.{Paper}
 use Rattle.layouts.specs.Placed.{Room}
-use Rattle.layouts.specs.Cells.{Grid, kept, step}
+use Rattle.layouts.specs.Cells.{Grid}
+use Rattle.marks.specs.Places.{gap_at, grains_in}
 use Rattle.layouts.specs.declared.setting.Setting.{Setting}
 use Rattle.arranged_sheets.specs.declared.poster.Poster.{Poster}
 use Rattle.preview.specs.declared.guides.Guide.{Guide}
@@ -19,10 +20,6 @@ upright kind paper x = record { kind = kind; start = (x, pos 0); end = (x, paper
 abbrev pub level : GuideKind → Paper → (y : ℤ) → Guide
 level kind paper y = record { kind = kind; start = (pos 0, y); end = (paper.width, y) }
 
--- so many 10^-5 of a point, in grains
-abbrev pub grains_in : ℕ → ℕ
-grains_in n = 1_270_000 * n
-
 -- the margin, along the edges on both sides, and along the lower and the upper one
 abbrev pub edge_of : Room → ℤ
 edge_of room = pos (grains_in room.edge)
@@ -37,10 +34,6 @@ level_margin room =
 
 abbrev pub margin_lines : Room → List Guide
 margin_lines room = upright_margin room ++ level_margin room
-
--- how far the middle of the gap before part k of a side lies, in grains
-abbrev pub gap_at : Room → (side parts k : ℕ) → ℕ
-gap_at room side parts k = grains_in (kept room room.edge + k * step room side parts) - 635_000 * kept room room.gap
 
 -- the line before cell k of so many side by side, or one above another, and all such lines
 abbrev pub upright_line : GuideKind → Room → (parts k : ℕ) → Guide

@@ -1,9 +1,10 @@
--- Read in this order: what errors are called; layings with one scale; the sheets that are asked for; how their pages
--- stand; what the answers mean; lines on sheets; what is told of sheets before they are imposed.
+-- Read in this order: what errors are called; layings with one scale; the sheets that are asked for, how their pages stand,
+-- and their marks; what the answers mean; lines on sheets; what is told of sheets before they are imposed.
 pub mod Errors
 pub mod Evened
 pub mod Sheets
 pub mod Standing
+pub mod Marked
 pub mod Runs
 pub mod Guides
 pub mod Looks

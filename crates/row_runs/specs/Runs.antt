@@ -10,6 +10,8 @@ use Rattle.imposer.specs.declared.outcome.Report.{Report}
 use Rattle.sheet_runs.specs.Runs.{ReportsOn, WroteStart, told_output}
 use Rattle.row_runs.specs.Sheets.{AreAsked, WhyNotLaid, row_chosen}
 use Rattle.row_runs.specs.Sheets as sheets
+use Rattle.row_runs.specs.Marked.{strokes_in}
+use Rattle.marks.specs.declared.strokes.Stroke.{Stroke}
 use Rattle.row_runs.specs.Standing.{StandAsLaid}
 use Rattle.row_runs.specs.declared.run.RowJob.{RowJob}
 use Rattle.row_runs.specs.declared.error.AskedError.{AskedError}
@@ -25,9 +27,13 @@ pub record ArePlanned (j : RowJob) (made : List MadeSheet) : Type 0 where
   pub stand : StandAsLaid j.asked.laying made
   pub planned : made_plan_of (page_count j) made ≡ Ok made
 
+-- the strokes on each of them, of the marks that are asked for
+abbrev pub strokes_on : RowJob → List Stroke
+strokes_on j = strokes_in j.marks j.asked.laying
+
 -- the output of such sheets
 abbrev pub output_on : RowJob → List MadeSheet → List ℕ
-output_on j made = told_output j.border made j.document.now
+output_on j made = told_output j.border (strokes_on j) made j.document.now
 
 -- exactly the output of the sheets that are asked for was appended, and the report has its numbers: so these pages are
 -- printed in this order, inside and apart, each at its place, and nothing else
@@ -35,7 +41,7 @@ pub record Imposes (j : RowJob) (old new : Option (List ℕ)) (done : Report) : 
   pub made : List MadeSheet
   pub planned : ArePlanned j made
   pub written : Appends old new (output_on j made)
-  pub report : ReportsOn j.border made j.document.now done
+  pub report : ReportsOn j.border (strokes_on j) made j.document.now done
 
 -- what holds after an error: after a refusal; of the number of bytes that were written, after out of memory and after a
 -- failed write

@@ -1,9 +1,8 @@
 //! Lines that are drawn on sheets: margins, and lines between cells.
-ghost use Rattle.std.specs.Prelude.{◌≡◌, ◌*◌, ◌^◌, ◌-ℤ◌, ◌<◌, ◌≤◌, ◌++◌, pos, nat_abs, IfOk, IsTrue, OnOk};
+ghost use Rattle.std.specs.Prelude.{◌≡◌, ◌-ℤ◌, ◌<◌, ◌++◌, IfOk, IsTrue, OnOk};
 ghost use Rattle.lengths.specs.Ranges.{FitsGrains};
 ghost use Rattle.rules.specs.Papers.{is_side};
-ghost use Rattle.layouts.specs.Cells.{kept as kept_of, step as step_of};
-ghost use Rattle.row_runs.specs.Guides.{edge_of, gap_at as gap_of, guides_in, level as level_of, level_line as level_line_of};
+ghost use Rattle.row_runs.specs.Guides.{edge_of, guides_in, level as level_of, level_line as level_line_of};
 ghost use Rattle.row_runs.specs.Guides.{level_lines, level_margin, lines_between, lines_in, margin_lines};
 ghost use Rattle.row_runs.specs.Guides.{upright as upright_of, upright_line as upright_line_of, upright_lines, upright_margin};
 ghost use Rattle.row_runs.specs.Guides.{tile_room as tile_room_of};
@@ -13,6 +12,7 @@ use crate::asked::Laying;
 use arranged_sheets::Poster;
 use layouts::{Grid, Room, Setting};
 use lengths::{Grains, Paper};
+use marks::gap_at;
 use preview::{Guide, GuideKind};
 use std::alloc::{AllocError, Global};
 
@@ -63,9 +63,6 @@ fn push_lines(kind: GuideKind, setting: &Setting, guides: &mut Vec<Guide>) -> Re
     push_between(kind, &setting.room, setting.grid, guides)?;
     Ok(())
 }
-
-/// The grains of 10^-5 of a point.
-const FINE: u128 = 1_270_000;
 
 /// Adds the lines of a margin, which may be nothing.
 fn push_margin(room: &Room, guides: &mut Vec<Guide>) -> Result<(), AllocError>
@@ -178,41 +175,6 @@ fn level_line(kind: GuideKind, room: &Room, parts: u32, k: u32) -> Guide
 {
     let y = gap_at(room, room.paper.height(), parts, k);
     level(kind, &room.paper, y)
-}
-
-/// How far the middle of the gap before a part of a side lies.
-fn gap_at(room: &Room, side: Grains, parts: u32, k: u32) -> Grains
-    requires side { IsTrue (is_side side) }
-    requires part { k < parts }
-    ensures { result ≡ pos (gap_of room.now (nat_abs side) parts k) }
-{
-    let far = FINE * (kept(room, room.edge) + u128::from(k) * step(room, side, parts));
-    let gap = 635_000 * kept(room, room.gap);
-    grains(far.saturating_sub(gap) as i128)
-}
-
-/// From where a part of a side begins to where the next one begins, in 10^-5 of a point.
-fn step(room: &Room, side: Grains, parts: u32) -> u128
-    requires side { IsTrue (is_side side) }
-    requires some { 0 < parts }
-    ensures value { result ≡ step_of room.now (nat_abs side) parts }
-    ensures within { parts * result ≤ 10 ^ 13 }
-{
-    let margins = 2 * FINE * kept(room, room.edge);
-    let free = side.get().unsigned_abs().saturating_sub(margins);
-    (free + FINE * kept(room, room.gap)) / (FINE * u128::from(parts))
-}
-
-/// What is kept of a length, in 10^-5 of a point.
-fn kept(room: &Room, length: u64) -> u128
-    requires { length ≤ 10_000_000_000 }
-    ensures value { result ≡ kept_of room.now length }
-    ensures few { result ≤ 10_000_000_001 }
-{
-    if room.trim == 0 {
-        return u128::from(length);
-    }
-    u128::from(length) + 1
 }
 
 /// A line that stands so far from the left edge.

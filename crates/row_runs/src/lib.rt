@@ -6,6 +6,7 @@ mod error;
 mod evened;
 mod guides;
 mod look;
+mod marked;
 mod run;
 
 pub use asked::{Asked, Laying, asked_sheets};

@@ -9,30 +9,33 @@ ghost use Rattle.row_runs.specs.Runs.{FailedWith, Imposes, RefusesRun, WroteWith
 
 use crate::asked::{Asked, asked_sheets};
 use crate::error::AskedError;
+use crate::marked::strokes_of;
 use dsc::Document;
 use imposer::{Gate, Report, Sink, Workers};
 use lengths::{Grains, Paper};
+use marks::Marks;
 use sheet_runs::{SheetJob, SheetsError, impose_sheets};
 use std::alloc::Global;
 use std::sync::Wait;
 use std::thread::Threads;
 
 /// What is imposed of a document, which was read before; the papers of its pages in their order, of which those that
-/// aren't told have the sheet's; a border round each page, wider than nothing, if one is asked for; and how many threads
-/// prepare and impose.
+/// aren't told have the sheet's; a border round each page, wider than nothing, if one is asked for; which marks are drawn at
+/// the end of each sheet; and how many threads prepare and impose.
 #[derive(Clone, Copy)]
 pub struct RowJob<'j, 'd> {
     pub document: &'j Document<'d>,
     pub papers: &'j [Paper],
     pub asked: Asked<'j>,
     pub border: Option<Grains>,
+    pub marks: Marks,
     pub workers: Workers,
 }
 
-/// Hands the sink the sheets that are asked for, with the lines by which they tell their papers. What is wrong with the row
-/// is refused first, then a page that can't stand in a cell, then sheets that can't be planned; nothing is written then.
-/// After `NoMemory` and `Write` the sink has taken the first `written` bytes of the output. The sink isn't flushed. The work
-/// is done as `run` of imposer does it.
+/// Hands the sink the sheets that are asked for, with their marks and the lines by which they tell their papers. What is
+/// wrong with the row is refused first, then a page that can't stand in a cell, then sheets that can't be planned; nothing
+/// is written then. After `NoMemory` and `Write` the sink has taken the first `written` bytes of the output. The sink isn't
+/// flushed. The work is done as `run` of imposer does it.
 pub fn impose_row<R: Threads + Wait + Sync, G: Gate + Sync, S: Sink>(
     rt: &R,
     alloc: Global,
@@ -44,7 +47,8 @@ pub fn impose_row<R: Threads + Wait + Sync, G: Gate + Sync, S: Sink>(
     requires border { IsTrue (is_border job.now.border) }
     requires workers { AreWorkers job.now.workers }
     requires countable { IsCountable (S.seen sink.old) }
-    // There is such a row, and exactly the output of its sheets was appended, with the lines that tell their papers.
+    // There is such a row, and exactly the output of its sheets was appended, with the lines that tell their papers and
+    // the marks that are asked for.
     ensures finished { IfOk result (Imposes job.now (S.seen sink.old).bytes (S.seen sink.new).bytes) }
     // A refusal names the first fault.
     ensures refused { IfErr result (RefusesRun job.now) }
@@ -59,10 +63,15 @@ pub fn impose_row<R: Threads + Wait + Sync, G: Gate + Sync, S: Sink>(
         Ok(sheets) => sheets,
         Err(error) => return Err(error),
     };
+    let strokes = match strokes_of(alloc, job.marks, &job.asked.laying) {
+        Ok(strokes) => strokes,
+        Err(_) => return Err(AskedError::NoMemory { written: 0 }),
+    };
     let made = SheetJob {
         document: job.document,
         sheets: &sheets,
         border: job.border,
+        strokes: strokes.as_slice(),
         workers: job.workers,
     };
     match impose_sheets(rt, alloc, &made, gate, sink) {

@@ -6,6 +6,8 @@ use Rattle.made_sheets.specs.Made.{MadeSheet}
 use Rattle.made_sheets.specs.MadeOutput.{made_output}
 use Rattle.made_sheets.specs.MadePlans.{made_layout, made_plan_of}
 use Rattle.page_papers.specs.Told.{telling}
+use Rattle.marks.specs.Drawn.{marked}
+use Rattle.marks.specs.declared.strokes.Stroke.{Stroke}
 use Rattle.sheet_plan.specs.MadeRefusals.{RefusesMade}
 use Rattle.sheet_plan.specs.Places.{born_complete}
 use Rattle.sheet_writer.specs.Sinks.{SinkView}
@@ -13,17 +15,19 @@ use Rattle.imposer.specs.declared.outcome.Report.{Report}
 use Rattle.sheet_runs.specs.declared.error.SheetsError.{SheetsError}
 use Rattle.sheet_runs.specs.declared.error.SheetsError.TheVariants as error
 
--- the output of sheets that tell their papers
-abbrev pub told_output : (border : Option ℤ) → List MadeSheet → List NestedUnit → List ℕ
-told_output border all us = made_output border (telling all) all us
+-- the output of sheets that tell their papers, with these strokes at the end of each; without strokes it is that of sheets
+-- that tell their papers and no more
+abbrev pub told_output : (border : Option ℤ) → List Stroke → List MadeSheet → List NestedUnit → List ℕ
+told_output border strokes all us = made_output border (marked strokes (telling all)) all us
 
 -- the numbers of a report
-pub record ReportsOn (border : Option ℤ) (all : List MadeSheet) (us : List NestedUnit) (report : Report) : Type 0 where
+pub record ReportsOn (border : Option ℤ) (strokes : List Stroke) (all : List MadeSheet) (us : List NestedUnit) (report : Report)
+    : Type 0 where
   pub page_count : report.pages ≡ length (pages us)
   pub sheet_count : report.sheets ≡ length all
   pub born_blank : report.born ≡ length (born_complete (made_layout (length (pages us)) all))
   pub swept_within : report.swept ≤ report.sheets
-  pub byte_count : report.bytes ≡ length (told_output border all us)
+  pub byte_count : report.bytes ≡ length (told_output border strokes all us)
 
 -- what holds after an error: after a refusal; of the number of bytes that were written, after out of memory and after a
 -- failed write

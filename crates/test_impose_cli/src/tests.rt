@@ -1,6 +1,7 @@
 //! Words, documents and whole programs, and what comes of them, with memory to spare.
 mod carets;
 mod commands;
+mod looks;
 mod messages;
 mod mistakes;
 mod mixed_papers;

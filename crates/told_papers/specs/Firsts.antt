@@ -7,12 +7,13 @@ use Rattle.told_papers.specs.Dressings.{hem_of_sheet}
 use Rattle.told_papers.specs.declared.told.Size.{Size}
 use Rattle.told_papers.specs.declared.dress.Kind.{Kind}
 
--- this sheet has the lines of a sheet of this size
-abbrev pub IsKind : List Hem → Kind → Type 0
-IsKind hems kind = (paper : Paper) → size_of paper ≡ kind.size → slice_get hems kind.sheet ≡ Some (hem_of_sheet paper)
+-- this sheet has the lines of a sheet of this size, with these at its end
+abbrev pub IsKind : (finish : List (List ℕ)) → List Hem → Kind → Type 0
+IsKind finish hems kind =
+    (paper : Paper) → size_of paper ≡ kind.size → slice_get hems kind.sheet ≡ Some (hem_of_sheet finish paper)
 
-abbrev pub AreKinds : List Hem → List Kind → Type 0
-AreKinds hems kinds = All (IsKind hems) kinds
+abbrev pub AreKinds : (finish : List (List ℕ)) → List Hem → List Kind → Type 0
+AreKinds finish hems kinds = All (IsKind finish hems) kinds
 
 -- a sheet of this size is among them
 abbrev pub IsAmong : List Kind → Size → (sheet : ℕ) → Type 0

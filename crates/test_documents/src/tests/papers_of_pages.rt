@@ -1,7 +1,7 @@
 //! Documents, and the papers of their pages.
 use dsc::{Document, comment_value, trailer_box};
 use lengths::{Paper, paper_by_name};
-use own_papers::{Cut, cut_by, own_papers};
+use own_papers::{Cut, as_one, cut_by, first_instead_of, own_papers};
 use std::alloc::Global;
 use std::process::Abort;
 use std::test::Fail;
@@ -119,4 +119,51 @@ fn pages_that_a_paper_cuts(rt: HostRuntime) {
     // Letter is 17 points wider than a4, and a4 50 points higher.
     let letter = named(&rt, "letter");
     assert!(rt; cut_by(&a4, &[letter]).is_some() && cut_by(&letter, &[a4]).is_some());
+}
+
+/// As ps2write writes it: the header has a box that covers all pages. The sides are rounded down; and another document
+/// stands behind the first, with a third one in it.
+const ROUNDED: &[u8] =
+    b"%!PS\n%%BoundingBox: 0 0 842 842\n%%Page: 1 1\n%%PageBoundingBox: 0 0 595 841\nx\n%%Page: 2 2\n%%PageBoundingBox: 0 0 842 595\nx\n%%Page: 3 3\n%%PageBoundingBox: 0 0 594 842\nx\n%%Trailer\n%%EOF\n%!PS\n%%Page: 1 1\nx\n%%BeginDocument: e\n%%Page: 1 1\n%%EndDocument\n%%Page: 2 2\nx\n%%Trailer\n";
+
+/// The paper of a page as the one as which it counts, where a4 is the first.
+fn counted_at(rt: &impl Abort, alloc: Global, page: usize) -> Result<Option<Paper>, Fail> {
+    let document = Document::read(alloc, ROUNDED)?;
+    let own = own_papers(alloc, &document, None, &named(rt, "letter"))?;
+    let papers = as_one(alloc, &named(rt, "a4"), own.as_slice())?;
+    match papers.as_slice().get(page) {
+        Some(paper) => Ok(Some(*paper)),
+        None => Ok(None),
+    }
+}
+
+#[test]
+fn papers_count_as_one(rt: HostRuntime) -> Result<(), Fail> {
+    let alloc = rt.alloc();
+    let a4 = Some(named(&rt, "a4"));
+    assert_eq!(rt; counted_at(&rt, alloc, 0)?, a4);
+    assert!(rt; counted_at(&rt, alloc, 1)? != a4);
+    assert_eq!(rt; counted_at(&rt, alloc, 2)?, a4);
+    assert_eq!(rt; counted_at(&rt, alloc, 3)?, None);
+    Ok(())
+}
+
+#[test]
+fn the_first_page_stands_for_a_paper_of_no_page(rt: HostRuntime) {
+    let a3 = named(&rt, "a3");
+    let a4 = named(&rt, "a4");
+    let a5 = named(&rt, "a5");
+    assert_eq!(rt; first_instead_of(&a3, &[a5, a4]), Some(a5));
+    assert_eq!(rt; first_instead_of(&a4, &[a5, a4]), None);
+    assert_eq!(rt; first_instead_of(&a4, &[]), None);
+}
+
+#[test]
+fn pages_behind_the_trailer_are_counted(rt: HostRuntime) -> Result<(), Fail> {
+    let document = Document::read(rt.alloc(), ROUNDED)?;
+    assert_eq!(rt; document.pages(), 3);
+    assert_eq!(rt; document.pages_behind_trailer(), 2);
+    let document = Document::read(rt.alloc(), BY_BOX)?;
+    assert_eq!(rt; document.pages_behind_trailer(), 0);
+    Ok(())
 }

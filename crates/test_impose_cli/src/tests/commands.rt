@@ -1,8 +1,8 @@
 //! Command lines as they are typed, and what each asks for.
 use super::read;
 use impose_cli::{
-    CellOption, CommandFault, GridCommand, Layout, LengthOption, PaperOption, Request, Spacing,
-    signing_named, size_named,
+    CellOption, CommandFault, GridCommand, Layout, LengthOption, PaperOption, Product, Request,
+    Spacing, signing_named, size_named,
 };
 use layouts::{Cells, Order, Run, Turned};
 use lengths::{Grains, Number, Paper, paper_by_name};
@@ -33,7 +33,9 @@ fn several_pages_on_a_sheet(rt: HostRuntime) -> Result<(), Fail> {
     assert_eq!(rt; request.border, Grains::new(127_000_000_000));
     assert_eq!(rt; file(&request.infile), Some("in.ps"));
     assert_eq!(rt; file(&request.outfile), Some("out.ps"));
-    assert!(rt; request.is_guarded && !request.is_printed && !request.is_quiet);
+    assert!(rt;
+        request.is_guarded && matches!(request.product, Product::Sheets) && !request.is_quiet
+    );
     Ok(())
 }
 
@@ -54,7 +56,9 @@ fn nothing_more_than_a_command(rt: HostRuntime) -> Result<(), Fail> {
     assert_eq!(rt; file(&request.infile), None);
     assert_eq!(rt; file(&request.outfile), None);
     assert_eq!(rt; request.border, None);
-    assert!(rt; !request.is_guarded && request.is_printed && request.is_quiet);
+    assert!(rt;
+        !request.is_guarded && matches!(request.product, Product::Specification) && request.is_quiet
+    );
     Ok(())
 }
 
@@ -408,6 +412,36 @@ fn posters(rt: HostRuntime) -> Result<(), Fail> {
             "at {line}"
         );
     }
+    Ok(())
+}
+
+#[test]
+fn marks_that_sheets_have(rt: HostRuntime) -> Result<(), Fail> {
+    let none = read(rt.alloc(), "booklet")?.marks;
+    assert!(rt; !none.fold && !none.cut);
+    let fold = read(rt.alloc(), "booklet --marks fold")?.marks;
+    assert!(rt; fold.fold && !fold.cut);
+    let cut = read(rt.alloc(), "cards 8 --marks=cut")?.marks;
+    assert!(rt; !cut.fold && cut.cut);
+    for (line, option, text) in [
+        ("booklet --marks cut", CellOption::FoldMarks, "cut"),
+        (
+            "booklet --marks fold,cut --odd --even",
+            CellOption::FoldMarks,
+            "fold,cut",
+        ),
+        ("nup 2 --marks fold", CellOption::CutMarks, "fold"),
+        ("stack 2 --marks x", CellOption::CutMarks, "x"),
+        ("nup 2 --marks x --scale y", CellOption::Scale, "y"),
+    ] {
+        assert!(rt; has_no_value(&rt, line, option, text), "at {line}");
+    }
+    assert!(rt;
+        matches!(
+            read(rt.alloc(), "select 1 --marks cut"),
+            Err(CommandFault::Words(_))
+        )
+    );
     Ok(())
 }
 

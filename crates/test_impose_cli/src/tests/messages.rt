@@ -2,8 +2,8 @@
 use super::read;
 use dsc::DscError;
 use impose_cli::{
-    CellOption, CommandFault, Fault, GridCommand, LengthOption, PaperOption, Request, fault_status,
-    fault_text,
+    CellOption, CommandFault, Fault, GridCommand, LengthOption, PaperOption, ProductOption,
+    Request, fault_status, fault_text,
 };
 use imposer::RunError;
 use layouts::ArrangementError;
@@ -92,6 +92,21 @@ fn command_lines(rt: HostRuntime) -> Result<(), Fail> {
             written ./-q",
         ),
         (
+            CommandFault::TwoProducts(ProductOption::Plan, ProductOption::Preview),
+            2,
+            "--plan and --preview ask for two things: give one of them",
+        ),
+        (
+            CommandFault::TwoProducts(ProductOption::PrintSpec, ProductOption::Plan),
+            2,
+            "--print-spec and --plan ask for two things: give one of them",
+        ),
+        (
+            CommandFault::BadPicture(text("in.ps")?),
+            2,
+            "bad file 'in.ps' after --preview: it is an SVG, so name it as sheets.svg, or - for standard output",
+        ),
+        (
             CommandFault::NoText,
             2,
             "the command line is no UTF-8 text: rename the file",
@@ -145,6 +160,18 @@ fn words_of_cells(rt: HostRuntime) -> Result<(), Fail> {
         (
             CommandFault::BadValue(CellOption::Scale, text("70%")?),
             "bad scale '70%' after --scale: give a number as 0.7",
+        ),
+        (
+            CommandFault::BadValue(CellOption::FoldMarks, text("fold,cut")?),
+            "a booklet isn't cut, so --marks fold,cut asks too much: give --marks fold",
+        ),
+        (
+            CommandFault::BadValue(CellOption::CutMarks, text("fold")?),
+            "only a booklet is folded, so --marks fold asks too much here: give --marks cut",
+        ),
+        (
+            CommandFault::BadValue(CellOption::CutMarks, text("x")?),
+            "unknown marks 'x' after --marks: give cut",
         ),
     ];
     for (fault, message) in rows {

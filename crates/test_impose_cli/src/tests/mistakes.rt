@@ -46,6 +46,7 @@ fn each_mistake_has_a_tip(rt: HostRuntime) -> Result<(), Fail> {
             "tip: a length is not below 0",
         ),
         ("cards 8 --trim -2 in.ps", "tip: a length is not below 0"),
+        ("booklet --creep -1mm in.ps", "tip: a length is not below 0"),
         ("nup 2 --scale -1 in.ps", "tip: a scale is above 0"),
         (
             "nup 2 --pages -3 in.ps",
@@ -59,6 +60,14 @@ fn each_mistake_has_a_tip(rt: HostRuntime) -> Result<(), Fail> {
         (
             "spec -0 in.ps",
             "tip: a specification that begins with a minus",
+        ),
+        (
+            "spec 0 --plan in.ps",
+            "tip: plans and pictures are made for nup",
+        ),
+        (
+            "spec 0 --preview=a.svg in.ps",
+            "tip: plans and pictures are made for nup",
         ),
         (
             "nup 2 -o out.ps in.ps",
@@ -80,6 +89,25 @@ fn each_mistake_has_a_tip(rt: HostRuntime) -> Result<(), Fail> {
     Ok(())
 }
 
+// What stands behind the command isn't at fault then.
+#[test]
+fn a_missing_value_has_no_other_tip(rt: HostRuntime) -> Result<(), Fail> {
+    for line in [
+        "nup 2 --preview -q in.ps",
+        "nup 2 --paper",
+        "booklet --signature -q in.ps",
+    ] {
+        let words = words_of(rt.alloc(), line)?;
+        let text = said(rt.alloc(), words.as_slice())?;
+        assert!(rt;
+            text.as_str().contains("a value is required for"),
+            "at {line}: {text}"
+        );
+        assert!(rt; !text.as_str().contains("tip:"), "at {line}: {text}");
+    }
+    Ok(())
+}
+
 #[test]
 fn names_are_shown_without_control_characters(rt: HostRuntime) -> Result<(), Fail> {
     let request = read(rt.alloc(), "nup 2 \u{1b}[2J.ps")?;
@@ -88,6 +116,26 @@ fn names_are_shown_without_control_characters(rt: HostRuntime) -> Result<(), Fai
     let words = words_of(rt.alloc(), "nup 2 --\u{7}\u{9b}")?;
     let text = said(rt.alloc(), words.as_slice())?;
     assert!(rt; text.as_str().contains("--\\u{7}\\u{9b}"), "{text}");
+    Ok(())
+}
+
+#[test]
+fn a_failed_write_names_what_is_written(rt: HostRuntime) -> Result<(), Fail> {
+    let rows = [
+        ("nup 2 --plan in.ps out.ps", "cannot write standard output"),
+        (
+            "nup 2 --preview - in.ps out.ps",
+            "cannot write standard output",
+        ),
+        ("nup 2 --preview a.svg in.ps out.ps", "cannot write a.svg"),
+    ];
+    for (line, wanted) in rows {
+        let request = read(rt.alloc(), line)?;
+        let written = 0;
+        let cause = None;
+        let text = fault_text(rt.alloc(), &Fault::Write { written, cause }, Some(&request))?;
+        assert_eq!(rt; text.as_str(), wanted);
+    }
     Ok(())
 }
 

@@ -1,6 +1,7 @@
 //! Documents whose pages have papers of their own.
 use super::read;
-use impose_cli::run_request;
+use document_paper::Comment;
+use impose_cli::{Finished, PaperOrigin, run_request};
 use imposer::MemorySink;
 use lengths::paper_by_name;
 use own_papers::Cut;
@@ -13,18 +14,61 @@ use std::thread::Threads;
 const MIXED: &str = "%!PS\n%%DocumentMedia: A 595 842 0 () ()\n%%+ B 842 1191 0 () ()\n\
     %%Page: 1 1\n%%PageMedia: A\nshowpage\n%%Page: 2 2\n%%PageMedia: B\nshowpage\n";
 
-/// What is written of it for this command line, and which pages are cut.
+/// Three pages of ps2write, whose header tells a box that covers all of them: of a4, once rounded down, and of a4 on its
+/// side. Behind them stands another document of one page.
+const BOXED: &str = "%!PS\n%%BoundingBox: 0 0 842 842\n%%Page: 1 1\n%%PageBoundingBox: 0 0 595 842\nshowpage\n\
+    %%Page: 2 2\n%%PageBoundingBox: 0 0 842 595\nshowpage\n%%Page: 3 3\n%%PageBoundingBox: 0 0 595 841\nshowpage\n\
+    %%Trailer\n%%EOF\n%!PS\n%%Page: 1 1\nshowpage\n%%EOF\n";
+
+/// What is written of this document for this command line, and how it went.
+fn written_of(
+    rt: &(impl Threads + Wait + Sync + AllocGlobal),
+    text: &str,
+    line: &str,
+) -> Result<(String, Finished), Fail> {
+    let request = read(rt.alloc(), line)?;
+    let mut sink = MemorySink::new(rt.alloc(), 20_000, 20_000, 20_000)?;
+    let mut input = Vec::new(rt.alloc());
+    input.extend_from_slice(text.as_bytes())?;
+    let done = run_request(rt, rt.alloc(), &request, input, &mut sink)?;
+    let text = str::from_utf8(sink.bytes())?;
+    Ok((String::from_str(rt.alloc(), text)?, done))
+}
+
+/// What is written of the pages of a4 and a3, and which of them are cut.
 fn written(
     rt: &(impl Threads + Wait + Sync + AllocGlobal),
     line: &str,
 ) -> Result<(String, Option<Cut>), Fail> {
-    let request = read(rt.alloc(), line)?;
-    let mut sink = MemorySink::new(rt.alloc(), 20_000, 20_000, 20_000)?;
-    let mut input = Vec::new(rt.alloc());
-    input.extend_from_slice(MIXED.as_bytes())?;
-    let done = run_request(rt, rt.alloc(), &request, input, &mut sink)?;
-    let text = str::from_utf8(sink.bytes())?;
-    Ok((String::from_str(rt.alloc(), text)?, done.cut))
+    let (text, done) = written_of(rt, MIXED, line)?;
+    Ok((text, done.cut))
+}
+
+#[test]
+fn a_box_of_all_pages_is_no_sheet(rt: HostRuntime) -> Result<(), Fail> {
+    let (text, done) = written_of(&rt, BOXED, "nup 2")?;
+    let told = "%%BoundingBox: 0 0 595 842\n%%DocumentMedia: Plain 595 842 0 () ()\n";
+    assert!(rt; text.as_str().contains(told));
+    assert_eq!(rt; done.origin, PaperOrigin::FirstPage);
+    assert_eq!(rt; done.behind, 1);
+    Ok(())
+}
+
+#[test]
+fn papers_of_nearly_one_size_are_told_as_one(rt: HostRuntime) -> Result<(), Fail> {
+    let (text, _) = written_of(&rt, BOXED, "select 3,1")?;
+    let told = "%%DocumentMedia: Plain 595 842 0 () ()\n";
+    assert!(rt; text.as_str().contains(told));
+    assert!(rt; !text.as_str().contains("%%PageMedia"));
+    Ok(())
+}
+
+#[test]
+fn a_specification_is_for_the_documents_paper(rt: HostRuntime) -> Result<(), Fail> {
+    let (_, done) = written_of(&rt, BOXED, "spec 0")?;
+    assert_eq!(rt; done.origin, PaperOrigin::ByComment(Comment::BoundingBox));
+    assert_eq!(rt; done.behind, 1);
+    Ok(())
 }
 
 #[test]

@@ -4,7 +4,7 @@ use arranged_sheets::PosterError;
 use document_paper::Comment;
 use dsc::DscError;
 use impose_cli::{
-    Fault, Finished, PaperOrigin, Request, cut_text, fault_status, fault_text, note_text,
+    Fault, Finished, PaperOrigin, Request, behind_text, cut_text, fault_status, fault_text, note_text,
     report_text,
 };
 use imposer::{Report, RunError};
@@ -77,7 +77,7 @@ fn layouts_plans_and_faulty_documents(rt: HostRuntime) -> Result<(), Fail> {
         (
             Fault::NoSpecification,
             "--print-spec: no specification says a selection, cards, a stack or a poster, nor --pages, --odd, --even, \
-            --reverse or --creep; leave it out",
+            --reverse, --creep or --marks; leave it out",
         ),
         (
             Fault::Run(RunError::Plan(PlanError::TooManyPages)),
@@ -192,6 +192,10 @@ fn reports(rt: HostRuntime) -> Result<(), Fail> {
             PaperOrigin::AtHome,
             "the usual one here, as the document names none",
         ),
+        (
+            PaperOrigin::FirstPage,
+            "that of page 1, as no page has the document's",
+        ),
     ];
     let request = read(rt.alloc(), "spec 0")?;
     for (origin, said) in rows {
@@ -219,6 +223,7 @@ fn five_pages(rt: &impl Abort, sheets: u32, origin: PaperOrigin) -> Finished {
         page_paper: paper_by_name("a4").expect(rt, "a4 is a paper"),
         origin,
         cut: None,
+        behind: 0,
     }
 }
 
@@ -262,6 +267,33 @@ fn pages_that_are_cut_are_told(rt: HostRuntime) -> Result<(), Fail> {
 }
 
 #[test]
+fn pages_behind_the_trailer_are_told(rt: HostRuntime) -> Result<(), Fail> {
+    let rows = [
+        (
+            1,
+            "1 page stands behind %%Trailer or %%EOF and is not imposed",
+        ),
+        (
+            6,
+            "6 pages stand behind %%Trailer or %%EOF and are not imposed",
+        ),
+    ];
+    for (behind, wanted) in rows {
+        let done = Finished {
+            behind,
+            ..five_pages(&rt, 3, PaperOrigin::Named)
+        };
+        let text = behind_text(rt.alloc(), &done)?.unwrap_or(String::new(rt.alloc()));
+        assert_eq!(rt; text.as_str(), wanted);
+    }
+    assert_eq!(rt;
+        behind_text(rt.alloc(), &five_pages(&rt, 3, PaperOrigin::Named))?,
+        None
+    );
+    Ok(())
+}
+
+#[test]
 fn blanks_and_leaves_are_counted(rt: HostRuntime) -> Result<(), Fail> {
     let rows = [
         ("nup 2", 3, "pages 5, blanks 1, sheets 3, bytes 270;"),
@@ -277,6 +309,12 @@ fn blanks_and_leaves_are_counted(rt: HostRuntime) -> Result<(), Fail> {
             2,
             "pages 5, sheets 2 (1 leaf), bytes 270;",
         ),
+        (
+            "stack 2 --duplex",
+            4,
+            "pages 5, sheets 4 (2 leaves), bytes 270;",
+        ),
+        ("stack 2", 3, "pages 5, sheets 3, bytes 270;"),
         ("select 1-", 5, "pages 5, sheets 5, bytes 270;"),
     ];
     for (line, sheets, wanted) in rows {

@@ -220,6 +220,12 @@ fn documents_that_are_refused(rt: HostRuntime) {
             Err(Fault::NoSpecification)
         )
     );
+    assert!(rt;
+        matches!(
+            fault_of(alloc, "booklet --marks fold", ONE_PAGE),
+            Err(Fault::NoSpecification)
+        )
+    );
 }
 
 #[test]
@@ -510,5 +516,65 @@ fn a_page_over_four_sheets(rt: HostRuntime) -> Result<(), Fail> {
         matrices(&rt, line)?.as_str(),
         "|||||[1.96 0 0 1.96 10 -764|[1.96 0 0 1.96 -470 -764|[1.96 0 0 1.96 10 16|[1.96 0 0 1.96 -470 16"
     );
+    Ok(())
+}
+
+/// What stands at the ends of the sheets that the line makes: a dot behind each page, the strokes, and a bar for the end.
+fn ends(rt: &(impl Threads + Wait + Sync + AllocGlobal), line: &str) -> Result<String, Fail> {
+    let request = read(rt.alloc(), line)?;
+    let mut sink = MemorySink::new(rt.alloc(), 100_000, 100_000, 100_000)?;
+    run_request(
+        rt,
+        rt.alloc(),
+        &request,
+        owned(rt.alloc(), THREE_PAGES)?,
+        &mut sink,
+    )?;
+    let mut ends = String::new(rt.alloc());
+    for text in str::from_utf8(sink.bytes()).unwrap_or("").lines() {
+        if text == "ImposeSave restore" {
+            ends.push('.')?;
+        }
+        if let Some(stroke) = text.strip_suffix(" lineto stroke") {
+            ends.push_str(stroke)?;
+            ends.push(';')?;
+        }
+        if text == "showpage" {
+            ends.push('|')?;
+        }
+    }
+    Ok(ends)
+}
+
+// A booklet is folded in the middle of its sheet. Cells with four points between them are cut two points outside of them.
+// Without a margin nothing is cut round them.
+#[test]
+fn marks_at_the_ends_of_sheets(rt: HostRuntime) -> Result<(), Fail> {
+    let rows = [
+        (
+            "booklet --pages 1-2 --marks fold",
+            ".newpath 0 100 moveto 18 100;newpath 100 100 moveto 82 100;|\
+            .newpath 0 100 moveto 18 100;newpath 100 100 moveto 82 100;|",
+        ),
+        ("booklet --pages 1-2", ".|.|"),
+        (
+            "cards 1x2 --pages 3 --margin 10pt --gap 4pt --marks cut",
+            "..newpath 0 100 moveto 10 100;newpath 100 100 moveto 90 100;newpath 8 0 moveto 8 10;newpath 8 200 moveto 8 190;\
+            newpath 92 0 moveto 92 10;newpath 92 200 moveto 92 190;newpath 0 8 moveto 10 8;newpath 100 8 moveto 90 8;\
+            newpath 0 192 moveto 10 192;newpath 100 192 moveto 90 192;|",
+        ),
+        (
+            "nup 1x2 --pages 1-2 --marks cut",
+            "..newpath 0 100 moveto 18 100;newpath 100 100 moveto 82 100;|",
+        ),
+    ];
+    for (options, wanted) in rows {
+        let line = format!(in rt.alloc(); "{options} -p 100x200pt")?;
+        assert_eq!(rt;
+            ends(&rt, line.as_str())?.as_str(),
+            wanted,
+            "at {options}"
+        );
+    }
     Ok(())
 }

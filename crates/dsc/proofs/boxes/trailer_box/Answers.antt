@@ -1,5 +1,5 @@
 use Rattle.std.specs.Prelude.{option_map}
-use Rattle.std.proofs.Common.{rules, ◌≡◌, ◌<◌, ◌∙◌, length, ap, sym}
+use Rattle.std.proofs.Common.{rules, ◌≡◌, ◌<◌, ◌∙◌, length, ap}
 use Rattle.dsc.specs.Fields.{fields_in}
 use Rattle.dsc.specs.TrailerBoxes.{found_after}
 use Rattle.dsc.specs.Views.{unit_of, at_depth}

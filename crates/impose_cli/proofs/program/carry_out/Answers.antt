@@ -11,16 +11,9 @@ returns-in-Err g c =
 pub returns-in-Ok-input_of : goal.returns-in-Ok-input_of
 returns-in-Ok-input_of g c =
     took c.args.request.now (g.W.World.gives c.args.world) (g.W.World.tells c.args.world) c.in-Ok-input_of.input.items _
-    c.print_input.result.outcome (is_some c.print_input.result.output)
-    (option_and_then g.W.Output.Write.contents c.print_input.result.output)
-    c.name_of.ensures c.in-Ok-input_of.ensures.read c.in-Ok.ensures.possible (inl (c.if-request.true, c.print_input.ensures))
-
-pub returns-in-Ok-2 : goal.returns-in-Ok-2
-returns-in-Ok-2 g c =
-    took c.args.request.now (g.W.World.gives c.args.world) (g.W.World.tells c.args.world) c.in-Ok-input_of.input.items _
-    c.run_into.result.outcome (is_some c.run_into.result.output)
-    (option_and_then g.W.Output.Write.contents c.run_into.result.output)
-    c.name_of.ensures c.in-Ok-input_of.ensures.read c.in-Ok.ensures.possible (inr (c.if-request.false, c.run_into.ensures))
+    c.make.result.outcome (is_some c.make.result.output)
+    (option_and_then g.W.Output.Write.contents c.make.result.output)
+    c.name_of.ensures c.in-Ok-input_of.ensures.read c.in-Ok.ensures.possible c.make.ensures
 
 pub returns-in-Err-input_of : goal.returns-in-Err-input_of
 returns-in-Err-input_of g c =

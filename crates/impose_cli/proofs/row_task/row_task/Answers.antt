@@ -3,7 +3,7 @@ use Rattle.made_sheets.specs.Choice.{imposed_row}
 use Rattle.sheet_text.specs.Jobs.{is_border}
 use Rattle.impose_cli.specs.Choices.{choice_in}
 use Rattle.impose_cli.specs.Tasks.{taken_text}
-use Rattle.impose_cli.specs.RowTasks.{ArePapersOf, first_paper, guarded_in}
+use Rattle.impose_cli.specs.RowTasks.{IsRowPaper, first_paper, guarded_in}
 use Rattle.impose_cli.proofs.Rows.{refused_after, refused_found}
 use Rattle.impose_cli.proofs.row_task.row_task.Goals as goal
 
@@ -13,24 +13,25 @@ returns-in-Err-clause-refused c =
 
 pub returns-in-Err-laying_for-clause-refused : goal.returns-in-Err-laying_for-clause-refused
 returns-in-Err-laying_for-clause-refused c =
-    let found : ArePapersOf c.args.request.now c.args.input.items c.in-Ok.found.papers.items c.in-Ok.found.cut = rw c.as_slice.ensures.value at c.in-Ok.ensures.found in
-    refused_after c.args.request.now c.args.input.items c.in-Ok.found.papers.items c.in-Ok.found.cut _ found (inl (search rules))
+    let found : IsRowPaper c.args.request.now c.args.input.items (c.in-Ok.found.page_paper, c.in-Ok.found.origin) = rw c.as_slice.ensures.value at c.in-Ok.ensures.paper in
+    refused_after c.args.request.now c.args.input.items _ _ found (inl (search rules))
 
 pub returns-in-Err-signing_for-clause-refused : goal.returns-in-Err-signing_for-clause-refused
 returns-in-Err-signing_for-clause-refused c =
-    let found : ArePapersOf c.args.request.now c.args.input.items c.in-Ok.found.papers.items c.in-Ok.found.cut = rw c.as_slice.ensures.value at c.in-Ok.ensures.found in
-    refused_after c.args.request.now c.args.input.items c.in-Ok.found.papers.items c.in-Ok.found.cut _ found (inr (inl c.in-Err-signing_for.ensures.refused))
+    let found : IsRowPaper c.args.request.now c.args.input.items (c.in-Ok.found.page_paper, c.in-Ok.found.origin) = rw c.as_slice.ensures.value at c.in-Ok.ensures.paper in
+    refused_after c.args.request.now c.args.input.items _ _ found (inr (inl c.in-Err-signing_for.ensures.refused))
 
 pub returns-then-not-is_drawn-clause-refused : goal.returns-then-not-is_drawn-clause-refused
 returns-then-not-is_drawn-clause-refused c =
-    let found : ArePapersOf c.args.request.now c.args.input.items c.in-Ok.found.papers.items c.in-Ok.found.cut = rw c.as_slice.ensures.value at c.in-Ok.ensures.found in
+    let found : IsRowPaper c.args.request.now c.args.input.items (c.in-Ok.found.page_paper, c.in-Ok.found.origin) = rw c.as_slice.ensures.value at c.in-Ok.ensures.paper in
     let none : is_border c.args.request.now.border ≡ false = search rules in
-    refused_after c.args.request.now c.args.input.items c.in-Ok.found.papers.items c.in-Ok.found.cut _ found (inr (inr (inl (refl, none))))
+    refused_after c.args.request.now c.args.input.items _ _ found (inr (inr (inl (refl, none))))
 
 pub returns-in-Ok-text_to_impose-clause-is_task : goal.returns-in-Ok-text_to_impose-clause-is_task
 returns-in-Ok-text_to_impose-clause-is_task c = record {
   papers = rw c.as_slice.ensures.value at c.in-Ok.ensures.found;
-  page_paper = rw c.as_slice-2.ensures.value at c.paper_of_pages-page_paper.ensures;
+  page_paper = rw c.as_slice.ensures.value at c.in-Ok.ensures.paper;
+  behind = rw c.as_slice.ensures.value at c.in-Ok.ensures.behind;
   text = c.in-Ok-text_to_impose.ensures ∙ ap (λ p. taken_text c.args.request.now.is_guarded p c.args.input.items)
       (c.in-Ok-guarded_paper.ensures.value
       ∙ ap (λ s. guarded_in c.args.request.now.layout (first_paper (imposed_row (length c.in-Ok.found.papers.items) (choice_in c.args.request.now.choice) None) c.in-Ok.found.papers.items s) s)
@@ -44,10 +45,10 @@ returns-in-Ok-text_to_impose-clause-is_task c = record {
 
 pub returns-in-Err-guarded_paper-clause-refused : goal.returns-in-Err-guarded_paper-clause-refused
 returns-in-Err-guarded_paper-clause-refused c =
-    let found : ArePapersOf c.args.request.now c.args.input.items c.in-Ok.found.papers.items c.in-Ok.found.cut = rw c.as_slice.ensures.value at c.in-Ok.ensures.found in
-    refused_after c.args.request.now c.args.input.items c.in-Ok.found.papers.items c.in-Ok.found.cut _ found (inr (inr (inr c.in-Err-guarded_paper.ensures.refused)))
+    let found : IsRowPaper c.args.request.now c.args.input.items (c.in-Ok.found.page_paper, c.in-Ok.found.origin) = rw c.as_slice.ensures.value at c.in-Ok.ensures.paper in
+    refused_after c.args.request.now c.args.input.items _ _ found (inr (inr (inr c.in-Err-guarded_paper.ensures.refused)))
 
 pub returns-in-Err-text_to_impose-clause-refused : goal.returns-in-Err-text_to_impose-clause-refused
 returns-in-Err-text_to_impose-clause-refused c =
-    let found : ArePapersOf c.args.request.now c.args.input.items c.in-Ok.found.papers.items c.in-Ok.found.cut = rw c.as_slice.ensures.value at c.in-Ok.ensures.found in
-    refused_after c.args.request.now c.args.input.items c.in-Ok.found.papers.items c.in-Ok.found.cut _ found (inr (inr (inr c.no_memory.ensures)))
+    let found : IsRowPaper c.args.request.now c.args.input.items (c.in-Ok.found.page_paper, c.in-Ok.found.origin) = rw c.as_slice.ensures.value at c.in-Ok.ensures.paper in
+    refused_after c.args.request.now c.args.input.items _ _ found (inr (inr (inr c.no_memory.ensures)))

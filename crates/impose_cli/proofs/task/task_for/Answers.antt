@@ -9,9 +9,10 @@ use Rattle.impose_cli.proofs.task.task_for.Goals as goal
 
 pub returns-clause-is_task : goal.returns-clause-is_task
 returns-clause-is_task c = record {
-  page_count = c.in-Ok.pages;
+  page_count = c.in-Ok.counts.0;
   document = rw c.as_slice.ensures.value at c.in-Ok.ensures.counted;
-  whole = search rules;
+  said = search rules;
+  behind = rw c.as_slice.ensures.value at c.in-Ok.ensures.behind;
   page_paper = rw c.as_slice-2.ensures.value at c.paper_of_pages-page_paper.ensures;
   placed = rw c.paper_of_sheets.ensures at c.in-Ok-placing.ensures.placed;
   text = rw c.paper_of_sheets.ensures at c.in-Ok-text_to_impose.ensures;
@@ -28,4 +29,4 @@ returns-in-Err-placing-clause-refused c =
     let found : c.paper_of_pages-page_paper.result ≡ page_paper_found request.page_paper request.home_paper c.args.input.items = rw c.as_slice-2.ensures.value at c.paper_of_pages-page_paper.ensures in
     let refused = rw c.paper_of_sheets.ensures at c.in-Err-placing.ensures.refused in
     let there = subst (λ (p : Paper × PaperOrigin). (c.in-Err-placing.fault ≡ without_memory) ⊎ RefusesLayout request.layout request.spacing p.0 (sheet_paper_found request.sheet_paper p.0) c.in-Err-placing.fault) found refused in
-    inr (c.in-Ok.pages, rw c.as_slice.ensures.value at c.in-Ok.ensures.counted, inr there)
+    inr (c.in-Ok.counts.0, rw c.as_slice.ensures.value at c.in-Ok.ensures.counted, inr there)

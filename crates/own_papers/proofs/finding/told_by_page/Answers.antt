@@ -1,5 +1,4 @@
-use Rattle.std.proofs.Common.{rules, ◌≡◌, ◌∙◌, length, drop, ap, sym, codes, Some, None}
-use Rattle.rules.specs.Units.{line_len}
+use Rattle.std.proofs.Common.{rules, ◌≡◌, ◌∙◌, ap, sym, codes, Some, None}
 use Rattle.dsc.specs.Fields.{fields_in}
 use Rattle.document_paper.specs.Media.{comment_fields}
 use Rattle.page_papers.specs.Comments.{by_medium, page_head}

@@ -1,4 +1,5 @@
 use Rattle.std.proofs.Common.{◌≡◌, ◌∙◌, ◌++◌, ◌∷◌, [], List, ap, sym, arith, length, take}
+use Rattle.marks.specs.Drawn.{mark_lines}
 use Rattle.sheet_text.specs.Dressings.{Dressing, Hem}
 use Rattle.told_papers.specs.Dressings.{hem_of_sheet, hems_told}
 use Rattle.told_papers.proofs.Given.{dressing, told_count, told_more}
@@ -6,8 +7,8 @@ use Rattle.told_papers.proofs.dress.named.Goals as goal
 
 pub push_sheet-requires-clause-next : goal.push_sheet-requires-clause-next
 push_sheet-requires-clause-next c =
-    let hems : c.loop-sheet.dress.hems ≡ hems_told (take c.loop-sheet.sheet c.args.sheets.now) = ap (λ (d : Dressing). d.hems) c.loop-sheet.invariant.so_far in
-    let within = told_count c.args.sheets.now c.loop-sheet.sheet (omega (arith, c.requires.count)) in
+    let hems : c.loop-sheet.dress.hems ≡ hems_told (mark_lines c.args.strokes.now) (take c.loop-sheet.sheet c.args.sheets.now) = ap (λ (d : Dressing). d.hems) c.loop-sheet.invariant.so_far in
+    let within = told_count (mark_lines c.args.strokes.now) c.args.sheets.now c.loop-sheet.sheet (omega (arith, c.requires.count)) in
     sym (ap (λ (hs : List Hem). length hs) hems ∙ within)
 
 pub loop-sheet-preserved : goal.loop-sheet-preserved
@@ -15,7 +16,7 @@ loop-sheet-preserved c =
     record {
       so_far =
           c.in_ok-push_sheet.ensures.pushed
-          ∙ ap (λ (d : Dressing). dressing d.header (d.hems ++ hem_of_sheet c.paper.result.now ∷ [])) c.loop-sheet.invariant.so_far
-          ∙ ap (λ (hs : List Hem). dressing c.args.dress.header hs) (told_more c.args.sheets.now c.loop-sheet.sheet c.paper.result.now c.paper.ensures);
+          ∙ ap (λ (d : Dressing). dressing d.header (d.hems ++ hem_of_sheet (mark_lines c.args.strokes.now) c.paper.result.now ∷ [])) c.loop-sheet.invariant.so_far
+          ∙ ap (λ (hs : List Hem). dressing c.args.dress.header hs) (told_more (mark_lines c.args.strokes.now) c.args.sheets.now c.loop-sheet.sheet c.paper.result.now c.paper.ensures);
       kinds = c.in_ok-push_sheet.ensures.kinds;
     }

@@ -1,7 +1,7 @@
 use Rattle.std.proofs.Common.{rules, ◌≡◌, ◌∙◌, ap, [], ◌∷◌, ◌++◌, List, ℕ}
 use Rattle.page_papers.specs.Told.{box_line}
 use Rattle.page_papers.proofs.Tame.{box}
-use Rattle.told_papers.proofs.Plain.{may_stand}
+use Rattle.marks.proofs.Plain.{may_stand}
 use Rattle.told_papers.proofs.lines.push_box.Goals as goal
 
 pub push-requires : goal.push-requires

@@ -1,7 +1,7 @@
 use Rattle.std.proofs.Common.{rules, ◌≡◌, ◌∙◌, ap, refl, [], ◌∷◌, ◌++◌, List, ℕ, codes}
 use Rattle.page_papers.specs.Told.{medium_line}
 use Rattle.page_papers.proofs.Tame.{medium}
-use Rattle.told_papers.proofs.Plain.{may_stand}
+use Rattle.marks.proofs.Plain.{may_stand}
 use Rattle.told_papers.proofs.lines.push_medium.Goals as goal
 
 pub push-requires : goal.push-requires

@@ -1,7 +1,7 @@
 use Rattle.std.proofs.Common.{rules, ◌≡◌, ◌∙◌, ap, [], ◌∷◌, ◌++◌, List, ℕ, codes}
 use Rattle.page_papers.specs.Told.{medium_line, size_name}
 use Rattle.page_papers.proofs.Tame.{medium, whole_name}
-use Rattle.told_papers.proofs.Plain.{may_stand}
+use Rattle.marks.proofs.Plain.{may_stand}
 use Rattle.told_papers.proofs.lines.push_named_medium.Goals as goal
 
 pub push-requires : goal.push-requires

@@ -1,7 +1,7 @@
 use Rattle.std.proofs.Common.{rules, ◌≡◌, ◌∙◌, ap, [], ◌∷◌, ◌++◌, List, ℕ, codes}
 use Rattle.page_papers.specs.Told.{size_name}
 use Rattle.page_papers.proofs.Tame.{named}
-use Rattle.told_papers.proofs.Plain.{may_stand}
+use Rattle.marks.proofs.Plain.{may_stand}
 use Rattle.told_papers.proofs.lines.push_page_medium.Goals as goal
 
 pub push-requires : goal.push-requires

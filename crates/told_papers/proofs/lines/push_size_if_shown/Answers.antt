@@ -1,7 +1,7 @@
 use Rattle.std.proofs.Common.{◌≡◌, ◌∙◌, ap, [], ◌∷◌, ◌++◌, List, ℕ, codes, append_assoc}
 use Rattle.page_papers.specs.Told.{setting_line, size_text}
 use Rattle.page_papers.proofs.Tame.{set_size}
-use Rattle.told_papers.proofs.Plain.{may_stand}
+use Rattle.marks.proofs.Plain.{may_stand}
 use Rattle.told_papers.proofs.lines.push_size_if_shown.Goals as goal
 
 pub push-requires : goal.push-requires

@@ -1,10 +1,9 @@
--- A paper is covered by the one that it counts as.
-use Rattle.std.proofs.Common.{arith, ◌≡◌, ℕ, zero, suc, ◌<◌, ◌≤◌, List, [], ◌∷◌, Bool, true, false, refl, sym, ap, ◌∙◌, length, get_or, cond, true≢false}
-use Rattle.std.specs.Prelude.{ℤ, pos, negsuc, int_le, nat_le, ◌&&◌, ◌==◌, if◌then◌else◌, fold, filter}
+-- Which papers cover which: an order.
+use Rattle.std.proofs.Common.{arith, ◌≡◌, ℕ, ◌≤◌, Bool, true, false, refl, sym, ap, ◌∙◌, true≢false}
+use Rattle.std.specs.Prelude.{ℤ, pos, negsuc, int_le, nat_le, ◌&&◌, if◌then◌else◌}
 use Rattle.std.proofs.lemmas.Bool.Decides.{nat_tests}
-use Rattle.std.proofs.lemmas.List.{get_or-map}
 use Rattle.rules.specs.Papers.{Paper}
-use Rattle.page_papers.specs.Own.{NothingIsCut, covering, covers, kind_of, kinds, larger, no_size, paper_of_kind}
+use Rattle.page_papers.specs.Own.{covering, covers, larger}
 
 -- ---- the order of sides
 is_le : (a b : ℕ) → a ≤ b → nat_le a b ≡ true
@@ -38,7 +37,7 @@ onward (negsuc a) (pos b) (negsuc c) e f = absurd (true≢false (sym f))
 onward (negsuc a) (negsuc b) (pos c) e f = refl
 onward (negsuc a) (negsuc b) (negsuc c) e f = through c b a f e
 
-by_test : {P : Type 0} (b : Bool) → (b ≡ true → P) → (b ≡ false → P) → P
+pub by_test : {P : Type 0} (b : Bool) → (b ≡ true → P) → (b ≡ false → P) → P
 by_test true t f = t refl
 by_test false t f = f refl
 
@@ -55,7 +54,7 @@ over_second a b =
     (λ isnt. ap (λ t. int_le b (if t then b else a)) isnt ∙ more a b isnt)
 
 -- ---- covering
-both : (a b : Bool) → a ≡ true → b ≡ true → (a && b) ≡ true
+pub both : (a b : Bool) → a ≡ true → b ≡ true → (a && b) ≡ true
 both true true e f = refl
 both true false e f = f
 both false b e f = e
@@ -68,41 +67,17 @@ second : (a b : Bool) → (a && b) ≡ true → b ≡ true
 second true b e = e
 second false b e = absurd (true≢false (sym e))
 
-covers_first : (a b : Paper) → covers (covering a b) a ≡ true
+pub covers_self : (p : Paper) → covers p p ≡ true
+covers_self p = both (int_le p.width p.width) (int_le p.height p.height) (same p.width) (same p.height)
+
+pub covers_first : (a b : Paper) → covers (covering a b) a ≡ true
 covers_first a b = both (int_le a.width (larger a.width b.width)) (int_le a.height (larger a.height b.height)) (over_first a.width b.width) (over_first a.height b.height)
 
-covers_second : (a b : Paper) → covers (covering a b) b ≡ true
+pub covers_second : (a b : Paper) → covers (covering a b) b ≡ true
 covers_second a b = both (int_le b.width (larger a.width b.width)) (int_le b.height (larger a.height b.height)) (over_second a.width b.width) (over_second a.height b.height)
 
-covers_through : (a b c : Paper) → covers a b ≡ true → covers b c ≡ true → covers a c ≡ true
+pub covers_through : (a b c : Paper) → covers a b ≡ true → covers b c ≡ true → covers a c ≡ true
 covers_through a b c e f =
     both (int_le c.width a.width) (int_le c.height a.height)
     (onward c.width b.width a.width (first (int_le c.width b.width) (int_le c.height b.height) f) (first (int_le b.width a.width) (int_le b.height a.height) e))
     (onward c.height b.height a.height (second (int_le c.width b.width) (int_le c.height b.height) f) (second (int_le b.width a.width) (int_le b.height a.height) e))
-
--- ---- the least that covers a list
-stays : (p a : Paper) (qs : List Paper) → covers a p ≡ true → covers (fold covering a qs) p ≡ true
-stays p a [] e = e
-stays p a (q ∷ qs) e = stays p (covering a q) qs (covers_through (covering a q) a p (covers_first a q) e)
-
-among : (test : Paper → Bool) (a : Paper) (qs : List Paper) (k : ℕ) (d : Paper) → k < length qs → test (get_or qs k d) ≡ true
-    → covers (fold covering a (filter test qs)) (get_or qs k d) ≡ true
-among test a [] k d less is = absurd (omega (arith, less))
-among test a (q ∷ qs) zero d less is =
-    ap (λ t. covers (fold covering a (cond t (q ∷ filter test qs) (filter test qs))) q) is
-    ∙ stays q (covering a q) (filter test qs) (covers_second a q)
-among test a (q ∷ qs) (suc k) d less is =
-    by_test (test q)
-    (λ is_in. ap (λ t. covers (fold covering a (cond t (q ∷ filter test qs) (filter test qs))) (get_or qs k d)) is_in
-    ∙ among test (covering a q) qs k d (omega (arith, less)) is)
-    (λ is_out. ap (λ t. covers (fold covering a (cond t (q ∷ filter test qs) (filter test qs))) (get_or qs k d)) is_out
-    ∙ among test a qs k d (omega (arith, less)) is)
-
-same_kind : (n : ℕ) → (n == n) ≡ true
-same_kind n = grind (arith, nat_tests)
-
-pub nothing_is_cut : NothingIsCut
-nothing_is_cut all k d less =
-    let p : Paper = get_or all k d in
-    ap (λ q. covers q p) (get_or-map (λ x. paper_of_kind all (kind_of (kinds all) x)) all k d d less)
-    ∙ among (λ q. kind_of (kinds all) q == kind_of (kinds all) p) no_size all k d less (same_kind (kind_of (kinds all) p))

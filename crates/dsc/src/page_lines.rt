@@ -1,0 +1,24 @@
+//! How many pages begin in a text.
+ghost use Rattle.std.specs.Prelude.{◌≡◌};
+ghost use Rattle.dsc.specs.PagesBehind.{page_lines as lines_that_begin_pages};
+ghost use Rattle.dsc.specs.Units.{units_of};
+
+use crate::walk::Walk;
+
+/// How many `%%Page:` lines a text has, outside embedded documents and data. None if it has a faulty data block.
+pub fn page_lines(text: &[u8]) -> usize
+    ensures { result ≡ lines_that_begin_pages (units_of text.now) }
+{
+    let mut count = 0usize;
+    let mut walk = Walk::new(text);
+    while !walk.is_done() {
+        let step = match walk.step() {
+            Ok(step) => step,
+            Err(_) => return 0,
+        };
+        if step.meaning.is_page {
+            count += 1;
+        }
+    }
+    count
+}

@@ -1,0 +1,6 @@
+pub mod Plain
+pub mod Tame
+pub mod Joined
+pub mod Pairs
+pub mod Outside
+pub mod Examples

@@ -1,0 +1,51 @@
+-- What holds of marks.
+use Rattle.std.specs.Prelude.{◌⊎◌, ℕ, ◌+◌, ◌<◌, ℤ, pos, ◌-ℤ◌, ◌≤ℤ◌, List, ◌++◌}
+use Rattle.std.specs.List.{AllByRecursion}
+use Rattle.made_sheets.specs.Dress.{Dress}
+use Rattle.imposed_again.specs.MadeAgain.{IsTameDress}
+use Rattle.layouts.specs.Placed.{Room}
+use Rattle.layouts.specs.Cells.{Grid, high, wide}
+use Rattle.layouts.specs.Laws.{Cell, cell_at}
+use Rattle.marks.specs.Places.{grains_in}
+use Rattle.marks.specs.Strokes.{cut_marks, fold_marks}
+use Rattle.marks.specs.Drawn.{marked}
+use Rattle.marks.specs.declared.strokes.Stroke.{Stroke}
+
+-- both ends of a stroke, measured in one direction, are at most so much, or at least
+abbrev pub AreAtMost : (one other : ℤ) → (most : ℤ) → Type 0
+AreAtMost one other most = (one ≤ℤ most) × (other ≤ℤ most)
+
+abbrev pub AreAtLeast : (one other : ℤ) → (least : ℤ) → Type 0
+AreAtLeast one other least = (least ≤ℤ one) × (least ≤ℤ other)
+
+-- the whole stroke lies on one side of what is between two upright and two level lines: left of it, right of it, below it,
+-- or above it
+abbrev pub IsOutside : (left right bottom top : ℤ) → Stroke → Type 0
+IsOutside left right bottom top s =
+    (AreAtMost s.start.0 s.end.0 left ⊎ AreAtLeast s.start.0 s.end.0 right)
+    ⊎ (AreAtMost s.start.1 s.end.1 bottom ⊎ AreAtLeast s.start.1 s.end.1 top)
+
+-- so it goes over nothing of the cell
+abbrev pub IsOutsideCell : Cell → Stroke → Type 0
+IsOutsideCell cell s = IsOutside (pos (grains_in cell.left)) (pos (grains_in (cell.left + cell.width)))
+    (pos (grains_in cell.bottom)) (pos (grains_in (cell.bottom + cell.height))) s
+
+-- it goes over nothing of what the margin leaves of the sheet
+abbrev pub IsInMargin : Room → Stroke → Type 0
+IsInMargin room s = IsOutside (pos (grains_in room.edge)) (room.paper.width -ℤ pos (grains_in room.edge))
+    (pos (grains_in room.edge)) (room.paper.height -ℤ pos (grains_in room.edge)) s
+
+-- no mark goes over a cell, as long as cells have room for pages
+abbrev pub MarksAreOutside : Type 0
+MarksAreOutside = (room : Room) (g : Grid) (row column : ℕ) → 0 < wide room g → 0 < high room g
+    → row < g.rows → column < g.columns
+    → AllByRecursion (IsOutsideCell (cell_at room g row column)) (cut_marks room g ++ fold_marks room g)
+
+-- if there is a margin, all marks stand in it
+abbrev pub MarksAreInMargin : Type 0
+MarksAreInMargin = (room : Room) (g : Grid) → 0 < room.edge
+    → AllByRecursion (IsInMargin room) (cut_marks room g ++ fold_marks room g)
+
+-- their lines begin no page, no data and no embedded document, so what they are added to is a document again
+abbrev pub MarksAreTame : Type 0
+MarksAreTame = (strokes : List Stroke) (dress : Dress) → IsTameDress dress → IsTameDress (marked strokes dress)

@@ -1,0 +1,27 @@
+-- The marks on the sheets of a laying.
+use Rattle.std.specs.Prelude.{Bool, if◌then◌else◌, List, []}
+use Rattle.layouts.specs.declared.setting.Setting.{Setting}
+use Rattle.marks.specs.Strokes.{cut_marks, fold_marks}
+use Rattle.marks.specs.declared.strokes.Marks.{Marks}
+use Rattle.marks.specs.declared.strokes.Stroke.{Stroke}
+use Rattle.row_runs.specs.declared.asked.Laying.{Laying}
+use Rattle.row_runs.specs.declared.asked.Laying.TheVariants as laying
+
+-- a sheet is cut between its cells, if that is asked for
+abbrev pub cut_if : (asked : Bool) → Setting → List Stroke
+cut_if asked setting = if asked then cut_marks setting.room setting.grid else []
+
+-- or folded there
+abbrev pub fold_if : (asked : Bool) → Setting → List Stroke
+fold_if asked setting = if asked then fold_marks setting.room setting.grid else []
+
+-- the strokes on each sheet of a laying, of the marks that are asked for: booklets are folded between their halves, and
+-- other sheets cut between their cells; pages as they are and posters have no marks
+abbrev pub strokes_in : Marks → Laying → List Stroke
+strokes_in marks (laying.AsTheyAre blank) = []
+strokes_in marks (laying.Poster poster) = []
+strokes_in marks (laying.Grid setting cells) = cut_if marks.cut setting
+strokes_in marks (laying.Cards setting cells) = cut_if marks.cut setting
+strokes_in marks (laying.Stack setting cells) = cut_if marks.cut setting
+strokes_in marks (laying.Leaves setting) = cut_if marks.cut setting
+strokes_in marks (laying.Booklet setting turned_backs creep) = fold_if marks.fold setting
