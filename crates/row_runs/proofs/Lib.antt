@@ -1,3 +1,4 @@
 pub mod Lines
 mod Alone
 mod OneScale
+mod Written

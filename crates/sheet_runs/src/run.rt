@@ -82,11 +82,7 @@ pub fn impose_sheets<R: Threads + Wait + Sync, G: Gate + Sync, S: Sink>(
 }
 
 /// The lines by which sheets tell their papers, and the strokes at their ends.
-fn dressed(
-    alloc: Global,
-    strokes: &[Stroke],
-    sheets: &MadeSheets,
-) -> Result<Dress, AllocError>
+fn dressed(alloc: Global, strokes: &[Stroke], sheets: &MadeSheets) -> Result<Dress, AllocError>
     ensures { IfOk result (λ dress. dress ≡ dressing_of (marked strokes.now (telling sheets.now)) sheets.now) }
 {
     let told = told_papers(alloc, sheets)?;

@@ -42,12 +42,7 @@ pub fn dress_of(
 }
 
 /// The dress with so many sheets more, each of which has these strokes, and no other line.
-fn untold(
-    alloc: Global,
-    dress: Dress,
-    strokes: &[Stroke],
-    count: u32,
-) -> Result<Dress, AllocError>
+fn untold(alloc: Global, dress: Dress, strokes: &[Stroke], count: u32) -> Result<Dress, AllocError>
     requires { dress.hems ≡ [] }
     ensures { IfOk result (λ d. d ≡ record {
       header = dress.header;
@@ -86,7 +81,14 @@ fn named(
     let mut dress = dress;
     let mut kinds = Vec::new(alloc);
     for sheet in 0..count {
-        push_sheet(alloc, &mut dress, &mut kinds, strokes, sheets.paper(sheet), sheet)?;
+        push_sheet(
+            alloc,
+            &mut dress,
+            &mut kinds,
+            strokes,
+            sheets.paper(sheet),
+            sheet,
+        )?;
     }
     Ok(dress)
 }
