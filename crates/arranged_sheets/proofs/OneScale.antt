@@ -1,21 +1,18 @@
 -- One scale for all pages of a row.
-use Rattle.std.proofs.Common.{arith, rules, ◌≡◌, ◌⊎◌, ◌∙◌, inl, inr, ℕ, zero, suc, ◌<◌, ◌≤◌, List, [], ◌∷◌, Bool, true, false, Option, Some, None, refl, sym, ap, subst, unwrap_or, min}
-use Rattle.std.specs.Prelude.{ℤ, pos, nat_le, nat_abs, is_none, ◌&&◌, if◌then◌else◌, option_map, int_le}
+use Rattle.std.proofs.Common.{arith, rules, ◌≡◌, ◌⊎◌, ◌∙◌, inl, inr, ℕ, zero, suc, ◌≤◌, [], ◌∷◌, Bool, true, false, Option, Some, None, refl, sym, ap, subst, unwrap_or, min}
+use Rattle.std.specs.Prelude.{pos, nat_le, ◌&&◌, if◌then◌else◌, option_map}
 use Rattle.std.specs.List.{fold}
-use Rattle.std.proofs.Math.Nat.{min-le_left, min-le_right}
-use Rattle.rules.specs.Papers.{Paper}
 use Rattle.rules.specs.Signatures.{entry_of}
 use Rattle.made_sheets.specs.Rows.{Row}
 use Rattle.layouts.specs.declared.error.ArrangementError.{ArrangementError}
 use Rattle.layouts.specs.declared.error.ArrangementError.TheVariants as why
-use Rattle.layouts.specs.declared.setting.Setting.{Setting}
 use Rattle.layouts.specs.Cells.{scale_in}
 use Rattle.layouts.specs.Placed.{Room}
-use Rattle.layouts.specs.Fitted.{is_whole, scale_on, why_no_scale_on, why_not_fitted}
+use Rattle.layouts.specs.Fitted.{is_whole, scale_on, why_no_scale_on}
 use Rattle.layouts.specs.Refusals.{first_of, are_reached, is_near, is_scale, is_shown, why_no_scale}
 use Rattle.layouts.proofs.Fitting.{fitted_stands}
 use Rattle.arranged_sheets.specs.Filled.{Filling}
-use Rattle.arranged_sheets.specs.SameScale.{own_scale, lesser, least_with, least_scale, at_one_scale, IsOneScale, HaveOneScale, HaveScales, OneScaleStands}
+use Rattle.arranged_sheets.specs.SameScale.{own_scale, lesser, least_with, least_scale, at_one_scale, HaveOneScale, HaveScales, OneScaleStands}
 
 -- ---- the least, as a number
 

@@ -1,5 +1,4 @@
 pub mod Lines
 mod Alone
 mod OneScale
-pub mod Refused
-pub mod Written
+mod Written

@@ -8,21 +8,22 @@ use Rattle.sheet_runs.specs.declared.error.SheetsError.{SheetsError}
 use Rattle.sheet_runs.specs.declared.error.SheetsError.TheVariants as error
 use Rattle.row_runs.specs.Errors.{of_sheets}
 use Rattle.row_runs.specs.Sheets.{AreAsked}
+use Rattle.row_runs.specs.Standing.{StandAsLaid}
 use Rattle.row_runs.specs.Runs.{ArePlanned, WroteWith, page_count, strokes_on}
 use Rattle.row_runs.specs.declared.run.RowJob.{RowJob}
 
-with_strokes : (j : RowJob) (made : List MadeSheet) (e : SheetsError) (old new : SinkView) → AreAsked (page_count j) j.papers.now j.asked made → sheets.RefusesSheets (page_count j) made e
+with_strokes : (j : RowJob) (made : List MadeSheet) (e : SheetsError) (old new : SinkView) → AreAsked (page_count j) j.papers.now j.asked made → StandAsLaid j.asked.laying made → sheets.RefusesSheets (page_count j) made e
     → sheets.WroteWith e (sheets.told_output j.border (strokes_on j) made j.document.now) old new → WroteWith j old new (of_sheets e)
-with_strokes j made (error.Sheets e) old new asked planned h = h
-with_strokes j made (error.NoMemory written) old new asked planned h = elim h [
+with_strokes j made (error.Sheets e) old new asked stand planned h = h
+with_strokes j made (error.NoMemory written) old new asked stand planned h = elim h [
   | inl none ↦ inl none
-  | inr some ↦ inr (made, record { asked = asked; planned = planned }, some)
+  | inr some ↦ inr (made, record { asked = asked; stand = stand; planned = planned }, some)
 ]
-with_strokes j made (error.Write written) old new asked planned h = (made, record { asked = asked; planned = planned }, h)
+with_strokes j made (error.Write written) old new asked stand planned h = (made, record { asked = asked; stand = stand; planned = planned }, h)
 
 pub part_written : (j : RowJob) (made : List MadeSheet) (strokes : List Stroke) (n : ℕ) (e : SheetsError) (old new : SinkView) → n ≡ page_count j → strokes ≡ strokes_on j
-    → AreAsked n j.papers.now j.asked made → sheets.RefusesSheets (page_count j) made e → sheets.WroteWith e (sheets.told_output j.border strokes made j.document.now) old new
+    → AreAsked n j.papers.now j.asked made → StandAsLaid j.asked.laying made → sheets.RefusesSheets (page_count j) made e → sheets.WroteWith e (sheets.told_output j.border strokes made j.document.now) old new
     → WroteWith j old new (of_sheets e)
-part_written j made strokes n e old new count is asked planned h =
-    with_strokes j made e old new (subst (λ (k : ℕ). AreAsked k j.papers.now j.asked made) count asked) planned
+part_written j made strokes n e old new count is asked stand planned h =
+    with_strokes j made e old new (subst (λ (k : ℕ). AreAsked k j.papers.now j.asked made) count asked) stand planned
     (subst (λ (s : List Stroke). sheets.WroteWith e (sheets.told_output j.border s made j.document.now) old new) is h)

@@ -36,7 +36,7 @@ abbrev pub output_on : RowJob → List MadeSheet → List ℕ
 output_on j made = told_output j.border (strokes_on j) made j.document.now
 
 -- exactly the output of the sheets that are asked for was appended, and the report has its numbers: so these pages are
--- printed in this order, inside and apart, each at its place, and nothing else
+-- printed in this order, each at its place, and nothing else; but on posters they lie inside and apart
 pub record Imposes (j : RowJob) (old new : Option (List ℕ)) (done : Report) : Type 0 where
   pub made : List MadeSheet
   pub planned : ArePlanned j made

@@ -10,4 +10,4 @@ returns-clause-written g c =
     let strokes : c.as_slice.result.now ≡ strokes_on j = c.as_slice.ensures.value ∙ c.in-Ok-strokes_of.ensures in
     subst (λ (e : AskedError). WroteWith j (g.S.Sink.seen c.args.sink.now) (g.S.Sink.seen c.impose_sheets.new.sink) e) (sym c.sheets_error.ensures)
     (part_written j _ c.as_slice.result.now c.pages-count.result c.in-Err-impose_sheets.error (g.S.Sink.seen c.args.sink.now) (g.S.Sink.seen c.impose_sheets.new.sink)
-    c.pages-count.ensures.count strokes c.in-Ok.ensures.made c.in-Err-impose_sheets.ensures.refused c.in-Err-impose_sheets.ensures.written)
+    c.pages-count.ensures.count strokes c.in-Ok.ensures.made c.in-Ok.ensures.stands c.in-Err-impose_sheets.ensures.refused c.in-Err-impose_sheets.ensures.written)
