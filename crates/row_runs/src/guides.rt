@@ -1,5 +1,5 @@
 //! Lines that are drawn on sheets: margins, and lines between cells.
-ghost use Rattle.std.specs.Prelude.{◌≡◌, ◌-ℤ◌, ◌<◌, ◌++◌, IfOk, IsTrue, OnOk};
+ghost use Rattle.std.specs.Prelude.{◌≡◌, ◌-ℤ◌, ◌<◌, ◌≤◌, ◌++◌, IfOk, IsTrue, OnOk};
 ghost use Rattle.lengths.specs.Ranges.{FitsGrains};
 ghost use Rattle.rules.specs.Papers.{is_side};
 ghost use Rattle.row_runs.specs.Guides.{edge_of, guides_in, level as level_of, level_line as level_line_of};
