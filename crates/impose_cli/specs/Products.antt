@@ -36,5 +36,6 @@ lays_rows (layout.NUp cells) = true
 lays_rows (layout.Cards cells) = true
 lays_rows (layout.Stack cells duplex) = true
 lays_rows (layout.Booklet signing long_edge) = true
+lays_rows (layout.Poster columns rows) = true
 lays_rows layout.Selection = true
 lays_rows (layout.Spec specs) = false
