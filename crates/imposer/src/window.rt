@@ -18,11 +18,14 @@ use std::time::Duration;
 /// About how many bytes the texts of the window's sheets have together.
 const BYTES_AHEAD: usize = 524_288;
 
+/// About how many bytes of text stand round a placed page.
+const BYTES_ROUND_A_PAGE: usize = 256;
+
 /// About how many bytes the work has that comes with each sheet, however small.
 const BYTES_BESIDE: usize = 32;
 
 /// How many sheets there are in a window at most.
-const MOST_SHEETS: usize = 4_096;
+const MOST_SHEETS: usize = 1_024;
 
 /// With at least so many sheets in a window it is moved by a quarter at a time, and who finds nothing to do sleeps at
 /// once.
@@ -54,8 +57,8 @@ pub(crate) struct Window {
 }
 
 impl Window {
-    /// A window of about half a megabyte of text, of a job whose slots have so many bytes. Two sheets at least, and one
-    /// for each imposer, lie in it.
+    /// A window of about half a megabyte of text, of a job whose slots have so many bytes of text. Two sheets at least,
+    /// and one for each imposer, lie in it.
     ///
     /// A run's end rests on the step: all sheets of a window may be imposed without a word, so a step that is no longer is
     /// reached, and then the window moves on.
@@ -171,7 +174,7 @@ impl Idling {
     }
 }
 
-/// How many bytes all pages have together, and the pages of all slots.
+/// How many bytes all pages have together, and about how many the texts of all slots.
 pub(crate) fn bytes_of_pages(job: &Job<'_, '_>) -> (usize, usize) {
     let mut of_pages = 0usize;
     let mut of_slots = 0usize;
@@ -179,7 +182,8 @@ pub(crate) fn bytes_of_pages(job: &Job<'_, '_>) -> (usize, usize) {
         let bytes = job.document().page(page).len();
         let slots = job.plan().slots_of_page(page).len();
         of_pages = of_pages.saturating_add(bytes);
-        of_slots = of_slots.saturating_add(bytes.saturating_mul(slots));
+        let placed = bytes.saturating_add(BYTES_ROUND_A_PAGE);
+        of_slots = of_slots.saturating_add(placed.saturating_mul(slots));
     }
     (of_pages, of_slots)
 }

@@ -5,10 +5,10 @@ use Rattle.made_sheets.specs.Made.{MadeSlot, Blank, Placed}
 use Rattle.made_sheets.specs.Dress.{lines_text}
 use Rattle.sheet_text.specs.Jobs.{JobView, sheet_of, slots_of}
 
--- for a slot that has a page: as many bytes as the page has, and 512 for the texts round it
+-- for a slot that has a page: as many bytes as the page has, and 256 for the texts round it
 abbrev pub slot_room : List (List ℕ) → MadeSlot → ℕ
 slot_room texts Blank = 0
-slot_room texts (Placed p item paper) = length (slice_index_or texts p []) + 512
+slot_room texts (Placed p item paper) = length (slice_index_or texts p []) + 256
 
 -- for a sheet: 64 bytes, its lines, and its slots
 abbrev pub most_room : JobView → ℕ → ℕ

@@ -40,8 +40,8 @@ pub fn sheet_rope<'r>(alloc: Global, job: &Job<'_, '_>, sheet: u32) -> Result<Ro
     Ok(text)
 }
 
-/// The page line of a sheet and the lines at its start, with room for about all that is copied into the text of the
-/// sheet. The memory of `spent`, a text that nobody needs any more or an empty one, is used again.
+/// The page line of a sheet and the lines at its start. The memory of `spent`, a text that nobody needs any more or an
+/// empty one, is used again. A text without memory gets room for about all that is copied into the text of the sheet.
 pub fn begin_sheet<'r>(
     spent: Rope<'r>,
     job: &Job<'_, '_>,
@@ -52,7 +52,10 @@ pub fn begin_sheet<'r>(
 {
     let mut text = spent;
     text.clear();
-    text.reserve(likely_len(job, sheet))?;
+    // One that was used before mostly has the room.
+    if text.capacity() == 0 {
+        text.reserve(likely_len(job, sheet))?;
+    }
     append_page_line(&mut text, sheet)?;
     text.append(job.start(sheet))?;
     Ok(text)
@@ -86,8 +89,8 @@ fn likely_len(job: &Job<'_, '_>, sheet: u32) -> usize
     len
 }
 
-/// About how many bytes are copied for a slot: those of a page that isn't borrowed, and the texts round it, which have a
-/// few hundred bytes. None for a blank one.
+/// About how many bytes are copied for a slot: those of a page that isn't borrowed, and the texts round it, which have
+/// about two hundred bytes. None for a blank one.
 fn likely_slot_len(job: &Job<'_, '_>, sheet: u32, slot: u16) -> usize
     requires sheet { sheet < length job.now.plan.sheets }
     requires slot { slot < length (pages_on job.now.plan sheet) }
@@ -99,7 +102,7 @@ fn likely_slot_len(job: &Job<'_, '_>, sheet: u32, slot: u16) -> usize
     };
     let body = job.document().page(placed.page).len();
     let copied = if body < LEAST_BORROWED { body } else { 0 };
-    copied.saturating_add(512)
+    copied.saturating_add(256)
 }
 
 /// Appends the line that begins a sheet. Sheets are counted from 0, and from 1 in the text.

@@ -54,8 +54,8 @@ fn a_sheet_with_a_border(rt: HostRuntime) -> Result<(), Fail> {
 #[test]
 fn a_sheet_asks_for_little_more_room_than_its_text(rt: HostRuntime) -> Result<(), Fail> {
     let text = text_of_one(&rt, rt.alloc(), a4(), None)?;
-    // 64 bytes, those of the document, of which the page is a part, and 512 round it.
-    let room = 64 + ONE_PAGE.len() + 512;
+    // 64 bytes, those of the document, of which the page is a part, and 256 round it.
+    let room = 64 + ONE_PAGE.len() + 256;
     if text.capacity() > room {
         panic!(rt; "{} bytes of room", text.capacity());
     }
@@ -85,8 +85,8 @@ fn rooms_of_one<R: Abort>(
 
 #[test]
 fn a_text_that_is_used_again_keeps_its_room(rt: HostRuntime) -> Result<(), Fail> {
-    let likely = 64 + ONE_PAGE.len() + 512;
-    for before in [0usize, 1, 100, 500, 600, 660, 700, 10_000] {
+    let likely = 64 + ONE_PAGE.len() + 256;
+    for before in [0usize, 1, 100, 250, 350, 400, 450, 700, 10_000] {
         let (had, has) = rooms_of_one(&rt, rt.alloc(), a4(), before)?;
         // Memory that is too small may be doubled.
         if has < had || has > had.max(2 * likely) {
