@@ -8,4 +8,4 @@ pub mod Looking
 pub mod Again
 pub mod Examples
 pub mod Programs
-pub mod Unread
+pub mod Ranges
