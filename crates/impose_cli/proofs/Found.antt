@@ -395,10 +395,13 @@ refuses_spacing name found page_paper sheet_paper border layout fault.NoText r a
 
 -- ---- the marks
 
+none_some : (order : Order) → None ≡ Some order → ⊥
+none_some order e = cc
+
 -- an order that is read has parts that are
 order_parts : (run : Option (Run × Bool)) (rtl : Bool) (turned : Option Turned) (order : Order) → order_by run rtl turned ≡ Some order → (is_some run ≡ true) × (is_some turned ≡ true)
-order_parts None rtl turned order e = cc
-order_parts (Some run) rtl None order e = cc
+order_parts None rtl turned order e = absurd (none_some order e)
+order_parts (Some run) rtl None order e = absurd (none_some order e)
 order_parts (Some run) rtl (Some turned) order e = (refl, refl)
 
 has_lengths : (found : List Row) (spacing : Spacing) → SpacesBy true found spacing → HasLengths found
