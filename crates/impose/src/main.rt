@@ -2,8 +2,8 @@
 #![tactic(auto)]
 
 use impose_cli::{
-    CommandFault, Done, Fault, Request, behind_text, command_text, cut_text, fault_status, fault_text, impose,
-    note_text, report_text, words_text,
+    CommandFault, Done, Fault, Request, behind_text, command_text, cut_text, fault_status,
+    fault_text, impose, note_text, report_text, words_text,
 };
 use std::env::Env;
 use std::io::{ErrorKind, Write};

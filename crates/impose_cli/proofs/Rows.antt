@@ -1,5 +1,5 @@
 -- What comes of a task with a row, and of a request.
-use Rattle.std.proofs.Common.{◌≡◌, ◌⊎◌, ◌∙◌, ap, sym, subst, refl, inl, inr, false, List, ℕ, Option, Some, None, Result, Ok, Err, IfOk}
+use Rattle.std.proofs.Common.{◌≡◌, ◌⊎◌, ◌∙◌, ap, sym, subst, refl, inl, inr, false, ◌∷◌, List, ℕ, Option, Some, None, Result, Ok, Err, IfOk}
 use Rattle.std.specs.Prelude.{length, option_map}
 use Rattle.rules.specs.Papers.{Paper}
 use Rattle.std.proofs.lemmas.List.{length-map}
@@ -14,7 +14,9 @@ use Rattle.sheet_writer.specs.Sinks.{SinkView}
 use Rattle.imposer.specs.declared.outcome.Report.{Report}
 use Rattle.row_runs.specs.declared.run.RowJob.{RowJob}
 use Rattle.impose_cli.specs.Endings.{Ends, EndsBySpec, EndsTask, Finishes}
+use Rattle.own_papers.specs.AsOne.{as_one, kinds, paper_among}
 use Rattle.own_papers.specs.declared.cuts.Cut.{Cut}
+use Rattle.paper_names.specs.Names.{paper_named}
 use Rattle.imposer.specs.declared.outcome.RunError.TheVariants as run
 use Rattle.sheet_text.specs.Jobs.{is_border}
 use Rattle.impose_cli.specs.Faults.{without_memory}
@@ -65,6 +67,11 @@ pub papers_len : (named : Option Paper) (names : List ℕ → Option Paper) (hom
     → length (own_papers named names home text us) ≡ length (pages us)
 papers_len (Some paper) names home text us = length-map (pages us) (λ page. paper)
 papers_len None names home text us = length-map (pages us) (own_paper names home (header text) (trailer_lines us))
+
+pub as_many : (r : Request) (us : List NestedUnit) (first : Paper) (own papers : List Paper) (n : ℕ) → n ≡ length (pages us)
+    → own ≡ own_papers r.page_paper paper_named r.home_paper (bytes_of us) us → papers ≡ as_one first own → n ≡ length papers
+as_many r us first own papers n count is one = count
+    ∙ sym (ap length one ∙ length-map own (paper_among (kinds (first ∷ own))) ∙ ap length is ∙ papers_len r.page_paper paper_named r.home_paper (bytes_of us) us)
 
 -- why there is no task for a document that is accepted, with sheets and cells for this paper
 abbrev pub RefusesAccepted : Request → (page_paper : Paper) → Fault → Type 0

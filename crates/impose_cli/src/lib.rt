@@ -28,7 +28,9 @@ pub use fault::{
     CellOption, CommandFault, Fault, GridCommand, LengthOption, PaperOption, ProductOption,
 };
 pub use look::{Look, look_text};
-pub use messages::{behind_text, command_text, cut_text, fault_status, fault_text, note_text, report_text};
+pub use messages::{
+    behind_text, command_text, cut_text, fault_status, fault_text, note_text, report_text,
+};
 pub use mistakes::words_text;
 pub use printed::printed_task;
 pub use program::{Done, Ended, impose};

@@ -16,7 +16,8 @@ const MIXED: &str = "%!PS\n%%DocumentMedia: A 595 842 0 () ()\n%%+ B 842 1191 0 
 
 /// Three pages of ps2write, whose header tells a box that covers all of them: of a4, once rounded down, and of a4 on its
 /// side. Behind them stands another document of one page.
-const BOXED: &str = "%!PS\n%%BoundingBox: 0 0 842 842\n%%Page: 1 1\n%%PageBoundingBox: 0 0 595 842\nshowpage\n\
+const BOXED: &str =
+    "%!PS\n%%BoundingBox: 0 0 842 842\n%%Page: 1 1\n%%PageBoundingBox: 0 0 595 842\nshowpage\n\
     %%Page: 2 2\n%%PageBoundingBox: 0 0 842 595\nshowpage\n%%Page: 3 3\n%%PageBoundingBox: 0 0 595 841\nshowpage\n\
     %%Trailer\n%%EOF\n%!PS\n%%Page: 1 1\nshowpage\n%%EOF\n";
 

@@ -4,8 +4,8 @@ use arranged_sheets::PosterError;
 use document_paper::Comment;
 use dsc::DscError;
 use impose_cli::{
-    Fault, Finished, PaperOrigin, Request, behind_text, cut_text, fault_status, fault_text, note_text,
-    report_text,
+    Fault, Finished, PaperOrigin, Request, behind_text, cut_text, fault_status, fault_text,
+    note_text, report_text,
 };
 use imposer::{Report, RunError};
 use layouts::ArrangementError;
