@@ -301,6 +301,8 @@ refuses_overlap found margin gap trim creep fault.Lacking m g t c h = h
 refuses_overlap found margin gap trim creep fault.OddAndEven m g t c h = h
 refuses_overlap found margin gap trim creep (fault.BadSignature text) m g t c h = h
 refuses_overlap found margin gap trim creep (fault.OptionAsOutfile text) m g t c h = h
+refuses_overlap found margin gap trim creep (fault.TwoProducts one other) m g t c h = h
+refuses_overlap found margin gap trim creep (fault.BadPicture text) m g t c h = h
 refuses_overlap found margin gap trim creep (fault.Words error) m g t c h = h
 refuses_overlap found margin gap trim creep fault.NoText m g t c h = h
 refuses_overlap found margin gap trim creep (fault.BadCells command text) m g t c h = h
@@ -413,20 +415,20 @@ are_read found spacing k =
 
 -- a value that is none, behind all that was read
 no_marks_named : (option : CellOption) (name : Text) (found : List Row) (f : CommandFault) → HasLayout name found → HasLengths found → AreValues option found → RefusesValue option found f → RefusesFound name found f
-no_marks_named option name found (fault.BadValue which text) l n v h = (l, n, has_no_value option which found (string_bytes text) h.0 h.1 h.2 v)
-no_marks_named option name found fault.NoMemory l n v h = tt
-no_marks_named option name found (fault.Words error) l n v h = h
-no_marks_named option name found fault.NoText l n v h = h
-no_marks_named option name found (fault.BadLength option text) l n v h = absurd h
-no_marks_named option name found (fault.UnknownPaper option text) l n v h = absurd h
-no_marks_named option name found (fault.BadBorder text) l n v h = absurd h
-no_marks_named option name found fault.Lacking l n v h = absurd h
-no_marks_named option name found fault.OddAndEven l n v h = absurd h
-no_marks_named option name found (fault.BadSignature text) l n v h = absurd h
-no_marks_named option name found (fault.BadCells command text) l n v h = absurd h
-no_marks_named option name found (fault.OptionAsOutfile text) l n v h = absurd h
-no_marks_named option name found (fault.TwoProducts one other) l n v h = absurd h
-no_marks_named option name found (fault.BadPicture text) l n v h = absurd h
+no_marks_named kind name found (fault.BadValue which text) l n v h = (l, n, has_no_value kind which found (string_bytes text) h.0 h.1 h.2 v)
+no_marks_named kind name found fault.NoMemory l n v h = tt
+no_marks_named kind name found (fault.Words error) l n v h = h
+no_marks_named kind name found fault.NoText l n v h = h
+no_marks_named kind name found (fault.BadLength option text) l n v h = absurd h
+no_marks_named kind name found (fault.UnknownPaper option text) l n v h = absurd h
+no_marks_named kind name found (fault.BadBorder text) l n v h = absurd h
+no_marks_named kind name found fault.Lacking l n v h = absurd h
+no_marks_named kind name found fault.OddAndEven l n v h = absurd h
+no_marks_named kind name found (fault.BadSignature text) l n v h = absurd h
+no_marks_named kind name found (fault.BadCells command text) l n v h = absurd h
+no_marks_named kind name found (fault.OptionAsOutfile text) l n v h = absurd h
+no_marks_named kind name found (fault.TwoProducts one other) l n v h = absurd h
+no_marks_named kind name found (fault.BadPicture text) l n v h = absurd h
 
 pub refuses_marks : (name : Text) (found : List Row) (page_paper sheet_paper : Option Paper) (border : Option ℤ) (layout : Layout) (spacing : Spacing) (f : CommandFault)
     → ReadsSizes found page_paper sheet_paper border → AsksFor name found layout → SpacesBy (keeps_room layout) found spacing → RefusesMarks layout found f → RefusesFound name found f
@@ -464,6 +466,8 @@ pub refuses_outfile : (name : Text) (found : List Row) (page_paper sheet_paper :
     → ReadsSizes found page_paper sheet_paper border → AsksFor name found layout → SpacesBy (keeps_room layout) found spacing → marks_found layout found ≡ Some marks → ChoosesBy (ranges_id layout) found choice → RefusesOutfile found f → RefusesFound name found f
 refuses_outfile name found page_paper sheet_paper border layout spacing marks choice (fault.OptionAsOutfile text) r a k m o h =
     (record { spacing = has_spacing name found page_paper sheet_paper border layout spacing marks r a k m; choice = choice; chosen = o }, h)
+refuses_outfile name found page_paper sheet_paper border layout spacing marks choice (fault.TwoProducts one other) r a k m o h = absurd h
+refuses_outfile name found page_paper sheet_paper border layout spacing marks choice (fault.BadPicture text) r a k m o h = absurd h
 refuses_outfile name found page_paper sheet_paper border layout spacing marks choice (fault.BadLength option text) r a k m o h = absurd h
 refuses_outfile name found page_paper sheet_paper border layout spacing marks choice fault.NoMemory r a k m o h = tt
 refuses_outfile name found page_paper sheet_paper border layout spacing marks choice (fault.UnknownPaper option text) r a k m o h = absurd h

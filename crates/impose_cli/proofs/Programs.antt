@@ -57,6 +57,7 @@ kept_spec : (r : Request) (input : List ℕ) (start handed written : Option (Lis
 kept_spec r input start handed written finished kept h = record {
   page_count = h.page_count;
   document = h.document;
+  behind = h.behind;
   page_paper = h.page_paper;
   text = h.text;
   is_text = h.is_text;
@@ -78,6 +79,7 @@ kept_row : (r : Request) (input : List ℕ) (start handed written : Option (List
     → FinishesRow r input start handed finished → FinishesRow r input start written finished
 kept_row r input start handed written finished kept h = record {
   page_paper = h.page_paper;
+  behind = h.behind;
   job = h.job;
   papers = h.papers;
   is_job = h.is_job;
@@ -160,6 +162,7 @@ lays (layout.NUp cells) e = tt
 lays (layout.Cards cells) e = tt
 lays (layout.Stack cells duplex) e = tt
 lays (layout.Booklet signing long_edge) e = tt
+lays (layout.Poster columns rows) e = tt
 lays layout.Selection e = tt
 lays (layout.Spec specs) e = cc
 
