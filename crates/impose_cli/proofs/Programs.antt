@@ -16,7 +16,8 @@ use Rattle.impose_cli.specs.Looks.{MayBeMade, TellsRow}
 use Rattle.impose_cli.specs.Products.{lays_rows}
 use Rattle.impose_cli.specs.Programs.{CarriesOut, Gives, IsReading, IsSaidOf, Makes, Prints, RunsInto, Shows, Writes}
 use Rattle.impose_cli.specs.RowTasks.{LaysRows}
-use Rattle.impose_cli.specs.Words.{MakesBy, Reads}
+use Rattle.rules.specs.Papers.{Paper}
+use Rattle.impose_cli.specs.Words.{Entered, MakesBy, Reads}
 use Rattle.impose_cli.specs.Unread.{MayBeRead, RefusesRequest}
 use Rattle.impose_cli.specs.Tasks.{FinishesSpec, IsTask}
 use Rattle.impose_cli.specs.declared.fault.Fault.{Fault}
@@ -175,5 +176,9 @@ made_by false found product.Plan l lays h = let e = h.planned in cc
 made_by true found (product.Picture file) l lays h = lays refl
 made_by false found (product.Picture file) l lays h = let e = h.pictured in cc
 
-pub may_be_made : (name : Text) (found : List Row) (r : Request) → Reads name found r → MayBeMade r.product r.layout
+may_be_made : (name : Text) (found : List Row) (r : Request) → Reads name found r → MayBeMade r.product r.layout
 may_be_made name found r h = made_by (lays_rows r.layout) found r.product r.layout (lays r.layout) h.product
+
+pub may_be_made_at_home : (words : List Text) (r given : Request) (home : Paper) → given ≡ record r { home_paper = home } → Entered words (λ name found. Reads name found r)
+    → MayBeMade given.product given.layout
+may_be_made_at_home words r given home e h = subst (λ (q : Request). MayBeMade q.product q.layout) (sym e) (may_be_made h.0 h.1 r h.3)

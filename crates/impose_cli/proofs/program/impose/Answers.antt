@@ -2,6 +2,7 @@ use Rattle.std.proofs.Common.{map, ap, subst, sym}
 use Rattle.std.specs.Prelude.{string_bytes}
 use Rattle.impose_cli.specs.Programs.{IsHome}
 use Rattle.impose_cli.proofs.Found.{entered_at_home}
+use Rattle.impose_cli.proofs.Programs.{may_be_made_at_home}
 use Rattle.impose_cli.proofs.program.impose.Goals as goal
 
 pub returns-in-Ok : goal.returns-in-Ok
@@ -12,3 +13,7 @@ returns-in-Ok g c = record {
     c.carry_out-left.ensures,
   );
 }
+
+pub carry_out-left-requires-after_bounds : goal.carry_out-left-requires-after_bounds
+carry_out-left-requires-after_bounds g c =
+    may_be_made_at_home (map string_bytes c.args.words.now) c.in-Ok.read c.at_home-request.result c.home_of.result c.at_home-request.ensures c.in-Ok.ensures.read

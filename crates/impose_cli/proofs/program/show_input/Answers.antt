@@ -6,4 +6,4 @@ pub returns-in-Ok : goal.returns-in-Ok
 returns-in-Ok g c =
     shown c.args.look (option_map (λ n. n.now) c.args.name) c.args.request.now c.args.input.items (g.W.World.tells c.args.world)
     c.in-Ok.text.items c.write_text.result.outcome (is_some c.write_text.result.output)
-    (option_and_then g.W.Output.Write.contents c.write_text.result.output) c.in-Ok.ensures.told c.write_text.ensures
+    (option_and_then g.W.Output.Write.contents c.write_text.result.output) c.in-Ok.ensures.told (rw c.as_slice.ensures.value at c.write_text.ensures)

@@ -1,7 +1,7 @@
 use Rattle.std.proofs.Common.{◌≡◌, false, refl, subst, inl, inr, rules}
 use Rattle.rules.specs.Papers.{Paper}
 use Rattle.std.specs.Prelude.{◌⊎◌}
-use Rattle.impose_cli.specs.Choices.{is_whole}
+use Rattle.impose_cli.specs.Choices.{is_said}
 use Rattle.impose_cli.specs.Faults.{without_memory}
 use Rattle.impose_cli.specs.Tasks.{page_paper_found, sheet_paper_found}
 use Rattle.impose_cli.specs.Refusals.{RefusesLayout}
@@ -32,9 +32,9 @@ returns-in-Err-placing-clause-refused c =
     let there = subst (λ (p : Paper × PaperOrigin). (c.in-Err-placing.fault ≡ without_memory) ⊎ RefusesLayout request.layout request.spacing p.0 (sheet_paper_found request.sheet_paper p.0) c.in-Err-placing.fault) found refused in
     inr (c.in-Ok.counts.0, rw c.as_slice.ensures.value at c.in-Ok.ensures.counted, inr there)
 
-pub returns-then-not-is_whole-clause-refused : goal.returns-then-not-is_whole-clause-refused
-returns-then-not-is_whole-clause-refused c =
-    let part : is_whole c.args.request.now.choice ≡ false = search rules in
+pub returns-then-not-is_said-clause-refused : goal.returns-then-not-is_said-clause-refused
+returns-then-not-is_said-clause-refused c =
+    let part : is_said c.args.request.now.choice c.args.request.now.marks ≡ false = search rules in
     inr (c.in-Ok.counts.0, rw c.as_slice.ensures.value at c.in-Ok.ensures.counted, inl (refl, part))
 
 pub returns-in-Err-text_to_impose-clause-refused : goal.returns-in-Err-text_to_impose-clause-refused
