@@ -15,5 +15,5 @@ returns-in-Ok g c = record {
 }
 
 pub carry_out-left-requires-after_bounds : goal.carry_out-left-requires-after_bounds
-carry_out-left-requires-after_bounds g c =
+carry_out-left-requires-after_bounds g c κs bounds =
     may_be_made_at_home (map string_bytes c.args.words.now) c.in-Ok.read c.at_home-request.result c.home_of.result c.at_home-request.ensures c.in-Ok.ensures.read
