@@ -506,11 +506,7 @@ fn scale_of(alloc: Global, found: &ArgMatches<'_>) -> Result<Option<Number>, Com
 }
 
 /// The marks that are asked for, of those that sheets of the layout have.
-fn marks_of(
-    alloc: Global,
-    layout: &Layout,
-    found: &ArgMatches<'_>,
-) -> Result<Marks, CommandFault>
+fn marks_of(alloc: Global, layout: &Layout, found: &ArgMatches<'_>) -> Result<Marks, CommandFault>
     ensures read { IfOk result (λ marks. marks_found layout.now (rows_of (found_of found.now)) ≡ Some marks) }
     ensures refused { IfErr result (RefusesMarks layout.now (rows_of (found_of found.now))) }
 {

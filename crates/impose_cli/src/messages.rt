@@ -469,7 +469,9 @@ fn value_text(alloc: Global, option: CellOption, text: &str) -> Result<String, A
             "bad scale '{text}' after --scale: give a number as 0.7"
         ),
         CellOption::FoldMarks => if text.contains("cut") {
-            format!(in alloc; "a booklet isn't cut, so --marks {text} asks too much: give --marks fold")
+            format!(in alloc;
+                "a booklet isn't cut, so --marks {text} asks too much: give --marks fold"
+            )
         } else {
             format!(in alloc; "unknown marks '{text}' after --marks: give fold")
         },

@@ -570,11 +570,7 @@ fn marks_at_the_ends_of_sheets(rt: HostRuntime) -> Result<(), Fail> {
     ];
     for (options, wanted) in rows {
         let line = format!(in rt.alloc(); "{options} -p 100x200pt")?;
-        assert_eq!(rt;
-            ends(&rt, line.as_str())?.as_str(),
-            wanted,
-            "at {options}"
-        );
+        assert_eq!(rt; ends(&rt, line.as_str())?.as_str(), wanted, "at {options}");
     }
     Ok(())
 }
