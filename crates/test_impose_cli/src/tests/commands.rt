@@ -376,46 +376,6 @@ fn leaves_that_creep(rt: HostRuntime) -> Result<(), Fail> {
 }
 
 #[test]
-fn posters(rt: HostRuntime) -> Result<(), Fail> {
-    let request = read(rt.alloc(), "poster 2x3 --overlap 1cm --reverse in.ps")?;
-    assert!(rt;
-        matches!(
-            request.layout,
-            Layout::Poster {
-                columns: 2,
-                rows: 3,
-            }
-        )
-    );
-    assert_eq!(rt;
-        Some(request.spacing.overlap),
-        Grains::new(3_600_000_000_000)
-    );
-    assert!(rt; request.choice.backwards);
-    for line in ["poster 4", "poster 2x", "poster 0x2", "poster 33x32"] {
-        let refused = read(rt.alloc(), line);
-        assert!(rt;
-            matches!(refused, Err(CommandFault::BadCells(GridCommand::Poster, _))),
-            "at {line}"
-        );
-    }
-    let refused = read(rt.alloc(), "poster 2x2 --overlap x");
-    assert!(rt;
-        matches!(
-            refused,
-            Err(CommandFault::BadLength(LengthOption::Overlap, _))
-        )
-    );
-    for line in ["poster", "poster 2x2 --gap 1mm", "nup 2 --overlap 1cm"] {
-        assert!(rt;
-            matches!(read(rt.alloc(), line), Err(CommandFault::Words(_))),
-            "at {line}"
-        );
-    }
-    Ok(())
-}
-
-#[test]
 fn marks_that_sheets_have(rt: HostRuntime) -> Result<(), Fail> {
     let none = read(rt.alloc(), "booklet")?.marks;
     assert!(rt; !none.fold && !none.cut);
