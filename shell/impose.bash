@@ -1,21 +1,24 @@
 # bash completion for impose and impose-pdf: commands, options, names of papers, files. No function of others is needed.
 
 # The words that can stand in a place; `checks/options` compares them with `impose --help`.
-_impose_commands='nup booklet cards stack poster select spec help'
+_impose_commands='nup booklet cards stack notes poster select spec help'
 _impose_papers='a0 a1 a2 a3 a4 a5 a6 b4 b5 b6 letter legal tabloid ledger statement executive folio quarto 10x14'
 _impose_options_of() {
     local all='--paper --sheet --border --unguarded --print-spec --quiet --help -p -q -h'
-    local parts='--odd --even --reverse --plan --preview'
-    local laid="--margin --gap --trim --marks --rtl --same-scale --pages $parts"
+    local parts='--odd --even --reverse'
+    local looks='--plan --preview'
+    local row="--pages $parts"
+    local laid="--margin --gap --trim --marks --rtl --same-scale $row $looks"
     local cells="--order --turned --scale $laid"
     case "$1" in
         '') echo '--help --version -h -V' ;;
         nup | cards) echo "$cells $all" ;;
         booklet) echo "--signature --creep --long-edge $laid $all" ;;
         stack) echo "--duplex $cells $all" ;;
-        poster) echo "--overlap --margin --pages $parts $all" ;;
-        select) echo "$parts $all" ;;
-        spec) echo "$all" ;;
+        notes) echo "--same-scale --margin --gap --trim $row $looks $all" ;;
+        poster) echo "--overlap --margin $row $looks $all" ;;
+        select) echo "$parts $looks $all" ;;
+        spec) echo "--signature $row $all" ;;
     esac
 }
 
@@ -29,7 +32,7 @@ _impose_values_of() {
         --order) echo 'right-down down-right left-down down-left' ;;
         --turned) echo 'left right' ;;
         --scale) echo '0.5 0.7 1' ;;
-        --marks) echo 'fold cut' ;;
+        --marks) echo 'fold cut fold,cut' ;;
         --creep) echo '.5mm 1mm 2mm' ;;
         --signature) echo 'auto 4 8 12 16 20 24 28 32' ;;
         --pages | --preview) ;;
@@ -81,6 +84,7 @@ _impose() {
             help:0) COMPREPLY=($(compgen -W "$_impose_commands" -- "$cur")) ;;
             help:*) ;;
             nup:0 | cards:0 | stack:0) COMPREPLY=($(compgen -W '1 2 4 6 8 9 16 2x4' -- "$cur")) ;;
+            notes:0) COMPREPLY=($(compgen -W '1 2 3 4' -- "$cur")) ;;
             poster:0) COMPREPLY=($(compgen -W '2x2 2x3 3x2 3x3 4x4' -- "$cur")) ;;
             select:0 | spec:0) ;;
             *) _impose_files "${patterns[@]}" ;;

@@ -328,7 +328,7 @@ inline impose_sheet()
 #ifdef SPENT
 	take_text();
 #endif
-	is_last = false;
+	none_left = false;
 	finds = (finds == 0 -> 1 : finds);
 #ifndef BAD_MARK_IN_TWO_STEPS
 	assert(missing[s] == 0);
@@ -406,7 +406,7 @@ proctype imposer()
 	byte looked_to, end, s, to;
 	byte b0, b1, b2;                 /* Batch.sheets */
 	byte finds;                      /* looks for sheets that the batch has had, with the first one */
-	bool is_last;
+	bool none_left;
 #ifdef SPENT
 	byte spent, room;                /* Batch.spent */
 #endif
@@ -418,7 +418,7 @@ again:
 	go_on(turn_i, has);
 #endif
 #ifndef BAD_PREPARERS_READ_LATE
-	is_last = (preparers_left == 0);
+	none_left = (preparers_left == 0);
 #endif
 	/* Window::end: two loads */
 	if
@@ -432,7 +432,7 @@ take:
 		:: q?s ->
 			assert(!(taken_mask & bit(s)));
 			taken_mask = taken_mask | bit(s);
-			is_last = false;
+			none_left = false;
 			if
 			:: s < end -> impose_sheet(); further()
 			:: else ->
@@ -548,12 +548,12 @@ wait:
 	END_TURN(turn_i, has);
 #endif
 #ifdef BAD_PREPARERS_READ_LATE
-	is_last = (preparers_left == 0);
+	none_left = (preparers_left == 0);
 #endif
 	atomic {
 		if
-		:: is_last && held == 0 -> goto ended
-		:: else -> is_last = false
+		:: none_left && held == 0 -> goto ended
+		:: else -> none_left = false
 		fi
 	};
 	/* Window::rest, Idling::next_nap: a nap ends by itself */
@@ -580,9 +580,9 @@ no_memory:
 	goto gone;
 #endif
 ended:
-	atomic { imposers_left--; looked_to = 0; is_last = false; end = 0; alive--; goto over };
+	atomic { imposers_left--; looked_to = 0; none_left = false; end = 0; alive--; goto over };
 gone:
-	atomic { looked_to = 0; is_last = false; end = 0; alive-- };
+	atomic { looked_to = 0; none_left = false; end = 0; alive-- };
 over:
 	skip
 }
@@ -628,13 +628,13 @@ init
 {
 	byte n, s, m0, m1, m2;
 	byte room_left = BLANKS;                 /* of the run's pass: most_puts_in_all */
-	bool is_last;
+	bool none_left;
 	bool gathered;
 #ifdef SPENT
 	byte spent, room;
 #endif
 
-	/* The table: run_job, gather_on. Ready::by_right, most_puts_in_all: the pass has room for all puts. */
+	/* The table: run_plan, gather_on. Ready::by_right, most_puts_in_all: the pass has room for all puts. */
 	d_step {
 		n = 0;
 		do
@@ -708,7 +708,7 @@ init
 	:: halted -> break
 	:: else ->
 #ifndef BAD_IMPOSERS_READ_LATE
-		is_last = (imposers_left == 0);
+		none_left = (imposers_left == 0);
 #endif
 		if
 		:: atomic {
@@ -719,7 +719,7 @@ init
 			c?m0,m1,m2 ->
 #endif
 			put_early(m0); put_early(m1); put_early(m2);
-			m0 = 0; m1 = 0; m2 = 0; is_last = false;
+			m0 = 0; m1 = 0; m2 = 0; none_left = false;
 #ifdef BAD_TOLD_EARLY
 			wnext = next + 1;
 #endif
@@ -763,10 +763,10 @@ init
 #endif
 		:: empty(c) ->
 #ifdef BAD_IMPOSERS_READ_LATE
-			is_last = (imposers_left == 0);
+			none_left = (imposers_left == 0);
 #endif
 			if
-			:: is_last -> break
+			:: none_left -> break
 			:: else
 			fi;
 #ifndef BAD_NOT_TOLD_BEFORE_NAP
@@ -778,7 +778,7 @@ init
 #endif
 		fi
 	od;
-	is_last = false;
+	none_left = false;
 #ifndef BAD_STOP
 	LIFT;                              /* WorkerInput::stop */
 #endif

@@ -1,7 +1,7 @@
 """The premises of `sheets_show_the_document` of crates/pictures, by running the second machine; and what the law says, looked
 at in a run of an output. specs/Sheets, Documents, Kept, Unaware and DocumentRun of the crate have the definitions.
 
-A premise has its words, and what is wrong, None if it is met. They are those of docs/PICTURES.md and of crates/pictures."""
+A premise has its words, and what is wrong, None if it is met. They are those of docs/PICTURES.md."""
 from dataclasses import replace
 from machine import ALWAYS, FONTS, PROVED, USERDICT, Graphics, Literal, Machine, Name, Saved, Scanner, Snapshot, Stopped, is_complete
 from parts import Document, comments_apart, drops_in_header, drops_in_page, first_is_complete

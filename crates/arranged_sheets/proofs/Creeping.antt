@@ -13,10 +13,10 @@ use Rattle.layouts.specs.declared.error.ArrangementError.{ArrangementError}
 use Rattle.layouts.specs.declared.error.ArrangementError.TheVariants as why
 use Rattle.layouts.specs.declared.setting.Setting.{Setting}
 use Rattle.layouts.specs.Placed.{Room}
-use Rattle.layouts.specs.Cells.{slack, slack_x, trimmed, whole}
+use Rattle.layouts.specs.Cells.{size, slack, slack_x, trimmed, whole}
 use Rattle.layouts.specs.Grids.{beside, leaf_order}
 use Rattle.layouts.specs.Refusals.{first_of}
-use Rattle.layouts.specs.Fitted.{fitted, fitted_back, is_whole, scale_on, why_no_scale_on}
+use Rattle.layouts.specs.Fitted.{fitted, fitted_back, scale_on, why_no_scale_on, why_not_fitted}
 use Rattle.layouts.proofs.AlongSide.{in_cell, cells_fit}
 use Rattle.layouts.proofs.OnSide.{HasCell, cell, shown, from_start}
 use Rattle.layouts.proofs.InGrid.{fits, both_true}
@@ -68,6 +68,10 @@ halves_are : (t : Setting) → AreHalves t → t ≡ halves t.room t.order.right
 halves_are t h =
     ap (λ g. record { room = t.room; grid = g; order = t.order; scale = t.scale }) h.0
     ∙ ap (λ o. record { room = t.room; grid = beside true; order = o; scale = t.scale }) h.1
+
+-- they are two
+pub halves_many : (t : Setting) → AreHalves t → 2 ≤ size t.grid
+halves_many t h = subst (λ g. 2 ≤ size g) (sym h.0) (let two : 2 ≤ size (beside true) = omega arith in two)
 
 -- what holds of halves holds of such a setting
 pub of_halves : (P : Setting → Type 0) (t : Setting) → AreHalves t → P (halves t.room t.order.right_to_left t.scale) → P t
@@ -160,16 +164,13 @@ pub room_there : (t : Setting) (page : Paper) (creep slack : ℕ) → AreHalves 
 room_there t page creep slack halved is h =
     sym (ap (λ n. nat_le (2 * creep) (2 * n + t.room.gap)) (is ∙ ap (λ g. slack_x page t.room g (scale_on t page)) halved.0)) ∙ h
 
-free_both : (b : Bool) (x : Option ArrangementError) (m : Bool) → x ≡ None → m ≡ true → or_else (if b then None else x) (first_of m why.CreepOverFold None) ≡ None
-free_both true None true e h = refl
-free_both false None true e h = refl
-free_both true None false e h = absurd (cc (h))
-free_both false None false e h = absurd (cc (h))
-free_both true (Some x) m e h = absurd (cc (e))
-free_both false (Some x) m e h = absurd (cc (e))
+free_both : (x : Option ArrangementError) (m : Bool) → x ≡ None → m ≡ true → or_else x (first_of m why.CreepOverFold None) ≡ None
+free_both None true e h = refl
+free_both None false e h = absurd (cc (h))
+free_both (Some x) m e h = absurd (cc (e))
 
-pub creeps_there : (t : Setting) (page : Paper) (creep : ℕ) → why_no_scale_on t page ≡ None → may_creep page t.room (scale_on t page) creep ≡ true → why_not_creeping t page creep ≡ None
-creeps_there t page creep e may = free_both (is_whole t page) (why_no_scale_on t page) (may_creep page t.room (scale_on t page) creep) e may
+pub creeps_there : (t : Setting) (page : Paper) (creep : ℕ) → why_not_fitted t page ≡ None → may_creep page t.room (scale_on t page) creep ≡ true → why_not_creeping t page creep ≡ None
+creeps_there t page creep e may = free_both (why_not_fitted t page) (may_creep page t.room (scale_on t page) creep) e may
 
 pub made_there : (t : Setting) (page : Paper) (by_half : Bool) (k creep : ℕ) (by : ℤ) (item item' : Item) → item' ≡ moved_up by item → by ≡ up_to_fold t.order.right_to_left by_half k creep
     → item ≡ (if by_half then fitted_back t page k else fitted t page k) → item' ≡ creeping t by_half page k creep

@@ -1,6 +1,6 @@
 -- Worked examples.
 use Rattle.std.proofs.Common.{◌≡◌, refl}
-use Rattle.std.specs.Prelude.{map, [], ◌∷◌, Some, None}
+use Rattle.std.specs.Prelude.{ℕ, map, [], ◌∷◌, Some, None}
 use Rattle.std.specs.List.{range_with_len}
 use Rattle.layouts.specs.declared.arrangement.Run.TheVariants.{Rows, Columns}
 use Rattle.made_sheets.specs.Rows.{all_pages}
@@ -17,15 +17,19 @@ first_sheet = refl
 last_sheet : map (stack_entry 4 (all_pages 7) 3) (range_with_len 0 2) ≡ Some 3 ∷ None ∷ []
 last_sheet = refl
 
+-- which cell stands behind one, if cells are filled row by row
+abbrev behind_cell : (rows columns cell : ℕ) → ℕ
+behind_cell rows columns cell = cell_behind Rows rows columns cell
+
 -- eight pages on two leaves with two cells beside one another on each side
-front : map (duplex_entry 2 (cell_behind Rows 1 2) (all_pages 8) 0) (range_with_len 0 2) ≡ Some 0 ∷ Some 4 ∷ []
+front : map (duplex_entry 2 (behind_cell 1 2) (all_pages 8) 0) (range_with_len 0 2) ≡ Some 0 ∷ Some 4 ∷ []
 front = refl
 
-back : map (duplex_entry 2 (cell_behind Rows 1 2) (all_pages 8) 1) (range_with_len 0 2) ≡ Some 5 ∷ Some 1 ∷ []
+back : map (duplex_entry 2 (behind_cell 1 2) (all_pages 8) 1) (range_with_len 0 2) ≡ Some 5 ∷ Some 1 ∷ []
 back = refl
 
 -- behind the first cell of two rows and three columns is the last one of its row
-behind_rows : map (cell_behind Rows 2 3) (range_with_len 0 6) ≡ 2 ∷ 1 ∷ 0 ∷ 5 ∷ 4 ∷ 3 ∷ []
+behind_rows : map (behind_cell 2 3) (range_with_len 0 6) ≡ 2 ∷ 1 ∷ 0 ∷ 5 ∷ 4 ∷ 3 ∷ []
 behind_rows = refl
 
 behind_columns : map (cell_behind Columns 2 3) (range_with_len 0 6) ≡ 4 ∷ 5 ∷ 2 ∷ 3 ∷ 0 ∷ 1 ∷ []

@@ -10,4 +10,5 @@ mod Tiles
 mod OneScale
 mod Examples
 mod Filling
+mod Kept
 mod Offsets

@@ -1,8 +1,9 @@
--- Read in this order: sheets whose cells are filled from a row, and how; one scale for all; leaves that creep; how they stand;
--- posters.
+-- Read in this order: sheets whose cells are filled from a row, and how; one scale for all; leaves that creep; how they stand, and
+-- what is kept of that; posters.
 pub mod Filled
 pub mod Shapes
 pub mod SameScale
 pub mod Creep
 pub mod Standing
+pub mod Kept
 pub mod Posters

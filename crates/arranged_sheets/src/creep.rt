@@ -1,18 +1,19 @@
 //! Booklets whose leaves creep: in a folded signature the inner leaves stick out, so what stands on them is moved towards
 //! the fold.
-ghost use Rattle.std.specs.Prelude.{◌≡◌, ◌+◌, ◌*◌, ◌<◌, ◌≤◌, ◌+ℤ◌, ◌*ℤ◌, pos, nat_abs, IfOk, IfErr, OnOk, Some, nat_le};
+ghost use Rattle.std.specs.Prelude.{◌≡◌, ◌+◌, ◌*◌, ◌<◌, ◌≤◌, ◌+ℤ◌, ◌*ℤ◌, pos, nat_abs, IfOk, IfErr, OnOk, Some, nat_le, true};
 ghost use Rattle.rules.specs.Numbers.{greatest_number};
 ghost use Rattle.pagespec.specs.Items.{item_of};
 ghost use Rattle.layouts.specs.Cells.{slack_x};
 ghost use Rattle.layouts.specs.Fitted.{scale_on};
 ghost use Rattle.sheet_plan.specs.OfSheets.{slot_of};
 ghost use Rattle.arranged_sheets.specs.Shapes.{filling};
-ghost use Rattle.arranged_sheets.specs.Creep.{creep_on as creep_on_side, up_to_fold, moved_up as moved_up_by, may_creep};
+ghost use Rattle.arranged_sheets.specs.Creep.{creep_on as creep_on_side, up_to_fold, moved_up as moved_up_by};
 ghost use Rattle.arranged_sheets.specs.Creep.{creeping, creeping_slot as creeping_slot_of, creeping_sheets as creeping_of};
-ghost use Rattle.arranged_sheets.specs.Creep.{AreHalves, why_not_creeping, IsRefusedCreep, IsRefusedCreeping};
+ghost use Rattle.arranged_sheets.specs.Creep.{AreHalves, may_creep, why_not_creeping, IsRefusedCreep, IsRefusedCreeping};
 ghost use Rattle.arranged_sheets.specs.Standing.{EntryCreeps, FitsOnLeaf, LeavesStand};
 
 use super::fill::{blocks_of, entry_at, is_turned, paper_of};
+use super::fitter::Fitter;
 use layouts::{ArrangementError, Setting};
 use lengths::{Number, Paper, Unit};
 use pagespec::{Item, Measure};
@@ -49,23 +50,22 @@ pub fn creeping_booklet_sheets(
         Ok(sheets) => sheets,
         Err(error) => return Err(error),
     };
+    let mut fitter = match Fitter::new(alloc, setting, 2) {
+        Ok(fitter) => fitter,
+        Err(_) => return Err(ArrangementError::NoMemory),
+    };
     let mut made = MadeSheets::new(alloc);
     for s in 0..sheets {
         let by_half = is_turned(turned_backs, s);
         let by = creep_on(creep, s);
         let place = 2 * u128::from(s);
-        let first = match creeping_slot(setting, papers, by_half, by, entry_at(row, place), 0) {
+        let entry = entry_at(row, place);
+        let first = match creeping_slot(&mut fitter, papers, by_half, by, entry, 0) {
             Ok(slot) => slot,
             Err(error) => return Err(error),
         };
-        let second = match creeping_slot(
-            setting,
-            papers,
-            by_half,
-            by,
-            entry_at(row, place + 1),
-            1,
-        ) {
+        let next = entry_at(row, place + 1);
+        let second = match creeping_slot(&mut fitter, papers, by_half, by, next, 1) {
             Ok(slot) => slot,
             Err(error) => return Err(error),
         };
@@ -90,26 +90,27 @@ fn creep_on(creep: Creep, s: u32) -> u64
 
 /// An entry of a row in a half of a leaf that creeps so far.
 fn creeping_slot(
-    setting: &Setting,
+    fitter: &mut Fitter,
     papers: &[Paper],
     by_half: bool,
     creep: u64,
     entry: Option<u32>,
     cell: u32,
 ) -> Result<MadeSlot, ArrangementError>
-    requires halves { AreHalves setting.now }
+    requires halves { AreHalves fitter.old }
     requires cell { cell < 2 }
     ensures made { IfOk result (λ slot. slot_of slot
-        ≡ creeping_slot_of (filling setting.now papers.now) by_half cell creep entry) }
-    ensures fits { OnOk result (EntryCreeps (filling setting.now papers.now) creep entry) }
-    ensures refused { IfErr result (IsRefusedCreep (filling setting.now papers.now) creep entry) }
+        ≡ creeping_slot_of (filling fitter.old papers.now) by_half cell creep entry) }
+    ensures fits { OnOk result (EntryCreeps (filling fitter.old papers.now) creep entry) }
+    ensures refused { IfErr result (IsRefusedCreep (filling fitter.old papers.now) creep entry) }
+    ensures same { fitter.new ≡ fitter.old }
 {
     let page = match entry {
         Some(page) => page,
         None => return Ok(MadeSlot::Blank),
     };
-    let paper = paper_of(setting, papers, page);
-    match creeping_item(setting, &paper, by_half, creep, cell) {
+    let paper = paper_of(fitter.setting(), papers, page);
+    match creeping_item(fitter, &paper, by_half, creep, cell) {
         Ok(item) => Ok(MadeSlot::Placed { page, item, paper }),
         Err(error) => Err(error),
     }
@@ -117,36 +118,50 @@ fn creeping_slot(
 
 /// A page of this paper there.
 fn creeping_item(
-    setting: &Setting,
+    fitter: &mut Fitter,
     paper: &Paper,
     by_half: bool,
     creep: u64,
     cell: u32,
 ) -> Result<Item, ArrangementError>
-    requires halves { AreHalves setting.now }
+    requires halves { AreHalves fitter.old }
     requires cell { cell < 2 }
-    ensures made { IfOk result (λ item. item_of item ≡ creeping setting.now by_half paper.now cell creep) }
-    ensures fits { OnOk result (FitsOnLeaf setting.now paper.now creep) }
+    ensures made { IfOk result (λ item. item_of item ≡ creeping fitter.old by_half paper.now cell creep) }
+    ensures fits { OnOk result (FitsOnLeaf fitter.old paper.now creep) }
+    ensures refused { IfErr result (λ error. why_not_creeping fitter.old paper.now creep ≡ Some error) }
+    ensures same { fitter.new ≡ fitter.old }
+{
+    let item = match fitter.item(paper, by_half, cell) {
+        Ok(item) => item,
+        Err(error) => return Err(error),
+    };
+    match check_fold(fitter.setting(), paper, creep) {
+        Ok(()) => (),
+        Err(error) => return Err(error),
+    }
+    let setting = fitter.setting();
+    let by = towards_fold(setting.order.right_to_left, by_half, cell, creep);
+    Ok(moved_up(item, by))
+}
+
+/// The check that a page of this paper doesn't cross the fold of a leaf that creeps so far.
+fn check_fold(setting: &Setting, paper: &Paper, creep: u64) -> Result<(), ArrangementError>
+    requires halves { AreHalves setting.now }
+    ensures possible { OnOk result
+        (may_creep paper.now setting.now.room (scale_on setting.now paper.now) creep ≡ true) }
     ensures refused { IfErr result (λ error. why_not_creeping setting.now paper.now creep ≡ Some error) }
 {
+    if creep == 0 {
+        return Ok(());
+    }
     let slack = match setting.slack(paper) {
         Ok(slack) => slack,
         Err(error) => return Err(error),
     };
-    if !has_room(slack, setting.room.gap, creep) {
-        return Err(ArrangementError::CreepOverFold);
-    }
-    let found = if by_half {
-        setting.back_item(paper, cell)
+    if has_room(slack, setting.room.gap, creep) {
+        Ok(())
     } else {
-        setting.item(paper, cell)
-    };
-    match found {
-        Ok(item) => {
-            let by = towards_fold(setting.order.right_to_left, by_half, cell, creep);
-            Ok(moved_up(item, by))
-        }
-        Err(error) => Err(error),
+        Err(ArrangementError::CreepOverFold)
     }
 }
 

@@ -12,6 +12,7 @@ ghost use Rattle.arranged_sheets.specs.Filled.{duplex_sheets as leaves_of, bookl
 ghost use Rattle.arranged_sheets.specs.Shapes.{filling, place as place_of, cell_on, entry_in, IsRefusedFor, IsRefusedFrom};
 ghost use Rattle.arranged_sheets.specs.Standing.{AllStand, EntryFits};
 
+use super::fitter::Fitter;
 use layouts::{ArrangementError, Run, Setting, Turned};
 use lengths::Paper;
 use sheet_plan::{MadeSheets, MadeSlot};
@@ -248,12 +249,17 @@ fn filled(
     ensures stands { IfOk result (AllStand setting.now.room) }
     ensures refused { IfErr result (IsRefusedFor (filling setting.now papers.now) row.now) }
 {
+    let mut fitter = match Fitter::new(alloc, setting, shape.cells) {
+        Ok(fitter) => fitter,
+        Err(_) => return Err(ArrangementError::NoMemory),
+    };
     let mut made = MadeSheets::new(alloc);
+    let mut slots = Vec::new(alloc);
     for s in 0..shape.sheets {
-        let slots = match slots_in(alloc, setting, papers, row, shape, s) {
-            Ok(slots) => slots,
+        match fill_slots(&mut slots, &mut fitter, papers, row, shape, s) {
+            Ok(()) => (),
             Err(error) => return Err(error),
-        };
+        }
         match made.push(&setting.room.paper, slots.as_slice()) {
             Ok(()) => (),
             Err(_) => return Err(ArrangementError::NoMemory),
@@ -262,29 +268,30 @@ fn filled(
     Ok(made)
 }
 
-/// The slots of one of its sheets.
-fn slots_in(
-    alloc: Global,
-    setting: &Setting,
+/// The slots of one of its sheets, in place of those that were there.
+fn fill_slots(
+    slots: &mut Vec<MadeSlot>,
+    fitter: &mut Fitter,
     papers: &[Paper],
     row: &[Option<u32>],
     shape: Shape,
     s: u32,
-) -> Result<Vec<MadeSlot>, ArrangementError>
-    requires cells { shape.cells ≤ size setting.now.grid }
-    requires halves { shape.turned_backs ≡ true → 2 ≤ size setting.now.grid }
-    ensures made { IfOk result (λ slots. map slot_of slots.items
-        ≡ map (λ c. slot_of_cell (filling setting.now papers.now) (is_turned_on shape.turned_backs s) c
-        (entry_in shape setting.now row.now s c)) (range_with_len 0 shape.cells)) }
+) -> Result<(), ArrangementError>
+    requires cells { shape.cells ≤ size fitter.old.grid }
+    requires halves { shape.turned_backs ≡ true → 2 ≤ size fitter.old.grid }
+    ensures made { OnOk result (map slot_of slots.new.items
+        ≡ map (λ c. slot_of_cell (filling fitter.old papers.now) (is_turned_on shape.turned_backs s) c
+        (entry_in shape fitter.old row.now s c)) (range_with_len 0 shape.cells)) }
     ensures fits { OnOk result ((c : ℕ) → c < shape.cells
-        → EntryFits (filling setting.now papers.now) (entry_in shape setting.now row.now s c)) }
-    ensures refused { IfErr result (IsRefusedFor (filling setting.now papers.now) row.now) }
+        → EntryFits (filling fitter.old papers.now) (entry_in shape fitter.old row.now s c)) }
+    ensures refused { IfErr result (IsRefusedFor (filling fitter.old papers.now) row.now) }
+    ensures same { fitter.new ≡ fitter.old }
 {
     let by_half = is_turned(shape.turned_backs, s);
-    let mut slots = Vec::new(alloc);
+    slots.clear();
     for c in 0..shape.cells {
-        let entry = entry_at(row, place(shape, setting, s, c));
-        let slot = match slot_in(setting, papers, by_half, entry, c) {
+        let entry = entry_at(row, place(shape, fitter.setting(), s, c));
+        let slot = match slot_in(fitter, papers, by_half, entry, c) {
             Ok(slot) => slot,
             Err(error) => return Err(error),
         };
@@ -293,7 +300,7 @@ fn slots_in(
             Err(_) => return Err(ArrangementError::NoMemory),
         }
     }
-    Ok(slots)
+    Ok(())
 }
 
 /// Whether this sheet is turned by half.
@@ -305,30 +312,26 @@ pub fn is_turned(turned_backs: bool, s: u32) -> bool
 
 /// An entry of a row in a cell of a sheet that is turned by half, or isn't.
 fn slot_in(
-    setting: &Setting,
+    fitter: &mut Fitter,
     papers: &[Paper],
     by_half: bool,
     entry: Option<u32>,
     cell: u32,
 ) -> Result<MadeSlot, ArrangementError>
-    requires cell { cell < size setting.now.grid }
-    requires halves { by_half ≡ true → 2 ≤ size setting.now.grid }
+    requires cell { cell < size fitter.old.grid }
+    requires halves { by_half ≡ true → 2 ≤ size fitter.old.grid }
     ensures made { IfOk result (λ slot. slot_of slot
-        ≡ slot_of_cell (filling setting.now papers.now) by_half cell entry) }
-    ensures fits { OnOk result (EntryFits (filling setting.now papers.now) entry) }
-    ensures refused { IfErr result (IsRefusedFrom (filling setting.now papers.now) entry) }
+        ≡ slot_of_cell (filling fitter.old papers.now) by_half cell entry) }
+    ensures fits { OnOk result (EntryFits (filling fitter.old papers.now) entry) }
+    ensures refused { IfErr result (IsRefusedFrom (filling fitter.old papers.now) entry) }
+    ensures same { fitter.new ≡ fitter.old }
 {
     let page = match entry {
         Some(page) => page,
         None => return Ok(MadeSlot::Blank),
     };
-    let paper = paper_of(setting, papers, page);
-    let found = if by_half {
-        setting.back_item(&paper, cell)
-    } else {
-        setting.item(&paper, cell)
-    };
-    match found {
+    let paper = paper_of(fitter.setting(), papers, page);
+    match fitter.item(&paper, by_half, cell) {
         Ok(item) => Ok(MadeSlot::Placed { page, item, paper }),
         Err(error) => Err(error),
     }

@@ -4,6 +4,7 @@
 
 mod creep;
 mod fill;
+mod fitter;
 pub mod laws;
 mod poster;
 mod poster_rows;

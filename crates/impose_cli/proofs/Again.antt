@@ -1,6 +1,6 @@
 -- What was written for a request is a document again.
 use Rattle.std.proofs.Common.{◌≤◌, ◌<◌, ◌≡◌, ◌∙◌, ℕ, ◌++◌, List, ap, drop, length, subst, sym, inl, inr, true, false, Bool, None, Option, Result, Ok, refl}
-use Rattle.std.specs.Prelude.{Some, nat_lt}
+use Rattle.std.specs.Prelude.{Some, [], nat_lt}
 use Rattle.std.proofs.Math.Seq.{drop-append_seam}
 use Rattle.std.proofs.lemmas.Bool.{ltb-false}
 use Rattle.rules.specs.Admissible.{most_slots}
@@ -15,9 +15,11 @@ use Rattle.page_papers.proofs.Tame.{telling_is_tame}
 use Rattle.made_sheets.specs.Dress.{Dress}
 use Rattle.marks.specs.Drawn.{marked}
 use Rattle.marks.proofs.Tame.{marks_are_tame}
+use Rattle.row_runs.specs.BySpec.{output_by_spec}
 use Rattle.row_runs.specs.Runs.{output_on, strokes_on}
 use Rattle.impose_cli.specs.Tasks.{FinishesSpec, frame_used, sheet_paper_found, taken_text}
 use Rattle.impose_cli.specs.RowTasks.{FinishesRow, text_for}
+use Rattle.impose_cli.specs.SpecRows.{FinishesSpecRow}
 use Rattle.impose_cli.specs.Laws.{IsDocumentAgain, IsMadeDocument, WroteDocument, sheets_named}
 use Rattle.impose_cli.specs.declared.request.Request.{Request}
 use Rattle.impose_cli.specs.declared.task.Finished.{Finished}
@@ -71,12 +73,36 @@ row_again r input old text done h l some =
       with_trailer = λ some. i.2 (trailer_shuts taken us h.is_job.document some);
     }
 
+-- ---- by a specification on a row
+
+abbrev bare_dress_on : {r : Request} {input : List ℕ} {old new : Option (List ℕ)} {done : Finished} → FinishesSpecRow r input old new done → Dress
+bare_dress_on h = marked [] (telling h.imposes.made)
+
+spec_row_again : (r : Request) (input old text : List ℕ) (done : Finished) (h : FinishesSpecRow r input (Some old) (Some (old ++ text)) done)
+    → length (output_by_spec h.job h.imposes.made) ≤ most_input_bytes → 0 < length h.imposes.made
+    → IsMadeDocument h.job.border (bare_dress_on h) h.imposes.made h.job.document.now (output_by_spec h.job h.imposes.made)
+spec_row_again r input old text done h l some =
+    let taken = taken_text r.is_guarded h.job.sheet input in
+    let made = h.imposes.made in
+    let us = h.job.document.now in
+    let i = made_is_document h.job.border (bare_dress_on h) made taken us (marks_are_tame [] (telling made) (telling_is_tame made)) h.document some (few_sheets _ made h.imposes.planned.planned) l in
+    record {
+      accepted = i.0;
+      again = i.1;
+      shut = i.2;
+      with_trailer = λ some. i.2 (trailer_shuts taken us h.document some);
+    }
+
 pub wrote_document : WroteDocument
 wrote_document r input old text done (inl h) l =
     let e = sym (behind old text _ h.written) in
     subst (IsDocumentAgain (frame_used r done) (sheets_named h) h.units) e
     (spec_again r input old text done h (subst (λ t. length t ≤ most_input_bytes) (sym e) l))
-wrote_document r input old text done (inr h) l =
+wrote_document r input old text done (inr (inl h)) l =
     λ some. let e = sym (behind old text _ h.imposes.written) in
     subst (IsMadeDocument h.job.border (dress_on h) h.imposes.made h.job.document.now) e
     (row_again r input old text done h (subst (λ t. length t ≤ most_input_bytes) (sym e) l) some)
+wrote_document r input old text done (inr (inr h)) l =
+    λ some. let e = sym (behind old text _ h.imposes.written) in
+    subst (IsMadeDocument h.job.border (bare_dress_on h) h.imposes.made h.job.document.now) e
+    (spec_row_again r input old text done h (subst (λ t. length t ≤ most_input_bytes) (sym e) l) some)

@@ -26,9 +26,11 @@ placed_as_named : (l : Layout) (s : Spacing) (named : List ℕ) (page_paper shee
     → IsPlaced l s page_paper sheet_paper pages text sides → (text ≡ named) × (sides ≡ None)
 placed_as_named (layout.NUp n) s named page_paper sheet_paper pages text sides is h = absurd is
 placed_as_named (layout.Booklet signature long_edge) s named page_paper sheet_paper pages text sides is h = absurd is
+placed_as_named (layout.SpecRow specs signing) s named page_paper sheet_paper pages text sides is h = absurd is
 placed_as_named layout.Selection s named page_paper sheet_paper pages text sides is h = absurd is
 placed_as_named (layout.Cards n) s named page_paper sheet_paper pages text sides is h = absurd is
 placed_as_named (layout.Stack n duplex) s named page_paper sheet_paper pages text sides is h = absurd is
+placed_as_named (layout.Notes n) s named page_paper sheet_paper pages text sides is h = absurd is
 placed_as_named (layout.Poster columns rows) s named page_paper sheet_paper pages text sides is h = absurd is
 placed_as_named (layout.Spec specs) s named page_paper sheet_paper pages text sides is h = (h.0 ∙ sym is, h.1)
 

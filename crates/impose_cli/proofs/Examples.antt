@@ -24,7 +24,7 @@ use Rattle.impose_cli.specs.declared.fault.CommandFault.TheVariants as command
 use Rattle.paper_names.specs.Names.{papers}
 use Rattle.impose_cli.specs.Signatures.{signing_asked}
 use Rattle.impose_cli.specs.Sizes.{size_named}
-use Rattle.impose_cli.specs.Arranging.{cells_named, run_named, scale_named, turned_named}
+use Rattle.impose_cli.specs.Arranging.{booklet_marks_named, cells_named, cut_marks_named, noted_alone, run_named, scale_named, turned_named}
 use Rattle.impose_cli.specs.Words.{part_by, file_asked, is_outfile, order_by, run_asked, turned_asked}
 use Rattle.impose_cli.specs.Statuses.{words_status, command_status, layout_status, fault_status}
 use Rattle.impose_cli.specs.Tasks.{own_or_home, page_paper_found, sheet_paper_found, taken_text}
@@ -79,6 +79,10 @@ no_numbers = refl
 no_columns_and_rows : map cells_named (codes "2x" ∷ codes "x" ∷ codes "x4" ∷ codes "0x3" ∷ codes "3x0" ∷ codes "2x4x1" ∷ codes "33x32" ∷ codes "2X4" ∷ []) ≡ None ∷ None ∷ None ∷ None ∷ None ∷ None ∷ None ∷ None ∷ []
 no_columns_and_rows = refl
 
+-- for pages with notes a sheet has twice as many
+noted : map (λ text. noted_alone (cells_named text)) (codes "1" ∷ codes "512" ∷ codes "513" ∷ codes "0" ∷ codes "2x3" ∷ []) ≡ Some (AtLeast 1) ∷ Some (AtLeast 512) ∷ None ∷ None ∷ None ∷ []
+noted = refl
+
 -- Orders of cells, which --rtl turns round.
 
 runs : map run_named (codes "right-down" ∷ codes "down-right" ∷ codes "left-down" ∷ codes "down-left" ∷ codes "down" ∷ []) ≡ Some (Rows, false) ∷ Some (Columns, false) ∷ Some (Rows, true) ∷ Some (Columns, true) ∷ None ∷ []
@@ -104,6 +108,21 @@ scales = refl
 no_scales : map scale_named (codes "70%" ∷ codes "x" ∷ codes "1/2" ∷ codes "100000" ∷ []) ≡ None ∷ None ∷ None ∷ None ∷ []
 unfolding number_at
 no_scales = refl
+
+-- Marks: a booklet has two kinds, other sheets have one.
+
+booklet_marks : map booklet_marks_named (codes "fold" ∷ codes "cut" ∷ codes "fold,cut" ∷ codes "cut,fold" ∷ codes "fold,fold" ∷ [] ∷ [])
+    ≡ Some (record { fold = true; cut = false; ruled = false })
+    ∷ Some (record { fold = false; cut = true; ruled = false })
+    ∷ Some (record { fold = true; cut = true; ruled = false })
+    ∷ Some (record { fold = true; cut = true; ruled = false })
+    ∷ None
+    ∷ None
+    ∷ []
+booklet_marks = refl
+
+other_marks : map cut_marks_named (codes "cut" ∷ codes "fold" ∷ codes "fold,cut" ∷ []) ≡ Some (record { fold = false; cut = true; ruled = false }) ∷ None ∷ None ∷ []
+other_marks = refl
 
 -- The sides of a booklet in one signature: a multiple of four stays as it is.
 booklets_of_one : map (sides_for in_one) (1 ∷ 3 ∷ 4 ∷ 5 ∷ 8 ∷ []) ≡ 4 ∷ 4 ∷ 4 ∷ 8 ∷ 8 ∷ []

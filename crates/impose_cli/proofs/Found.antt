@@ -1,6 +1,6 @@
 -- What was found for a subcommand, and what its refusals say of the words.
 use Rattle.std.proofs.Common.{◌≡◌, ◌∙◌, ℕ, ℤ, ap, ap₂, refl, inr, subst, sym, Bool, List, Option, Some, None, unwrap_or, true, false}
-use Rattle.std.specs.Prelude.{codes, is_some, option_and_then, option_map, string_bytes}
+use Rattle.std.specs.Prelude.{◌*◌, codes, if◌then◌else◌, is_some, option_and_then, option_map, string_bytes}
 use Rattle.std.specs.Box.{box_value}
 use Rattle.clap.specs.Words.{Row, Text, first_of, found_of, rows_of, subcommand_name_of, subcommand_rows, subcommand_rows_of}
 use Rattle.clap.specs.declared.parser.matches.ArgMatches.{ArgMatches}
@@ -11,7 +11,8 @@ use Rattle.impose_cli.specs.declared.request.Request.{Request}
 use Rattle.impose_cli.specs.Words.{AreBefore, AreRead, AreValues, AsksFor, ChoosesBy, Entered, Enters, HasLayout, HasLengths, HasNoValue, HasSizes, HasSpacing, NamesNoLength, ParseRefuses, Reads, Refuses, RefusesFound, RefusesArguments}
 use Rattle.layouts.specs.declared.arrangement.Cells.{Cells}
 use Rattle.layouts.specs.declared.arrangement.Cells.TheVariants.{AtLeast, Exactly}
-use Rattle.impose_cli.specs.Arranging.{cells_named, exact_alone}
+use Rattle.layouts.specs.Refusals.{is_count}
+use Rattle.impose_cli.specs.Arranging.{cells_named, exact_alone, noted_alone}
 use Rattle.impose_cli.specs.Products.{lays_rows}
 use Rattle.impose_cli.specs.Words.{MayLook, SpacesBy, cell_id, cells_in, command_name, file_asked, has_flag, is_complete, is_outfile, is_value, length_found, length_id, marks_found, order_by, ranges_id, run_found, size_found, turned_found}
 use Rattle.impose_cli.specs.Sizing.{ReadsSizes, RefusesBorder, RefusesChoice, RefusesLength, RefusesMarks, RefusesOutfile, RefusesProduct, RefusesReading, RefusesSize, RefusesSizes, RefusesSpacing, RefusesValue}
@@ -102,7 +103,22 @@ pub lacks_cells : (command : GridCommand) (found : List Row) → is_some (first_
 lacks_cells grid.NUp found e = e
 lacks_cells grid.Cards found e = e
 lacks_cells grid.Stack found e = e
+lacks_cells grid.Notes found e = e
 lacks_cells grid.Poster found e = e
+
+-- those of notes are a number
+with_notes_number : (b : Bool) (m columns rows : ℕ) → (if b then Some (AtLeast m) else None) ≡ Some (Exactly columns rows) → ⊥
+with_notes_number true m columns rows e = cc
+with_notes_number false m columns rows e = cc
+
+no_grid : (cells : Option Cells) (columns rows : ℕ) → noted_alone cells ≡ Some (Exactly columns rows) → ⊥
+no_grid None columns rows e = cc
+no_grid (Some (AtLeast m)) columns rows e = with_notes_number (is_count (2 * m)) m columns rows e
+no_grid (Some (Exactly c r)) columns rows e = cc
+
+pub no_grid_found : (text : Option Text) (columns rows : ℕ) → option_and_then (cells_in grid.Notes) text ≡ Some (Exactly columns rows) → ⊥
+no_grid_found None columns rows e = cc
+no_grid_found (Some text) columns rows e = no_grid (cells_named text) columns rows e
 
 -- those of a poster are columns and rows
 no_number : (cells : Option Cells) (n : ℕ) → exact_alone cells ≡ Some (AtLeast n) → ⊥
@@ -439,10 +455,12 @@ refuses_marks name found page_paper sheet_paper border (layout.Cards cells) spac
 refuses_marks name found page_paper sheet_paper border (layout.Stack cells duplex) spacing f r a k h =
     no_marks_named cell.CutMarks name found f (has_layout name found page_paper sheet_paper border (layout.Stack cells duplex) r a) (has_lengths found spacing k) (are_read found spacing k) h
 refuses_marks name found page_paper sheet_paper border (layout.Booklet signing long_edge) spacing f r a k h =
-    no_marks_named cell.FoldMarks name found f (has_layout name found page_paper sheet_paper border (layout.Booklet signing long_edge) r a) (has_lengths found spacing k) (are_read found spacing k) h
+    no_marks_named cell.BookletMarks name found f (has_layout name found page_paper sheet_paper border (layout.Booklet signing long_edge) r a) (has_lengths found spacing k) (are_read found spacing k) h
 refuses_marks name found page_paper sheet_paper border layout.Selection spacing f r a k h = absurd h
+refuses_marks name found page_paper sheet_paper border (layout.Notes pages) spacing f r a k h = absurd h
 refuses_marks name found page_paper sheet_paper border (layout.Poster columns rows) spacing f r a k h = absurd h
 refuses_marks name found page_paper sheet_paper border (layout.Spec specs) spacing f r a k h = absurd h
+refuses_marks name found page_paper sheet_paper border (layout.SpecRow specs signing) spacing f r a k h = absurd h
 
 pub refuses_choice : (name : Text) (found : List Row) (page_paper sheet_paper : Option Paper) (border : Option ℤ) (layout : Layout) (spacing : Spacing) (marks : Marks) (f : CommandFault)
     → ReadsSizes found page_paper sheet_paper border → AsksFor name found layout → SpacesBy (keeps_room layout) found spacing → marks_found layout found ≡ Some marks → RefusesChoice found f → RefusesFound name found f

@@ -1,9 +1,11 @@
 pub mod Commands
 pub mod Found
 pub mod Placing
+pub mod Noted
 pub mod Counted
 pub mod Ending
 pub mod Rows
+pub mod SpecRows
 pub mod Looking
 pub mod Again
 pub mod Examples

@@ -11,6 +11,7 @@ use Rattle.row_runs.specs.Runs.{Imposes}
 use Rattle.row_runs.specs.declared.run.RowJob.{RowJob}
 use Rattle.imposer.specs.declared.outcome.Report.{Report}
 use Rattle.impose_cli.specs.RowTasks.{FinishesRow}
+use Rattle.impose_cli.specs.SpecRows.{FinishesSpecRow}
 use Rattle.input.specs.Input.{IsFirst, most_bytes}
 use Rattle.impose_cli.specs.Looks.{MayBeMade, TellsRow}
 use Rattle.impose_cli.specs.Products.{lays_rows}
@@ -87,11 +88,30 @@ kept_row r input start handed written finished kept h = record {
   imposes = kept_imposed h.job start handed written finished.report kept h.imposes;
 }
 
+kept_spec_row : (r : Request) (input : List ℕ) (start handed written : Option (List ℕ)) (finished : Finished) → Keeps handed written
+    → FinishesSpecRow r input start handed finished → FinishesSpecRow r input start written finished
+kept_spec_row r input start handed written finished kept h = record {
+  page_paper = h.page_paper;
+  behind = h.behind;
+  job = h.job;
+  text = h.text;
+  named = h.named;
+  takes = h.takes;
+  document = h.document;
+  choice = h.choice;
+  of_sheets = h.of_sheets;
+  of_pages = h.of_pages;
+  border = h.border;
+  cut = h.cut;
+  imposes = record { made = h.imposes.made; planned = h.imposes.planned; written = Appends-kept start handed written _ h.imposes.written kept; report = h.imposes.report };
+}
+
 kept_finish : (r : Request) (input : List ℕ) (start handed written : Option (List ℕ)) (finished : Finished) → Keeps handed written
     → Finishes r input start handed finished → Finishes r input start written finished
 kept_finish r input start handed written finished kept h = elim h [
   | inl by ↦ inl (kept_spec r input start handed written finished kept by)
-  | inr on ↦ inr (kept_row r input start handed written finished kept on)
+  | inr (inl on) ↦ inr (inl (kept_row r input start handed written finished kept on))
+  | inr (inr both) ↦ inr (inr (kept_spec_row r input start handed written finished kept both))
 ]
 
 -- the run finished, and the output has all of what it handed on
@@ -163,9 +183,11 @@ lays (layout.NUp cells) e = tt
 lays (layout.Cards cells) e = tt
 lays (layout.Stack cells duplex) e = tt
 lays (layout.Booklet signing long_edge) e = tt
+lays (layout.Notes pages) e = tt
 lays (layout.Poster columns rows) e = tt
 lays layout.Selection e = tt
 lays (layout.Spec specs) e = cc
+lays (layout.SpecRow specs signing) e = cc
 
 -- only a layout that lays rows is asked for a plan or a picture
 made_by : (rows : Bool) (found : List Row) (p : Product) (l : Layout) → (rows ≡ true → LaysRows l) → MakesBy rows found p → MayBeMade p l

@@ -105,7 +105,7 @@ pub stops_before : (r : Request) (input : List ℕ) (sink : SinkView) (f : Fault
 stops_before r input sink f h = inl (record { refused = inr h; unwritten = (stays sink.bytes, refl) })
 
 pub stops_in : (r : Request) (input : List ℕ) (t : RowTask) (old new : SinkView) (f : Fault) → IsRowTask r input t → EndsTask r t old new f → Ends r input old new (Err f)
-stops_in r input t old new f is h = inr (inr (record { task = t; is_task = is; ended = h }))
+stops_in r input t old new f is h = inr (inr (inl (record { task = t; is_task = is; ended = h })))
 
 pub spec_ends : (r : Request) (input : List ℕ) (old new : SinkView) (result : Result Finished Fault) → EndsBySpec r input old new result → Ends r input old new result
 spec_ends r input old new (Ok done) h = (inl h.0, h.1)

@@ -47,6 +47,15 @@ exact_alone None = None
 exact_alone (Some (AtLeast n)) = None
 exact_alone (Some (Exactly columns rows)) = Some (Exactly columns rows)
 
+-- so many, if a sheet takes as many again beside them, for notes; and a number alone is one of pages
+abbrev pub with_notes : ℕ → Option Cells
+with_notes n = if is_count (2 * n) then Some (AtLeast n) else None
+
+abbrev pub noted_alone : Option Cells → Option Cells
+noted_alone None = None
+noted_alone (Some (AtLeast n)) = with_notes n
+noted_alone (Some (Exactly columns rows)) = None
+
 -- ---- in which order
 
 -- along what pages run, and whether from the right: what stands first says where the second page stands
@@ -76,11 +85,20 @@ scale_named text = all_of (number_at text)
 -- ---- with which marks
 
 abbrev pub no_marks : Marks
-no_marks = record { fold = false; cut = false }
+no_marks = record { fold = false; cut = false; ruled = false }
 
--- on sheets that are folded, and on sheets that are cut
-abbrev pub fold_marks_named : List ℕ → Option Marks
-fold_marks_named text = if bytes_eq text (codes "fold") then Some (record { fold = true; cut = false }) else None
+-- lines for notes alone
+abbrev pub lines_alone : Marks
+lines_alone = record { fold = false; cut = false; ruled = true }
 
+-- on a booklet, where it is folded, where it is cut, or both
+abbrev pub booklet_marks_named : List ℕ → Option Marks
+booklet_marks_named text =
+    if bytes_eq text (codes "fold") then Some (record { fold = true; cut = false; ruled = false })
+    else (if bytes_eq text (codes "cut") then Some (record { fold = false; cut = true; ruled = false })
+    else (if bytes_eq text (codes "fold,cut") || bytes_eq text (codes "cut,fold") then Some (record { fold = true; cut = true; ruled = false })
+    else None))
+
+-- on other sheets, which are cut alone
 abbrev pub cut_marks_named : List ℕ → Option Marks
-cut_marks_named text = if bytes_eq text (codes "cut") then Some (record { fold = false; cut = true }) else None
+cut_marks_named text = if bytes_eq text (codes "cut") then Some (record { fold = false; cut = true; ruled = false }) else None

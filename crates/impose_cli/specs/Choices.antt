@@ -22,4 +22,4 @@ is_whole c = is_none c.ranges && is_all c.part && not c.backwards
 
 -- a specification says which pages there are, and with which marks: all, in their order, and with none
 abbrev pub is_said : PageChoice → Marks → Bool
-is_said choice marks = is_whole choice && not (marks.fold || marks.cut)
+is_said choice marks = is_whole choice && not (marks.fold || marks.cut || marks.ruled)

@@ -1,5 +1,6 @@
--- The command line: impose nup N, impose booklet, impose cards N, impose stack N, impose poster CxR, impose select RANGES or
--- impose spec SPECS, with [OPTIONS] [INFILE [OUTFILE]]. N is a number of pages, or columns and rows.
+-- The command line: impose nup N, impose booklet, impose cards N, impose stack N, impose notes N, impose poster CxR,
+-- impose select RANGES or impose spec SPECS, with [OPTIONS] [INFILE [OUTFILE]]. N is a number of pages, or columns and rows; for
+-- notes it is a number.
 use Rattle.std.specs.Prelude.{ℕ, pos, true, List, [], ◌∷◌, Some, codes}
 use Rattle.std.specs.List.{fold}
 use Rattle.clap.specs.Words.{App, Rule, Shape, Text, new_app, new_rule, with_rule, with_subcommand}
@@ -92,6 +93,12 @@ cards_app = subcommand_app (codes "cards") (count_rule ∷ cell_rules)
 abbrev pub stack_app : App
 stack_app = subcommand_app (codes "stack") (count_rule ∷ flag_rule (codes "duplex") ∷ cell_rules)
 
+-- a number of pages, their scale, what is kept free, and which pages
+abbrev pub notes_app : App
+notes_app = subcommand_app (codes "notes")
+    (count_rule ∷ flag_rule (codes "same-scale") ∷ option_rule (codes "margin") ∷ option_rule (codes "gap")
+    ∷ option_rule (codes "trim") ∷ option_rule (codes "pages") ∷ order_rules)
+
 -- columns and rows of sheets, how far these overlap, and which pages
 abbrev pub poster_app : App
 poster_app = subcommand_app (codes "poster")
@@ -106,10 +113,12 @@ abbrev pub select_app : App
 select_app = subcommand_app (codes "select") (required_rule (codes "ranges") ∷ order_rules)
 
 abbrev pub spec_app : App
-spec_app = subcommand_app (codes "spec") (required_rule (codes "specs") ∷ [])
+spec_app = subcommand_app (codes "spec")
+    (required_rule (codes "specs") ∷ option_rule (codes "signature") ∷ option_rule (codes "pages")
+    ∷ flag_rule (codes "odd") ∷ flag_rule (codes "even") ∷ flag_rule (codes "reverse") ∷ [])
 
 abbrev pub apps : List App
-apps = nup_app ∷ booklet_app ∷ cards_app ∷ stack_app ∷ poster_app ∷ select_app ∷ spec_app ∷ []
+apps = nup_app ∷ booklet_app ∷ cards_app ∷ stack_app ∷ notes_app ∷ poster_app ∷ select_app ∷ spec_app ∷ []
 
 -- the command itself: it has a version, and a subcommand must stand among the words
 abbrev pub with_top : Shape → Shape

@@ -9,6 +9,7 @@ use Rattle.row_runs.specs.declared.run.RowJob.{RowJob}
 use Rattle.impose_cli.specs.Faults.{of_asked, without_memory}
 use Rattle.impose_cli.specs.Tasks.{FinishesSpec, IsTask, asked_by}
 use Rattle.impose_cli.specs.RowTasks.{FinishesRow, IsJobOf, IsRowTask}
+use Rattle.impose_cli.specs.SpecRows.{EndsSpecRow, FinishesSpecRow}
 use Rattle.impose_cli.specs.Refusals.{IsRefusedFor, RefusesRowTask, RefusesTask}
 use Rattle.dsc.specs.declared.errors.DscError.{DscError}
 use Rattle.imposer.specs.Outcomes.{of_document as of_read}
@@ -67,12 +68,14 @@ abbrev pub EndsBySpec : Request → (input : List ℕ) → (old new : SinkView) 
 EndsBySpec r input old new (Ok done) = FinishesSpec r input old.bytes new.bytes done × (new.failures ≡ old.failures)
 EndsBySpec r input old new (Err f) = EndsBeforeRun r input old new f ⊎ EndsInRun r input old new f
 
--- the request was carried out, by its specification or on its row
+-- the request was carried out, by its specification, on its row, or by its specification on its row
 abbrev pub Finishes : Request → (input : List ℕ) → (old new : Option (List ℕ)) → Finished → Type 0
-Finishes r input old new done = FinishesSpec r input old new done ⊎ FinishesRow r input old new done
+Finishes r input old new done =
+    FinishesSpec r input old new done ⊎ (FinishesRow r input old new done ⊎ FinishesSpecRow r input old new done)
 
 -- the request was carried out and no write failed; or its fault was found before the run, or is the run's
 abbrev pub Ends : Request → (input : List ℕ) → (old new : SinkView) → Result Finished Fault → Type 0
 Ends r input old new (Ok done) = Finishes r input old.bytes new.bytes done × (new.failures ≡ old.failures)
 Ends r input old new (Err f) =
-    EndsBeforeRun r input old new f ⊎ (EndsInRun r input old new f ⊎ EndsInRow r input old new f)
+    EndsBeforeRun r input old new f
+    ⊎ (EndsInRun r input old new f ⊎ (EndsInRow r input old new f ⊎ EndsSpecRow r input old new f))

@@ -1,6 +1,6 @@
 -- What holds of what impose wrote.
 use Rattle.std.proofs.Common.{inl, inr}
-use Rattle.std.specs.Prelude.{◌≡◌, ℕ, ℤ, ◌<◌, ◌≤◌, List, ◌++◌, length, Option, Some, Ok}
+use Rattle.std.specs.Prelude.{◌≡◌, ℕ, ℤ, ◌<◌, ◌≤◌, List, [], ◌++◌, length, Option, Some, Ok}
 use Rattle.rules.specs.Parts.{NestedUnit, page_run, pages, trailer}
 use Rattle.rules.specs.Sheets.{Slot, sheets}
 use Rattle.rules.specs.Output.{Frame}
@@ -46,9 +46,12 @@ abbrev pub IsAgainFor : {r : Request} {input : List ℕ} {old new : Option (List
     → Finishes r input old new done → (text : List ℕ) → Type 0
 IsAgainFor {r} {input} {old} {new} {done} (inl h) text =
     IsDocumentAgain (frame_used r done) (sheets_named h) h.units text
-IsAgainFor (inr h) text =
+IsAgainFor (inr (inl h)) text =
     0 < length h.imposes.made
     → IsMadeDocument h.job.border (marked (strokes_on h.job) (telling h.imposes.made)) h.imposes.made h.job.document.now text
+IsAgainFor (inr (inr h)) text =
+    0 < length h.imposes.made
+    → IsMadeDocument h.job.border (marked [] (telling h.imposes.made)) h.imposes.made h.job.document.now text
 
 -- what was appended for a request that was carried out is a document again, if it has no more than 2^30 bytes
 abbrev pub WroteDocument : Type 0

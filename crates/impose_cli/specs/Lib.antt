@@ -7,6 +7,7 @@ pub mod Signatures
 pub mod Arranging
 pub mod Choices
 pub mod Spacings
+pub mod Texts
 pub mod Products
 pub mod Words
 pub mod Sizing
@@ -14,6 +15,7 @@ pub mod Faults
 pub mod Tasks
 pub mod RowTasks
 pub mod Refusals
+pub mod SpecRows
 pub mod Endings
 pub mod Looks
 pub mod Unread

@@ -41,6 +41,7 @@ abbrev pub RefusesLayout : Layout → Spacing → (page_paper sheet_paper : Pape
 RefusesLayout layout.Selection s page_paper sheet_paper f = f ≡ fault.NoSpecification
 RefusesLayout (layout.Cards cells) s page_paper sheet_paper f = f ≡ fault.NoSpecification
 RefusesLayout (layout.Stack cells duplex) s page_paper sheet_paper f = f ≡ fault.NoSpecification
+RefusesLayout (layout.Notes pages) s page_paper sheet_paper f = f ≡ fault.NoSpecification
 RefusesLayout (layout.Poster columns rows) s page_paper sheet_paper f = f ≡ fault.NoSpecification
 RefusesLayout (layout.Booklet signing long_edge) s page_paper sheet_paper f =
     ((f ≡ fault.NoSpecification) × (s.creep ≢ pos 0))

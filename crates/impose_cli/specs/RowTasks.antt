@@ -27,7 +27,7 @@ use Rattle.row_runs.specs.declared.asked.Laying.TheVariants as laying
 use Rattle.row_runs.specs.declared.run.RowJob.{RowJob}
 use Rattle.impose_cli.specs.Choices.{choice_in}
 use Rattle.arranged_sheets.specs.Posters.{why_no_poster}
-use Rattle.impose_cli.specs.Spacings.{arrangement_in, binding_in, poster_in}
+use Rattle.impose_cli.specs.Spacings.{arrangement_in, binding_in, notes_in, poster_in}
 use Rattle.impose_cli.specs.declared.request.Spacing.{Spacing}
 use Rattle.impose_cli.specs.Tasks.{HasBehind, page_paper_found, sheet_paper_found, taken_text}
 use Rattle.impose_cli.specs.declared.fault.Fault.{Fault}
@@ -46,9 +46,11 @@ signing_in (layout.Booklet signing long_edge) = Some (signing_of signing)
 signing_in (layout.NUp cells) = None
 signing_in (layout.Cards cells) = None
 signing_in (layout.Stack cells duplex) = None
+signing_in (layout.Notes pages) = None
 signing_in (layout.Poster columns rows) = None
 signing_in layout.Selection = None
 signing_in (layout.Spec specs) = None
+signing_in (layout.SpecRow specs signing) = None
 
 -- the paper of the sheets of a layout, for pages of this paper: a selection keeps pages on their own
 abbrev pub sheet_paper_in : Layout → (named : Option Paper) → (page_paper : Paper) → Paper
@@ -70,10 +72,13 @@ laying_in (layout.Stack cells duplex) s page_paper sheet_paper =
     Some (stacked duplex (setting_of page_paper sheet_paper (arrangement_in s cells)) (count_of cells))
 laying_in (layout.Booklet signing long_edge) s page_paper sheet_paper =
     Some (laying.Booklet (binding_setting_of sheet_paper (binding_in s long_edge)) long_edge (rounded_down s.creep))
+laying_in (layout.Notes pages) s page_paper sheet_paper =
+    Some (laying.Grid (setting_of page_paper sheet_paper (notes_in s pages)) pages)
 laying_in (layout.Poster columns rows) s page_paper sheet_paper =
     Some (laying.Poster (poster_in s columns rows sheet_paper))
 laying_in layout.Selection s page_paper sheet_paper = Some (laying.AsTheyAre sheet_paper)
 laying_in (layout.Spec specs) s page_paper sheet_paper = None
+laying_in (layout.SpecRow specs signing) s page_paper sheet_paper = None
 
 -- the fault that says why it can't
 abbrev pub why_not_laid : Layout → Spacing → (page_paper sheet_paper : Paper) → Option Fault
@@ -85,11 +90,14 @@ why_not_laid (layout.Stack cells duplex) s page_paper sheet_paper =
     option_map fault.Layout (why_not_arranged page_paper sheet_paper (arrangement_in s cells))
 why_not_laid (layout.Booklet signing long_edge) s page_paper sheet_paper = option_map fault.Layout
     (first_of (is_length s.creep) why.LengthOutOfRange (why_not_bound page_paper sheet_paper (binding_in s long_edge)))
+why_not_laid (layout.Notes pages) s page_paper sheet_paper =
+    option_map fault.Layout (why_not_arranged page_paper sheet_paper (notes_in s pages))
 why_not_laid (layout.Poster columns rows) s page_paper sheet_paper = if is_length s.margin && is_length s.overlap
     then option_map fault.Poster (why_no_poster page_paper (poster_in s columns rows sheet_paper))
     else Some (fault.Layout why.LengthOutOfRange)
 why_not_laid layout.Selection s page_paper sheet_paper = None
 why_not_laid (layout.Spec specs) s page_paper sheet_paper = None
+why_not_laid (layout.SpecRow specs signing) s page_paper sheet_paper = None
 
 -- the paper of a selection's first sheet; blank sheets have this one
 abbrev pub first_paper : Result Row RowFault → (papers : List Paper) → (blank : Paper) → Paper
@@ -150,6 +158,7 @@ pub record ArePapersOf (r : Request) (input : List ℕ) (papers : List Paper) (c
 -- the layout lays rows on sheets
 abbrev pub LaysRows : Layout → Type 0
 LaysRows (layout.Spec specs) = ⊥
+LaysRows (layout.SpecRow specs signing) = ⊥
 LaysRows other = ⊤
 
 -- the task is what the request asks for with this document

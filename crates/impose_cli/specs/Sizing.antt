@@ -150,10 +150,12 @@ RefusesSpacing found fault.NoText = ⊥
 
 -- a refusal of the marks, on sheets that have some
 abbrev pub RefusesMarks : Layout → (found : List Row) → CommandFault → Type 0
-RefusesMarks (layout.Booklet signing long_edge) found f = RefusesValue cell.FoldMarks found f
+RefusesMarks (layout.Booklet signing long_edge) found f = RefusesValue cell.BookletMarks found f
+RefusesMarks (layout.Notes pages) found f = ⊥
 RefusesMarks (layout.Poster columns rows) found f = ⊥
 RefusesMarks layout.Selection found f = ⊥
 RefusesMarks (layout.Spec specs) found f = ⊥
+RefusesMarks (layout.SpecRow specs signing) found f = ⊥
 RefusesMarks other found f = RefusesValue cell.CutMarks found f
 
 -- a refusal of the pages

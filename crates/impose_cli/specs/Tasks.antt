@@ -1,6 +1,6 @@
 -- What is imposed, and how: a request for a document.
 use Rattle.std.specs.Prelude.{◌≡◌, ℕ, pos, Bool, true, if◌then◌else◌, unwrap_or, List, length, Option}
-use Rattle.std.specs.Prelude.{Some, None, Ok, string_bytes}
+use Rattle.std.specs.Prelude.{Some, None, Ok, option_map, string_bytes}
 use Rattle.rules.specs.Papers.{Paper}
 use Rattle.rules.specs.Specification.{Spec, canonical}
 use Rattle.rules.specs.Admissible.{Takes, most_slots}
@@ -60,7 +60,7 @@ abbrev pub IsWritten : Spec → (text : List ℕ) → Type 0
 IsWritten spec text = (text ≡ canonical spec) × Takes most_slots text spec
 
 -- The text of the specification and the sides of a signature to which a layout comes, for so many pages of a paper. None
--- says a selection, cards, a stack, a poster, or leaves that creep.
+-- says a selection, cards, a stack, lines for notes, a poster, or leaves that creep.
 abbrev pub IsPlaced : Layout → Spacing → (page_paper sheet_paper : Paper) → (pages : ℕ) → (text : List ℕ)
     → (sides : Option ℕ) → Type 0
 IsPlaced (layout.NUp cells) s page_paper sheet_paper pages text sides = let a = arrangement_in s cells in
@@ -71,8 +71,11 @@ IsPlaced (layout.Booklet signing long_edge) s page_paper sheet_paper pages text 
     × (IsWritten (bound page_paper sheet_paper b) text × IsBound page_paper sheet_paper b (bound page_paper sheet_paper b))
     × (sides ≡ Some (sides_for (signing_of signing) pages))
 IsPlaced (layout.Spec specs) s page_paper sheet_paper pages text sides = (text ≡ string_bytes specs) × (sides ≡ None)
+IsPlaced (layout.SpecRow specs signing) s page_paper sheet_paper pages text sides =
+    (text ≡ string_bytes specs) × (sides ≡ option_map (λ how. sides_for (signing_of how) pages) signing)
 IsPlaced (layout.Cards cells) s page_paper sheet_paper pages text sides = ⊥
 IsPlaced (layout.Stack cells duplex) s page_paper sheet_paper pages text sides = ⊥
+IsPlaced (layout.Notes n) s page_paper sheet_paper pages text sides = ⊥
 IsPlaced (layout.Poster columns rows) s page_paper sheet_paper pages text sides = ⊥
 IsPlaced layout.Selection s page_paper sheet_paper pages text sides = ⊥
 

@@ -29,6 +29,7 @@ RefusesSpecification text f = (e : SpecError) × (f ≡ fault.Run (of_spec e)) �
 -- the text of a specification is one; and if the paper of the pages is named, the layout lays them on such sheets
 abbrev pub IsPossible : Layout → Spacing → (page_paper sheet_paper : Option Paper) → Type 0
 IsPossible (layout.Spec specs) s page_paper sheet_paper = IsSpecification (string_bytes specs)
+IsPossible (layout.SpecRow specs signing) s page_paper sheet_paper = IsSpecification (string_bytes specs)
 IsPossible other s None sheet_paper = ⊤
 IsPossible other s (Some page_paper) sheet_paper =
     why_not_laid other s page_paper (sheet_paper_in other sheet_paper page_paper) ≡ None
@@ -36,6 +37,7 @@ IsPossible other s (Some page_paper) sheet_paper =
 -- a fault says that this isn't so; or it is out of memory
 abbrev pub RefusesUnread : Layout → Spacing → (page_paper sheet_paper : Option Paper) → Fault → Type 0
 RefusesUnread (layout.Spec specs) s page_paper sheet_paper f = RefusesSpecification (string_bytes specs) f
+RefusesUnread (layout.SpecRow specs signing) s page_paper sheet_paper f = RefusesSpecification (string_bytes specs) f
 RefusesUnread other s None sheet_paper f = ⊥
 RefusesUnread other s (Some page_paper) sheet_paper f =
     RefusesLaying other s page_paper (sheet_paper_in other sheet_paper page_paper) f

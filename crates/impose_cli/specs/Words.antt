@@ -9,7 +9,7 @@ use Rattle.lengths.specs.Lengths.{a4, length_named}
 use Rattle.command_words.specs.Borders.{border_named}
 use Rattle.command_words.specs.Matches.{has_true, number_named}
 use Rattle.layouts.specs.declared.arrangement.Cells.{Cells}
-use Rattle.layouts.specs.declared.arrangement.Cells.TheVariants.{Exactly}
+use Rattle.layouts.specs.declared.arrangement.Cells.TheVariants.{AtLeast, Exactly}
 use Rattle.layouts.specs.declared.arrangement.Order.{Order}
 use Rattle.layouts.specs.declared.arrangement.Run.{Run}
 use Rattle.layouts.specs.declared.arrangement.Run.TheVariants.{Rows}
@@ -19,11 +19,12 @@ use Rattle.rows.specs.declared.sewing.Signing.{Signing}
 use Rattle.rows.specs.declared.choices.Part.{Part}
 use Rattle.rows.specs.declared.choices.Part.TheVariants.{All, Odd, Even}
 use Rattle.marks.specs.declared.strokes.Marks.{Marks}
-use Rattle.impose_cli.specs.Arranging.{cells_named, cut_marks_named, exact_alone, fold_marks_named, no_marks, run_named, scale_named, turned_named}
+use Rattle.impose_cli.specs.Arranging.{booklet_marks_named, cells_named, cut_marks_named, exact_alone, lines_alone, no_marks, noted_alone}
+use Rattle.impose_cli.specs.Arranging.{run_named, scale_named, turned_named}
 use Rattle.impose_cli.specs.Choices.{is_whole}
 use Rattle.impose_cli.specs.declared.request.PageChoice.{PageChoice}
 use Rattle.impose_cli.specs.Command.{impose}
-use Rattle.impose_cli.specs.Signatures.{signing_asked}
+use Rattle.impose_cli.specs.Signatures.{signing_asked, signing_named}
 use Rattle.impose_cli.specs.Sizes.{size_named}
 use Rattle.impose_cli.specs.declared.request.Layout.{Layout}
 use Rattle.impose_cli.specs.declared.request.Layout.TheVariants as layout
@@ -90,17 +91,33 @@ length_found option found = length_asked (first_of (length_id option) found)
 abbrev pub signing_found : (found : List Row) → Option Signing
 signing_found found = signing_asked (first_of (codes "signature") found)
 
+-- how the row of a specification is sewn, if it is to be; and nothing if the text says neither
+abbrev pub row_signing_asked : Option Text → Option (Option Signing)
+row_signing_asked None = Some None
+row_signing_asked (Some text) = option_map (λ signing. Some signing) (signing_named text)
+
+abbrev pub row_signing_found : (found : List Row) → Option (Option Signing)
+row_signing_found found = row_signing_asked (first_of (codes "signature") found)
+
+-- pages are chosen for a specification, or put into signatures
+abbrev pub row_asked : (found : List Row) → Bool
+row_asked found = is_some (first_of (codes "pages") found) || is_some (first_of (codes "signature") found)
+    || has_flag (codes "odd") found || has_flag (codes "even") found || has_flag (codes "reverse") found
+
 abbrev pub command_name : GridCommand → Text
 command_name grid.NUp = codes "nup"
 command_name grid.Cards = codes "cards"
 command_name grid.Stack = codes "stack"
+command_name grid.Notes = codes "notes"
 command_name grid.Poster = codes "poster"
 
--- the cells that a text behind such a command means; those of a poster are its sheets, in so many columns and rows
+-- the cells that a text behind such a command means; those of notes are a number of pages, and those of a poster are its sheets,
+-- in so many columns and rows
 abbrev pub cells_in : GridCommand → Text → Option Cells
 cells_in grid.NUp text = cells_named text
 cells_in grid.Cards text = cells_named text
 cells_in grid.Stack text = cells_named text
+cells_in grid.Notes text = noted_alone (cells_named text)
 cells_in grid.Poster text = exact_alone (cells_named text)
 
 -- the cells that stand behind such a command
@@ -111,7 +128,7 @@ abbrev pub cell_id : CellOption → Text
 cell_id cell.Order = codes "order"
 cell_id cell.Turned = codes "turned"
 cell_id cell.Scale = codes "scale"
-cell_id cell.FoldMarks = codes "marks"
+cell_id cell.BookletMarks = codes "marks"
 cell_id cell.CutMarks = codes "marks"
 
 -- along rows from the left if no order is asked for; and nothing if the text names none
@@ -152,12 +169,15 @@ abbrev pub marks_asked : (Text → Option Marks) → Option Text → Option Mark
 marks_asked named None = Some no_marks
 marks_asked named (Some text) = named text
 
--- a booklet is folded, other sheets with cells are cut, and no others have marks
+-- a booklet is folded and cut, other sheets with cells are cut alone, and no others have marks; on those for notes lines are
+-- drawn
 abbrev pub marks_found : Layout → (found : List Row) → Option Marks
-marks_found (layout.Booklet signing long_edge) found = marks_asked fold_marks_named (first_of (cell_id cell.FoldMarks) found)
+marks_found (layout.Booklet signing long_edge) found = marks_asked booklet_marks_named (first_of (cell_id cell.BookletMarks) found)
+marks_found (layout.Notes pages) found = Some lines_alone
 marks_found (layout.Poster columns rows) found = Some no_marks
 marks_found layout.Selection found = Some no_marks
 marks_found (layout.Spec specs) found = Some no_marks
+marks_found (layout.SpecRow specs signing) found = Some no_marks
 marks_found other found = marks_asked cut_marks_named (first_of (cell_id cell.CutMarks) found)
 
 -- the text is a value of the option
@@ -165,7 +185,7 @@ abbrev pub is_value : CellOption → Text → Bool
 is_value cell.Order text = is_some (run_named text)
 is_value cell.Turned text = is_some (turned_named text)
 is_value cell.Scale text = is_some (scale_named text)
-is_value cell.FoldMarks text = is_some (fold_marks_named text)
+is_value cell.BookletMarks text = is_some (booklet_marks_named text)
 is_value cell.CutMarks text = is_some (cut_marks_named text)
 
 abbrev pub part_by : (odd even : Bool) → Option Part
@@ -219,13 +239,17 @@ AsksFor name found (layout.NUp cells) = (name ≡ codes "nup") × (cells_found g
 AsksFor name found (layout.Cards cells) = (name ≡ codes "cards") × (cells_found grid.Cards found ≡ Some cells)
 AsksFor name found (layout.Stack cells duplex) = (name ≡ codes "stack") × (cells_found grid.Stack found ≡ Some cells)
     × (has_flag (codes "duplex") found ≡ duplex)
+AsksFor name found (layout.Notes pages) = (name ≡ codes "notes") × (cells_found grid.Notes found ≡ Some (AtLeast pages))
 AsksFor name found (layout.Poster columns rows) = (name ≡ codes "poster")
     × (cells_found grid.Poster found ≡ Some (Exactly columns rows))
 AsksFor name found (layout.Booklet signing long_edge) = (name ≡ codes "booklet") × (signing_found found ≡ Some signing)
     × (has_flag (codes "long-edge") found ≡ long_edge)
 AsksFor name found layout.Selection = (name ≡ codes "select") × (is_some (first_of (codes "ranges") found) ≡ true)
 AsksFor name found (layout.Spec specs) = (name ≡ codes "spec")
-    × (first_of (codes "specs") found ≡ Some (string_bytes specs))
+    × (first_of (codes "specs") found ≡ Some (string_bytes specs)) × (row_asked found ≡ false)
+AsksFor name found (layout.SpecRow specs signing) = (name ≡ codes "spec")
+    × (first_of (codes "specs") found ≡ Some (string_bytes specs)) × (row_asked found ≡ true)
+    × (row_signing_found found ≡ Some signing)
 
 -- the argument that names the pages of a layout, if it has one
 abbrev pub ranges_id : Layout → Option Text
@@ -370,7 +394,7 @@ abbrev pub AreValues : CellOption → (found : List Row) → Type 0
 AreValues cell.Order found = ⊤
 AreValues cell.Turned found = is_some (run_found found) ≡ true
 AreValues cell.Scale found = (is_some (run_found found) ≡ true) × (is_some (turned_found found) ≡ true)
-AreValues cell.FoldMarks found = AreRead found
+AreValues cell.BookletMarks found = AreRead found
 AreValues cell.CutMarks found = AreRead found
 
 -- the value of the option is none, and those of the options before it are some
@@ -392,13 +416,14 @@ is_complete name found =
     else (if bytes_eq name (codes "booklet") then true
     else (if bytes_eq name (codes "cards") then is_some (first_of (codes "count") found)
     else (if bytes_eq name (codes "stack") then is_some (first_of (codes "count") found)
+    else (if bytes_eq name (codes "notes") then is_some (first_of (codes "count") found)
     else (if bytes_eq name (codes "poster") then is_some (first_of (codes "count") found)
     else (if bytes_eq name (codes "select") then is_some (first_of (codes "ranges") found)
-    else (if bytes_eq name (codes "spec") then is_some (first_of (codes "specs") found) else false))))))
+    else (if bytes_eq name (codes "spec") then is_some (first_of (codes "specs") found) else false)))))))
 
 -- what a refusal of a layout says of what was found
 abbrev pub RefusesArguments : (name : Text) → (found : List Row) → CommandFault → Type 0
-RefusesArguments name found (fault.BadSignature text) = (name ≡ codes "booklet")
+RefusesArguments name found (fault.BadSignature text) = ((name ≡ codes "booklet") ⊎ (name ≡ codes "spec"))
     × (first_of (codes "signature") found ≡ Some (string_bytes text)) × (signing_found found ≡ None)
 RefusesArguments name found (fault.BadCells command text) = (name ≡ command_name command)
     × NamesNoCells command found (string_bytes text)

@@ -5,7 +5,7 @@ ghost use Rattle.clap.specs.Words.{app_of, new_app, rule_of, with_rule};
 ghost use Rattle.command_words.specs.Arguments.{fits};
 ghost use Rattle.impose_cli.specs.Command.{apps, booklet_app, cards_app, common_rules, count_rule, flag_rule, impose};
 ghost use Rattle.impose_cli.specs.Command.{nup_app, option_rule, positional_rule, required_rule, select_app, spec_app};
-ghost use Rattle.impose_cli.specs.Command.{poster_app, stack_app};
+ghost use Rattle.impose_cli.specs.Command.{notes_app, poster_app, stack_app};
 
 use clap::{Arg, ArgAction, Command, value_parser};
 use std::alloc::{AllocError, Global};
@@ -20,6 +20,7 @@ Examples:
   impose booklet in.ps out.ps         print on both sides, fold, staple
   impose cards 8 in.ps out.ps         each page eight times on a sheet
   impose stack 2 in.ps out.ps         cut the pile in two, and the pages run on
+  impose notes 3 in.ps out.ps         three pages on a sheet, and lines for notes beside them
   impose poster 2x2 in.ps out.ps      each page over four sheets, to be glued together
   impose select 9-3,12- in.ps out.ps  pages 9 down to 3, then 12 to the last
   impose booklet --pages 3-14 in.ps out.ps
@@ -45,10 +46,11 @@ fn subcommands<'a>(alloc: Global) -> Result<Vec<Command<'a>>, AllocError>
     let booklet = booklet(alloc)?;
     let cards = cards(alloc)?;
     let stack = stack(alloc)?;
+    let notes = notes(alloc)?;
     let poster = poster(alloc)?;
     let select = select(alloc)?;
     let spec = spec(alloc)?;
-    Ok(vec![in alloc; nup, booklet, cards, stack, poster, select, spec]?)
+    Ok(vec![in alloc; nup, booklet, cards, stack, notes, poster, select, spec]?)
 }
 
 fn nup<'a>(alloc: Global) -> Result<Command<'a>, AllocError>
@@ -67,7 +69,7 @@ fn nup<'a>(alloc: Global) -> Result<Command<'a>, AllocError>
         margin(alloc),
         gap(alloc, "Keep so much free between pages"),
         trim(alloc),
-        marks(alloc),
+        marks(alloc, "Draw short lines where sheets are cut: cut"),
         rtl(alloc),
         pages(alloc),
         odd(alloc),
@@ -95,7 +97,7 @@ fn cards<'a>(alloc: Global) -> Result<Command<'a>, AllocError>
         margin(alloc),
         gap(alloc, "Keep so much free between pages"),
         trim(alloc),
-        marks(alloc),
+        marks(alloc, "Draw short lines where sheets are cut: cut"),
         rtl(alloc),
         pages(alloc),
         odd(alloc),
@@ -126,7 +128,7 @@ fn stack<'a>(alloc: Global) -> Result<Command<'a>, AllocError>
         margin(alloc),
         gap(alloc, "Keep so much free between pages"),
         trim(alloc),
-        marks(alloc),
+        marks(alloc, "Draw short lines where sheets are cut: cut"),
         rtl(alloc),
         pages(alloc),
         odd(alloc),
@@ -136,6 +138,29 @@ fn stack<'a>(alloc: Global) -> Result<Command<'a>, AllocError>
         preview(alloc),
     ]?;
     subcommand(alloc, "stack", about, own)
+}
+
+fn notes<'a>(alloc: Global) -> Result<Command<'a>, AllocError>
+    ensures { IfOk result (λ c. app_of c ≡ notes_app) }
+{
+    let about = "Pages one below another, and beside each of them lines for notes";
+    let own = vec![in alloc;
+        count(alloc, "How many pages, from 1 to 512"),
+        same_scale(alloc),
+        margin(alloc),
+        gap(
+            alloc,
+            "Keep so much free between pages, and before the lines"
+        ),
+        trim(alloc),
+        pages(alloc),
+        odd(alloc),
+        even(alloc),
+        reverse(alloc),
+        plan(alloc),
+        preview(alloc),
+    ]?;
+    subcommand(alloc, "notes", about, own)
 }
 
 fn poster<'a>(alloc: Global) -> Result<Command<'a>, AllocError>
@@ -175,7 +200,10 @@ fn booklet<'a>(alloc: Global) -> Result<Command<'a>, AllocError>
             "Keep so much free at the fold, half of it on each side"
         ),
         trim(alloc),
-        marks(alloc),
+        marks(
+            alloc,
+            "Draw short lines at the fold (fold), where the margin is cut off (cut), or both (fold,cut)"
+        ),
         rtl(alloc),
         pages(alloc),
         odd(alloc),
@@ -286,12 +314,10 @@ fn trim<'a>(alloc: Global) -> Arg<'a>
     )
 }
 
-fn marks<'a>(alloc: Global) -> Arg<'a>
+fn marks<'a>(alloc: Global, help: &'a str) -> Arg<'a>
     ensures { rule_of result ≡ option_rule (codes "marks") }
 {
-    option(alloc, "marks", "MARKS").help(
-        "Draw short lines where sheets are folded or cut: fold for a booklet, cut for other sheets",
-    )
+    option(alloc, "marks", "MARKS").help(help)
 }
 
 fn rtl<'a>(alloc: Global) -> Arg<'a>
@@ -344,8 +370,19 @@ fn spec<'a>(alloc: Global) -> Result<Command<'a>, AllocError>
     let specs = required(alloc, "specs", "SPECS").help(
         "A page specification, as 2:0L@.7(21cm,0)+1L@.7(21cm,14.85cm)",
     );
+    let signature = option(alloc, "signature", "SIDES").help(
+        "Put the pages into signatures of so many sides first, a multiple of four, or auto",
+    );
     let about = "Pages as a page specification of pstops places them";
-    subcommand(alloc, "spec", about, vec![in alloc; specs]?)
+    let own = vec![in alloc;
+        specs,
+        signature,
+        pages(alloc),
+        odd(alloc),
+        even(alloc),
+        reverse(alloc),
+    ]?;
+    subcommand(alloc, "spec", about, own)
 }
 
 /// A subcommand with arguments of its own, and behind them those that every subcommand has.

@@ -63,6 +63,27 @@ pub fn exact_cells(text: &str) -> Option<Cells>
     }
 }
 
+/// The number of pages that the text means, if a sheet takes as many cells again for notes beside them.
+pub fn noted_cells(text: &str) -> Option<Cells>
+    ensures { result ≡ meaning.noted_alone (meaning.cells_named text.now) }
+{
+    match cells_named(text) {
+        Some(Cells::AtLeast(pages)) => with_notes(pages),
+        _ => None,
+    }
+}
+
+fn with_notes(pages: u32) -> Option<Cells>
+    ensures { result ≡ meaning.with_notes pages }
+{
+    let cells = 2 * u64::from(pages);
+    if 1 <= cells && cells <= MOST_CELLS {
+        Some(Cells::AtLeast(pages))
+    } else {
+        None
+    }
+}
+
 /// Along what pages run, and whether from the right to the left.
 pub fn run_named(text: &str) -> Option<(Run, bool)>
     ensures { result ≡ meaning.run_named text.now }
@@ -103,21 +124,34 @@ pub fn scale_named(text: &str) -> Option<Number>
     }
 }
 
-/// The marks that the text means on sheets that are folded.
-pub fn fold_marks_named(text: &str) -> Option<Marks>
-    ensures { result ≡ meaning.fold_marks_named text.now }
+/// The marks that the text means on a booklet, which is folded, and may be cut round its halves.
+pub fn booklet_marks_named(text: &str) -> Option<Marks>
+    ensures { result ≡ meaning.booklet_marks_named text.now }
 {
     if text == "fold" {
         Some(Marks {
             fold: true,
             cut: false,
+            ruled: false,
+        })
+    } else if text == "cut" {
+        Some(Marks {
+            fold: false,
+            cut: true,
+            ruled: false,
+        })
+    } else if text == "fold,cut" || text == "cut,fold" {
+        Some(Marks {
+            fold: true,
+            cut: true,
+            ruled: false,
         })
     } else {
         None
     }
 }
 
-/// The marks that the text means on sheets that are cut.
+/// The marks that the text means on other sheets, which are cut alone.
 pub fn cut_marks_named(text: &str) -> Option<Marks>
     ensures { result ≡ meaning.cut_marks_named text.now }
 {
@@ -125,6 +159,7 @@ pub fn cut_marks_named(text: &str) -> Option<Marks>
         Some(Marks {
             fold: false,
             cut: true,
+            ruled: false,
         })
     } else {
         None

@@ -6,8 +6,8 @@ ghost use Rattle.impose_cli.specs.Words.{AsksFor, Entered, ParseRefuses, Reads, 
 ghost use Rattle.impose_cli.specs.Words.{RefusesArguments, border_found, file_asked, is_outfile, paper_id};
 ghost use Rattle.impose_cli.specs.Words.{ChoosesBy, MakesBy, NamesPicture, SpacesBy, length_found, length_id, ranges_id, part_by as of_both};
 ghost use Rattle.impose_cli.specs.Words.{cells_found, cells_in as cells_of_command, command_name, order_found, run_found, scale_found};
-ghost use Rattle.impose_cli.specs.Words.{marks_asked, marks_found, signing_found, size_found, turned_found};
-ghost use Rattle.impose_cli.specs.Arranging.{cut_marks_named as to_cut, fold_marks_named as to_fold};
+ghost use Rattle.impose_cli.specs.Words.{marks_asked, marks_found, row_asked, row_signing_found, signing_found, size_found, turned_found};
+ghost use Rattle.impose_cli.specs.Arranging.{booklet_marks_named as of_booklet, cut_marks_named as to_cut};
 ghost use Rattle.impose_cli.specs.Products.{is_plan, is_specification, lays_rows, picture_in};
 ghost use Rattle.impose_cli.specs.Spacings.{keeps_room};
 ghost use Rattle.impose_cli.specs.Sizing.{ReadsSizes, RefusesBorder, RefusesChoice, RefusesOutfile, RefusesSize};
@@ -18,8 +18,8 @@ ghost use Rattle.impose_cli.specs.declared.fault.CellOption.TheVariants as cell;
 
 use crate::arguments::command;
 use crate::arranging::{
-    cells_named, cut_marks_named, exact_cells, fold_marks_named, run_named, scale_named,
-    turned_named,
+    booklet_marks_named, cells_named, cut_marks_named, exact_cells, noted_cells, run_named,
+    scale_named, turned_named,
 };
 use crate::fault::{
     CellOption, CommandFault, GridCommand, LengthOption, PaperOption, ProductOption,
@@ -221,6 +221,8 @@ fn layout_of(alloc: Global, name: &str, found: &ArgMatches<'_>) -> Result<Layout
         cards_of(alloc, found)
     } else if name == "stack" {
         stack_of(alloc, found)
+    } else if name == "notes" {
+        notes_of(alloc, found)
     } else if name == "poster" {
         poster_of(alloc, found)
     } else if name == "select" {
@@ -265,6 +267,17 @@ fn stack_of(alloc: Global, found: &ArgMatches<'_>) -> Result<Layout, CommandFaul
     }
 }
 
+fn notes_of(alloc: Global, found: &ArgMatches<'_>) -> Result<Layout, CommandFault>
+    ensures read { IfOk result (AsksFor (codes "notes") (rows_of (found_of found.now))) }
+    ensures refused { IfErr result (RefusesArguments (codes "notes") (rows_of (found_of found.now))) }
+{
+    match cells_of(alloc, GridCommand::Notes, found) {
+        Ok(Cells::AtLeast(pages)) => Ok(Layout::Notes { pages }),
+        Ok(Cells::Exactly { .. }) => unreachable!(),
+        Err(fault) => Err(fault),
+    }
+}
+
 fn poster_of(alloc: Global, found: &ArgMatches<'_>) -> Result<Layout, CommandFault>
     ensures read { IfOk result (AsksFor (codes "poster") (rows_of (found_of found.now))) }
     ensures refused { IfErr result (RefusesArguments (codes "poster") (rows_of (found_of found.now))) }
@@ -294,11 +307,13 @@ fn cells_of(
     }
 }
 
-/// The cells that a text behind the command means. Those of a poster are its sheets, in so many columns and rows.
+/// The cells that a text behind the command means. Those of notes are a number of pages, and those of a poster are its sheets,
+/// in so many columns and rows.
 fn cells_in(command: GridCommand, text: &str) -> Option<Cells>
     ensures { result ≡ cells_of_command command text.now }
 {
     match command {
+        GridCommand::Notes => noted_cells(text),
         GridCommand::Poster => exact_cells(text),
         GridCommand::NUp | GridCommand::Cards | GridCommand::Stack => cells_named(text),
     }
@@ -345,9 +360,41 @@ fn spec_of(alloc: Global, found: &ArgMatches<'_>) -> Result<Layout, CommandFault
     ensures read { IfOk result (AsksFor (codes "spec") (rows_of (found_of found.now))) }
     ensures refused { IfErr result (RefusesArguments (codes "spec") (rows_of (found_of found.now))) }
 {
-    match text_of(found, "specs") {
-        Some(specs) => Ok(Layout::Spec(String::from_str(alloc, specs)?)),
-        None => Err(CommandFault::Lacking),
+    let specs = match text_of(found, "specs") {
+        Some(specs) => String::from_str(alloc, specs)?,
+        None => return Err(CommandFault::Lacking),
+    };
+    if !asks_for_row(found) {
+        return Ok(Layout::Spec(specs));
+    }
+    match row_signing_of(alloc, found) {
+        Ok(signing) => Ok(Layout::SpecRow { specs, signing }),
+        Err(fault) => Err(fault),
+    }
+}
+
+/// Whether a specification is to be laid on another row than that of all pages in their order.
+fn asks_for_row(found: &ArgMatches<'_>) -> bool
+    ensures { result ≡ row_asked (rows_of (found_of found.now)) }
+{
+    text_of(found, "pages").is_some()
+        || text_of(found, "signature").is_some()
+        || is_set(found, "odd")
+        || is_set(found, "even")
+        || is_set(found, "reverse")
+}
+
+/// How the row of a specification is sewn; it isn't if nothing is asked for.
+fn row_signing_of(alloc: Global, found: &ArgMatches<'_>) -> Result<Option<Signing>, CommandFault>
+    ensures read { IfOk result (λ signing. row_signing_found (rows_of (found_of found.now)) ≡ Some signing) }
+    ensures refused { IfErr result (RefusesArguments (codes "spec") (rows_of (found_of found.now))) }
+{
+    match text_of(found, "signature") {
+        None => Ok(None),
+        Some(text) => match signing_named(text) {
+            Some(signing) => Ok(Some(signing)),
+            None => Err(CommandFault::BadSignature(String::from_str(alloc, text)?)),
+        },
     }
 }
 
@@ -511,28 +558,37 @@ fn marks_of(alloc: Global, layout: &Layout, found: &ArgMatches<'_>) -> Result<Ma
     ensures refused { IfErr result (RefusesMarks layout.now (rows_of (found_of found.now))) }
 {
     match layout {
-        Layout::Booklet { .. } => fold_marks_of(alloc, found),
+        Layout::Booklet { .. } => booklet_marks_of(alloc, found),
         Layout::NUp(_) | Layout::Cards(_) | Layout::Stack { .. } => cut_marks_of(alloc, found),
-        Layout::Poster { .. } | Layout::Selection | Layout::Spec(_) => Ok(NO_MARKS),
+        Layout::Notes { .. } => Ok(LINES_ALONE),
+        Layout::Poster { .. } | Layout::Selection => Ok(NO_MARKS),
+        Layout::Spec(_) | Layout::SpecRow { .. } => Ok(NO_MARKS),
     }
 }
 
 const NO_MARKS: Marks = Marks {
     fold: false,
     cut: false,
+    ruled: false,
 };
 
-fn fold_marks_of(alloc: Global, found: &ArgMatches<'_>) -> Result<Marks, CommandFault>
+const LINES_ALONE: Marks = Marks {
+    fold: false,
+    cut: false,
+    ruled: true,
+};
+
+fn booklet_marks_of(alloc: Global, found: &ArgMatches<'_>) -> Result<Marks, CommandFault>
     ensures read { IfOk result (λ marks.
-        marks_asked to_fold (first_of (codes "marks") (rows_of (found_of found.now))) ≡ Some marks) }
-    ensures refused { IfErr result (RefusesValue cell.FoldMarks (rows_of (found_of found.now))) }
+        marks_asked of_booklet (first_of (codes "marks") (rows_of (found_of found.now))) ≡ Some marks) }
+    ensures refused { IfErr result (RefusesValue cell.BookletMarks (rows_of (found_of found.now))) }
 {
     match text_of(found, "marks") {
         None => Ok(NO_MARKS),
-        Some(text) => match fold_marks_named(text) {
+        Some(text) => match booklet_marks_named(text) {
             Some(marks) => Ok(marks),
             None => Err(CommandFault::BadValue(
-                CellOption::FoldMarks,
+                CellOption::BookletMarks,
                 String::from_str(alloc, text)?,
             )),
         },
@@ -567,8 +623,9 @@ fn choice_of(
 {
     match layout {
         Layout::NUp(_) | Layout::Cards(_) => choice_by(alloc, "pages", found),
-        Layout::Poster { .. } => choice_by(alloc, "pages", found),
+        Layout::Notes { .. } | Layout::Poster { .. } => choice_by(alloc, "pages", found),
         Layout::Stack { .. } | Layout::Booklet { .. } => choice_by(alloc, "pages", found),
+        Layout::SpecRow { .. } => choice_by(alloc, "pages", found),
         Layout::Selection => choice_by(alloc, "ranges", found),
         Layout::Spec(_) => Ok(PageChoice::whole()),
     }

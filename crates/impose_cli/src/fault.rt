@@ -25,23 +25,24 @@ pub enum LengthOption {
     Overlap,
 }
 
-/// The command that puts pages into the cells of a grid, or over its sheets.
+/// The command that puts pages into the cells of a grid, or beside those for notes, or over its sheets.
 #[derive(Clone, Copy, Debug, PartialEq, Eq)]
 pub enum GridCommand {
     NUp,
     Cards,
     Stack,
+    Notes,
     Poster,
 }
 
-/// The option that says in which order pages stand in cells, how large they are, or which marks are drawn: on sheets that
-/// are folded, or on sheets that are cut.
+/// The option that says in which order pages stand in cells, how large they are, or which marks are drawn: on a booklet, or
+/// on other sheets.
 #[derive(Clone, Copy, Debug, PartialEq, Eq)]
 pub enum CellOption {
     Order,
     Turned,
     Scale,
-    FoldMarks,
+    BookletMarks,
     CutMarks,
 }
 

@@ -53,11 +53,12 @@ pub(crate) fn laying_for(
         Layout::Booklet { signing, long_edge } => {
             booklet_laying(*signing, *long_edge, spacing, papers)
         }
+        Layout::Notes { pages } => notes_laying(*pages, spacing, papers),
         Layout::Poster { columns, rows } => poster_laying(*columns, *rows, spacing, papers),
         Layout::Selection => Ok(Some(Laying::AsTheyAre {
             blank: papers.sheet,
         })),
-        Layout::Spec(_) => Ok(None),
+        Layout::Spec(_) | Layout::SpecRow { .. } => Ok(None),
     }
 }
 
@@ -157,6 +158,22 @@ fn booklet_laying(
     }
 }
 
+fn notes_laying(pages: u32, spacing: &Spacing, papers: &Papers) -> Result<Option<Laying>, Fault>
+    ensures laying { IfOk result (λ laying.
+        laying ≡ laying_in (layout.Notes pages) spacing.now papers.now.page papers.now.sheet) }
+    ensures may_be { IfOk result (λ laying. IfSome laying MayBeLaid) }
+    ensures possible { OnOk result (why_not_laid (layout.Notes pages) spacing.now papers.now.page papers.now.sheet ≡ None) }
+    ensures refused { IfErr result (RefusesLaying (layout.Notes pages) spacing.now papers.now.page papers.now.sheet) }
+{
+    match Setting::of(papers, &spacing.notes(pages)) {
+        Ok(setting) => Ok(Some(Laying::Grid {
+            setting,
+            cells: pages,
+        })),
+        Err(error) => Err(Fault::Layout(error)),
+    }
+}
+
 fn poster_laying(
     columns: u32,
     rows: u32,
@@ -230,7 +247,7 @@ pub(crate) fn signing_for(layout: &Layout) -> Result<Option<Signing>, Fault>
 }
 
 /// Whether a signature may have so many sides, if a number is named.
-fn may_be_sewn(signing: Signing) -> bool
+pub(crate) fn may_be_sewn(signing: Signing) -> bool
     ensures { IsTrue result ↔ MayBeSewn signing }
 {
     match signing {

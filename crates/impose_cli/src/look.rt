@@ -8,6 +8,7 @@ ghost use Rattle.impose_cli.specs.RowTasks.{LaysRows};
 
 use crate::fault::Fault;
 use crate::request::Request;
+use crate::roomy_text::RoomyText;
 use crate::row_task::{RowTask, asked_fault_of, row_task};
 use crate::task::WORKERS;
 use dsc::Document;
@@ -32,7 +33,7 @@ pub enum Look {
 pub fn look_text(
     alloc: Global,
     request: &Request,
-    input: Vec<u8>,
+    input: RoomyText,
     look: Look,
 ) -> Result<Vec<u8>, Fault>
     requires rows { LaysRows request.now.layout }

@@ -1,4 +1,4 @@
-//! What is said of a fault or a finished run, and with which exit status the program ends.
+//! What is said of a fault, and with which exit status the program ends.
 ghost use Rattle.std.specs.Prelude.{◌≡◌};
 ghost use Rattle.impose_cli.specs.Statuses.{fault_status as status_of_fault, words_status as status_of_words};
 
@@ -10,16 +10,12 @@ use crate::mistakes::looks_like_file;
 use crate::request::{Layout, PageChoice, Product, Request};
 use crate::shown::shown_word;
 use crate::signature::number_in;
-use crate::task::{Finished, PaperOrigin};
 use arranged_sheets::PosterError;
 use clap::error::ErrorKind;
 use command_words::{name_of, run_status};
-use document_paper::Comment;
 use dsc::DscError;
-use imposer::{Report, RunError};
+use imposer::RunError;
 use layouts::ArrangementError;
-use lengths::{Paper, print_points};
-use own_papers::Cut;
 use pagespec::SpecError;
 use paper_names::{PaperError, name_list, read_paper};
 use rows::RowError;
@@ -56,147 +52,6 @@ fn words_status(kind: ErrorKind) -> u8
     }
 }
 
-/// What is said of a finished run.
-pub fn report_text(
-    alloc: Global,
-    done: &Finished,
-    request: &Request,
-) -> Result<String, AllocError> {
-    let counts = counts_text(alloc, &done.report, request)?;
-    let counts = counts.as_str();
-    let size = size_text(alloc, &done.page_paper)?;
-    let size = size.as_str();
-    let origin = origin_text(done.origin);
-    format!(in alloc; "{counts}; pages of {size} pt, {origin}")
-}
-
-/// How many pages, blanks, sheets and leaves there are, and how many bytes.
-fn counts_text(alloc: Global, report: &Report, request: &Request) -> Result<String, AllocError> {
-    let pages = report.pages;
-    let sheets = report.sheets;
-    let bytes = report.bytes;
-    let blanks = match blanks_of(request, report) {
-        0 => String::new(alloc),
-        blanks => format!(in alloc; ", blanks {blanks}")?,
-    };
-    let blanks = blanks.as_str();
-    let leaves = leaves_text(alloc, &request.layout, sheets)?;
-    let leaves = leaves.as_str();
-    format!(in alloc; "pages {pages}{blanks}, sheets {sheets}{leaves}, bytes {bytes}")
-}
-
-/// How many places of the sheets have no page, where all sheets have equally many and each page has one.
-fn blanks_of(request: &Request, report: &Report) -> u64 {
-    let places = match request.layout {
-        Layout::NUp(cells) if request.choice.is_whole() => cells.count(),
-        Layout::Booklet { .. } if request.choice.is_whole() => 2,
-        _ => 0,
-    };
-    places
-        .saturating_mul(u64::from(report.sheets))
-        .saturating_sub(u64::from(report.pages))
-}
-
-/// How many leaves of paper it takes, where sheets are printed on both sides.
-fn leaves_text(alloc: Global, layout: &Layout, sheets: u32) -> Result<String, AllocError> {
-    match layout {
-        Layout::Booklet { .. } | Layout::Stack { duplex: true, .. } => {
-            let leaves = sheets.div_ceil(2);
-            let word = if leaves == 1 { "leaf" } else { "leaves" };
-            format!(in alloc; " ({leaves} {word})")
-        }
-        _ => Ok(String::new(alloc)),
-    }
-}
-
-/// Both sides of a paper, in points.
-fn size_text(alloc: Global, paper: &Paper) -> Result<String, AllocError> {
-    let mut size = Vec::new(alloc);
-    print_points(paper.width(), &mut size)?;
-    size.extend_from_slice(b" x ")?;
-    print_points(paper.height(), &mut size)?;
-    Ok(text_or_empty(alloc, size))
-}
-
-/// What is said of pages that the paper cuts which is named for them.
-pub fn cut_text(alloc: Global, done: &Finished) -> Result<Option<String>, AllocError> {
-    let Some(cut) = done.cut else {
-        return Ok(None);
-    };
-    let pages = cut_pages_text(alloc, &cut)?;
-    let pages = pages.as_str();
-    let own = size_text(alloc, &cut.paper)?;
-    let own = own.as_str();
-    let named = size_text(alloc, &done.page_paper)?;
-    let named = named.as_str();
-    Ok(Some(format!(in alloc; "--paper cuts {pages}: {own} on {named}")?))
-}
-
-/// What is said of pages that stand behind the document's trailer.
-pub fn behind_text(alloc: Global, done: &Finished) -> Result<Option<String>, AllocError> {
-    let pages = done.behind;
-    match pages {
-        0 => Ok(None),
-        1 => Ok(Some(String::from_str(
-            alloc,
-            "1 page stands behind %%Trailer or %%EOF and is not imposed",
-        )?)),
-        _ => Ok(Some(format!(in alloc;
-            "{pages} pages stand behind %%Trailer or %%EOF and are not imposed"
-        )?)),
-    }
-}
-
-/// The pages that are cut, counted from 1.
-fn cut_pages_text(alloc: Global, cut: &Cut) -> Result<String, AllocError> {
-    let first = cut.first.saturating_add(1);
-    let last = cut.last.saturating_add(1);
-    let pages = cut.pages;
-    if pages == 1 {
-        format!(in alloc; "page {first}")
-    } else if pages == last.saturating_sub(cut.first) {
-        format!(in alloc; "pages {first}-{last}")
-    } else {
-        format!(in alloc; "{pages} pages from {first} to {last}")
-    }
-}
-
-/// What else is said of a finished run, if there is something: that a file named as a PDF isn't one.
-pub fn note_text(alloc: Global, request: &Request) -> Result<Option<String>, AllocError> {
-    match &request.outfile {
-        Some(name) if is_pdf_name(name.as_str()) => {
-            let name = shown_word(alloc, name.as_str())?;
-            let name = name.as_str();
-            Ok(Some(format!(in alloc;
-                "{name} holds PostScript, not a PDF; for a PDF use: impose .. | ps2pdf -dAutoRotatePages=/None - {name}"
-            )?))
-        }
-        _ => Ok(None),
-    }
-}
-
-fn is_pdf_name(name: &str) -> bool {
-    name.ends_with(".pdf") || name.ends_with(".PDF")
-}
-
-fn origin_text(origin: PaperOrigin) -> &'static str {
-    match origin {
-        PaperOrigin::Named => "as named",
-        PaperOrigin::ByComment(Comment::DocumentMedia) => "by its %%DocumentMedia",
-        PaperOrigin::ByComment(Comment::DocumentPaperSizes) => "by its %%DocumentPaperSizes",
-        PaperOrigin::ByComment(Comment::BoundingBox) => "by its %%BoundingBox",
-        PaperOrigin::AtHome => "the usual one here, as the document names none",
-        PaperOrigin::FirstPage => "that of page 1, as no page has the document's",
-    }
-}
-
-fn text_or_empty(alloc: Global, bytes: Vec<u8>) -> String {
-    match String::from_utf8(bytes) {
-        Ok(text) => text,
-        Err(_) => String::new(alloc),
-    }
-}
-
 /// What is said of a fault, without a line end behind it. The request is there once the command line is taken.
 pub fn fault_text(
     alloc: Global,
@@ -211,7 +66,7 @@ pub fn fault_text(
         Fault::Sheets(error) => String::from_str(alloc, sheets_message(error)),
         Fault::NoSpecification => String::from_str(
             alloc,
-            "--print-spec: no specification says a selection, cards, a stack or a poster, nor --pages, --odd, --even, \
+            "--print-spec: no specification says a selection, cards, a stack, notes or a poster, nor --pages, --odd, --even, \
             --reverse, --creep or --marks; leave it out",
         ),
         Fault::NoSuchPage { place, pages } => {
@@ -226,44 +81,38 @@ pub fn fault_text(
             with_cause(alloc, format!(in alloc; "cannot read {name}")?, cause)
         }
         Fault::Run(error) => run_text(alloc, error, request),
-        Fault::NoInput => {
-            let name = input_name(alloc, request)?;
-            let name = name.as_str();
-            format!(in alloc;
-                "{name} is empty; name a file with a PostScript document, or pipe one in"
-            )
-        }
-        Fault::Pdf => {
-            let name = input_name(alloc, request)?;
-            let name = name.as_str();
-            format!(in alloc;
-                "{name} is a PDF, not PostScript; use: pdftops in.pdf - | impose .. -"
-            )
-        }
-        Fault::Compressed => {
-            let name = input_name(alloc, request)?;
-            let name = name.as_str();
-            format!(in alloc;
-                "{name} is compressed, not PostScript; use: zcat in.ps.gz | impose .. -"
-            )
-        }
-        Fault::JobLanguage => {
-            let name = input_name(alloc, request)?;
-            let name = name.as_str();
-            format!(in alloc;
-                "{name} begins with a printer's job language, not with %!; cut that off: \
-                sed -n '/^%!/,$p' in.ps | impose .. -"
-            )
-        }
-        Fault::TooLong => {
-            let name = input_name(alloc, request)?;
-            let name = name.as_str();
-            format!(in alloc; "{name} is longer than 1,073,741,824 bytes; split it first")
-        }
+        Fault::NoInput | Fault::Pdf | Fault::Compressed | Fault::JobLanguage | Fault::TooLong =>
+            unread_text(alloc, fault, request),
         Fault::Write { written, cause } => {
             let text = written_text(alloc, *written, request)?;
             with_cause(alloc, text, cause)
         }
+    }
+}
+
+/// What is said of an input that isn't read as a document.
+fn unread_text(
+    alloc: Global,
+    fault: &Fault,
+    request: Option<&Request>,
+) -> Result<String, AllocError> {
+    let name = input_name(alloc, request)?;
+    let name = name.as_str();
+    match fault {
+        Fault::NoInput => format!(in alloc;
+            "{name} is empty; name a file with a PostScript document, or pipe one in"
+        ),
+        Fault::Pdf => format!(in alloc;
+            "{name} is a PDF, not PostScript; use: pdftops in.pdf - | impose .. -"
+        ),
+        Fault::Compressed => format!(in alloc;
+            "{name} is compressed, not PostScript; use: zcat in.ps.gz | impose .. -"
+        ),
+        Fault::JobLanguage => format!(in alloc;
+            "{name} begins with a printer's job language, not with %!; cut that off: \
+            sed -n '/^%!/,$p' in.ps | impose .. -"
+        ),
+        _ => format!(in alloc; "{name} is longer than 1,073,741,824 bytes; split it first"),
     }
 }
 
@@ -347,13 +196,7 @@ pub fn command_text(alloc: Global, fault: &CommandFault) -> Result<String, Alloc
         ),
         CommandFault::Lacking => String::from_str(alloc, "bad command line: see impose --help"),
         CommandFault::UnknownPaper(option, text) => paper_text(alloc, *option, text.as_str()),
-        CommandFault::BadBorder(text) => {
-            let text = shown_word(alloc, text.as_str())?;
-            let text = text.as_str();
-            format!(in alloc;
-                "bad width '{text}' after --border: give a length as 1pt, .5mm or .02in"
-            )
-        }
+        CommandFault::BadBorder(text) => border_text(alloc, text.as_str()),
         CommandFault::BadLength(option, text) => {
             let option = length_option(*option);
             let text = shown_word(alloc, text.as_str())?;
@@ -369,28 +212,41 @@ pub fn command_text(alloc: Global, fault: &CommandFault) -> Result<String, Alloc
                 "--odd and --even leave no page together: give one of them",
             )
         }
-        CommandFault::OptionAsOutfile(text) => {
-            let text = shown_word(alloc, text.as_str())?;
-            let text = text.as_str();
-            format!(in alloc;
-                "OUTFILE '{text}' begins with a minus, as options do: options stand before --, and a file of this name \
-                is written ./{text}"
-            )
-        }
+        CommandFault::OptionAsOutfile(text) => outfile_text(alloc, text.as_str()),
         CommandFault::TwoProducts(one, other) => {
             let one = product_option(*one);
             let other = product_option(*other);
             format!(in alloc; "{one} and {other} ask for two things: give one of them")
         }
-        CommandFault::BadPicture(text) => {
-            let text = shown_word(alloc, text.as_str())?;
-            let text = text.as_str();
-            format!(in alloc;
-                "bad file '{text}' after --preview: it is an SVG, so name it as sheets.svg, or - for standard output"
-            )
-        }
+        CommandFault::BadPicture(text) => picture_text(alloc, text.as_str()),
         CommandFault::NoMemory => String::from_str(alloc, "out of memory"),
     }
+}
+
+/// What is said of a text that names no width of a border.
+fn border_text(alloc: Global, text: &str) -> Result<String, AllocError> {
+    let text = shown_word(alloc, text)?;
+    let text = text.as_str();
+    format!(in alloc; "bad width '{text}' after --border: give a length as 1pt, .5mm or .02in")
+}
+
+/// What is said of an option in the place of a file.
+fn outfile_text(alloc: Global, text: &str) -> Result<String, AllocError> {
+    let text = shown_word(alloc, text)?;
+    let text = text.as_str();
+    format!(in alloc;
+        "OUTFILE '{text}' begins with a minus, as options do: options stand before --, and a file of this name \
+        is written ./{text}"
+    )
+}
+
+/// What is said of a file that isn't named as a picture.
+fn picture_text(alloc: Global, text: &str) -> Result<String, AllocError> {
+    let text = shown_word(alloc, text)?;
+    let text = text.as_str();
+    format!(in alloc;
+        "bad file '{text}' after --preview: it is an SVG, so name it as sheets.svg, or - for standard output"
+    )
 }
 
 /// What is said of a text that names no signature.
@@ -419,6 +275,7 @@ fn cells_text(alloc: Global, command: GridCommand, text: &str) -> Result<String,
         GridCommand::NUp => ("nup", "impose nup 2 in.ps out.ps"),
         GridCommand::Cards => ("cards", "impose cards 8 in.ps out.ps"),
         GridCommand::Stack => ("stack", "impose stack 2 in.ps out.ps"),
+        GridCommand::Notes => return noted_text(alloc, text),
         GridCommand::Poster => return tiles_text(alloc, text),
     };
     let shown = shown_word(alloc, text)?;
@@ -434,6 +291,21 @@ fn cells_text(alloc: Global, command: GridCommand, text: &str) -> Result<String,
     } else {
         format!(in alloc;
             "bad number of pages '{shown}' behind {command}: give one from 1 to 1024, or columns and rows as 2x4"
+        )
+    }
+}
+
+/// What is said of a text behind `notes` that names no number of pages.
+fn noted_text(alloc: Global, text: &str) -> Result<String, AllocError> {
+    let shown = shown_word(alloc, text)?;
+    let shown = shown.as_str();
+    if looks_like_file(text) {
+        format!(in alloc;
+            "the number of pages is missing before '{shown}': it stands behind notes, as in: impose notes 3 in.ps out.ps"
+        )
+    } else {
+        format!(in alloc;
+            "bad number of pages '{shown}' behind notes: give one from 1 to 512, as 3"
         )
     }
 }
@@ -468,13 +340,9 @@ fn value_text(alloc: Global, option: CellOption, text: &str) -> Result<String, A
         CellOption::Scale => format!(in alloc;
             "bad scale '{text}' after --scale: give a number as 0.7"
         ),
-        CellOption::FoldMarks => if text.contains("cut") {
-            format!(in alloc;
-                "a booklet isn't cut, so --marks {text} asks too much: give --marks fold"
-            )
-        } else {
-            format!(in alloc; "unknown marks '{text}' after --marks: give fold")
-        },
+        CellOption::BookletMarks => format!(in alloc;
+            "unknown marks '{text}' after --marks: give fold, cut or fold,cut"
+        ),
         CellOption::CutMarks => if text.contains("fold") {
             format!(in alloc;
                 "only a booklet is folded, so --marks {text} asks too much here: give --marks cut"
@@ -713,6 +581,12 @@ const MOST_GROUPS: u32 = 10_000;
 
 fn spec_of(request: Option<&Request>) -> &str {
     match request {
+        Some(
+            Request {
+                layout: Layout::SpecRow { specs, .. },
+                ..
+            },
+        ) => specs.as_str(),
         Some(
             Request {
                 layout: Layout::Spec(spec),

@@ -95,6 +95,7 @@ fn is_command(word: &str) -> bool {
         || word == "booklet"
         || word == "cards"
         || word == "stack"
+        || word == "notes"
         || word == "poster"
         || word == "select"
         || word == "spec"
@@ -121,6 +122,8 @@ fn tip_on_argument(command: &str) -> Option<&'static str> {
         Some("the number of pages stands behind cards, as in: impose cards 8 in.ps out.ps")
     } else if command == "stack" {
         Some("the number of pages stands behind stack, as in: impose stack 2 in.ps out.ps")
+    } else if command == "notes" {
+        Some("the number of pages stands behind notes, as in: impose notes 3 in.ps out.ps")
     } else if command == "poster" {
         Some(
             "columns and rows of sheets stand behind poster, as in: impose poster 2x2 in.ps out.ps",
@@ -144,8 +147,8 @@ fn tip_on_unknown(command: &str, behind: &[String]) -> Option<&'static str> {
         }
         if command == "spec" && (word == "--plan" || word.starts_with("--preview")) {
             return Some(
-                "plans and pictures are made for nup, booklet, cards, stack and select; without one: impose spec 0,0 in.ps \
-                out.ps",
+                "plans and pictures are made for nup, booklet, cards, stack, notes, poster and select; without one: impose spec 0,0 \
+                in.ps out.ps",
             );
         }
         if begins_with_minus_and_number(word) {
@@ -186,6 +189,8 @@ fn tip_on_negative(command: &str, before: &str) -> &'static str {
         "the number of pages has no sign, as in: impose cards 8 in.ps out.ps"
     } else if command == "stack" {
         "the number of pages has no sign, as in: impose stack 2 in.ps out.ps"
+    } else if command == "notes" {
+        "the number of pages has no sign, as in: impose notes 3 in.ps out.ps"
     } else if command == "poster" {
         "the columns and rows of sheets have no sign, as in: impose poster 2x2 in.ps out.ps"
     } else if command == "spec" {

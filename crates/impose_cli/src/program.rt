@@ -15,12 +15,13 @@ use crate::look::{Look, look_text};
 use crate::messages::fault_status;
 use crate::printed::printed_task;
 use crate::request::{Product, Request};
+use crate::roomy_text::RoomyText;
 use crate::row_task::run_request;
 use crate::task::{Finished, task_for};
 use crate::unread::check_request;
 use command_words::name_of;
 use imposer::RunError;
-use input::{ReadFault, ReadSource, read_input};
+use input::{ReadFault, ReadSource, read_input_behind};
 use lengths::Paper;
 use paper_names::home_paper;
 use std::alloc::Global;
@@ -159,7 +160,7 @@ fn make<R: Threads + Wait + Sync, W: World>(
     rt: &R,
     alloc: Global,
     request: &Request,
-    input: Vec<u8>,
+    input: RoomyText,
     world: W,
 ) -> Left<W>
     requires { MayBeMade request.now.product request.now.layout }
@@ -189,7 +190,7 @@ fn stopped<W: World>(fault: Fault, world: W) -> Left<W>
 }
 
 /// All that the file of this name, or standard input, gives.
-fn input_of<W: World>(alloc: Global, name: Option<&str>, world: &W) -> Result<Vec<u8>, Fault>
+fn input_of<W: World>(alloc: Global, name: Option<&str>, world: &W) -> Result<RoomyText, Fault>
     ensures read { IfOk result (λ input.
         IsFirst most_bytes (W.gives world.now (option_map (λ n. n.now) name.entry)) input.items) }
     ensures refused { IfErr result IsReading }
@@ -201,23 +202,26 @@ fn input_of<W: World>(alloc: Global, name: Option<&str>, world: &W) -> Result<Ve
     }
 }
 
-fn read_from<I: Read + Drop>(alloc: Global, input: I) -> Result<Vec<u8>, Fault>
+/// Room for the guard before the document: more bytes than it has, with any paper.
+const ROOM: u32 = 2_048;
+
+fn read_from<I: Read + Drop>(alloc: Global, input: I) -> Result<RoomyText, Fault>
     ensures read { IfOk result (λ bytes. IsFirst most_bytes (I.remaining input) bytes.items) }
     ensures refused { IfErr result IsReading }
 {
     let mut reader = KeepingReader::new(input);
     let mut source = ReadSource::new(&mut reader);
-    let read = read_input(alloc, &mut source);
+    let read = read_input_behind(alloc, ROOM, &mut source);
     drop(source);
     match read {
-        Ok(bytes) => Ok(bytes),
+        Ok(bytes) => Ok(RoomyText::behind(ROOM as usize, bytes)),
         Err(ReadFault::NoMemory) => Err(Fault::no_memory()),
         Err(ReadFault::Device) => Err(Fault::Read(reader.into_cause())),
     }
 }
 
 /// Prints the specification, with the line of pstops, to standard output.
-fn print_input<W: World>(alloc: Global, request: &Request, input: Vec<u8>, world: W) -> Left<W>
+fn print_input<W: World>(alloc: Global, request: &Request, input: RoomyText, world: W) -> Left<W>
     ensures { Prints request.now input.items (W.tells world) result.outcome (is_some result.output)
         (option_and_then W.Output.contents result.output) }
 {
@@ -236,7 +240,7 @@ fn print_input<W: World>(alloc: Global, request: &Request, input: Vec<u8>, world
 fn show_input<W: World>(
     alloc: Global,
     request: &Request,
-    input: Vec<u8>,
+    input: RoomyText,
     look: Look,
     name: Option<&str>,
     world: W,
@@ -287,14 +291,14 @@ fn unwritten(cause: io::Error) -> Fault
 }
 
 /// How much of the output is written at once, in bytes, if sheets are smaller.
-const WRITTEN_AT_ONCE: usize = 65_536;
+const WRITTEN_AT_ONCE: usize = 16_384;
 
 /// Imposes into the output that the request names, which is created at its first byte.
 fn run_into<R: Threads + Wait + Sync, W: World>(
     rt: &R,
     alloc: Global,
     request: &Request,
-    input: Vec<u8>,
+    input: RoomyText,
     world: W,
 ) -> Left<W>
     ensures { RunsInto request.now input.items (W.tells world) result.outcome (is_some result.output)

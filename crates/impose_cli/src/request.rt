@@ -3,9 +3,9 @@ ghost use Rattle.std.specs.Prelude.{◌≡◌, option_map, string_bytes, true};
 ghost use Rattle.rows.specs.Choices.{choice_of};
 ghost use Rattle.impose_cli.specs.Choices.{choice_in, is_whole};
 ghost use Rattle.impose_cli.specs.Products.{lays_rows};
-ghost use Rattle.impose_cli.specs.Spacings.{arrangement_in, binding_in, keeps_room, nothing_kept};
+ghost use Rattle.impose_cli.specs.Spacings.{arrangement_in, binding_in, keeps_room, notes_in, nothing_kept};
 
-use layouts::{Arrangement, Binding, Cells, Order};
+use layouts::{Arrangement, Binding, Cells, Order, Run, Turned};
 use lengths::{Grains, Number, Paper};
 use marks::Marks;
 use rows::{Choice, Part, Signing};
@@ -19,15 +19,34 @@ pub enum Layout {
     Cards(Cells),
     /// A page in each of these cells, so that the parts of the sheets, cut and laid on one another, are in order; on both
     /// sides if it is a duplex one.
-    Stack { cells: Cells, duplex: bool },
+    Stack {
+        cells: Cells,
+        duplex: bool,
+    },
+    /// So many pages, one below another, and beside each of them a cell with lines for notes.
+    Notes {
+        pages: u32,
+    },
     /// Each page over so many columns and rows of sheets.
-    Poster { columns: u32, rows: u32 },
+    Poster {
+        columns: u32,
+        rows: u32,
+    },
     /// Two pages on each side of a sheet, to be folded and sewn so.
-    Booklet { signing: Signing, long_edge: bool },
+    Booklet {
+        signing: Signing,
+        long_edge: bool,
+    },
     /// Each page as it is, on a sheet of its own paper.
     Selection,
     /// By a page specification of pstops.
     Spec(String),
+    /// By a page specification on a row, which is put into signatures if one is named: the places that its items name are
+    /// those of the row.
+    SpecRow {
+        specs: String,
+        signing: Option<Signing>,
+    },
 }
 
 impl Layout {
@@ -38,8 +57,8 @@ impl Layout {
         match self {
             Layout::NUp(_) | Layout::Cards(_) | Layout::Stack { .. } | Layout::Booklet { .. } =>
                 true,
-            Layout::Poster { .. } => true,
-            Layout::Selection | Layout::Spec(_) => false,
+            Layout::Notes { .. } | Layout::Poster { .. } => true,
+            Layout::Selection | Layout::Spec(_) | Layout::SpecRow { .. } => false,
         }
     }
 
@@ -48,7 +67,7 @@ impl Layout {
         ensures { result ≡ lays_rows self.now }
     {
         match self {
-            Layout::Spec(_) => false,
+            Layout::Spec(_) | Layout::SpecRow { .. } => false,
             _ => true,
         }
     }
@@ -104,6 +123,25 @@ impl Spacing {
             order: self.order,
             scale: self.scale,
             trim: self.trim,
+        }
+    }
+
+    /// Two columns of so many cells, with this kept free: filled one after the other, so that as many pages fill the left one.
+    pub fn notes(&self, pages: u32) -> Arrangement
+        ensures { result ≡ notes_in self.now pages }
+    {
+        let cells = Cells::Exactly {
+            columns: 2,
+            rows: pages,
+        };
+        let order = Order {
+            run: Run::Columns,
+            right_to_left: false,
+            turned: Turned::Upright,
+        };
+        Arrangement {
+            order,
+            ..self.arrangement(cells)
         }
     }
 

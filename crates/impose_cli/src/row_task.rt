@@ -20,6 +20,8 @@ ghost use Rattle.dsc.specs.PagesBehind.{pages_behind};
 use crate::fault::Fault;
 use crate::laying::{laying_for, papers_for, signing_for};
 use crate::request::{Layout, PageChoice, Request};
+use crate::roomy_text::RoomyText;
+use crate::spec_row::run_spec_row;
 use crate::task::{
     Finished, PaperOrigin, WORKERS, of_document, paper_of_pages, run_spec, text_to_impose,
 };
@@ -39,7 +41,7 @@ pub fn run_request<R: Threads + Wait + Sync, S: Sink>(
     rt: &R,
     alloc: Global,
     request: &Request,
-    input: Vec<u8>,
+    input: RoomyText,
     sink: &mut S,
 ) -> Result<Finished, Fault>
     requires countable { IsCountable (S.seen sink.old) }
@@ -53,6 +55,7 @@ pub fn run_request<R: Threads + Wait + Sync, S: Sink>(
 {
     match &request.layout {
         Layout::Spec(_) => run_spec(rt, alloc, request, input, sink),
+        Layout::SpecRow { .. } => run_spec_row(rt, alloc, request, input, sink),
         _ => run_row(rt, alloc, request, input, sink),
     }
 }
@@ -62,7 +65,7 @@ fn run_row<R: Threads + Wait + Sync, S: Sink>(
     rt: &R,
     alloc: Global,
     request: &Request,
-    input: Vec<u8>,
+    input: RoomyText,
     sink: &mut S,
 ) -> Result<Finished, Fault>
     requires countable { IsCountable (S.seen sink.old) }
@@ -90,7 +93,7 @@ fn run_row<R: Threads + Wait + Sync, S: Sink>(
 #[derive(Drop)]
 pub struct RowTask {
     /// The document, with the guard in it if it is asked for.
-    pub(crate) text: Vec<u8>,
+    pub(crate) text: RoomyText,
     pub(crate) page_paper: Paper,
     origin: PaperOrigin,
     /// The papers of its pages.
@@ -104,7 +107,7 @@ pub struct RowTask {
 }
 
 /// The request for this document, and the fault if it is found before the run.
-pub(crate) fn row_task(alloc: Global, request: &Request, input: Vec<u8>) -> Result<RowTask, Fault>
+pub(crate) fn row_task(alloc: Global, request: &Request, input: RoomyText) -> Result<RowTask, Fault>
     requires rows { LaysRows request.now.layout }
     ensures is_task { IfOk result (IsRowTask request.now input.items) }
     ensures refused { IfErr result (RefusesRowTask request.now input.items) }
@@ -296,7 +299,7 @@ fn paper_of_first(row: &[Option<u32>], papers: &[Paper], blank: &Paper) -> Paper
 }
 
 /// Whether a border can be drawn, if one is asked for: it is wider than nothing.
-fn is_drawn(border: Option<Grains>) -> bool
+pub(crate) fn is_drawn(border: Option<Grains>) -> bool
     ensures { result ≡ is_border border }
 {
     match border {

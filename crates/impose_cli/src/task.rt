@@ -1,5 +1,5 @@
 //! What is imposed, and how: the request for a document.
-ghost use Rattle.std.specs.Prelude.{◌≡◌, ◌⊎◌, ℕ, List, ◌<◌, ◌≤◌, IfErr, IfOk, None, OnOk, Some, string_bytes, unwrap_or};
+ghost use Rattle.std.specs.Prelude.{◌≡◌, ◌⊎◌, ℕ, List, ◌<◌, ◌≤◌, IfErr, IfOk, None, OnOk, Some, option_map, string_bytes, unwrap_or};
 ghost use Rattle.std.specs.Io.KnownBytes.{Appends};
 ghost use Rattle.rules.specs.Output.{output};
 ghost use Rattle.rules.specs.Run.{most_pages};
@@ -24,9 +24,9 @@ ghost use Rattle.impose_cli.specs.declared.fault.Fault.TheVariants as faults;
 use crate::fault::Fault;
 use crate::laying::{laying_for, papers_for};
 use crate::request::{Layout, PageChoice, Request, Spacing};
+use crate::roomy_text::RoomyText;
 use document_paper::{Comment, document_paper};
 use dsc::{Document, DscError};
-use guard::put_guard;
 use imposer::{Open, Options, Report, RunError, Sink, Workers, run};
 use layouts::{Binding, Cells, Papers, arrange, bind};
 use lengths::Paper;
@@ -55,7 +55,7 @@ pub enum PaperOrigin {
 #[derive(Debug, Drop)]
 pub struct Task {
     /// The document, with the guard in it if it is asked for.
-    pub text: Vec<u8>,
+    pub text: RoomyText,
     /// The specification by which its pages are placed.
     pub spec: String,
     pub options: Options,
@@ -95,6 +95,7 @@ pub fn check_layout(alloc: Global, request: &Request) -> Result<(), Fault>
 {
     match (&request.layout, &request.page_paper) {
         (Layout::Spec(specs), _) => check_spec(alloc, specs.as_str()),
+        (Layout::SpecRow { specs, .. }, _) => check_spec(alloc, specs.as_str()),
         (_, None) => Ok(()),
         (layout, Some(page_paper)) => {
             let papers = papers_for(layout, request.sheet_paper, *page_paper);
@@ -120,12 +121,12 @@ fn check_spec(alloc: Global, specs: &str) -> Result<(), Fault>
 fn is_said(choice: &PageChoice, marks: Marks) -> bool
     ensures { result ≡ says choice.now marks }
 {
-    choice.is_whole() && !(marks.fold || marks.cut)
+    choice.is_whole() && !(marks.fold || marks.cut || marks.ruled)
 }
 
 /// The specification that says what a request asks for, with what a run by it takes; and the fault if there is none: a
 /// document that is refused, then pages that are chosen or marks, then a layout that there isn't, or that no specification says.
-pub fn task_for(alloc: Global, request: &Request, input: Vec<u8>) -> Result<Task, Fault>
+pub fn task_for(alloc: Global, request: &Request, input: RoomyText) -> Result<Task, Fault>
     ensures is_task { IfOk result (IsTask request.now input.items) }
     ensures refused { IfErr result (RefusesTask request.now input.items) }
 {
@@ -170,13 +171,13 @@ pub fn task_for(alloc: Global, request: &Request, input: Vec<u8>) -> Result<Task
 pub(crate) fn text_to_impose(
     is_guarded: bool,
     sheet_paper: &Paper,
-    input: Vec<u8>,
-) -> Result<Vec<u8>, AllocError>
+    input: RoomyText,
+) -> Result<RoomyText, AllocError>
     ensures { IfOk result (λ text. text.items ≡ taken_text is_guarded sheet_paper.now input.items) }
 {
     let mut text = input;
     if is_guarded {
-        put_guard(&mut text, Some(sheet_paper))?;
+        text.put_guard(Some(sheet_paper))?;
     }
     Ok(text)
 }
@@ -273,11 +274,23 @@ fn placing(
             booklet_placing(alloc, &spacing.binding(*long_edge), papers, sides)
         }
         Layout::Cards(_) | Layout::Stack { .. } | Layout::Selection => Err(Fault::NoSpecification),
-        Layout::Poster { .. } => Err(Fault::NoSpecification),
-        Layout::Spec(specs) => match String::from_str(alloc, specs.as_str()) {
-            Ok(text) => Ok((text, None)),
-            Err(_) => Err(Fault::no_memory()),
-        },
+        Layout::Notes { .. } | Layout::Poster { .. } => Err(Fault::NoSpecification),
+        Layout::Spec(specs) => named_placing(alloc, specs.as_str(), None),
+        Layout::SpecRow { specs, signing } => {
+            named_placing(alloc, specs.as_str(), row_sides(*signing, pages))
+        }
+    }
+}
+
+/// The text that is named, beside these sides.
+fn named_placing(alloc: Global, specs: &str, sides: Option<u32>) -> Result<Placed, Fault>
+    ensures text { IfOk result (λ placed. string_bytes placed.0 ≡ specs.now) }
+    ensures sides { IfOk result (λ placed. placed.1 ≡ sides) }
+    ensures refused { IfErr result (λ f. f ≡ without_memory) }
+{
+    match String::from_str(alloc, specs) {
+        Ok(text) => Ok((text, sides)),
+        Err(_) => Err(Fault::no_memory()),
     }
 }
 
@@ -328,6 +341,18 @@ fn written(alloc: Global, spec: &Spec, sides: Option<u32>) -> Result<Placed, Fau
     }
 }
 
+/// How many sides a signature of a specification's row has, if the row goes into signatures.
+fn row_sides(signing: Option<Signing>, pages: u32) -> Option<u32>
+    requires some { 0 < pages }
+    requires few { pages ≤ most_pages }
+    ensures { result ≡ option_map (λ how. sides_for (signing_of how) pages) signing }
+{
+    match signing {
+        Some(how) => Some(sides_of(how, pages)),
+        None => None,
+    }
+}
+
 /// How many sides a signature has, for so many pages.
 fn sides_of(signing: Signing, pages: u32) -> u32
     requires some { 0 < pages }
@@ -346,7 +371,7 @@ pub(crate) fn run_spec<R: Threads + Wait + Sync, S: Sink>(
     rt: &R,
     alloc: Global,
     request: &Request,
-    input: Vec<u8>,
+    input: RoomyText,
     sink: &mut S,
 ) -> Result<Finished, Fault>
     requires countable { IsCountable (S.seen sink.old) }

@@ -116,13 +116,13 @@ fn take_turn<'r, R: Wait, T: Texts, G: Gate, S: Sink>(
     ensures steady { IsTrue result → (S.seen state.new.sink.now).failures ≡ (S.seen state.old.sink.now).failures }
 {
     // Asked before the channel is: what the last imposer sent is there then.
-    let is_last = input.imposers_left.load(SeqCst) == 0;
+    let none_left = input.imposers_left.load(SeqCst) == 0;
     if take_one(rt, input, state) {
         input.window.come_to(state.progress.next);
         idling.end();
         return state.progress.halted.is_none();
     }
-    if is_last {
+    if none_left {
         return false;
     }
     input.window.move_to(state.progress.next);

@@ -6,7 +6,7 @@ ghost use Rattle.rules.specs.Sheets.{layout};
 ghost use Rattle.rules.specs.Filters.{trailer_text};
 ghost use Rattle.histories.specs.Seats.{whole_share};
 ghost use Rattle.handover.specs.Passes.{IsPassOf};
-ghost use Rattle.handover.specs.Shelves.{IsOn, IsShelfOf};
+ghost use Rattle.handover.specs.Shelves.{IsOn};
 ghost use Rattle.imposer.specs.declared.outcome.RunError.TheVariants.{NoMemory};
 ghost use Rattle.sheet_text.specs.Jobs.{text_of, output_of};
 ghost use Rattle.imposer.specs.Workers.{AreWorkers};
@@ -28,7 +28,7 @@ use crate::options::Workers;
 use crate::outcome::{Report, RunError};
 use crate::rooms::most_puts_in_all;
 use crate::setup::Setup;
-use crate::shared::{Shared, WorkerInput};
+use crate::shared::{Floor, Shared, WorkerInput};
 use crate::tokens::{Holding, Tokens};
 use crate::turns::Turns;
 use crate::window::{Window, bytes_of_pages};
@@ -107,56 +107,56 @@ pub fn gather<'j, 'd, R: Threads + Wait + Sync, G: Gate + Sync, S: Sink>(
     ensures handed_on { IfSome result.tokens (λ t. IsHandedOn t.1.front
         × (HasRoomForAll table.now.layout workers.preparers pass → AreAllPut table.now.layout t.0.front t.1.front)) }
 {
-    gather_on(
-        rt, alloc, job, table, seat, shelf, false, ready, pass, workers, gate, sink,
-    )
+    let floor = Floor {
+        alloc,
+        gate: &*gate,
+        job: &*job,
+        table: &*table,
+        shelf,
+        is_of_document: false,
+        ready: &*ready,
+    };
+    gather_on(rt, &floor, Tokens { seat, pass }, workers, sink)
 }
 
-/// `gather`, on a shelf that may be that of the job's document: then pages are put as the document's own, and imposers
-/// don't compare them.
-pub(crate) fn gather_on<'j, 'd, R: Threads + Wait + Sync, G: Gate + Sync, S: Sink>(
+/// `gather` on this floor, whose shelf may be that of the job's document: then pages are put as the document's own, and
+/// imposers don't compare them.
+pub(crate) fn gather_on<'d, R: Threads + Wait + Sync, G: Gate + Sync, S: Sink>(
     rt: &R,
-    alloc: Global,
-    job: &Job<'j, 'd>,
-    table: &GatherTable<'j>,
-    seat: Seat,
-    shelf: &Shelf<'d>,
-    is_of_document: bool,
-    ready: &Ready,
-    pass: Pass,
+    floor: &Floor<'_, '_, '_, 'd, G>,
+    tokens: Tokens,
     workers: Workers,
-    gate: &G,
     sink: &mut S,
 ) -> Gathered<'d>
-    requires table { table.now.layout ≡ layout job.now.plan }
-    requires seat { IsFreshSeat table.now seat }
-    requires pass { IsFreshPass ready.now pass }
+    requires seat { IsFreshSeat floor.now.table.now tokens.seat }
+    requires pass { IsFreshPass floor.now.ready.now tokens.pass }
     requires workers { AreWorkers workers }
     requires countable { IsCountable (S.seen sink.old) }
-    requires of_document { IsTrue is_of_document → IsShelfOf shelf.now job.now.units }
-    ensures outcome { Answers job.now (S.seen sink.old) (S.seen sink.new) result.outcome }
+    ensures outcome { Answers floor.now.job.now (S.seen sink.old) (S.seen sink.new) result.outcome }
     ensures tokens { MatchResult result.outcome (λ _. IsSomeAnd result.tokens (λ t. ⊤)) (λ e.
         HandsBackTokens e result.tokens) }
-    ensures whole { IfSome result.tokens (λ t. AreWhole table.now ready.now t.0 t.1
-        × IsHandedOn t.1.front × (IsNone result.unshelved → IsGathered table.now.layout t.0.front)
-        × (HasRoomForAll table.now.layout workers.preparers pass → AreAllPut table.now.layout t.0.front t.1.front)) }
-    ensures unshelved { IfSome result.unshelved (IsOn shelf.now) }
+    ensures whole { IfSome result.tokens (λ t. AreWhole floor.now.table.now floor.now.ready.now t.0 t.1
+        × IsHandedOn t.1.front × (IsNone result.unshelved → IsGathered floor.now.table.now.layout t.0.front)
+        × (HasRoomForAll floor.now.table.now.layout workers.preparers tokens.pass
+        → AreAllPut floor.now.table.now.layout t.0.front t.1.front)) }
+    ensures unshelved { IfSome result.unshelved (IsOn floor.now.shelf.now) }
 {
     // Each tells that it keeps what every seat and every pass keeps.
-    seat.share();
-    pass.share();
-    let by_right = most_puts_in_all(job.plan(), workers.preparers) <= u64::from(pass.room());
-    let tokens = Tokens { seat, pass };
+    tokens.seat.share();
+    tokens.pass.share();
+    let job = floor.job;
+    let room = tokens.pass.room();
+    let by_right = most_puts_in_all(job.plan(), workers.preparers) <= u64::from(room);
     let (of_pages, of_slots) = bytes_of_pages(job);
     let page_len = of_pages / (job.plan().pages() as usize).max(1);
     let shared = Shared {
-        alloc,
-        gate,
+        alloc: floor.alloc,
+        gate: floor.gate,
         job,
-        table,
-        shelf,
-        is_of_document,
-        ready,
+        table: floor.table,
+        shelf: floor.shelf,
+        is_of_document: floor.is_of_document,
+        ready: floor.ready,
         by_right,
         preparers_left: AtomicU32::new(workers.preparers),
         imposers_left: AtomicU32::new(workers.imposers),

@@ -8,7 +8,7 @@ ghost use Rattle.sheet_plan.specs.Plans.{planned_in};
 ghost use Rattle.sheet_plan.specs.Refusals.{RefusesIn};
 ghost use Rattle.sheet_writer.specs.Sinks.{IsCountable};
 ghost use Rattle.sheet_text.specs.Jobs.{output_of};
-ghost use Rattle.imposer.specs.Gathering.{Answers, ReportsOf, WrotePartOf};
+ghost use Rattle.imposer.specs.Gathering.{ReportsOf, WrotePartOf};
 ghost use Rattle.imposer.specs.Outcomes.{IsNoRefusal};
 ghost use Rattle.imposer.specs.Workers.{AreOptions, AreWorkers};
 ghost use Rattle.imposer.specs.Runs.{Request, request, frame_of, Accepted, IsRefusal, HasWritten, Reports, FailedIn};
@@ -19,6 +19,8 @@ use crate::gathering::gather_on;
 use crate::options::{Options, Workers, are_valid};
 use crate::outcome::{Report, RunError};
 use crate::rooms::most_puts_in_all;
+use crate::shared::Floor;
+use crate::tokens::Tokens;
 use dsc::Document;
 use gather_table::GatherTable;
 use handover::{Ready, Shelf};
@@ -93,7 +95,28 @@ pub fn run_plan<R: Threads + Wait + Sync, G: Gate + Sync, S: Sink>(
     ensures steady { OnOk result ((S.seen sink.new).failures ≡ (S.seen sink.old).failures) }
     ensures failed { IfErr result (λ e. FailedIn e (S.seen sink.old) (S.seen sink.new)) }
 {
-    run_job(rt, alloc, job, workers, gate, sink)
+    let Ok((table, seat)) = GatherTable::new(alloc, job.plan()) else {
+        return Err(RunError::NoMemory { written: 0 });
+    };
+    let Ok(shelf) = Shelf::of_document(alloc, job.document()) else {
+        return Err(RunError::NoMemory { written: 0 });
+    };
+    // Room for all puts, so that none is refused.
+    let room = most_puts_in_all(job.plan(), workers.preparers).min(u64::from(u32::MAX)) as u32;
+    let Ok((ready, pass)) = Ready::by_right(alloc, room.max(job.sheets()).max(1)) else {
+        return Err(RunError::NoMemory { written: 0 });
+    };
+    let floor = Floor {
+        alloc,
+        gate: &*gate,
+        job: &*job,
+        table: &table,
+        shelf: &shelf,
+        is_of_document: true,
+        ready: &ready,
+    };
+    let gathered = gather_on(rt, &floor, Tokens { seat, pass }, workers, sink);
+    gathered.outcome
 }
 
 /// What a run was given, once it is read.
@@ -160,34 +183,4 @@ fn plan_pages<'s>(
         Some(sides) => Plan::with_signatures(alloc, spec, pages, sides),
         None => Plan::new(alloc, spec, pages),
     }
-}
-
-/// Makes what the workers share, and gathers.
-fn run_job<R: Threads + Wait + Sync, G: Gate + Sync, S: Sink>(
-    rt: &R,
-    alloc: Global,
-    job: &Job<'_, '_>,
-    workers: Workers,
-    gate: &G,
-    sink: &mut S,
-) -> Result<Report, RunError>
-    requires workers { AreWorkers workers }
-    requires countable { IsCountable (S.seen sink.old) }
-    ensures { Answers job.now (S.seen sink.old) (S.seen sink.new) result }
-{
-    let Ok((table, seat)) = GatherTable::new(alloc, job.plan()) else {
-        return Err(RunError::NoMemory { written: 0 });
-    };
-    let Ok(shelf) = Shelf::of_document(alloc, job.document()) else {
-        return Err(RunError::NoMemory { written: 0 });
-    };
-    // Room for all puts, so that none is refused.
-    let room = most_puts_in_all(job.plan(), workers.preparers).min(u64::from(u32::MAX)) as u32;
-    let Ok((ready, pass)) = Ready::by_right(alloc, room.max(job.sheets()).max(1)) else {
-        return Err(RunError::NoMemory { written: 0 });
-    };
-    let gathered = gather_on(
-        rt, alloc, job, &table, seat, &shelf, true, &ready, pass, workers, gate, sink,
-    );
-    gathered.outcome
 }

@@ -14,6 +14,22 @@ use sheet_text::Job;
 use std::alloc::Global;
 use std::sync::atomic::AtomicU32;
 
+/// Where a run gathers: a job, the table of its plan, the shelf on which its pages stand, and the queue of sheets that are
+/// ready.
+#[derive(Drop)]
+pub(crate) struct Floor<'s, 'r, 'j, 'd, G> {
+    pub(crate) alloc: Global,
+    pub(crate) gate: &'s G,
+    pub(crate) job: &'s Job<'j, 'd>,
+    pub(crate) table: &'s GatherTable<'j>,
+    pub(crate) shelf: &'r Shelf<'d>,
+    /// Whether the shelf is that of the job's document.
+    pub(crate) is_of_document: bool,
+    pub(crate) ready: &'s Ready,
+    ghost of_document: { IsTrue is_of_document → IsShelfOf shelf.now job.now.units },
+    ghost same_plan: { table.now.layout ≡ layout job.now.plan },
+}
+
 /// What all threads of one run share. The table is one of the job's plan.
 #[derive(Drop)]
 pub(crate) struct Shared<'s, 'r, 'j, 'd, G> {

@@ -4,5 +4,5 @@
 mod read;
 mod source;
 
-pub use read::{MOST_BYTES, ReadFault, read_input};
+pub use read::{MOST_BYTES, ReadFault, read_input, read_input_behind};
 pub use source::{ReadSource, Source, SourceFault};

@@ -1,6 +1,6 @@
 //! Reading a whole input.
 ghost use Rattle.std.specs.Prelude.{◌≡◌, ◌+◌, ◌<◌, ◌≤◌, IfOk, IfErr, OnOk, OnErr, vec_len};
-ghost use Rattle.std.specs.Prelude.{length, take, drop, max};
+ghost use Rattle.std.specs.Prelude.{length, take, drop, max, replicate};
 ghost use Rattle.std.specs.Io.KnownBytes.{Consumes, IsAtEnd, Keeps};
 ghost use Rattle.input.specs.Input.{ConsumesAtMost, Counts, Fills, IsFaultOf, IsFirst, most_bytes};
 ghost use Rattle.input.specs.declared.read.ReadFault.TheVariants.{Device, NoMemory};
@@ -64,10 +64,33 @@ pub fn read_input<S: Source>(alloc: Global, source: &mut S) -> Result<Vec<u8>, R
     ensures steady { OnOk result (S.failures source.new ≡ S.failures source.old) }
     ensures refused { IfErr result (IsFaultOf (S.failures source.old) (S.failures source.new)) }
 {
+    read_input_behind(alloc, 0, source)
+}
+
+/// The same behind `room` bytes, which are 0: room for what whoever reads may want to put before the input.
+pub fn read_input_behind<S: Source>(
+    alloc: Global,
+    room: u32,
+    source: &mut S,
+) -> Result<Vec<u8>, ReadFault>
+    requires countable { S.failures source.old < u64.MAX }
+    ensures room { IfOk result (λ bytes. take room bytes.items ≡ replicate room 0) }
+    ensures within { IfOk result (λ bytes. vec_len bytes ≤ room + most_bytes) }
+    ensures read { IfOk result (λ bytes. IsFirst most_bytes (S.remaining source.old) (drop room bytes.items)) }
+    ensures rest { IfOk result (λ bytes.
+        Consumes (S.remaining source.old) (S.remaining source.new) (drop room bytes.items)) }
+    // It ends after that many bytes, whatever comes of it.
+    ensures most { ConsumesAtMost most_bytes (S.remaining source.old) (S.remaining source.new) }
+    // It is Device if the source failed in the call, and only then.
+    ensures steady { OnOk result (S.failures source.new ≡ S.failures source.old) }
+    ensures refused { IfErr result (IsFaultOf (S.failures source.old) (S.failures source.new)) }
+{
+    let mut filled = room as usize;
+    let most = filled + MOST_BYTES;
     let mut bytes: Vec<u8> = Vec::new(alloc);
-    let mut filled = 0usize;
-    while filled < MOST_BYTES {
-        let count = fill_more(source, &mut bytes, filled)?;
+    bytes.resize(filled, 0)?;
+    while filled < most {
+        let count = fill_more(source, &mut bytes, filled, most)?;
         if count == 0 {
             break;
         }
@@ -78,18 +101,20 @@ pub fn read_input<S: Source>(alloc: Global, source: &mut S) -> Result<Vec<u8>, R
     Ok(bytes)
 }
 
-/// One fill behind the first `filled` bytes.
+/// One fill behind the first `filled` bytes, of `most` bytes.
 fn fill_more<S: Source>(
     source: &mut S,
     bytes: &mut Vec<u8>,
     filled: usize,
+    most: usize,
 ) -> Result<usize, ReadFault>
     requires countable { S.failures source.old < u64.MAX }
     requires filled { filled ≤ vec_len bytes.old }
-    requires more { filled < MOST_BYTES }
-    requires most { vec_len bytes.old ≤ MOST_BYTES }
+    requires more { filled < most }
+    requires most { vec_len bytes.old ≤ most }
+    requires enough { MOST_BYTES ≤ most }
     ensures front { take filled bytes.new.items ≡ take filled bytes.old.items }
-    ensures most { vec_len bytes.new ≤ MOST_BYTES }
+    ensures most { vec_len bytes.new ≤ most }
     ensures ahead { vec_len bytes.new ≤ max (vec_len bytes.old) (filled + (262_144 + 65_536)) }
     ensures within { IfOk result (λ k. filled + k ≤ vec_len bytes.new) }
     ensures moved { IfOk result (λ k.
@@ -99,28 +124,29 @@ fn fill_more<S: Source>(
     ensures steady { OnOk result (S.failures source.new ≡ S.failures source.old) }
     ensures refused { IfErr result (IsFaultOf (S.failures source.old) (S.failures source.new)) }
 {
-    make_room(bytes, filled)?;
+    make_room(bytes, filled, most)?;
     Ok(fill_behind(source, bytes.as_mut_slice(), filled)?)
 }
 
 /// Sees to room behind the first `filled` bytes, of a piece more or of as much as may still be read.
-fn make_room(bytes: &mut Vec<u8>, filled: usize) -> Result<(), AllocError>
+fn make_room(bytes: &mut Vec<u8>, filled: usize, most: usize) -> Result<(), AllocError>
     requires filled { filled ≤ vec_len bytes.old }
-    requires more { filled < MOST_BYTES }
-    requires most { vec_len bytes.old ≤ MOST_BYTES }
+    requires more { filled < most }
+    requires most { vec_len bytes.old ≤ most }
+    requires enough { MOST_BYTES ≤ most }
     ensures front { take filled bytes.new.items ≡ take filled bytes.old.items }
-    ensures most { vec_len bytes.new ≤ MOST_BYTES }
+    ensures most { vec_len bytes.new ≤ most }
     ensures room { OnOk result (filled < vec_len bytes.new) }
 
     // No more than a piece, and what is offered at least, is made ready ahead of what was read.
     ensures ahead { vec_len bytes.new ≤ max (vec_len bytes.old) (filled + (262_144 + 65_536)) }
 {
     let len = bytes.len();
-    if len - filled < least_room(len) && len < MOST_BYTES {
+    if len - filled < least_room(len) && len < most {
         if len >= LARGE {
-            reserve_all(bytes);
+            reserve_all(bytes, most);
         }
-        bytes.resize(next_len(len), 0)?;
+        bytes.resize(next_len(len, most), 0)?;
     }
     Ok(())
 }
@@ -134,27 +160,28 @@ fn least_room(len: usize) -> usize
 }
 
 /// How long the buffer is next.
-fn next_len(len: usize) -> usize
-    requires { len < MOST_BYTES }
+fn next_len(len: usize, most: usize) -> usize
+    requires more { len < most }
+    requires enough { MOST_BYTES ≤ most }
     ensures more { len < result }
-    ensures most { result ≤ MOST_BYTES }
+    ensures most { result ≤ most }
     ensures piece { result ≤ len + 262_144 }
 {
-    if len == 0 {
+    if len < FIRST_PIECE {
         FIRST_PIECE
     } else {
-        (len + PIECE).min(MOST_BYTES)
+        len + PIECE.min(most - len)
     }
 }
 
 /// Asks for room for as much as may be read, once. It is address space alone: memory that isn't filled isn't touched. If
 /// there is none, the vector grows as it fills.
-fn reserve_all(bytes: &mut Vec<u8>)
-    requires { vec_len bytes.old ≤ MOST_BYTES }
+fn reserve_all(bytes: &mut Vec<u8>, most: usize)
+    requires { vec_len bytes.old ≤ most }
     ensures same { bytes.new.items ≡ bytes.old.items }
     ensures len { vec_len bytes.new ≡ vec_len bytes.old }
 {
-    let _ = bytes.reserve(MOST_BYTES - bytes.len());
+    let _ = bytes.reserve(most - bytes.len());
 }
 
 /// Gives back the room behind a large input.

@@ -44,7 +44,9 @@ pub fn arrange(
         arrangement.gap,
         arrangement.trim,
     );
-    let count = arrangement.cells.count();
+    let order = arrangement.order;
+    let cells = arrangement.cells;
+    let count = cells.count();
     if count < 1 || MOST_ON_SHEET < count {
         return Err(ArrangementError::CellsOutOfRange);
     }
@@ -58,12 +60,7 @@ pub fn arrange(
             Err(_) => Err(ArrangementError::NoMemory),
         };
     }
-    let grid = grid_of(
-        &papers.page,
-        &room,
-        arrangement.order.turned,
-        arrangement.cells,
-    );
+    let grid = grid_of(&papers.page, &room, order.turned, cells);
     let largest = scale_in(&papers.page, &room, grid);
     let scale = match scale_found(&room, arrangement.scale, largest) {
         Ok(scale) => scale,
@@ -73,7 +70,7 @@ pub fn arrange(
         page: papers.page,
         room,
         grid,
-        order: arrangement.order,
+        order,
         scale,
     };
     match layout.groups_in(alloc, count as u32) {

@@ -9,8 +9,8 @@ use Rattle.layouts.specs.Placed.{Room}
 use Rattle.layouts.specs.Cells.{Grid, high, kept, step, wide}
 use Rattle.layouts.specs.Laws.{Cell, cell_at}
 use Rattle.marks.specs.Places.{PiecesAreLike, grains_in}
-use Rattle.marks.specs.Strokes.{cells_across, cells_up, cut_marks, far_end, fold_marks, has_room_round, level_at, level_between, longest, near_end, upright_at, upright_between}
-use Rattle.marks.specs.Laws.{IsInMargin, IsOutsideCell, MarksAreInMargin, MarksAreOutside}
+use Rattle.marks.specs.Strokes.{cells_across, cells_up, far_end, has_room_round, level_at, level_between, longest, near_end, upright_at, upright_between}
+use Rattle.marks.specs.Laws.{IsInMargin, IsOutsideCell, MarksAreInMargin, MarksAreOutside, all_marks}
 use Rattle.marks.specs.declared.strokes.Stroke.{Stroke}
 
 -- ---- pieces
@@ -37,16 +37,16 @@ parted e g s c k some = elim (cases_lt c k) [
   | inr behind ↦ let less = mul-le-mul_right s behind in inl (omega (arith, less))
 ]
 
-at_most : {a b : ℕ} → a ≤ b → pos a ≤ℤ pos b
+pub at_most : {a b : ℕ} → a ≤ b → pos a ≤ℤ pos b
 at_most le = omega (arith, ints, le)
 
 -- ---- all marks
 
-both : {X : Type 0} (P : X → Type 0) (one other : List X) → AllByRecursion P one → AllByRecursion P other → AllByRecursion P (one ++ other)
+pub both : {X : Type 0} (P : X → Type 0) (one other : List X) → AllByRecursion P one → AllByRecursion P other → AllByRecursion P (one ++ other)
 both P [] other a b = b
 both P (x ∷ one) other a b = (a.0, both P one other a.1 b)
 
-each : {X : Type 0} (P : X → Type 0) (f : ℕ → List X) → ((k : ℕ) → AllByRecursion P (f k)) → (first n : ℕ) → AllByRecursion P (flat_map f (range_with_len first n))
+pub each : {X : Type 0} (P : X → Type 0) (f : ℕ → List X) → ((k : ℕ) → AllByRecursion P (f k)) → (first n : ℕ) → AllByRecursion P (flat_map f (range_with_len first n))
 each P f h first zero = tt
 each P f h first (suc n) = both P (f first) (flat_map f (range_with_len (first + 1) n)) (h first) (each P f h (first + 1) n)
 
@@ -55,25 +55,28 @@ if_so P true xs a = a
 if_so P false xs a = tt
 
 -- what holds of the strokes along each line holds of all marks
-abbrev marks_of : Room → (across up : ℕ) → List Stroke
-marks_of room a u = upright_between room a ++ level_between room u
+abbrev between_of : Room → (across up : ℕ) → List Stroke
+between_of room a u = upright_between room a ++ level_between room u
 
 abbrev round_of : Room → (across up : ℕ) → List Stroke
 round_of room a u = (upright_at room a 0 ++ upright_at room a a) ++ (level_at room u 0 ++ level_at room u u)
 
-abbrev all_of : Room → (across up : ℕ) → List Stroke
-all_of room a u = (marks_of room a u ++ (if has_room_round room then round_of room a u else [])) ++ marks_of room a u
+abbrev outer_of : Room → (across up : ℕ) → List Stroke
+outer_of room a u = if has_room_round room then round_of room a u else []
 
-all_marks : (P : Stroke → Type 0) (room : Room) (a u : ℕ) → ((k : ℕ) → AllByRecursion P (upright_at room a k)) → ((k : ℕ) → AllByRecursion P (level_at room u k)) → AllByRecursion P (all_of room a u)
-all_marks P room a u across up =
+-- cut marks are those between cells and the outer ones, and so are fold marks with outer cut marks
+abbrev all_of : Room → (across up : ℕ) → List Stroke
+all_of room a u = (between_of room a u ++ outer_of room a u) ++ (between_of room a u ++ outer_of room a u)
+
+holds_of_all : (P : Stroke → Type 0) (room : Room) (a u : ℕ) → ((k : ℕ) → AllByRecursion P (upright_at room a k)) → ((k : ℕ) → AllByRecursion P (level_at room u k)) → AllByRecursion P (all_of room a u)
+holds_of_all P room a u across up =
     let between = both P (upright_between room a) (level_between room u) (each P (upright_at room a) across 1 (a - 1)) (each P (level_at room u) up 1 (u - 1)) in
     let round =
     both P (upright_at room a 0 ++ upright_at room a a) (level_at room u 0 ++ level_at room u u)
     (both P (upright_at room a 0) (upright_at room a a) (across 0) (across a))
     (both P (level_at room u 0) (level_at room u u) (up 0) (up u)) in
-    both P (marks_of room a u ++ (if has_room_round room then round_of room a u else [])) (marks_of room a u)
-    (both P (marks_of room a u) (if has_room_round room then round_of room a u else []) between (if_so P (has_room_round room) (round_of room a u) round))
-    between
+    let once = both P (between_of room a u) (outer_of room a u) between (if_so P (has_room_round room) (round_of room a u) round) in
+    both P (between_of room a u ++ outer_of room a u) (between_of room a u ++ outer_of room a u) once once
 
 -- ---- outside
 
@@ -106,13 +109,13 @@ level_outside room a u c d some k = elim (parted (kept room room.edge) (kept roo
 all_outside : (room : Room) (a u c d : ℕ) → 0 < size_of room (nat_abs room.paper.width) a → 0 < size_of room (nat_abs room.paper.height) u
     → AllByRecursion (IsOutsideCell (cell_in room a u c d)) (all_of room a u)
 all_outside room a u c d wide high =
-    all_marks (IsOutsideCell (cell_in room a u c d)) room a u (upright_outside room a u c d wide) (level_outside room a u c d high)
+    holds_of_all (IsOutsideCell (cell_in room a u c d)) room a u (upright_outside room a u c d wide) (level_outside room a u c d high)
 
 abbrev cells : (rows columns : ℕ) → Bool → Grid
 cells rows columns turned = record { rows = rows; columns = columns; turned = turned }
 
 outside_at : (room : Room) (rows columns : ℕ) (b : Bool) (row column : ℕ) → 0 < wide room (cells rows columns b) → 0 < high room (cells rows columns b)
-    → AllByRecursion (IsOutsideCell (cell_at room (cells rows columns b) row column)) (cut_marks room (cells rows columns b) ++ fold_marks room (cells rows columns b))
+    → AllByRecursion (IsOutsideCell (cell_at room (cells rows columns b) row column)) (all_marks room (cells rows columns b))
 outside_at room rows columns false row column some_wide some_high = all_outside room columns rows column (rows - (row + 1)) some_wide some_high
 outside_at room rows columns true row column some_wide some_high = all_outside room rows columns row column some_high some_wide
 
@@ -151,4 +154,4 @@ level_in_margin room u some k =
 
 pub marks_are_in_margin : MarksAreInMargin
 marks_are_in_margin room g some =
-    all_marks (IsInMargin room) room (cells_across g) (cells_up g) (upright_in_margin room (cells_across g) some) (level_in_margin room (cells_up g) some)
+    holds_of_all (IsInMargin room) room (cells_across g) (cells_up g) (upright_in_margin room (cells_across g) some) (level_in_margin room (cells_up g) some)

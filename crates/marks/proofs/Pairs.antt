@@ -4,7 +4,7 @@ use Rattle.std.specs.Prelude.{flat_map}
 use Rattle.std.specs.List.{range_with_len}
 use Rattle.std.proofs.lemmas.List.{flat_map_more}
 
-last : (a n j : ℕ) → a + n ≡ j → range_with_len a (suc n) ≡ range_with_len a n ++ j ∷ []
+pub last : (a n j : ℕ) → a + n ≡ j → range_with_len a (suc n) ≡ range_with_len a n ++ j ∷ []
 last a zero j e = let same : a ≡ j = omega (arith, e) in ap (λ k. k ∷ []) same
 last a (suc n) j e = ap (λ l. a ∷ l) (last (a + 1) n j (omega (arith, e)))
 

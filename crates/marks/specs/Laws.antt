@@ -7,7 +7,8 @@ use Rattle.layouts.specs.Placed.{Room}
 use Rattle.layouts.specs.Cells.{Grid, high, wide}
 use Rattle.layouts.specs.Laws.{Cell, cell_at}
 use Rattle.marks.specs.Places.{grains_in}
-use Rattle.marks.specs.Strokes.{cut_marks, fold_marks}
+use Rattle.marks.specs.Strokes.{cut_marks, fold_marks, outer_cut_marks}
+use Rattle.marks.specs.Ruled.{note_cell, note_lines, row_lines}
 use Rattle.marks.specs.Drawn.{marked}
 use Rattle.marks.specs.declared.strokes.Stroke.{Stroke}
 
@@ -35,17 +36,37 @@ abbrev pub IsInMargin : Room → Stroke → Type 0
 IsInMargin room s = IsOutside (pos (grains_in room.edge)) (room.paper.width -ℤ pos (grains_in room.edge))
     (pos (grains_in room.edge)) (room.paper.height -ℤ pos (grains_in room.edge)) s
 
+-- all marks that a sheet may have
+abbrev pub all_marks : Room → Grid → List Stroke
+all_marks room g = cut_marks room g ++ (fold_marks room g ++ outer_cut_marks room g)
+
 -- no mark goes over a cell, as long as cells have room for pages
 abbrev pub MarksAreOutside : Type 0
 MarksAreOutside = (room : Room) (g : Grid) (row column : ℕ) → 0 < wide room g → 0 < high room g
     → row < g.rows → column < g.columns
-    → AllByRecursion (IsOutsideCell (cell_at room g row column)) (cut_marks room g ++ fold_marks room g)
+    → AllByRecursion (IsOutsideCell (cell_at room g row column)) (all_marks room g)
 
 -- if there is a margin, all marks stand in it
 abbrev pub MarksAreInMargin : Type 0
 MarksAreInMargin = (room : Room) (g : Grid) → 0 < room.edge
-    → AllByRecursion (IsInMargin room) (cut_marks room g ++ fold_marks room g)
+    → AllByRecursion (IsInMargin room) (all_marks room g)
 
--- their lines begin no page, no data and no embedded document, so what they are added to is a document again
+-- the whole stroke lies in a cell
+pub record IsInCell (cell : Cell) (s : Stroke) : Type 0 where
+  pub left : AreAtLeast s.start.0 s.end.0 (pos (grains_in cell.left))
+  pub right : AreAtMost s.start.0 s.end.0 (pos (grains_in (cell.left + cell.width)))
+  pub bottom : AreAtLeast s.start.1 s.end.1 (pos (grains_in cell.bottom))
+  pub top : AreAtMost s.start.1 s.end.1 (pos (grains_in (cell.bottom + cell.height)))
+
+-- the lines for notes of a row lie in its cell for notes
+abbrev pub LinesAreInCell : Type 0
+LinesAreInCell = (room : Room) (g : Grid) (row : ℕ) → AllByRecursion (IsInCell (note_cell room g row)) (row_lines room g row)
+
+-- none of them goes over a cell of the columns before
+abbrev pub LinesAreBeside : Type 0
+LinesAreBeside = (room : Room) (g : Grid) (row column : ℕ) → column + 1 < g.columns
+    → AllByRecursion (IsOutsideCell (cell_at room g row column)) (note_lines room g)
+
+-- the lines that draw strokes begin no page, no data and no embedded document, so what they are added to is a document again
 abbrev pub MarksAreTame : Type 0
 MarksAreTame = (strokes : List Stroke) (dress : Dress) → IsTameDress dress → IsTameDress (marked strokes dress)

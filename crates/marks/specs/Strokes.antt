@@ -73,10 +73,14 @@ marks_round room g =
 abbrev pub has_room_round : Room → Bool
 has_room_round room = not (room.edge == 0) && nat_le room.gap (2 * room.edge)
 
--- a sheet is cut between its cells, and round them if the margin has room for it
-abbrev pub cut_marks : Room → Grid → List Stroke
-cut_marks room g = marks_between room g ++ (if has_room_round room then marks_round room g else [])
-
--- it is folded between its cells
+-- a sheet is folded between its cells
 abbrev pub fold_marks : Room → Grid → List Stroke
 fold_marks room g = marks_between room g
+
+-- one that is folded there is cut round its cells alone, if the margin has room for it
+abbrev pub outer_cut_marks : Room → Grid → List Stroke
+outer_cut_marks room g = if has_room_round room then marks_round room g else []
+
+-- and any other one between them, too
+abbrev pub cut_marks : Room → Grid → List Stroke
+cut_marks room g = marks_between room g ++ outer_cut_marks room g

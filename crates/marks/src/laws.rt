@@ -1,6 +1,6 @@
 //! Laws of the definitions. The functions do nothing.
 ghost use Rattle.marks.specs.Places.{PiecesAreLike};
-ghost use Rattle.marks.specs.Laws.{MarksAreInMargin, MarksAreOutside, MarksAreTame};
+ghost use Rattle.marks.specs.Laws.{LinesAreBeside, LinesAreInCell, MarksAreInMargin, MarksAreOutside, MarksAreTame};
 
 /// Cut along all marks of a side, all pieces are as wide.
 pub fn pieces_are_like()
@@ -15,6 +15,16 @@ pub fn marks_are_outside()
 /// If there is a margin, all marks stand in it.
 pub fn marks_are_in_margin()
     ensures { MarksAreInMargin }
+{}
+
+/// Lines for notes lie in the cells that are for notes.
+pub fn lines_are_in_cell()
+    ensures { LinesAreInCell }
+{}
+
+/// No line for notes goes over a cell in which a page may stand.
+pub fn lines_are_beside()
+    ensures { LinesAreBeside }
 {}
 
 /// Sheets with marks can be imposed again.

@@ -24,7 +24,7 @@ pub fn gap_at(room: &Room, side: Grains, parts: u32, k: u32) -> Grains
 }
 
 /// From where a part of a side begins to where the next one begins, in 10^-5 of a point.
-fn step(room: &Room, side: Grains, parts: u32) -> u128
+pub(crate) fn step(room: &Room, side: Grains, parts: u32) -> u128
     requires side { IsTrue (is_side side) }
     requires some { 0 < parts }
     ensures value { result ≡ step_of room.now (nat_abs side) parts }
@@ -36,7 +36,7 @@ fn step(room: &Room, side: Grains, parts: u32) -> u128
 }
 
 /// What is kept of a length, in 10^-5 of a point.
-fn kept(room: &Room, length: u64) -> u128
+pub(crate) fn kept(room: &Room, length: u64) -> u128
     requires { length ≤ 10_000_000_000 }
     ensures value { result ≡ kept_of room.now length }
     ensures few { result ≤ 10_000_000_001 }

@@ -3,6 +3,7 @@ ghost use Rattle.std.specs.Prelude.{◌≡◌, ◌<◌, ◌≤◌, ◌-ℤ◌, �
 ghost use Rattle.rules.specs.Papers.{is_side};
 ghost use Rattle.marks.specs.Strokes.{cells_across as across_of, cells_up as up_of, far_end as far_of, near_end as near_of};
 ghost use Rattle.marks.specs.Strokes.{cut_marks as cut_of, fold_marks as fold_of, has_room_round as has_room, longest};
+ghost use Rattle.marks.specs.Strokes.{outer_cut_marks as outer_cut_of};
 ghost use Rattle.marks.specs.Strokes.{level_at, level_between, level_strokes, marks_between, marks_round};
 ghost use Rattle.marks.specs.Strokes.{upright_at, upright_between, upright_strokes};
 
@@ -11,14 +12,15 @@ use layouts::{Grid, Room};
 use lengths::Grains;
 use std::alloc::{AllocError, Global};
 
-/// Which marks are asked for: where sheets are folded, and where they are cut.
+/// Which marks are asked for: where sheets are folded, where they are cut, and lines for notes beside their pages.
 #[derive(Clone, Copy, Debug, PartialEq, Eq)]
 pub struct Marks {
     pub fold: bool,
     pub cut: bool,
+    pub ruled: bool,
 }
 
-/// A short line on a sheet, from a point to another one: how far each is from the left edge, and from the lower one.
+/// A line on a sheet, from a point to another one: how far each is from the left edge, and from the lower one.
 #[derive(Clone, Copy, Debug, PartialEq, Eq)]
 pub struct Stroke {
     pub start: (Grains, Grains),
@@ -31,10 +33,17 @@ pub fn cut_marks(alloc: Global, room: &Room, grid: Grid) -> Result<Vec<Stroke>, 
 {
     let mut strokes = Vec::new(alloc);
     push_between(room, grid, &mut strokes)?;
-    if has_room_round(room) {
-        push_round(room, grid, &mut strokes)?;
-    }
+    push_round_if_room(room, grid, &mut strokes)?;
     Ok(strokes)
+}
+
+/// The marks along which a sheet is cut that is folded between its cells: round them alone, if the margin has room for it.
+pub fn outer_cut_marks(alloc: Global, room: &Room, grid: Grid) -> Result<Vec<Stroke>, AllocError>
+    ensures { IfOk result (λ strokes. strokes.items ≡ outer_cut_of room.now grid) }
+{
+    let mut outer = Vec::new(alloc);
+    push_round_if_room(room, grid, &mut outer)?;
+    Ok(outer)
 }
 
 /// The marks along which a sheet is folded between its cells.
@@ -52,6 +61,16 @@ fn push_between(room: &Room, grid: Grid, strokes: &mut Vec<Stroke>) -> Result<()
 {
     push_upright_between(room, cells_across(grid), strokes)?;
     push_level_between(room, cells_up(grid), strokes)?;
+    Ok(())
+}
+
+/// Adds those round all cells, if the margin has room for them.
+fn push_round_if_room(room: &Room, grid: Grid, strokes: &mut Vec<Stroke>) -> Result<(), AllocError>
+    ensures { OnOk result (strokes.new.items ≡ strokes.old.items ++ outer_cut_of room.now grid) }
+{
+    if has_room_round(room) {
+        push_round(room, grid, strokes)?;
+    }
     Ok(())
 }
 

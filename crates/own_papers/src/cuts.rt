@@ -38,7 +38,7 @@ pub fn cut_by(paper: &Paper, own: &[Paper]) -> Option<Cut>
 
 /// The same pages, and behind them this one.
 fn with_page(cut: Option<Cut>, page: usize, paper: &Paper) -> Cut
-    requires few { IfSome cut (λ c. c.pages < 18_446_744_073_709_551_615) }
+    requires few { IfSome cut (λ c. c.pages < usize.MAX) }
     ensures { result ≡ with_one cut page paper.now }
 {
     match cut {

@@ -1,12 +1,12 @@
 //! Papers that count as one, since programs round the sizes of one paper differently.
-ghost use Rattle.std.specs.Prelude.{◌≡◌, ◌<◌, ◌∷◌, IfOk, IfSome, IsTrue, OnOk, length, position};
-ghost use Rattle.rules.specs.Papers.{is_side};
-ghost use Rattle.page_papers.specs.Own.{covering as covering_paper, is_near as is_near_to, larger as larger_side};
+ghost use Rattle.std.specs.Prelude.{◌≡◌, ◌<◌, ◌∷◌, IfOk, IfSome, OnOk, length, position};
+ghost use Rattle.page_papers.specs.Own.{is_near as is_near_to};
 ghost use Rattle.own_papers.specs.AsOne.{as_one as counted_as_one, first_instead_of as first_instead, is_used as is_paper_used};
 ghost use Rattle.own_papers.specs.AsOne.{kinds as kinds_with, most_kinds, paper_among as paper_in, with_paper};
 
 use crate::cuts::is_near;
-use lengths::{Grains, Paper};
+use lengths::Paper;
+use page_papers::covering;
 use std::alloc::{AllocError, Global};
 
 /// The most kinds of papers: with more, a page would take the time of all of them.
@@ -114,26 +114,4 @@ fn paper_among(kinds: &[Kind], paper: &Paper) -> Paper
         }
     }
     *paper
-}
-
-/// The least paper that covers both.
-fn covering(a: &Paper, b: &Paper) -> Paper
-    ensures { result ≡ covering_paper a.now b.now }
-{
-    let width = larger(a.width(), b.width());
-    let height = larger(a.height(), b.height());
-    match Paper::new(width, height) {
-        Some(paper) => paper,
-        None => unreachable!(),
-    }
-}
-
-/// The larger side.
-fn larger(a: Grains, b: Grains) -> Grains
-    requires a { IsTrue (is_side a) }
-    requires b { IsTrue (is_side b) }
-    ensures value { result ≡ larger_side a b }
-    ensures side { IsTrue (is_side result) }
-{
-    if a.get() <= b.get() { b } else { a }
 }

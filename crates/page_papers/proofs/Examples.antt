@@ -1,6 +1,7 @@
 -- Documents and the papers of their pages, and sheets that tell theirs, computed from the definitions.
-use Rattle.std.proofs.Common.{◌≡◌, ℕ, List, [], ◌∷◌, true, false, Some, None, refl}
-use Rattle.std.specs.Prelude.{codes, pos, Result, Ok}
+use Rattle.std.proofs.Common.{◌≡◌, ◌≤◌, ℕ, List, [], ◌∷◌, length, Bool, true, false, Some, None, refl, arith}
+use Rattle.std.specs.Prelude.{codes, pos, Result, Ok, if◌then◌else◌, nat_lt}
+use Rattle.std.proofs.lemmas.Bool.Decides.{nat_tests}
 use Rattle.std.specs.Fmt.{digits}
 use Rattle.rules.specs.Papers.{Paper, Pt, points, paper_named}
 use Rattle.rules.specs.Specification.{Item, Upright}
@@ -9,8 +10,8 @@ use Rattle.rules.specs.Run.{document_of, DocumentFault}
 use Rattle.lengths.specs.Reading.{number_at}
 use Rattle.made_sheets.specs.Made.{MadeSheet, Blank, Placed}
 use Rattle.made_sheets.specs.MadeOutput.{made_output}
-use Rattle.page_papers.specs.Own.{covering, is_near, own_papers}
-use Rattle.page_papers.specs.Told.{telling}
+use Rattle.page_papers.specs.Own.{covering, covering_all, covers, is_near, own_papers}
+use Rattle.page_papers.specs.Told.{different_from, papers_told, telling}
 
 abbrev home : Paper
 home = points 612 792
@@ -38,6 +39,12 @@ unknown_medium : own (codes "%!PS\n%%DocumentMedia: A 595 842 0 () ()\n%%Page: 1
     ≡ Ok (points 595 842 ∷ [])
 unfolding number_at
 unknown_medium = refl
+
+-- nor does a box count where a medium without a name is named
+unnamed_medium : own (codes "%!PS\n%%DocumentMedia: A 595 842 0 () ()\n%%Page: 1 1\n%%PageMedia:\n%%PageBoundingBox: 0 0 72 71\nx\n")
+    ≡ Ok (points 595 842 ∷ [])
+unfolding number_at
+unnamed_medium = refl
 
 -- a box that begins at 0 0 is a paper, and another one isn't
 by_box : own (codes "%!PS\n%%DocumentMedia: A 595 842 0 () ()\n%%Page: 1 1\n%%PageBoundingBox: 0 0 842 595\nx\n%%Page: 2 2\n%%PageBoundingBox: 1 0 842 595\nx\n")
@@ -94,7 +101,24 @@ apart_by_sixteen = refl
 covers_both : covering (points 595 842) (points 842 595) ≡ points 842 842
 covers_both = refl
 
+smaller_is_covered : covers (points 842 595) (points 595 420) ≡ true
+smaller_is_covered = refl
+
+wider_is_not_covered : covers (points 595 842) (points 842 595) ≡ false
+wider_is_not_covered = refl
+
+higher_is_not_covered : covers (points 842 595) (points 595 842) ≡ false
+higher_is_not_covered = refl
+
 -- ---- sheets that tell their paper
+
+few : (told : List Paper) (p : Paper) (b : Bool) → nat_lt 64 (length told) ≡ b → length (if b then p ∷ [] else told) ≤ 64
+few told p true e = omega arith
+few told p false e = grind (arith, nat_tests)
+
+-- no more than sixty-four are told
+few_are_told : (all : List Paper) → length (papers_told all) ≤ 64
+few_are_told all = few (different_from [] all) (covering_all all) (nat_lt 64 (length (different_from [] all))) refl
 
 abbrev as_it_is : Item
 as_it_is = record { page = 0; from_end = false; turn = Upright; scale = pos 1_000_000_000; x = record { number = pos 0; unit = Pt }; y = record { number = pos 0; unit = Pt } }

@@ -70,7 +70,7 @@ sheet_picture sides guides s sheet =
     ++ caption sides s sheet.paper
 
 abbrev pub style : List ℕ
-style = codes "<style>rect,line{vector-effect:non-scaling-stroke}.sheet{fill:white;stroke:black}.page{fill:lightblue;fill-opacity:.4;stroke:navy}.margin{stroke:gray;stroke-dasharray:2}.fold{stroke:red;stroke-dasharray:6}.cut{stroke:red}path{fill:navy}text{font:30px sans-serif;text-anchor:middle}.name{font-size:13px}</style>"
+style = codes "<style>rect,line{vector-effect:non-scaling-stroke}.sheet{fill:white;stroke:black}.page{fill:lightblue;fill-opacity:.4;stroke:navy}.margin{stroke:gray;stroke-dasharray:2}.fold{stroke:red;stroke-dasharray:6}.cut{stroke:red}.note{stroke:gray}path{fill:navy}text{font:30px sans-serif;text-anchor:middle}.name{font-size:13px}</style>"
 
 -- the beginning of a picture with so many sheets
 abbrev pub opening : (sheets : ℕ) → List ℕ

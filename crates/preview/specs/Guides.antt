@@ -1,16 +1,17 @@
--- Lines on sheets: the margin that is kept free, and where they are folded or cut.
+-- Lines on sheets: the margin that is kept free, where they are folded or cut, and lines for notes.
 use Rattle.std.specs.Prelude.{ℕ, List, ◌++◌, flat_map, codes}
 use Rattle.rules.specs.Bytes.{line}
 use Rattle.rules.specs.Numbers.{points_text}
 use Rattle.preview.specs.declared.guides.Guide.{Guide}
 use Rattle.preview.specs.declared.guides.GuideKind.{GuideKind}
-use Rattle.preview.specs.declared.guides.GuideKind.TheVariants.{Margin, Fold, Cut}
+use Rattle.preview.specs.declared.guides.GuideKind.TheVariants.{Margin, Fold, Cut, Note}
 
 -- the style that a line has
 abbrev pub kind_name : GuideKind → List ℕ
 kind_name Margin = codes "margin"
 kind_name Fold = codes "fold"
 kind_name Cut = codes "cut"
+kind_name Note = codes "note"
 
 abbrev pub guide_picture : Guide → List ℕ
 guide_picture g =

@@ -94,7 +94,7 @@ fn append_opening(count: u32, out: &mut Vec<u8>) -> Result<(), AllocError>
 }
 
 const STYLE: &[u8] =
-    b"<style>rect,line{vector-effect:non-scaling-stroke}.sheet{fill:white;stroke:black}.page{fill:lightblue;fill-opacity:.4;stroke:navy}.margin{stroke:gray;stroke-dasharray:2}.fold{stroke:red;stroke-dasharray:6}.cut{stroke:red}path{fill:navy}text{font:30px sans-serif;text-anchor:middle}.name{font-size:13px}</style>\n";
+    b"<style>rect,line{vector-effect:non-scaling-stroke}.sheet{fill:white;stroke:black}.page{fill:lightblue;fill-opacity:.4;stroke:navy}.margin{stroke:gray;stroke-dasharray:2}.fold{stroke:red;stroke-dasharray:6}.cut{stroke:red}.note{stroke:gray}path{fill:navy}text{font:30px sans-serif;text-anchor:middle}.name{font-size:13px}</style>\n";
 
 /// How many sheets aren't drawn, below those that are.
 fn append_left_out(count: u32, more: u32, out: &mut Vec<u8>) -> Result<(), AllocError>

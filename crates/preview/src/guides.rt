@@ -5,12 +5,13 @@ ghost use Rattle.preview.specs.Guides.{guide_picture, guides_picture, kind_name 
 use lengths::{Grains, print_points};
 use std::alloc::AllocError;
 
-/// Why a line is drawn: it shows the margin that is kept free, or a sheet is folded there, or cut.
+/// Why a line is drawn: it shows the margin that is kept free, or a sheet is folded there, or cut, or notes are written on it.
 #[derive(Clone, Copy, Debug, PartialEq, Eq)]
 pub enum GuideKind {
     Margin,
     Fold,
     Cut,
+    Note,
 }
 
 /// A line on a sheet, from a point to another one: how far each is from the left edge, and from the lower one.
@@ -57,5 +58,6 @@ fn kind_name(kind: GuideKind) -> &'static [u8]
         GuideKind::Margin => b"margin",
         GuideKind::Fold => b"fold",
         GuideKind::Cut => b"cut",
+        GuideKind::Note => b"note",
     }
 }

@@ -1,3 +1,4 @@
+pub mod BySpec
 pub mod Lines
 mod Alone
 mod OneScale

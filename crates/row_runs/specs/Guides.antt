@@ -1,4 +1,4 @@
--- Lines that are drawn on the sheets of a setting: its margin, and lines between its cells.
+-- Lines that are drawn on the sheets of a setting: its margin, lines between its cells, and lines for notes.
 use Rattle.std.specs.Prelude.{ℕ, ◌-◌, ℤ, pos, ◌-ℤ◌, nat_abs, if◌then◌else◌, List, [], ◌∷◌, ◌++◌, map}
 use Rattle.std.specs.List.{range_with_len}
 use Rattle.rules.specs.Papers.{Paper}
@@ -9,7 +9,10 @@ use Rattle.layouts.specs.declared.setting.Setting.{Setting}
 use Rattle.arranged_sheets.specs.declared.poster.Poster.{Poster}
 use Rattle.preview.specs.declared.guides.Guide.{Guide}
 use Rattle.preview.specs.declared.guides.GuideKind.{GuideKind}
-use Rattle.preview.specs.declared.guides.GuideKind.TheVariants.{Margin, Fold, Cut}
+use Rattle.preview.specs.declared.guides.GuideKind.TheVariants.{Margin, Fold, Cut, Note}
+use Rattle.marks.specs.declared.strokes.Marks.{Marks}
+use Rattle.marks.specs.declared.strokes.Stroke.{Stroke}
+use Rattle.row_runs.specs.Marked.{ruled_if}
 use Rattle.row_runs.specs.declared.asked.Laying.{Laying}
 use Rattle.row_runs.specs.declared.asked.Laying.TheVariants as laying
 
@@ -70,3 +73,15 @@ guides_in (laying.Stack setting cells) = lines_in Cut setting
 guides_in (laying.Leaves setting) = lines_in Cut setting
 guides_in (laying.Booklet setting turned_backs creep) = lines_in Fold setting
 guides_in (laying.Poster poster) = margin_lines (tile_room poster)
+
+-- the lines for notes that are asked for
+abbrev pub note_guide : Stroke → Guide
+note_guide s = record { kind = Note; start = s.start; end = s.end }
+
+abbrev pub notes_in : Marks → Laying → List Guide
+notes_in marks (laying.Grid setting cells) = map note_guide (ruled_if marks.ruled setting)
+notes_in marks other = []
+
+-- all lines of a laying with these marks
+abbrev pub guides_with : Marks → Laying → List Guide
+guides_with marks l = guides_in l ++ notes_in marks l

@@ -7,7 +7,7 @@ use Rattle.preview.specs.declared.naming.Sides.{Sides}
 use Rattle.preview.specs.declared.naming.Sides.TheVariants as sides
 use Rattle.sheet_plan.specs.declared.error.MadeError.{MadeError}
 use Rattle.sheet_plan.specs.declared.error.MadeError.TheVariants as plan
-use Rattle.row_runs.specs.Guides.{guides_in}
+use Rattle.row_runs.specs.Guides.{guides_with}
 use Rattle.row_runs.specs.Runs.{ArePlanned, RefusesRun}
 use Rattle.row_runs.specs.declared.asked.Laying.{Laying}
 use Rattle.row_runs.specs.declared.asked.Laying.TheVariants as laying
@@ -30,11 +30,11 @@ pub record TellsPlan (j : RowJob) (most : ℕ) (text : List ℕ) : Type 0 where
   pub planned : ArePlanned j made
   pub told : text ≡ plan_text (sides_in j.asked.laying) most made
 
--- the picture of these sheets, with the lines of their laying on each
+-- the picture of these sheets, with the lines of their laying and those for notes on each
 pub record TellsPicture (j : RowJob) (most : ℕ) (text : List ℕ) : Type 0 where
   pub made : List MadeSheet
   pub planned : ArePlanned j made
-  pub told : text ≡ preview_text (sides_in j.asked.laying) (guides_in j.asked.laying) most made
+  pub told : text ≡ preview_text (sides_in j.asked.laying) (guides_with j.marks j.asked.laying) most made
 
 -- what an error of the plan is called
 abbrev pub of_plan : MadeError → AskedError

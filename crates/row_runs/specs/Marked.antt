@@ -1,7 +1,8 @@
 -- The marks on the sheets of a laying.
-use Rattle.std.specs.Prelude.{Bool, if◌then◌else◌, List, []}
+use Rattle.std.specs.Prelude.{Bool, if◌then◌else◌, List, [], ◌++◌}
 use Rattle.layouts.specs.declared.setting.Setting.{Setting}
-use Rattle.marks.specs.Strokes.{cut_marks, fold_marks}
+use Rattle.marks.specs.Strokes.{cut_marks, fold_marks, outer_cut_marks}
+use Rattle.marks.specs.Ruled.{note_lines}
 use Rattle.marks.specs.declared.strokes.Marks.{Marks}
 use Rattle.marks.specs.declared.strokes.Stroke.{Stroke}
 use Rattle.row_runs.specs.declared.asked.Laying.{Laying}
@@ -15,13 +16,22 @@ cut_if asked setting = if asked then cut_marks setting.room setting.grid else []
 abbrev pub fold_if : (asked : Bool) → Setting → List Stroke
 fold_if asked setting = if asked then fold_marks setting.room setting.grid else []
 
+-- or cut round its cells alone
+abbrev pub outer_cut_if : (asked : Bool) → Setting → List Stroke
+outer_cut_if asked setting = if asked then outer_cut_marks setting.room setting.grid else []
+
+-- or lines for notes are drawn in the last column of its cells
+abbrev pub ruled_if : (asked : Bool) → Setting → List Stroke
+ruled_if asked setting = if asked then note_lines setting.room setting.grid else []
+
 -- the strokes on each sheet of a laying, of the marks that are asked for: booklets are folded between their halves, and
--- other sheets cut between their cells; pages as they are and posters have no marks
+-- cut round them; other sheets are cut between their cells; pages as they are and posters have no marks. Lines for notes
+-- stand on sheets whose cells are filled in turn
 abbrev pub strokes_in : Marks → Laying → List Stroke
 strokes_in marks (laying.AsTheyAre blank) = []
 strokes_in marks (laying.Poster poster) = []
-strokes_in marks (laying.Grid setting cells) = cut_if marks.cut setting
+strokes_in marks (laying.Grid setting cells) = cut_if marks.cut setting ++ ruled_if marks.ruled setting
 strokes_in marks (laying.Cards setting cells) = cut_if marks.cut setting
 strokes_in marks (laying.Stack setting cells) = cut_if marks.cut setting
 strokes_in marks (laying.Leaves setting) = cut_if marks.cut setting
-strokes_in marks (laying.Booklet setting turned_backs creep) = fold_if marks.fold setting
+strokes_in marks (laying.Booklet setting turned_backs creep) = fold_if marks.fold setting ++ outer_cut_if marks.cut setting

@@ -123,7 +123,7 @@ fn leaves_in(signing: Option<Signing>, row: &[Option<u32>]) -> u32
 }
 
 /// What a refusal of the row is called.
-fn row_error(error: RowError) -> AskedError
+pub(crate) fn row_error(error: RowError) -> AskedError
     ensures { result ≡ of_row error }
 {
     match error {

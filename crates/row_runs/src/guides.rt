@@ -1,29 +1,35 @@
-//! Lines that are drawn on sheets: margins, and lines between cells.
-ghost use Rattle.std.specs.Prelude.{◌≡◌, ◌-ℤ◌, ◌<◌, ◌≤◌, ◌++◌, IfOk, IsTrue, OnOk};
+//! Lines that are drawn on sheets: margins, lines between cells, and lines for notes.
+ghost use Rattle.std.specs.Prelude.{◌≡◌, ◌-ℤ◌, ◌<◌, ◌≤◌, ◌++◌, IfOk, IsTrue, OnOk, map};
 ghost use Rattle.lengths.specs.Ranges.{FitsGrains};
 ghost use Rattle.rules.specs.Papers.{is_side};
 ghost use Rattle.row_runs.specs.Guides.{edge_of, guides_in, level as level_of, level_line as level_line_of};
 ghost use Rattle.row_runs.specs.Guides.{level_lines, level_margin, lines_between, lines_in, margin_lines};
 ghost use Rattle.row_runs.specs.Guides.{upright as upright_of, upright_line as upright_line_of, upright_lines, upright_margin};
-ghost use Rattle.row_runs.specs.Guides.{tile_room as tile_room_of};
+ghost use Rattle.row_runs.specs.Guides.{guides_with, note_guide as note_guide_of, notes_in, tile_room as tile_room_of};
 ghost use Rattle.row_runs.specs.Sheets.{MayBeLaid};
 
 use crate::asked::Laying;
+use crate::marked::ruled_if;
 use arranged_sheets::Poster;
 use layouts::{Grid, Room, Setting};
 use lengths::{Grains, Paper};
-use marks::gap_at;
+use marks::{Marks, Stroke, gap_at};
 use preview::{Guide, GuideKind};
 use std::alloc::{AllocError, Global};
 
 /// The lines of a laying: its margin, where sheets are cut between their cells, and where the leaves of a booklet are
-/// folded.
-pub(crate) fn guides_of(alloc: Global, laying: &Laying) -> Result<Vec<Guide>, AllocError>
+/// folded; and the lines for notes that are asked for.
+pub(crate) fn guides_of(
+    alloc: Global,
+    marks: Marks,
+    laying: &Laying,
+) -> Result<Vec<Guide>, AllocError>
     requires { MayBeLaid laying.now }
-    ensures { IfOk result (λ guides. guides.items ≡ guides_in laying.now) }
+    ensures { IfOk result (λ guides. guides.items ≡ guides_with marks laying.now) }
 {
     let mut guides = Vec::new(alloc);
     push_guides(laying, &mut guides)?;
+    push_notes(alloc, marks, laying, &mut guides)?;
     Ok(guides)
 }
 
@@ -39,6 +45,44 @@ fn push_guides(laying: &Laying, guides: &mut Vec<Guide>) -> Result<(), AllocErro
         Laying::Leaves { setting } => push_lines(GuideKind::Cut, setting, guides),
         Laying::Booklet { setting, .. } => push_lines(GuideKind::Fold, setting, guides),
         Laying::Poster { poster } => push_margin(&tile_room(poster), guides),
+    }
+}
+
+/// Adds the lines for notes that are asked for.
+fn push_notes(
+    alloc: Global,
+    marks: Marks,
+    laying: &Laying,
+    guides: &mut Vec<Guide>,
+) -> Result<(), AllocError>
+    ensures { OnOk result (guides.new.items ≡ guides.old.items ++ notes_in marks laying.now) }
+{
+    match laying {
+        Laying::Grid { setting, .. } => {
+            let lines = ruled_if(alloc, marks.ruled, setting)?;
+            push_note_guides(lines.as_slice(), guides)?;
+            Ok(())
+        }
+        _ => Ok(()),
+    }
+}
+
+fn push_note_guides(lines: &[Stroke], guides: &mut Vec<Guide>) -> Result<(), AllocError>
+    ensures { OnOk result (guides.new.items ≡ guides.old.items ++ map note_guide_of lines.now) }
+{
+    for line in lines {
+        guides.push(note_guide(line))?;
+    }
+    Ok(())
+}
+
+fn note_guide(line: &Stroke) -> Guide
+    ensures { result ≡ note_guide_of line.now }
+{
+    Guide {
+        kind: GuideKind::Note,
+        start: line.start,
+        end: line.end,
     }
 }
 

@@ -2,6 +2,7 @@
 #![tactic(auto)]
 
 mod asked;
+mod by_spec;
 mod error;
 mod evened;
 mod guides;
@@ -10,6 +11,7 @@ mod marked;
 mod run;
 
 pub use asked::{Asked, Laying, asked_sheets};
+pub use by_spec::{SpecJob, impose_spec_row};
 pub use error::AskedError;
 pub use look::{row_plan, row_preview};
 pub use run::{RowJob, impose_row};

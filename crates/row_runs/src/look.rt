@@ -3,7 +3,7 @@ ghost use Rattle.std.specs.Prelude.{◌≡◌, IfErr, IfOk, OnOk, Ok};
 ghost use Rattle.made_sheets.specs.MadePlans.{made_plan_of};
 ghost use Rattle.sheet_plan.specs.MadeRefusals.{RefusesMade};
 ghost use Rattle.preview.specs.Drawing.{preview_text as picture_of};
-ghost use Rattle.row_runs.specs.Guides.{guides_in};
+ghost use Rattle.row_runs.specs.Guides.{guides_with};
 ghost use Rattle.row_runs.specs.Sheets.{MayBeAsked, MayBeLaid};
 ghost use Rattle.row_runs.specs.Runs.{ArePlanned};
 ghost use Rattle.row_runs.specs.Looks.{RefusesLook, TellsPicture, TellsPlan, of_plan, sides_in};
@@ -12,6 +12,7 @@ use crate::asked::{Laying, asked_sheets};
 use crate::error::AskedError;
 use crate::guides::guides_of;
 use crate::run::RowJob;
+use marks::Marks;
 use preview::{Sides, plan_text, preview_text};
 use sheet_plan::{MadeError, MadeSheets, Plan};
 use std::alloc::{AllocError, Global};
@@ -33,8 +34,8 @@ pub fn row_plan(alloc: Global, job: &RowJob<'_, '_>, most: u32) -> Result<Vec<u8
     }
 }
 
-/// The picture of the sheets that `impose_row` would impose, as an SVG, with margin, cuts and fold on each. Of more sheets
-/// than `most` the first are drawn. What the run refuses is refused as it does, but for a write.
+/// The picture of the sheets that `impose_row` would impose, as an SVG, with margin, cuts, fold and lines for notes on each.
+/// Of more sheets than `most` the first are drawn. What the run refuses is refused as it does, but for a write.
 pub fn row_preview(alloc: Global, job: &RowJob<'_, '_>, most: u32) -> Result<Vec<u8>, AskedError>
     requires asked { MayBeAsked job.now.asked }
     ensures told { IfOk result (λ text. TellsPicture job.now most text.items) }
@@ -44,24 +45,25 @@ pub fn row_preview(alloc: Global, job: &RowJob<'_, '_>, most: u32) -> Result<Vec
         Ok(sheets) => sheets,
         Err(error) => return Err(error),
     };
-    match drawn(alloc, &sheets, &job.asked.laying, most) {
+    match drawn(alloc, &sheets, job.marks, &job.asked.laying, most) {
         Ok(text) => Ok(text),
         Err(_) => Err(AskedError::NoMemory { written: 0 }),
     }
 }
 
-/// The picture of sheets that are laid so.
+/// The picture of sheets that are laid so, with the lines for notes that are asked for.
 fn drawn(
     alloc: Global,
     sheets: &MadeSheets,
+    marks: Marks,
     laying: &Laying,
     most: u32,
 ) -> Result<Vec<u8>, AllocError>
     requires { MayBeLaid laying.now }
     ensures { IfOk result (λ text. text.items
-        ≡ picture_of (sides_in laying.now) (guides_in laying.now) most sheets.now) }
+        ≡ picture_of (sides_in laying.now) (guides_with marks laying.now) most sheets.now) }
 {
-    let guides = guides_of(alloc, laying)?;
+    let guides = guides_of(alloc, marks, laying)?;
     let text = preview_text(alloc, sheets, sides_of(laying), guides.as_slice(), most)?;
     Ok(text)
 }
@@ -106,7 +108,7 @@ fn check_plan(alloc: Global, pages: u32, sheets: &MadeSheets) -> Result<(), Made
 }
 
 /// What an error of the plan is called.
-fn plan_error(error: MadeError) -> AskedError
+pub(crate) fn plan_error(error: MadeError) -> AskedError
     ensures { result ≡ of_plan error }
 {
     match error {

@@ -1,14 +1,15 @@
 //! The marks on sheets.
-ghost use Rattle.std.specs.Prelude.{◌≡◌, IfOk};
-ghost use Rattle.row_runs.specs.Marked.{cut_if as cut_of, fold_if as fold_of, strokes_in};
+ghost use Rattle.std.specs.Prelude.{◌≡◌, ◌++◌, IfOk};
+ghost use Rattle.row_runs.specs.Marked.{cut_if as cut_of, fold_if as fold_of, outer_cut_if as outer_cut_of, ruled_if as ruled_of, strokes_in};
 
 use crate::asked::Laying;
 use layouts::Setting;
-use marks::{Marks, Stroke, cut_marks, fold_marks};
+use marks::{Marks, Stroke, cut_marks, fold_marks, note_lines, outer_cut_marks};
 use std::alloc::{AllocError, Global};
 
 /// The strokes on each sheet of a laying, of the marks that are asked for. A laying that isn't folded has no fold marks,
-/// and one that isn't cut no cut marks; pages as they are and posters have none.
+/// and one that isn't cut no cut marks; pages as they are and posters have none. Lines for notes stand on sheets whose cells
+/// are filled in turn.
 pub(crate) fn strokes_of(
     alloc: Global,
     marks: Marks,
@@ -18,12 +19,37 @@ pub(crate) fn strokes_of(
 {
     match laying {
         Laying::AsTheyAre { .. } | Laying::Poster { .. } => Ok(Vec::new(alloc)),
-        Laying::Grid { setting, .. } => cut_if(alloc, marks.cut, setting),
+        Laying::Grid { setting, .. } => cut_and_ruled(alloc, marks, setting),
         Laying::Cards { setting, .. } => cut_if(alloc, marks.cut, setting),
         Laying::Stack { setting, .. } => cut_if(alloc, marks.cut, setting),
         Laying::Leaves { setting } => cut_if(alloc, marks.cut, setting),
-        Laying::Booklet { setting, .. } => fold_if(alloc, marks.fold, setting),
+        Laying::Booklet { setting, .. } => booklet_strokes(alloc, marks, setting),
     }
+}
+
+/// The strokes on each side of a booklet's leaves: at the fold, and round both halves.
+fn booklet_strokes(
+    alloc: Global,
+    marks: Marks,
+    setting: &Setting,
+) -> Result<Vec<Stroke>, AllocError>
+    ensures { IfOk result (λ strokes. strokes.items
+        ≡ fold_of marks.fold setting.now ++ outer_cut_of marks.cut setting.now) }
+{
+    let mut strokes = fold_if(alloc, marks.fold, setting)?;
+    let outer = outer_cut_if(alloc, marks.cut, setting)?;
+    strokes.extend_from_slice(outer.as_slice())?;
+    Ok(strokes)
+}
+
+/// The cut marks, and behind them the lines for notes.
+fn cut_and_ruled(alloc: Global, marks: Marks, setting: &Setting) -> Result<Vec<Stroke>, AllocError>
+    ensures { IfOk result (λ strokes. strokes.items ≡ cut_of marks.cut setting.now ++ ruled_of marks.ruled setting.now) }
+{
+    let mut strokes = cut_if(alloc, marks.cut, setting)?;
+    let lines = ruled_if(alloc, marks.ruled, setting)?;
+    strokes.extend_from_slice(lines.as_slice())?;
+    Ok(strokes)
 }
 
 fn cut_if(alloc: Global, asked: bool, setting: &Setting) -> Result<Vec<Stroke>, AllocError>
@@ -41,6 +67,30 @@ fn fold_if(alloc: Global, asked: bool, setting: &Setting) -> Result<Vec<Stroke>,
 {
     if asked {
         fold_marks(alloc, &setting.room, setting.grid)
+    } else {
+        Ok(Vec::new(alloc))
+    }
+}
+
+fn outer_cut_if(alloc: Global, asked: bool, setting: &Setting) -> Result<Vec<Stroke>, AllocError>
+    ensures { IfOk result (λ strokes. strokes.items ≡ outer_cut_of asked setting.now) }
+{
+    if asked {
+        outer_cut_marks(alloc, &setting.room, setting.grid)
+    } else {
+        Ok(Vec::new(alloc))
+    }
+}
+
+pub(crate) fn ruled_if(
+    alloc: Global,
+    asked: bool,
+    setting: &Setting,
+) -> Result<Vec<Stroke>, AllocError>
+    ensures { IfOk result (λ strokes. strokes.items ≡ ruled_of asked setting.now) }
+{
+    if asked {
+        note_lines(alloc, &setting.room, setting.grid)
     } else {
         Ok(Vec::new(alloc))
     }

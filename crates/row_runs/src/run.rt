@@ -81,7 +81,7 @@ pub fn impose_row<R: Threads + Wait + Sync, G: Gate + Sync, S: Sink>(
 }
 
 /// What an error of the sheets is called.
-fn sheets_error(error: SheetsError) -> AskedError
+pub(crate) fn sheets_error(error: SheetsError) -> AskedError
     ensures { result ≡ of_sheets error }
 {
     match error {

@@ -1,3 +1,4 @@
+pub mod BlockByBlock
 pub mod Counted
 pub mod KeptPapers
 pub mod OfOnePaper

@@ -64,7 +64,7 @@ made_groups sheet paper row m b (g ∷ gs) =
     ap (λ (xs : List MadeSlot). record { paper = sheet; slots = xs } ∷ map (made_sheet sheet paper) (map (λ h. map (slot_at row m b) h) gs)) (maps (slot_at row m b) (λ slot. made_slot paper slot.page slot.item) g)
     ∙ ap (λ (rest : List MadeSheet). side_on sheet paper row m b g ∷ rest) (made_groups sheet paper row m b gs)
 
-made_sheets_are : (sheet paper : Paper) (row : Row) (spec : Spec)
+pub made_sheets_are : (sheet paper : Paper) (row : Row) (spec : Spec)
     → made_on sheet paper (sheets_of_row spec row) ≡ flat_map (λ b. map (side_on sheet paper row spec.modulo b) spec.groups) (range_with_len 0 (blocks spec.modulo (length row)))
 made_sheets_are sheet paper row spec =
     map_flat (made_sheet sheet paper) (λ b. map (λ g. map (slot_at row spec.modulo b) g) spec.groups) (range_with_len 0 (blocks spec.modulo (length row)))

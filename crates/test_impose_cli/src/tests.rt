@@ -7,10 +7,14 @@ mod mistakes;
 mod mixed_papers;
 mod other_messages;
 mod programs;
+mod roomy_texts;
+mod spec_rows;
 mod tasks;
 
-use impose_cli::{CommandFault, Request, read_command};
+use impose_cli::{CommandFault, Fault, Request, fault_status, fault_text, read_command};
 use std::alloc::{AllocError, Global};
+use std::process::Abort;
+use std::test::Fail;
 
 /// Words with a space between them, behind the program's name.
 fn words_of(alloc: Global, line: &str) -> Result<Vec<String>, AllocError> {
@@ -26,4 +30,18 @@ fn words_of(alloc: Global, line: &str) -> Result<Vec<String>, AllocError> {
 fn read(alloc: Global, line: &str) -> Result<Request, CommandFault> {
     let words = words_of(alloc, line)?;
     read_command(alloc, words.as_slice())
+}
+
+/// What is said of a fault of this request, and with which status.
+fn assert_told(
+    rt: &(impl Abort + AllocGlobal),
+    request: &Request,
+    fault: Fault,
+    status: u8,
+    message: &str,
+) -> Result<(), Fail> {
+    let text = fault_text(rt.alloc(), &fault, Some(request))?;
+    assert_eq!(rt; text.as_str(), message);
+    assert_eq!(rt; fault_status(&fault), status, "at {message}");
+    Ok(())
 }

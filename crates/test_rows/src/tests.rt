@@ -1,4 +1,5 @@
 //! What the trials share.
+mod by_spec;
 mod growth;
 mod large;
 mod named;

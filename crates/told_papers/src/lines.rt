@@ -4,8 +4,8 @@ ghost use Rattle.page_papers.specs.Own.{covering as covering_paper};
 ghost use Rattle.page_papers.specs.Told.{box_line, medium_line, medium_text, one_header, page_size_lines as size_lines};
 ghost use Rattle.page_papers.specs.Told.{several_header, sheet_lines as lines_of_sheet, setting_line, size_name, size_text, telling_of};
 
-use crate::told::covering;
 use lengths::{Paper, print_points};
+use page_papers::covering;
 use sheet_text::Lines;
 use std::alloc::{AllocError, Global};
 

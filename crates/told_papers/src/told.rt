@@ -2,11 +2,12 @@
 ghost use Rattle.std.specs.Prelude.{◌≡◌, ◌<◌, ◌∷◌, [], IfOk, IsTrue, OnOk, length, map};
 ghost use Rattle.std.specs.List.{list_any};
 ghost use Rattle.rules.specs.Papers.{is_side};
-ghost use Rattle.page_papers.specs.Own.{covering as covering_paper, covering_all as all_covering, larger as larger_side};
+ghost use Rattle.page_papers.specs.Own.{covering_all as all_covering};
 ghost use Rattle.page_papers.specs.Told.{in_print as printed, papers_told};
 ghost use Rattle.told_papers.specs.Sizes.{papers_of, size_of, is_same_size, with_paper};
 
 use lengths::{Grains, Paper};
+use page_papers::covering;
 use sheet_plan::MadeSheets;
 use std::alloc::{AllocError, Global};
 
@@ -94,26 +95,4 @@ fn covering_alone(alloc: Global, sheets: &MadeSheets, count: u32) -> Result<Vec<
     let mut alone = Vec::new(alloc);
     alone.push(large)?;
     Ok(alone)
-}
-
-/// The least paper that covers both.
-pub(crate) fn covering(a: &Paper, b: &Paper) -> Paper
-    ensures { result ≡ covering_paper a.now b.now }
-{
-    let width = larger(a.width(), b.width());
-    let height = larger(a.height(), b.height());
-    match Paper::new(width, height) {
-        Some(paper) => paper,
-        None => unreachable!(),
-    }
-}
-
-/// The larger side.
-fn larger(a: Grains, b: Grains) -> Grains
-    requires a { IsTrue (is_side a) }
-    requires b { IsTrue (is_side b) }
-    ensures value { result ≡ larger_side a b }
-    ensures side { IsTrue (is_side result) }
-{
-    if a.get() <= b.get() { b } else { a }
 }

@@ -124,6 +124,37 @@ fn selections(rt: HostRuntime) -> Result<(), Fail> {
 }
 
 #[test]
+fn specifications_on_rows(rt: HostRuntime) -> Result<(), Fail> {
+    let request = read(rt.alloc(), "spec 2:0,1 --pages 3-1 --odd in.ps")?;
+    assert!(rt;
+        matches!(
+            &request.layout,
+            Layout::SpecRow { specs, signing: None } if specs.as_str() == "2:0,1"
+        )
+    );
+    assert_eq!(rt; file(&request.choice.ranges), Some("3-1"));
+    assert_eq!(rt; request.choice.part, Part::Odd);
+    let request = read(rt.alloc(), "spec 0 --signature auto in.ps")?;
+    assert!(rt;
+        matches!(
+            request.layout,
+            Layout::SpecRow {
+                signing: Some(Signing::Auto),
+                ..
+            }
+        )
+    );
+    assert!(rt; request.choice.is_whole());
+    assert!(rt;
+        matches!(
+            read(rt.alloc(), "spec 0 --signature 6"),
+            Err(CommandFault::BadSignature(_))
+        )
+    );
+    Ok(())
+}
+
+#[test]
 fn cards_stacks_and_what_is_kept_free(rt: HostRuntime) -> Result<(), Fail> {
     let cards = read(rt.alloc(), "cards 8 in.ps")?;
     assert!(rt; matches!(cards.layout, Layout::Cards(Cells::AtLeast(8))));
@@ -376,21 +407,64 @@ fn leaves_that_creep(rt: HostRuntime) -> Result<(), Fail> {
 }
 
 #[test]
+fn pages_with_lines_for_notes(rt: HostRuntime) -> Result<(), Fail> {
+    let request = read(
+        rt.alloc(),
+        "notes 3 --margin 1cm --pages 2- --same-scale in.ps",
+    )?;
+    assert!(rt; matches!(request.layout, Layout::Notes { pages: 3 }));
+    assert!(rt; request.marks.ruled && !request.marks.fold && !request.marks.cut);
+    assert!(rt; request.spacing.same_scale);
+    assert!(rt; !read(rt.alloc(), "nup 3")?.marks.ruled);
+    assert!(rt;
+        matches!(
+            read(rt.alloc(), "notes 512")?.layout,
+            Layout::Notes { pages: 512 }
+        )
+    );
+    for word in ["0", "513", "2x3", "1x1", "three", "in.ps"] {
+        assert!(rt;
+            is_refused(&rt, "notes", GridCommand::Notes, word),
+            "at {word}"
+        );
+    }
+    for line in [
+        "notes 3 --order down-left",
+        "notes 3 --marks cut",
+        "notes 3 --scale 1",
+        "notes 3 --rtl",
+    ] {
+        assert!(rt;
+            matches!(read(rt.alloc(), line), Err(CommandFault::Words(_))),
+            "at {line}"
+        );
+    }
+    Ok(())
+}
+
+#[test]
 fn marks_that_sheets_have(rt: HostRuntime) -> Result<(), Fail> {
     let none = read(rt.alloc(), "booklet")?.marks;
     assert!(rt; !none.fold && !none.cut);
     let fold = read(rt.alloc(), "booklet --marks fold")?.marks;
     assert!(rt; fold.fold && !fold.cut);
-    let cut = read(rt.alloc(), "cards 8 --marks=cut")?.marks;
-    assert!(rt; !cut.fold && cut.cut);
+    for line in ["booklet --marks fold,cut", "booklet --marks=cut,fold"] {
+        let both = read(rt.alloc(), line)?.marks;
+        assert!(rt; both.fold && both.cut, "at {line}");
+    }
+    for line in ["booklet --marks cut", "cards 8 --marks=cut"] {
+        let cut = read(rt.alloc(), line)?.marks;
+        assert!(rt; !cut.fold && cut.cut, "at {line}");
+    }
     for (line, option, text) in [
-        ("booklet --marks cut", CellOption::FoldMarks, "cut"),
         (
-            "booklet --marks fold,cut --odd --even",
-            CellOption::FoldMarks,
-            "fold,cut",
+            "booklet --marks fold,x --odd --even",
+            CellOption::BookletMarks,
+            "fold,x",
         ),
+        ("booklet --marks cut,", CellOption::BookletMarks, "cut,"),
         ("nup 2 --marks fold", CellOption::CutMarks, "fold"),
+        ("cards 8 --marks fold,cut", CellOption::CutMarks, "fold,cut"),
         ("stack 2 --marks x", CellOption::CutMarks, "x"),
         ("nup 2 --marks x --scale y", CellOption::Scale, "y"),
     ] {

@@ -1,9 +1,8 @@
 //! Each message, as docs/USING.md has it.
-use super::read;
+use super::{assert_told, read};
 use dsc::DscError;
 use impose_cli::{
     CellOption, CommandFault, Fault, GridCommand, LengthOption, PaperOption, ProductOption,
-    Request, fault_status, fault_text,
 };
 use imposer::RunError;
 use layouts::ArrangementError;
@@ -12,21 +11,7 @@ use rows::RowError;
 use sheet_plan::PlanError;
 use std::io;
 use std::io::ErrorKind;
-use std::process::Abort;
 use std::test::Fail;
-
-fn assert_told(
-    rt: &(impl Abort + AllocGlobal),
-    request: &Request,
-    fault: Fault,
-    status: u8,
-    message: &str,
-) -> Result<(), Fail> {
-    let text = fault_text(rt.alloc(), &fault, Some(request))?;
-    assert_eq!(rt; text.as_str(), message);
-    assert_eq!(rt; fault_status(&fault), status, "at {message}");
-    Ok(())
-}
 
 #[test]
 fn command_lines(rt: HostRuntime) -> Result<(), Fail> {
@@ -141,6 +126,14 @@ fn words_of_cells(rt: HostRuntime) -> Result<(), Fail> {
             "bad grid '2x' behind nup: give columns and rows as 2x4, at most 1024 cells in all",
         ),
         (
+            CommandFault::BadCells(GridCommand::Notes, text("513")?),
+            "bad number of pages '513' behind notes: give one from 1 to 512, as 3",
+        ),
+        (
+            CommandFault::BadCells(GridCommand::Notes, text("in.ps")?),
+            "the number of pages is missing before 'in.ps': it stands behind notes, as in: impose notes 3 in.ps out.ps",
+        ),
+        (
             CommandFault::BadCells(GridCommand::Poster, text("4")?),
             "bad grid '4' behind poster: give columns and rows of sheets as 2x3, at most 1024 in all",
         ),
@@ -162,12 +155,12 @@ fn words_of_cells(rt: HostRuntime) -> Result<(), Fail> {
             "bad scale '70%' after --scale: give a number as 0.7",
         ),
         (
-            CommandFault::BadValue(CellOption::FoldMarks, text("fold,cut")?),
-            "a booklet isn't cut, so --marks fold,cut asks too much: give --marks fold",
+            CommandFault::BadValue(CellOption::BookletMarks, text("x")?),
+            "unknown marks 'x' after --marks: give fold, cut or fold,cut",
         ),
         (
-            CommandFault::BadValue(CellOption::CutMarks, text("fold")?),
-            "only a booklet is folded, so --marks fold asks too much here: give --marks cut",
+            CommandFault::BadValue(CellOption::CutMarks, text("fold,cut")?),
+            "only a booklet is folded, so --marks fold,cut asks too much here: give --marks cut",
         ),
         (
             CommandFault::BadValue(CellOption::CutMarks, text("x")?),

@@ -40,6 +40,10 @@ fn each_mistake_has_a_tip(rt: HostRuntime) -> Result<(), Fail> {
             "stack -2 in.ps",
             "tip: the number of pages has no sign, as in: impose stack",
         ),
+        (
+            "notes -3 in.ps",
+            "tip: the number of pages has no sign, as in: impose notes",
+        ),
         ("nup 2 --gap -1mm in.ps", "tip: a length is not below 0"),
         (
             "booklet --margin -.5cm in.ps",

@@ -1,7 +1,7 @@
 //! Documents whose pages have papers of their own.
 use super::read;
 use document_paper::Comment;
-use impose_cli::{Finished, PaperOrigin, run_request};
+use impose_cli::{Finished, PaperOrigin, RoomyText, run_request};
 use imposer::MemorySink;
 use lengths::paper_by_name;
 use own_papers::Cut;
@@ -31,7 +31,7 @@ fn written_of(
     let mut sink = MemorySink::new(rt.alloc(), 20_000, 20_000, 20_000)?;
     let mut input = Vec::new(rt.alloc());
     input.extend_from_slice(text.as_bytes())?;
-    let done = run_request(rt, rt.alloc(), &request, input, &mut sink)?;
+    let done = run_request(rt, rt.alloc(), &request, RoomyText::from(input), &mut sink)?;
     let text = str::from_utf8(sink.bytes())?;
     Ok((String::from_str(rt.alloc(), text)?, done))
 }

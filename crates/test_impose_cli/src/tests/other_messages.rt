@@ -1,12 +1,9 @@
 //! Messages that the README has no example of, and what is said of a finished run.
-use super::read;
+use super::{assert_told, read};
 use arranged_sheets::PosterError;
 use document_paper::Comment;
 use dsc::DscError;
-use impose_cli::{
-    Fault, Finished, PaperOrigin, Request, behind_text, cut_text, fault_status, fault_text,
-    note_text, report_text,
-};
+use impose_cli::{Fault, Finished, PaperOrigin, behind_text, cut_text, note_text, report_text};
 use imposer::{Report, RunError};
 use layouts::ArrangementError;
 use lengths::paper_by_name;
@@ -16,19 +13,6 @@ use rows::RowError;
 use sheet_plan::{MadeError, PlanError};
 use std::process::Abort;
 use std::test::Fail;
-
-fn assert_told(
-    rt: &(impl Abort + AllocGlobal),
-    request: &Request,
-    fault: Fault,
-    status: u8,
-    message: &str,
-) -> Result<(), Fail> {
-    let text = fault_text(rt.alloc(), &fault, Some(request))?;
-    assert_eq!(rt; text.as_str(), message);
-    assert_eq!(rt; fault_status(&fault), status, "at {message}");
-    Ok(())
-}
 
 #[test]
 fn layouts_plans_and_faulty_documents(rt: HostRuntime) -> Result<(), Fail> {
@@ -76,7 +60,7 @@ fn layouts_plans_and_faulty_documents(rt: HostRuntime) -> Result<(), Fail> {
         ),
         (
             Fault::NoSpecification,
-            "--print-spec: no specification says a selection, cards, a stack or a poster, nor --pages, --odd, --even, \
+            "--print-spec: no specification says a selection, cards, a stack, notes or a poster, nor --pages, --odd, --even, \
             --reverse, --creep or --marks; leave it out",
         ),
         (
@@ -315,6 +299,7 @@ fn blanks_and_leaves_are_counted(rt: HostRuntime) -> Result<(), Fail> {
             "pages 5, sheets 4 (2 leaves), bytes 270;",
         ),
         ("stack 2", 3, "pages 5, sheets 3, bytes 270;"),
+        ("notes 3", 2, "pages 5, blanks 1, sheets 2, bytes 270;"),
         ("select 1-", 5, "pages 5, sheets 5, bytes 270;"),
     ];
     for (line, sheets, wanted) in rows {

@@ -13,6 +13,7 @@ use std::sync::Wait;
 use std::sync::atomic::AtomicU32;
 use std::test::Fail;
 use std::thread::Threads;
+use test_tools::with_lines;
 use test_world::{InMemory, Takes};
 
 /// Room for every output.
@@ -284,21 +285,6 @@ fn a_writer_that_fails_at_any_byte(rt: HostRuntime) -> Result<(), Fail> {
         assert_cut_off(&rt, rt.alloc(), ONE_PAGE, ONE_SHEET, most)?;
     }
     Ok(())
-}
-
-/// A document of one page, or its sheet, with so many lines in the page.
-fn with_lines(alloc: Global, text: &str, lines: usize) -> Result<String, AllocError> {
-    let mut long = String::new(alloc);
-    let (before, behind) = match text.split_once("(0) pop\n") {
-        Some(parts) => parts,
-        None => (text, ""),
-    };
-    long.push_str(before)?;
-    for _ in 0..lines {
-        long.push_str("(0) pop\n")?;
-    }
-    long.push_str(behind)?;
-    Ok(long)
 }
 
 // More than what is written at once, so that a write fails before the run is over.

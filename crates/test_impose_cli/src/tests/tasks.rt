@@ -4,7 +4,7 @@ use arranged_sheets::PosterError;
 use document_paper::Comment;
 use dsc::DscError;
 use impose_cli::{
-    Fault, PaperOrigin, check_layout, fault_text, printed_task, run_request, task_for,
+    Fault, PaperOrigin, RoomyText, check_layout, fault_text, printed_task, run_request, task_for,
 };
 use imposer::{MemorySink, RunError};
 use layouts::ArrangementError;
@@ -22,10 +22,10 @@ const ONE_PAGE: &str = "%!PS-Adobe-3.0\n%%EndComments\n%%Page: 1 1\nshowpage\n%%
 const WITH_MEDIA: &str =
     "%!PS\n%%DocumentMedia: a 612 792 0 () ()\n%%Page: 1 1\nshowpage\n%%Page: 2 2\nshowpage\n";
 
-fn owned(alloc: Global, text: &str) -> Result<Vec<u8>, Fault> {
+fn owned(alloc: Global, text: &str) -> Result<RoomyText, Fault> {
     let mut bytes = Vec::new(alloc);
     bytes.extend_from_slice(text.as_bytes())?;
-    Ok(bytes)
+    Ok(RoomyText::from(bytes))
 }
 
 fn fault_of(alloc: Global, line: &str, document: &str) -> Result<(), Fault> {
@@ -37,7 +37,7 @@ fn fault_of_bytes(alloc: Global, line: &str, document: &[u8]) -> Result<(), Faul
     check_layout(alloc, &request)?;
     let mut input = Vec::new(alloc);
     input.extend_from_slice(document)?;
-    let _ = task_for(alloc, &request, input)?;
+    let _ = task_for(alloc, &request, RoomyText::from(input))?;
     Ok(())
 }
 
@@ -73,12 +73,13 @@ fn a_booklet_of_one_signature(rt: HostRuntime) -> Result<(), Fail> {
 // Nine leaves are too many for one signature: two of five leaves, and so of twenty sides.
 #[test]
 fn a_booklet_in_signatures_by_itself(rt: HostRuntime) -> Result<(), Fail> {
-    let mut text = owned(rt.alloc(), "%!PS\n")?;
+    let mut text = Vec::new(rt.alloc());
+    text.extend_from_slice(b"%!PS\n")?;
     for _ in 0..33 {
         text.extend_from_slice(b"%%Page: 1 1\n")?;
     }
     let request = read(rt.alloc(), "booklet --signature auto")?;
-    let task = task_for(rt.alloc(), &request, text)?;
+    let task = task_for(rt.alloc(), &request, RoomyText::from(text))?;
     assert_eq!(rt; task.options.sides, Some(20));
     Ok(())
 }
@@ -113,6 +114,11 @@ fn the_line_of_pstops(rt: HostRuntime) -> Result<(), Fail> {
         &rt,
         "spec 0 --unguarded - out.ps",
         "0\npstops -w 595pt -h 842pt '0' '/dev/stdin' 'out.ps'\n",
+    )?;
+    assert_printed(
+        &rt,
+        "spec 2:0,1 --signature auto --unguarded in.ps",
+        "2:0,1\npstops -s 4 -w 595pt -h 842pt '2:0,1' 'in.ps'\n",
     )
 }
 
@@ -222,7 +228,19 @@ fn documents_that_are_refused(rt: HostRuntime) {
     );
     assert!(rt;
         matches!(
+            fault_of(alloc, "spec 0 --signature 4 --pages 1", ONE_PAGE),
+            Err(Fault::NoSpecification)
+        )
+    );
+    assert!(rt;
+        matches!(
             fault_of(alloc, "booklet --marks fold", ONE_PAGE),
+            Err(Fault::NoSpecification)
+        )
+    );
+    assert!(rt;
+        matches!(
+            fault_of(alloc, "notes 3", ONE_PAGE),
             Err(Fault::NoSpecification)
         )
     );
@@ -234,6 +252,15 @@ fn rows_that_are_refused(rt: HostRuntime) -> Result<(), Fail> {
         ("select 1-2", Fault::NoSuchPage { place: 0, pages: 1 }),
         ("nup 2 --pages 1,x", Fault::Row(RowError::NotARange(2))),
         ("booklet --even", Fault::Row(RowError::NoEntries)),
+        ("spec 0 --even", Fault::Row(RowError::NoEntries)),
+        (
+            "spec 0 --pages 1,2",
+            Fault::NoSuchPage { place: 2, pages: 1 },
+        ),
+        (
+            "spec 0Q --pages 1",
+            Fault::Run(RunError::Spec(SpecError::Syntax(1))),
+        ),
         (
             "booklet -p a4 --pages 1,1,1,1,1 --creep 4pt",
             Fault::Layout(ArrangementError::CreepOverFold),
@@ -422,6 +449,7 @@ fn rows_in_their_order(rt: HostRuntime) -> Result<(), Fail> {
         ("stack 2 -p a4", "|ac|b"),
         ("stack 2 -p a4 --duplex", "|ac|b"),
         ("stack 2 -p a4 --pages 1-,1 --duplex", "|ac|ab"),
+        ("notes 2 -p a4", "|ab|c"),
         ("booklet -p a4", "|a|bc"),
         ("booklet -p a4 --pages 2", "|b|"),
         ("booklet -p a4 --reverse --long-edge", "|c|ba"),
@@ -546,8 +574,31 @@ fn ends(rt: &(impl Threads + Wait + Sync + AllocGlobal), line: &str) -> Result<S
     Ok(ends)
 }
 
+// A page in half of its size stands in each cell of 50 by 100 points of the left column, and a cell to its right has four
+// lines. On a sheet of 120 by 50 points, which is read as one of 50 by 120, cells are 25 points wide and 60 high: two lines, and the
+// sheet's left edge is read as its upper one.
+#[test]
+fn lines_for_notes_beside_pages(rt: HostRuntime) -> Result<(), Fail> {
+    let line = "notes 2 -p 100x200pt --pages 1-2";
+    assert_eq!(rt;
+        matrices(&rt, line)?.as_str(),
+        "|[0.5 0 0 0.5 0 100[0.5 0 0 0.5 0 0"
+    );
+    assert_eq!(rt;
+        ends(&rt, line)?.as_str(),
+        "..newpath 50 176 moveto 100 176;newpath 50 152 moveto 100 152;newpath 50 128 moveto 100 128;\
+        newpath 50 104 moveto 100 104;newpath 50 76 moveto 100 76;newpath 50 52 moveto 100 52;newpath 50 28 moveto 100 28;\
+        newpath 50 4 moveto 100 4;|"
+    );
+    assert_eq!(rt;
+        ends(&rt, "notes 2 -p 100x200pt --sheet 120x50pt --pages 3")?.as_str(),
+        ".newpath 24 25 moveto 24 50;newpath 48 25 moveto 48 50;newpath 84 25 moveto 84 50;newpath 108 25 moveto 108 50;|"
+    );
+    Ok(())
+}
+
 // A booklet is folded in the middle of its sheet. Cells with four points between them are cut two points outside of them.
-// Without a margin nothing is cut round them.
+// Without a margin nothing is cut round them. A booklet is cut round its halves alone, on both sides of its leaves.
 #[test]
 fn marks_at_the_ends_of_sheets(rt: HostRuntime) -> Result<(), Fail> {
     let rows = [
@@ -557,6 +608,31 @@ fn marks_at_the_ends_of_sheets(rt: HostRuntime) -> Result<(), Fail> {
             .newpath 0 100 moveto 18 100;newpath 100 100 moveto 82 100;|",
         ),
         ("booklet --pages 1-2", ".|.|"),
+        (
+            "booklet --pages 1-2 --margin 10pt --gap 4pt --marks fold,cut",
+            ".newpath 0 100 moveto 10 100;newpath 100 100 moveto 90 100;newpath 8 0 moveto 8 10;newpath 8 200 moveto 8 190;\
+            newpath 92 0 moveto 92 10;newpath 92 200 moveto 92 190;newpath 0 8 moveto 10 8;newpath 100 8 moveto 90 8;\
+            newpath 0 192 moveto 10 192;newpath 100 192 moveto 90 192;|\
+            .newpath 0 100 moveto 10 100;newpath 100 100 moveto 90 100;newpath 8 0 moveto 8 10;newpath 8 200 moveto 8 190;\
+            newpath 92 0 moveto 92 10;newpath 92 200 moveto 92 190;newpath 0 8 moveto 10 8;newpath 100 8 moveto 90 8;\
+            newpath 0 192 moveto 10 192;newpath 100 192 moveto 90 192;|",
+        ),
+        (
+            "booklet --pages 1 --margin 10pt --marks cut",
+            ".newpath 10 0 moveto 10 10;newpath 10 200 moveto 10 190;newpath 90 0 moveto 90 10;newpath 90 200 moveto 90 190;\
+            newpath 0 10 moveto 10 10;newpath 100 10 moveto 90 10;newpath 0 190 moveto 10 190;newpath 100 190 moveto 90 190;|\
+            newpath 10 0 moveto 10 10;newpath 10 200 moveto 10 190;newpath 90 0 moveto 90 10;newpath 90 200 moveto 90 190;\
+            newpath 0 10 moveto 10 10;newpath 100 10 moveto 90 10;newpath 0 190 moveto 10 190;newpath 100 190 moveto 90 190;|",
+        ),
+        (
+            "booklet --pages 1-2 --marks cut,fold",
+            ".newpath 0 100 moveto 18 100;newpath 100 100 moveto 82 100;|\
+            .newpath 0 100 moveto 18 100;newpath 100 100 moveto 82 100;|",
+        ),
+        (
+            "booklet --pages 1-2 --margin 10pt --gap 20.1pt --marks cut",
+            ".|.|",
+        ),
         (
             "cards 1x2 --pages 3 --margin 10pt --gap 4pt --marks cut",
             "..newpath 0 100 moveto 10 100;newpath 100 100 moveto 90 100;newpath 8 0 moveto 8 10;newpath 8 200 moveto 8 190;\

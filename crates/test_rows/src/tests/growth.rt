@@ -10,23 +10,7 @@ use rows::{Choice, Part, RowError, Signing, imposed_row, read_row};
 use std::alloc::Global;
 use std::process::Abort;
 use std::test::Fail;
-
-/// More trials than a call has growths.
-const MOST: u32 = 5_000;
-
-/// A size that no machine has. Who asks for so many bytes speaks to the library of `checks/refuse.c`: it grants this
-/// size if a growth was refused since a larger one was asked for. Without that library there is no such memory.
-const ASKED: usize = 1 << 62;
-
-/// From now on the growth with this number is refused, counted from 1.
-fn refuse(alloc: Global, number: u32) {
-    drop(Vec::<u8>::with_capacity(alloc, ASKED + number as usize));
-}
-
-/// Whether one was refused since. No further one is.
-fn has_refused(alloc: Global) -> bool {
-    Vec::<u8>::with_capacity(alloc, ASKED).is_ok()
-}
+use test_tools::{MOST_GROWTHS, has_refused, refuse};
 
 /// Reads a text; whether a growth was refused in the call.
 fn read_text<R: Abort>(rt: &R, alloc: Global, number: u32, text: &str) -> Result<bool, Fail> {
@@ -122,7 +106,7 @@ fn make_sheets<R: Abort>(
 fn rows_and_sheets(rt: HostRuntime) -> Result<(), Fail> {
     let mut calls = [true; 6];
     let (one, other) = (paper_of(&rt, "a4"), paper_of(&rt, "a3"));
-    for number in 1..MOST {
+    for number in 1..MOST_GROWTHS {
         for (call, goes_on) in calls.iter_mut().enumerate() {
             if *goes_on {
                 *goes_on = match call {

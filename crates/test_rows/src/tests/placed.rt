@@ -79,7 +79,7 @@ fn sheet_name(rt: &impl Abort, made: &MadeSheets, sheet: u32) -> &'static str {
 }
 
 /// A sheet as `a3: 1 a4 left, -`.
-fn sheet_text(
+pub(super) fn sheet_text(
     rt: &impl Abort,
     alloc: Global,
     made: &MadeSheets,

@@ -31,6 +31,9 @@ const BACKWARD: &str = "-0";
 /// The same in their order, and a sheet without a page behind them.
 const BLANK_LAST: &str = "7:0,1,2,3,4,5,6";
 
+/// The same in their order, each four times on its sheet.
+const FOUR_TIMES: &str = "0+0+0+0";
+
 /// Six pages of comments.
 pub(super) fn six_pages(alloc: Global) -> Result<String, AllocError> {
     large_pages(alloc, PAGES as u32, PAGE_LEN / 9 + 1)
@@ -218,6 +221,21 @@ fn a_sheet_without_a_page_waits_for_its_turn(rt: HostRuntime) -> Result<(), Fail
             counts: (6, imposers),
         };
         assert_first_last(&rt, rt.alloc(), &trial, 7)?;
+    }
+    Ok(())
+}
+
+// The pages themselves would all lie in a window, but not the texts of their sheets.
+#[test]
+fn text_that_stands_several_times_counts_so_often(rt: HostRuntime) -> Result<(), Fail> {
+    let document = large_pages(rt.alloc(), PAGES as u32, PAGE_LEN / 36 + 1)?;
+    for imposers in [1, 2, 4] {
+        let trial = Trial {
+            document: &document,
+            items: FOUR_TIMES,
+            counts: (6, imposers),
+        };
+        assert_first_last(&rt, rt.alloc(), &trial, 6)?;
     }
     Ok(())
 }

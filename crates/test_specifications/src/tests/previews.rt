@@ -107,7 +107,7 @@ fn a_sheet_that_is_folded(rt: HostRuntime) -> Result<(), Fail> {
 
 /// The picture of that sheet.
 const FOLDED: &[u8] = b"<svg xmlns='http://www.w3.org/2000/svg' viewBox='0 0 900 300'>
-<style>rect,line{vector-effect:non-scaling-stroke}.sheet{fill:white;stroke:black}.page{fill:lightblue;fill-opacity:.4;stroke:navy}.margin{stroke:gray;stroke-dasharray:2}.fold{stroke:red;stroke-dasharray:6}.cut{stroke:red}path{fill:navy}text{font:30px sans-serif;text-anchor:middle}.name{font-size:13px}</style>
+<style>rect,line{vector-effect:non-scaling-stroke}.sheet{fill:white;stroke:black}.page{fill:lightblue;fill-opacity:.4;stroke:navy}.margin{stroke:gray;stroke-dasharray:2}.fold{stroke:red;stroke-dasharray:6}.cut{stroke:red}.note{stroke:gray}path{fill:navy}text{font:30px sans-serif;text-anchor:middle}.name{font-size:13px}</style>
 <g transform='translate(20 20)'><svg width='200' height='200' viewBox='0 0 100 200'><rect class='sheet' width='100' height='200'/><g transform='matrix(1 0 0 -1 0 200)'>
 <g transform='matrix(1 0 0 1 0 0)'><rect class='page' width='100' height='200'/><g transform='matrix(1 0 0 -1 0 200)'><svg width='100' height='200' viewBox='0 0 100 100' preserveAspectRatio='xMidYMin'><path d='M50 3 57 15H43Z'/><text x='50' y='62'>3</text></svg></g></g>
 <line class='fold' x1='0' y1='100' x2='100' y2='100'/>

@@ -1,4 +1,4 @@
-use Rattle.std.proofs.Common.{inr}
+use Rattle.std.proofs.Common.{inl, inr}
 use Rattle.impose_cli.proofs.Rows.{finishes_row, stops_before, stops_in}
 use Rattle.impose_cli.proofs.row_task.run_row.Goals as goal
 
@@ -13,5 +13,5 @@ returns-in-Err-impose_task g c = record {
 pub returns : goal.returns
 returns g c = record {
   ended =
-      (inr (finishes_row c.args.request.now c.args.input.items c.in-Ok.task _ _ c.in-Ok-impose_task.report c.in-Ok.ensures.is_task c.in-Ok-impose_task.ensures.finished), c.in-Ok-impose_task.ensures.steady);
+      (inr (inl (finishes_row c.args.request.now c.args.input.items c.in-Ok.task _ _ c.in-Ok-impose_task.report c.in-Ok.ensures.is_task c.in-Ok-impose_task.ensures.finished)), c.in-Ok-impose_task.ensures.steady);
 }

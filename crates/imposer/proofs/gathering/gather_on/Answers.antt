@@ -13,9 +13,9 @@ gather_as-requires-clause-tokens g c κs within = fresh_tokens _ _ _ c.requires.
 pub returns-clause-whole : goal.returns-clause-whole
 returns-clause-whole g c =
     let count = c.args.workers.preparers in
-    let same : most_puts_in_all (layout c.plan.result.now) count ≡ most_puts_in_all c.args.table.now.layout count
-    = ap (λ (plan : Plan). most_puts_in_all (layout plan) count) c.plan.ensures.value ∙ ap (λ (l : Layout). most_puts_in_all l count) (sym c.requires.table) in
-    put_if_room c.args.table.now c.args.ready.now c.args.table.now.layout count c.args.pass c.gather_as.result.tokens
-    (λ t. IsNone c.gather_as.result.unshelved → IsGathered c.args.table.now.layout t.0.front) _
-    (λ room. le-leb _ _ (omega (arith, room, same, c.most_puts_in_all.ensures, c.room.ensures, c.from.ensures)))
+    let same : most_puts_in_all (layout c.plan.result.now) count ≡ most_puts_in_all c.args.floor.now.table.now.layout count
+    = ap (λ (plan : Plan). most_puts_in_all (layout plan) count) c.plan.ensures.value ∙ ap (λ (l : Layout). most_puts_in_all l count) (sym c.args.floor.now.same_plan) in
+    put_if_room c.args.floor.now.table.now c.args.floor.now.ready.now c.args.floor.now.table.now.layout count c.args.tokens.pass c.gather_as.result.tokens
+    (λ t. IsNone c.gather_as.result.unshelved → IsGathered c.args.floor.now.table.now.layout t.0.front) _
+    (λ room. le-leb _ _ (omega (arith, room, same, c.most_puts_in_all.ensures, c.room-room.ensures, c.from.ensures)))
     c.gather_as.ensures.whole

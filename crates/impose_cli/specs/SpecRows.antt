@@ -1,0 +1,133 @@
+-- What is imposed by a specification on a row of pages, and how: a request for a document, if it names both.
+use Rattle.std.specs.Prelude.{◌≡◌, ◌⊎◌, ⊤, ℕ, true, false, List, Option, Some, None, IfSome, Ok, option_map, string_bytes}
+use Rattle.rules.specs.Admissible.{Takes, most_slots}
+use Rattle.rules.specs.Run.{document_of}
+use Rattle.rows.specs.Choices.{choice_of}
+use Rattle.rows.specs.Sewing.{MayBeSewn}
+use Rattle.rows.specs.declared.sewing.Signing.{Signing}
+use Rattle.sheet_text.specs.Jobs.{is_border}
+use Rattle.sheet_writer.specs.Sinks.{SinkView, IsUntouched}
+use Rattle.imposer.specs.declared.outcome.Report.{Report}
+use Rattle.imposer.specs.declared.outcome.RunError.TheVariants as run
+use Rattle.row_runs.specs.BySpec.{ImposesBySpec, RefusesBySpec, WroteBySpec, pages_of}
+use Rattle.row_runs.specs.Runs.{FailedWith}
+use Rattle.row_runs.specs.declared.by_spec.SpecJob.{SpecJob}
+use Rattle.row_runs.specs.declared.error.AskedError.{AskedError}
+use Rattle.impose_cli.specs.Choices.{choice_in}
+use Rattle.impose_cli.specs.Faults.{of_asked, without_memory}
+use Rattle.dsc.specs.declared.errors.DscError.{DscError}
+use Rattle.imposer.specs.Outcomes.{of_document as of_read}
+use Rattle.impose_cli.specs.Refusals.{IsRefusedFor, RefusesDocument}
+use Rattle.impose_cli.specs.Tasks.{HasBehind, HasPages, page_paper_found, sheet_paper_found, taken_text}
+use Rattle.impose_cli.specs.Unread.{RefusesSpecification}
+use Rattle.impose_cli.specs.declared.fault.Fault.{Fault}
+use Rattle.impose_cli.specs.declared.fault.Fault.TheVariants as fault
+use Rattle.impose_cli.specs.declared.request.Layout.{Layout}
+use Rattle.impose_cli.specs.declared.request.Layout.TheVariants as layout
+use Rattle.impose_cli.specs.declared.request.Request.{Request}
+use Rattle.impose_cli.specs.declared.spec_row.SpecRowTask.{SpecRowTask}
+use Rattle.impose_cli.specs.declared.task.Finished.{Finished}
+
+-- the layout is this text of a specification, on a row that is sewn so
+abbrev pub IsSpecRow : Layout → (text : List ℕ) → (how : Option Signing) → Type 0
+IsSpecRow (layout.SpecRow specs signing) text how = (text ≡ string_bytes specs) × (how ≡ signing)
+IsSpecRow other text how = ⊥
+
+-- the layout is a specification on a row
+abbrev pub LaysSpecRow : Layout → Type 0
+LaysSpecRow (layout.SpecRow specs signing) = ⊤
+LaysSpecRow other = ⊥
+
+-- the task is what the request asks for with this document
+pub record IsSpecRowTask (r : Request) (input : List ℕ) (t : SpecRowTask) : Type 0 where
+  pub page_count : ℕ
+  pub document : HasPages input page_count
+  pub behind : HasBehind input t.behind
+  pub text_of_spec : List ℕ
+  pub named : IsSpecRow r.layout text_of_spec t.signing
+  pub takes : Takes most_slots text_of_spec t.spec
+  pub page_paper : (t.page_paper, t.origin) ≡ page_paper_found r.page_paper r.home_paper input
+  pub sheet_paper : t.sheet_paper ≡ sheet_paper_found r.sheet_paper t.page_paper
+  pub text : t.text.items ≡ taken_text r.is_guarded t.sheet_paper input
+  pub may_be_sewn : IfSome t.signing MayBeSewn
+  pub border : is_border r.border ≡ true
+
+-- the job is the run of such a task
+pub record IsSpecJobOf (r : Request) (t : SpecRowTask) (job : SpecJob) : Type 0 where
+  pub document : document_of t.text.items ≡ Ok job.document.now
+  pub spec : job.spec.now ≡ t.spec
+  pub choice : choice_of job.choice ≡ choice_in r.choice
+  pub signing : job.signing ≡ t.signing
+  pub sheet_paper : job.sheet ≡ t.sheet_paper
+  pub page_paper : job.page ≡ t.page_paper
+  pub border : job.border ≡ r.border
+
+abbrev pub ImposesSpecTask : Request → SpecRowTask → (old new : Option (List ℕ)) → Report → Type 0
+ImposesSpecTask r t old new report = (job : SpecJob) × IsSpecJobOf r t job × ImposesBySpec job old new report
+
+-- The request was carried out for this document: exactly the output was appended of the sheets that its specification names
+-- on its row, with the lines by which they tell their papers.
+pub record FinishesSpecRow (r : Request) (input : List ℕ) (old new : Option (List ℕ)) (done : Finished) : Type 0 where
+  pub page_paper : (done.page_paper, done.origin) ≡ page_paper_found r.page_paper r.home_paper input
+  pub behind : HasBehind input done.behind
+  pub job : SpecJob
+  pub text : List ℕ
+  pub named : IsSpecRow r.layout text job.signing
+  pub takes : Takes most_slots text job.spec.now
+  pub document : document_of (taken_text r.is_guarded job.sheet input) ≡ Ok job.document.now
+  pub choice : choice_of job.choice ≡ choice_in r.choice
+  pub of_sheets : job.sheet ≡ sheet_paper_found r.sheet_paper done.page_paper
+  pub of_pages : job.page ≡ done.page_paper
+  pub border : job.border ≡ r.border
+  pub cut : done.cut ≡ None
+  pub imposes : ImposesBySpec job old new done.report
+
+-- ---- refusals
+
+-- the specification is refused, or a signature of so many sides
+abbrev pub RefusesSpecRow : Layout → Fault → Type 0
+RefusesSpecRow (layout.SpecRow specs signing) f = RefusesSpecification (string_bytes specs) f
+    ⊎ ((f ≡ fault.Run run.Options) × (IfSome signing MayBeSewn → ⊥))
+RefusesSpecRow other f = ⊥
+
+-- why there is no task: the document is refused; or it isn't, and the specification is, or the signature, or a border as
+-- wide as nothing, or memory ran out
+abbrev pub RefusesSpecRowTask : Request → (input : List ℕ) → Fault → Type 0
+RefusesSpecRowTask r input f =
+    RefusesDocument input f
+    ⊎ ((n : ℕ) × HasPages input n
+    × (RefusesSpecRow r.layout f
+    ⊎ (((f ≡ fault.Run run.Options) × (is_border r.border ≡ false)) ⊎ (f ≡ without_memory))))
+
+-- the fault is the error of the run on the row: it names the first check that fails; as much of the output was written as
+-- it says, which is nothing at a refusal; and the sink failed once if a write did
+pub record StopsInSpecRow (r : Request) (t : SpecRowTask) (old new : SinkView) (f : Fault) : Type 0 where
+  pub job : SpecJob
+  pub is_job : IsSpecJobOf r t job
+  pub error : AskedError
+  pub is_run : f ≡ of_asked (pages_of job) error
+  pub refused : RefusesBySpec job error
+  pub written : WroteBySpec job old new error
+  pub failed : FailedWith error old new
+
+-- or memory ran out before it, or the task's text is refused
+pub record StopsBeforeSpecRow (r : Request) (t : SpecRowTask) (old new : SinkView) (f : Fault) : Type 0 where
+  pub refused : (f ≡ without_memory) ⊎ ((e : DscError) × (f ≡ fault.Run (of_read e)) × IsRefusedFor t.text.items e)
+  pub unwritten : IsUntouched old new
+
+abbrev pub EndsSpecTask : Request → SpecRowTask → (old new : SinkView) → Fault → Type 0
+EndsSpecTask r t old new f = StopsBeforeSpecRow r t old new f ⊎ StopsInSpecRow r t old new f
+
+pub record EndsInSpecRow (r : Request) (input : List ℕ) (old new : SinkView) (f : Fault) : Type 0 where
+  pub task : SpecRowTask
+  pub is_task : IsSpecRowTask r input task
+  pub ended : EndsSpecTask r task old new f
+
+-- there is no task, nothing was written, and no write failed
+pub record EndsBeforeSpecRow (r : Request) (input : List ℕ) (old new : SinkView) (f : Fault) : Type 0 where
+  pub refused : RefusesSpecRowTask r input f
+  pub unwritten : IsUntouched old new
+
+-- the fault was found before the run, or is the run's
+abbrev pub EndsSpecRow : Request → (input : List ℕ) → (old new : SinkView) → Fault → Type 0
+EndsSpecRow r input old new f = EndsBeforeSpecRow r input old new f ⊎ EndsInSpecRow r input old new f

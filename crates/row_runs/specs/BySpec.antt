@@ -1,0 +1,80 @@
+-- What the answers of a run by a specification on a row mean.
+use Rattle.std.specs.Prelude.{◌≡◌, ◌⊎◌, ℕ, List, [], length, IsOk, Ok, Option, Result, option_map}
+use Rattle.std.specs.Io.KnownBytes.{Appends, Keeps}
+use Rattle.rules.specs.Parts.{pages}
+use Rattle.made_sheets.specs.Choice.{RowFault, chosen, signed}
+use Rattle.made_sheets.specs.Made.{MadeSheet}
+use Rattle.made_sheets.specs.MadePlans.{made_plan_of}
+use Rattle.made_sheets.specs.Rows.{Row}
+use Rattle.rows.specs.Choices.{choice_of}
+use Rattle.rows.specs.Refusals.{RefusesRow}
+use Rattle.rows.specs.Sewing.{signing_of}
+use Rattle.row_sheets.specs.BySpec.{PassesLimit, by_spec}
+use Rattle.sheet_plan.specs.MadeRefusals.{RefusesMade}
+use Rattle.sheet_writer.specs.Sinks.{SinkView}
+use Rattle.imposer.specs.declared.outcome.Report.{Report}
+use Rattle.sheet_runs.specs.Runs.{ReportsOn, WroteStart, told_output}
+use Rattle.row_runs.specs.Runs.{AfterError}
+use Rattle.row_runs.specs.declared.by_spec.SpecJob.{SpecJob}
+use Rattle.row_runs.specs.declared.error.AskedError.{AskedError}
+use Rattle.row_runs.specs.declared.error.AskedError.TheVariants as error
+
+-- how many pages the document has
+abbrev pub pages_of : SpecJob → ℕ
+pages_of j = length (pages j.document.now)
+
+-- the row that is chosen of its pages, or the fault
+abbrev pub row_by : SpecJob → Result Row RowFault
+row_by j = chosen (pages_of j) (choice_of j.choice)
+
+-- these are the sheets of the specification on that row, in signatures if there are to be some
+pub record AreBySpec (j : SpecJob) (made : List MadeSheet) : Type 0 where
+  pub row : Row
+  pub is_chosen : row_by j ≡ Ok row
+  pub are_made : made ≡ by_spec j.spec.now j.sheet j.page (signed (option_map signing_of j.signing) row)
+
+-- and they can be planned
+pub record AreSpecPlan (j : SpecJob) (made : List MadeSheet) : Type 0 where
+  pub sheets : AreBySpec j made
+  pub planned : made_plan_of (pages_of j) made ≡ Ok made
+
+-- the output of such sheets, without marks
+abbrev pub output_by_spec : SpecJob → List MadeSheet → List ℕ
+output_by_spec j made = told_output j.border [] made j.document.now
+
+-- exactly the output of these sheets was appended, with the lines that tell their papers, and the report has its numbers
+pub record ImposesBySpec (j : SpecJob) (old new : Option (List ℕ)) (done : Report) : Type 0 where
+  pub made : List MadeSheet
+  pub planned : AreSpecPlan j made
+  pub written : Appends old new (output_by_spec j made)
+  pub report : ReportsOn j.border [] made j.document.now done
+
+-- why there are no such sheets: the fault of the row, or, if there is one, a limit that they pass; or memory ran out
+abbrev pub RefusesSheetsBySpec : SpecJob → AskedError → Type 0
+RefusesSheetsBySpec j (error.Row e) = RefusesRow (row_by j) e
+RefusesSheetsBySpec j (error.Arrangement e) = ⊥
+RefusesSheetsBySpec j (error.Poster e) = ⊥
+RefusesSheetsBySpec j (error.Sheets e) = (made : List MadeSheet) × AreBySpec j made × PassesLimit made e
+RefusesSheetsBySpec j (error.NoMemory written) = (written ≡ 0) × IsOk (row_by j)
+RefusesSheetsBySpec j (error.Write written) = ⊥
+
+-- a refusal names the first fault: of the row; if there is one, of the sheets. A failed write comes after both, and out of
+-- memory after the checks of the row
+abbrev pub RefusesBySpec : SpecJob → AskedError → Type 0
+RefusesBySpec j (error.Row e) = RefusesRow (row_by j) e
+RefusesBySpec j (error.Arrangement e) = ⊥
+RefusesBySpec j (error.Poster e) = ⊥
+RefusesBySpec j (error.Sheets e) =
+    (made : List MadeSheet) × AreBySpec j made × (RefusesMade (pages_of j) made e ⊎ PassesLimit made e)
+RefusesBySpec j (error.NoMemory written) = IsOk (row_by j)
+RefusesBySpec j (error.Write written) = (made : List MadeSheet) × AreSpecPlan j made
+
+-- the first bytes of the output of these sheets were written, so many, and nothing else
+abbrev pub WrotePartBySpec : SpecJob → (old new : SinkView) → (written : ℕ) → Type 0
+WrotePartBySpec j old new written = (made : List MadeSheet) × AreSpecPlan j made
+    × WroteStart (output_by_spec j made) old new written
+
+abbrev pub WroteBySpec : SpecJob → (old new : SinkView) → AskedError → Type 0
+WroteBySpec j old new e = AfterError e (Keeps old.bytes new.bytes)
+    (λ written. ((written ≡ 0) × Keeps old.bytes new.bytes) ⊎ WrotePartBySpec j old new written)
+    (WrotePartBySpec j old new)

@@ -1,0 +1,37 @@
+-- The sheets of a specification on a row, which may be any pages and blanks. All here is this project's own rules.
+use Rattle.std.specs.Prelude.{◌≡◌, ⊤, ℕ, ◌<◌, ◌≤◌, List, length, map, sum_by, Option}
+use Rattle.rules.specs.Papers.{Paper}
+use Rattle.rules.specs.Run.{most_sheets, most_places}
+use Rattle.rules.specs.Specification.{Item, Spec}
+use Rattle.rules.specs.Sheets.{place}
+use Rattle.rules.specs.Signatures.{entry_of, sheets_in}
+use Rattle.made_sheets.specs.Made.{MadeSlot, MadeSheet, made_slot, made_of}
+use Rattle.made_sheets.specs.MadePlans.{slot_count}
+use Rattle.made_sheets.specs.Rows.{Row, all_pages, in_order_of, sheets_of_row}
+use Rattle.sheet_plan.specs.declared.error.MadeError.{MadeError}
+use Rattle.sheet_plan.specs.declared.error.MadeError.TheVariants as error
+use Rattle.row_sheets.specs.OnePaper.{made_on}
+
+-- the sheets of a specification, on this paper: the place that an item names in a block is that of an entry of the row, and
+-- all its pages have this paper
+abbrev pub by_spec : Spec → (sheet page : Paper) → Row → List MadeSheet
+by_spec spec sheet page row = made_on sheet page (sheets_of_row spec row)
+
+-- of all pages, in signatures or not, and on their own paper, they are the sheets that the rules define: a law
+abbrev pub BySpecOnAll : Type 0
+BySpecOnAll = (sides : Option ℕ) (spec : Spec) (paper : Paper) (n : ℕ)
+    → by_spec spec paper paper (in_order_of sides (all_pages n)) ≡ made_of paper (sheets_in sides spec n)
+
+-- the slot of an item in a block of so many entries, and the sheet of a group
+abbrev pub slot_by : (page : Paper) → Row → (modulo block : ℕ) → Item → MadeSlot
+slot_by page row modulo block item = made_slot page (entry_of row (place modulo (length row) block item)) item
+
+abbrev pub sheet_by : (sheet page : Paper) → Row → (modulo block : ℕ) → List Item → MadeSheet
+sheet_by sheet page row modulo block group = record { paper = sheet; slots = map (slot_by page row modulo block) group }
+
+-- why the sheets aren't made: they pass one of a plan's limits, or memory ran out
+abbrev pub PassesLimit : List MadeSheet → MadeError → Type 0
+PassesLimit all error.TooManySheets = most_sheets < length all
+PassesLimit all error.TooManyPlaces = (length all ≤ most_sheets) × (most_places < sum_by slot_count all)
+PassesLimit all error.NoMemory = ⊤
+PassesLimit all other = ⊥

@@ -1,0 +1,148 @@
+//! The sheets of a specification on a row.
+ghost use Rattle.std.specs.Prelude.{◌≡◌, ◌++◌, ◌<◌, ◌≤◌, ◌^◌, IfErr, IfOk, OnOk, length, map, sum_by};
+ghost use Rattle.rules.specs.Run.{most_sheets};
+ghost use Rattle.rules.specs.Sheets.{blocks as blocks_of, place};
+ghost use Rattle.pagespec.specs.Items.{groups_of, item_of};
+ghost use Rattle.sheet_plan.specs.OfSheets.{slot_of};
+ghost use Rattle.row_sheets.specs.BySpec.{by_spec, slot_by, sheet_by, PassesLimit};
+
+use lengths::Paper;
+use pagespec::{Item, Spec};
+use rows::entry_at;
+use sheet_plan::{MadeError, MadeSheets, MadeSlot};
+use std::alloc::{AllocError, Global};
+
+const MOST_SHEETS: u128 = 1_000_000;
+
+const MOST_PLACES: u128 = 4_000_000;
+
+/// A specification on a row of pages and blanks, with the paper of the sheets, and that of all pages.
+#[derive(Clone, Copy)]
+pub struct SpecOnRow<'s> {
+    pub spec: &'s Spec,
+    pub row: &'s [Option<u32>],
+    pub sheet: Paper,
+    pub page: Paper,
+}
+
+/// The sheets of a specification on a row: the places that its items name are entries of the row. Sheets or slots of which
+/// there would be more than a plan may have are refused before any memory is asked for.
+pub fn spec_sheets(alloc: Global, on: &SpecOnRow<'_>) -> Result<MadeSheets, MadeError>
+    ensures made { IfOk result (λ made. made ≡ by_spec on.now.spec.now on.now.sheet on.now.page on.now.row.now) }
+    ensures refused { IfErr result (PassesLimit
+        (by_spec on.now.spec.now on.now.sheet on.now.page on.now.row.now)) }
+{
+    let blocks = match blocks_in(on) {
+        Ok(blocks) => blocks,
+        Err(error) => return Err(error),
+    };
+    let mut made = MadeSheets::new(alloc);
+    for block in 0..blocks {
+        match push_block(alloc, &mut made, on, block) {
+            Ok(()) => (),
+            Err(_) => return Err(MadeError::NoMemory),
+        }
+    }
+    Ok(made)
+}
+
+/// How many blocks the row takes, if its sheets keep to the limits.
+fn blocks_in(on: &SpecOnRow<'_>) -> Result<u32, MadeError>
+    ensures value { IfOk result (λ n. n ≡ blocks_of on.now.spec.now.modulo (length on.now.row.now)) }
+    ensures few { IfOk result (λ n. n ≤ most_sheets) }
+    ensures refused { IfErr result (PassesLimit
+        (by_spec on.now.spec.now on.now.sheet on.now.page on.now.row.now)) }
+{
+    let groups = on.spec.groups();
+    let blocks = on.row.len().div_ceil(on.spec.modulo() as usize);
+    if blocks as u128 * groups.len() as u128 > MOST_SHEETS {
+        return Err(MadeError::TooManySheets);
+    }
+    if blocks as u128 * slots_in_block(groups) > MOST_PLACES {
+        return Err(MadeError::TooManyPlaces);
+    }
+    Ok(blocks as u32)
+}
+
+/// How many slots one block has.
+fn slots_in_block(groups: &[Vec<Item>]) -> u128
+    requires { sum_by length (groups_of groups.now) < 2 ^ 64 }
+    ensures { result ≡ sum_by length (groups_of groups.now) }
+{
+    let mut slots = 0u128;
+    for group in groups {
+        slots += group.len() as u128;
+    }
+    slots
+}
+
+/// Puts the sheets of a block behind the others.
+fn push_block(
+    alloc: Global,
+    made: &mut MadeSheets,
+    on: &SpecOnRow<'_>,
+    block: u32,
+) -> Result<(), AllocError>
+    requires few { blocks_of on.now.spec.now.modulo (length on.now.row.now) ≤ most_sheets }
+    requires block { block < blocks_of on.now.spec.now.modulo (length on.now.row.now) }
+    ensures { OnOk result (made.new ≡ made.old
+        ++ map (sheet_by on.now.sheet on.now.page on.now.row.now on.now.spec.now.modulo block) on.now.spec.now.groups) }
+{
+    let mut slots = Vec::new(alloc);
+    for group in on.spec.groups() {
+        fill_sheet(&mut slots, on, block, group.as_slice())?;
+        made.push(&on.sheet, slots.as_slice())?;
+    }
+    Ok(())
+}
+
+/// The slots of a group in place of those that were there.
+fn fill_sheet(
+    slots: &mut Vec<MadeSlot>,
+    on: &SpecOnRow<'_>,
+    block: u32,
+    group: &[Item],
+) -> Result<(), AllocError>
+    requires few { blocks_of on.now.spec.now.modulo (length on.now.row.now) ≤ most_sheets }
+    requires block { block < blocks_of on.now.spec.now.modulo (length on.now.row.now) }
+    ensures { OnOk result (map slot_of slots.new.items
+        ≡ map (slot_by on.now.page on.now.row.now on.now.spec.now.modulo block) (map item_of group.now)) }
+{
+    slots.clear();
+    for item in group {
+        slots.push(slot_for(on, block, item))?;
+    }
+    Ok(())
+}
+
+/// The slot of an item.
+fn slot_for(on: &SpecOnRow<'_>, block: u32, item: &Item) -> MadeSlot
+    requires few { blocks_of on.now.spec.now.modulo (length on.now.row.now) ≤ most_sheets }
+    requires block { block < blocks_of on.now.spec.now.modulo (length on.now.row.now) }
+    ensures { slot_of result ≡ slot_by on.now.page on.now.row.now on.now.spec.now.modulo block (item_of item.now) }
+{
+    match entry_at(on.row, place_of(on, block, item)) {
+        Some(page) => MadeSlot::Placed {
+            page,
+            item: *item,
+            paper: on.page,
+        },
+        None => MadeSlot::Blank,
+    }
+}
+
+/// The place that an item names in a block.
+fn place_of(on: &SpecOnRow<'_>, block: u32, item: &Item) -> usize
+    requires few { blocks_of on.now.spec.now.modulo (length on.now.row.now) ≤ most_sheets }
+    requires block { block < blocks_of on.now.spec.now.modulo (length on.now.row.now) }
+    ensures { result ≡ place on.now.spec.now.modulo (length on.now.row.now) block (item_of item.now) }
+{
+    let modulo = on.spec.modulo() as usize;
+    let block = block as usize;
+    if item.from_end {
+        let blocks = on.row.len().div_ceil(modulo);
+        modulo * blocks - (block + 1) * modulo + item.page as usize
+    } else {
+        block * modulo + item.page as usize
+    }
+}
