@@ -24,8 +24,8 @@ fn sheets_of(
     };
     let made = spec_sheets(alloc, &on)?;
     let mut text = String::new(alloc);
-    for sheet in 0..made.len() {
-        text.push_str(sheet_text(rt, alloc, &made, sheet as u32)?.as_str())?;
+    for sheet in 0..u32::try_from(made.len()).unwrap_or(u32::MAX) {
+        text.push_str(sheet_text(rt, alloc, &made, sheet)?.as_str())?;
         text.push_str("; ")?;
     }
     Ok(text)
