@@ -8,14 +8,13 @@ ghost use Rattle.sheet_text.specs.Jobs.{JobView, text_of};
 ghost use Rattle.imposer.specs.Batches.{HaveTexts};
 ghost use Rattle.sheet_writer.specs.Writing.{Stands, GoesOn, AreEarly};
 
-use crate::batch::Batch;
 use crate::channel::{RuledJob, SheetReceiver, SheetRule, Texts, Ticket};
 use crate::gate::{Gate, Look};
-use crate::spent::{SpentTexts, Written};
+use crate::spent::Written;
 use crate::window::{Idling, Window};
 use crossbeam_queue::ArrayQueue;
 use sheet_text::Job;
-use sheet_writer::{Early, FinishedSheet, Progress, Sink, write_early, write_text};
+use sheet_writer::{Early, FinishedSheets, Progress, Sink, write_early, write_text};
 use std::sync::Wait;
 use std::sync::atomic::AtomicU32;
 use std::sync::atomic::Ordering::SeqCst;
@@ -32,7 +31,7 @@ pub(crate) struct CollectorInput<'s, 'r, 'j, 'd, T: Texts, G> {
     pub(crate) imposers_left: &'s AtomicU32,
     pub(crate) receiver: &'s SheetReceiver<'r, T>,
     /// Where texts go that were written.
-    pub(crate) spent: &'s ArrayQueue<SpentTexts<'r>>,
+    pub(crate) spent: &'s ArrayQueue<FinishedSheets<'r>>,
     /// It moves as sheets are written.
     pub(crate) window: &'s Window,
     ghost same_job: { ruled.now.job.now ≡ job.now },
@@ -44,7 +43,6 @@ pub(crate) struct CollectorInput<'s, 'r, 'j, 'd, T: Texts, G> {
 pub(crate) struct CollectorState<'a, 'r, S> {
     pub(crate) sink: &'a mut S,
     pub(crate) early: &'a mut Early<'r>,
-    pub(crate) written: &'a mut Written<'r>,
     pub(crate) header: &'a [u8],
     pub(crate) ticket: &'a mut Ticket<'r>,
     pub(crate) progress: Progress,
@@ -156,26 +154,17 @@ fn take_one<'r, R: Wait, T: Texts, G: Gate, S: Sink>(
     let Ok(batch) = received else {
         return false;
     };
-    let Batch { sheets, mut spent } = batch;
-    put_all(state.early, sheets);
+    state.early.put(batch);
+    let mut written = Written {
+        rt,
+        queue: input.spent,
+    };
     state.progress = write_early(
         input.job,
         state.sink,
         state.progress,
         state.early,
-        state.written,
+        &mut written,
     );
-    state.written.move_into(&mut spent);
-    let _ = input.spent.push(rt, spent);
     true
-}
-
-/// Puts the sheets in their places.
-fn put_all<'r>(early: &mut Early<'r>, sheets: Vec<FinishedSheet<'r>>)
-    ensures early { (job : JobView) → HaveTexts (text_of job) sheets.entry.items
-        → AreEarly job early.old.places.items → AreEarly job early.new.places.items }
-{
-    for imposed in sheets {
-        early.put(imposed);
-    }
 }

@@ -200,7 +200,6 @@ fn gather_as<'r, 'd, T: Texts + Send + Sync, R: Threads + Wait + Sync, G: Gate +
         header,
         trailer,
         mut early,
-        mut written,
         sender,
         receiver,
         mut receiving,
@@ -229,7 +228,6 @@ fn gather_as<'r, 'd, T: Texts + Send + Sync, R: Threads + Wait + Sync, G: Gate +
     let state = CollectorState {
         sink,
         early: &mut early,
-        written: &mut written,
         header: header.as_slice(),
         ticket: &mut receiving,
         progress: Progress {
@@ -265,7 +263,6 @@ fn gather_as<'r, 'd, T: Texts + Send + Sync, R: Threads + Wait + Sync, G: Gate +
     let CollectorState {
         sink: _,
         early: _,
-        written: _,
         header: _,
         ticket: _,
         progress: _,

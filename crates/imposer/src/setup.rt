@@ -7,11 +7,10 @@ ghost use Rattle.made_sheets.specs.MadeOutput.{dressed_preamble};
 ghost use Rattle.sheet_writer.specs.Writing.{AreEarly};
 
 use crate::channel::{SheetReceiver, SheetRule, SheetSender, Texts, Ticket};
-use crate::spent::{SpentTexts, Written};
 use crossbeam_channel::bounded_with;
 use crossbeam_queue::ArrayQueue;
 use sheet_text::Job;
-use sheet_writer::Early;
+use sheet_writer::{Early, FinishedSheets};
 use std::alloc::{AllocError, Global};
 
 /// The texts round the sheets, places for sheets that come before their turn and for texts that were written, and the
@@ -21,13 +20,12 @@ pub(crate) struct Setup<'r, T: Texts> {
     pub(crate) header: Vec<u8>,
     pub(crate) trailer: Vec<u8>,
     pub(crate) early: Early<'r>,
-    pub(crate) written: Written<'r>,
     pub(crate) sender: SheetSender<'r, T>,
     pub(crate) receiver: SheetReceiver<'r, T>,
     pub(crate) receiving: Ticket<'r>,
     pub(crate) sending: Ticket<'r>,
     /// For texts that were written.
-    pub(crate) spent: ArrayQueue<SpentTexts<'r>>,
+    pub(crate) spent: ArrayQueue<FinishedSheets<'r>>,
 }
 
 impl<'r, T: Texts> Setup<'r, T> {
@@ -45,7 +43,6 @@ impl<'r, T: Texts> Setup<'r, T> {
         let trailer = job.document().trailer_text()?;
         let room = job.sheets().min(window).max(1);
         let early = Early::new(alloc, room)?;
-        let written = Written::new(alloc, room as usize)?;
         let (sender, receiver, mut receiving) = bounded_with::<_, _, SheetRule<T>, Global>(
             alloc,
             room as usize,
@@ -56,7 +53,6 @@ impl<'r, T: Texts> Setup<'r, T> {
             header,
             trailer,
             early,
-            written,
             sender,
             receiver,
             receiving,

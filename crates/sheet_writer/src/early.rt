@@ -1,88 +1,117 @@
 //! The sheets that came before their turn.
-ghost use Rattle.std.specs.Prelude.{◌≡◌, ◌≢◌, ℕ, Option, Some, None, length, slice_get, true, false, IfOk, IfSome};
-ghost use Rattle.std.specs.Prelude.{MatchOption};
-ghost use Rattle.sheet_text.specs.Jobs.{JobView, text_of};
-ghost use Rattle.sheet_writer.specs.Writing.{AreEarly};
-ghost use Rattle.sheet_writer.specs.declared.early.FinishedSheet.{FinishedSheet};
-ghost use Rattle.sheet_writer.specs.Places.{place_of, in_place, has_come};
-
-use sheet_text::Rope;
+use sheet_text::{Pieces, Rope, Texts};
 use std::alloc::{AllocError, Global};
 
-/// A finished sheet, counted from 0, with its text.
+/// Finished sheets, counted from 0, and the text of each.
 #[derive(Drop)]
-pub struct FinishedSheet<'r> {
-    pub sheet: u32,
-    pub text: Rope<'r>,
+pub struct FinishedSheets<'r> {
+    pub sheets: Vec<u32>,
+    pub texts: Texts<'r>,
 }
 
-/// Takes the texts that were written, whose memory may be used again.
+impl<'r> FinishedSheets<'r> {
+    /// None yet.
+    pub fn new(alloc: Global) -> Self {
+        FinishedSheets {
+            sheets: Vec::new(alloc),
+            texts: Texts::new(alloc),
+        }
+    }
+
+    /// Lets all of them go. Their memory is kept.
+    pub fn clear(&mut self) {
+        self.sheets.clear();
+        self.texts.clear();
+    }
+
+    /// Adds a sheet with its text, and leaves an empty text that keeps its memory.
+    pub fn push(&mut self, sheet: u32, text: &mut Rope<'r>) -> Result<(), AllocError> {
+        self.sheets.reserve(1)?;
+        self.texts.push(text)?;
+        self.sheets.push_reserved(sheet);
+        Ok(())
+    }
+}
+
+/// Takes sheets that were written, whose memory may be used again.
 pub trait Spent<'r> {
-    /// Takes a text that nobody needs any more.
-    fn give_back(&mut self, text: Rope<'r>);
+    /// Takes sheets whose texts nobody needs any more.
+    fn give_back(&mut self, sheets: FinishedSheets<'r>);
+}
+
+/// Where a sheet lies: among which of the finished sheets, and the how manieth of them it is.
+#[derive(Clone, Copy)]
+struct Place {
+    group: usize,
+    nth: usize,
 }
 
 /// Places for sheets that wait for their turn. A sheet has the place that its number leaves when it is divided by
-/// their count, so the sheets of one window have places of their own.
+/// their count, so the sheets of one window have places of their own. Sheets that came together lie at the place of the
+/// last of them: when it is written, all of them are.
 #[derive(Drop)]
 pub struct Early<'r> {
-    pub places: Vec<Option<FinishedSheet<'r>>>,
+    places: Vec<Place>,
+    groups: Vec<Option<FinishedSheets<'r>>>,
 }
 
 impl<'r> Early<'r> {
     /// So many places, and no sheet yet.
-    pub fn new(alloc: Global, count: u32) -> Result<Self, AllocError>
-        ensures early { IfOk result (λ early. (job : JobView) → AreEarly job early.places.items) }
-        ensures count { IfOk result (λ early. length early.places.items ≡ count) }
-    {
+    pub fn new(alloc: Global, count: u32) -> Result<Self, AllocError> {
         let mut places = Vec::with_capacity(alloc, count as usize)?;
+        let mut groups = Vec::with_capacity(alloc, count as usize)?;
         for _ in 0..count {
-            places.push_reserved(None);
+            places.push_reserved(Place { group: 0, nth: 0 });
+            groups.push_reserved(None);
         }
-        Ok(Early { places })
+        Ok(Early { places, groups })
     }
 
-    /// Puts a sheet in its place. If another sheet is there, the new one is dropped: a sheet that never came is made
-    /// anew.
-    pub fn put(&mut self, imposed: FinishedSheet<'r>)
-        ensures early { (job : JobView) → imposed.entry.text ≡ text_of job imposed.entry.sheet
-            → AreEarly job self.old.places.items → AreEarly job self.new.places.items }
-        ensures count { length self.new.places.items ≡ length self.old.places.items }
-        ensures placed { in_place self.old.places.items imposed.entry.sheet ≡ Some None
-            → in_place self.new.places.items imposed.entry.sheet ≡ Some (Some imposed.entry) }
-        ensures others { (k : ℕ) → k ≢ place_of self.old.places.items imposed.entry.sheet
-            → slice_get self.new.places.items k ≡ slice_get self.old.places.items k }
-        ensures dropped { (other : FinishedSheet) → in_place self.old.places.items imposed.entry.sheet ≡ Some (Some other)
-            → self.new.places.items ≡ self.old.places.items }
-    {
-        let place = imposed.sheet as usize % self.places.len().max(1);
-        if place < self.places.len() && self.places[place].is_none() {
-            self.places[place] = Some(imposed);
+    /// Puts sheets in their places. If others lie where these are to lie, these are dropped: a sheet that never came is
+    /// made anew.
+    pub fn put(&mut self, finished: FinishedSheets<'r>) {
+        let mut last = 0;
+        for &sheet in finished.sheets.as_slice() {
+            last = last.max(sheet);
         }
+        let group = self.place(last);
+        if group >= self.groups.len() || self.groups[group].is_some() {
+            return;
+        }
+        for (nth, &sheet) in finished.sheets.as_slice().iter().enumerate() {
+            let place = self.place(sheet);
+            self.places[place] = Place { group, nth };
+        }
+        self.groups[group] = Some(finished);
     }
 
-    /// Takes the text of a sheet, if it came.
-    pub fn take(&mut self, sheet: u32) -> Option<Rope<'r>>
-        ensures text { (job : JobView) → AreEarly job self.old.places.items
-            → IfSome result (λ text. text ≡ text_of job sheet) }
-        ensures left { (job : JobView) → AreEarly job self.old.places.items → AreEarly job self.new.places.items }
-        ensures found { (imposed : FinishedSheet) → in_place self.old.places.items sheet ≡ Some (Some imposed)
-            → imposed.sheet ≡ sheet → result ≡ Some imposed.text }
-        ensures other { (imposed : FinishedSheet) → in_place self.old.places.items sheet ≡ Some (Some imposed)
-            → imposed.sheet ≢ sheet → self.new.places.items ≡ self.old.places.items }
-        ensures came { MatchOption result (has_come self.old.places.items sheet ≡ false) (λ text.
-            has_come self.old.places.items sheet ≡ true) }
-        ensures others { (t : ℕ) → t ≢ sheet → has_come self.new.places.items t ≡ has_come self.old.places.items t }
-    {
-        let place = sheet as usize % self.places.len().max(1);
+    /// The place of a sheet.
+    fn place(&self, sheet: u32) -> usize {
+        sheet as usize % self.places.len().max(1)
+    }
+
+    /// The text of a sheet, if it came.
+    pub fn text(&self, sheet: u32) -> Option<Pieces<'_, 'r>> {
+        let place = self.place(sheet);
         if place >= self.places.len() {
             return None;
         }
-        let has_come = matches!(&self.places[place], Some(imposed) if imposed.sheet == sheet);
-        if !has_come {
+        let Place { group, nth } = self.places[place];
+        let Some(finished) = &self.groups[group] else {
+            return None;
+        };
+        if nth >= finished.sheets.len() || finished.sheets[nth] != sheet {
             return None;
         }
-        let imposed = self.places[place].take()?;
-        Some(imposed.text)
+        Some(finished.texts.pieces(nth))
+    }
+
+    /// The sheets that were all written when this one was, if there are such.
+    pub fn take_written(&mut self, sheet: u32) -> Option<FinishedSheets<'r>> {
+        let place = self.place(sheet);
+        if place >= self.places.len() || self.places[place].group != place {
+            return None;
+        }
+        self.groups[place].take()
     }
 }

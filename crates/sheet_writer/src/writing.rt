@@ -10,8 +10,8 @@ ghost use Rattle.sheet_writer.specs.Places.{has_come, not_come};
 
 use crate::early::{Early, Spent};
 use crate::sink::{Sink, Stopped, write_all, write_pieces};
-use sheet_text::{Job, Rope, sheet_rope};
-use std::alloc::{AllocError, Global};
+use sheet_text::{Job, Pieces, sheet_rope};
+use std::alloc::Global;
 
 /// Why nothing more is written.
 #[derive(Clone, Copy, Debug)]
@@ -43,7 +43,7 @@ pub fn write_text<S: Sink>(sink: &mut S, progress: Progress, text: &[u8]) -> Pro
 }
 
 /// Hands the sink a text in pieces, and counts its bytes.
-pub fn write_rope<S: Sink>(sink: &mut S, progress: Progress, text: &Rope<'_>) -> Progress
+pub fn write_in_pieces<S: Sink>(sink: &mut S, progress: Progress, text: Pieces<'_, '_>) -> Progress
     requires countable { IsCountable (S.seen sink.old) }
     ensures handed { Handed text.now (S.seen sink.old) (S.seen sink.new) progress result }
     ensures next { result.next ≡ progress.next }
@@ -96,7 +96,7 @@ fn write_sheet<S: Sink>(
     job: &Job<'_, '_>,
     sink: &mut S,
     progress: Progress,
-    text: &Rope<'_>,
+    text: Pieces<'_, '_>,
 ) -> Progress
     requires countable { IsCountable (S.seen sink.old) }
     requires going { (progress.halted ≡ None) × (progress.next < length job.now.plan.sheets)
@@ -106,7 +106,7 @@ fn write_sheet<S: Sink>(
     ensures next { result.next ≡ progress.next + 1 }
     ensures steady { result.halted ≡ None → (S.seen sink.new).failures ≡ (S.seen sink.old).failures }
 {
-    let progress = write_rope(sink, progress, text);
+    let progress = write_in_pieces(sink, progress, text);
     Progress {
         next: progress.next + 1,
         ..progress
@@ -130,11 +130,13 @@ pub fn write_early<'r, S: Sink, B: Spent<'r>>(
 {
     let mut progress = progress;
     for sheet in progress.next..job.sheets() {
-        let Some(text) = early.take(sheet) else {
+        let Some(text) = early.text(sheet) else {
             break;
         };
-        progress = write_sheet(job, sink, progress, &text);
-        spent.give_back(text);
+        progress = write_sheet(job, sink, progress, text);
+        if let Some(written) = early.take_written(sheet) {
+            spent.give_back(written);
+        }
         if progress.halted.is_some() {
             break;
         }
@@ -156,7 +158,7 @@ pub fn write_rest<S: Sink>(
     job: &Job<'_, '_>,
     sink: &mut S,
     progress: Progress,
-    early: &mut Early<'_>,
+    early: &Early<'_>,
     trailer: &[u8],
 ) -> Rest
     requires countable { progress.halted ≡ None → IsCountable (S.seen sink.old) }
@@ -176,13 +178,13 @@ pub fn write_rest<S: Sink>(
         return Rest { progress, swept };
     }
     for sheet in progress.next..job.sheets() {
-        let Ok(text) = next_text(alloc, job, early, sheet, &mut swept) else {
-            return Rest {
-                progress: halted(progress, progress.written, Halt::NoMemory),
-                swept,
-            };
+        progress = match early.text(sheet) {
+            Some(text) => write_sheet(job, sink, progress, text),
+            None => {
+                swept += 1;
+                write_anew(alloc, job, sink, progress, sheet)
+            }
         };
-        progress = write_sheet(job, sink, progress, &text);
         if progress.halted.is_some() {
             return Rest { progress, swept };
         }
@@ -193,26 +195,16 @@ pub fn write_rest<S: Sink>(
     }
 }
 
-/// The text of a sheet whose turn it is. One that never came is made anew, and counted.
-fn next_text<'r>(
+/// Writes a sheet that never came: it is made anew.
+fn write_anew<S: Sink>(
     alloc: Global,
     job: &Job<'_, '_>,
-    early: &mut Early<'r>,
+    sink: &mut S,
+    progress: Progress,
     sheet: u32,
-    swept: &mut u32,
-) -> Result<Rope<'r>, AllocError>
-    requires sheet { sheet < length job.now.plan.sheets }
-    requires early { AreEarly job.now early.old.places.items }
-    requires few { swept.old < u32.MAX }
-    ensures text { IfOk result (λ text. text ≡ text_of job.now sheet) }
-    ensures early { AreEarly job.now early.new.places.items }
-    ensures swept { swept.new ≡ swept.old + (if has_come early.old.places.items sheet then 0 else 1) }
-    ensures others { (t : ℕ) → t ≢ sheet
-        → has_come early.new.places.items t ≡ has_come early.old.places.items t }
-{
-    if let Some(text) = early.take(sheet) {
-        return Ok(text);
+) -> Progress {
+    match sheet_rope(alloc, job, sheet) {
+        Ok(text) => write_sheet(job, sink, progress, text.pieces()),
+        Err(_) => halted(progress, progress.written, Halt::NoMemory),
     }
-    *swept += 1;
-    sheet_rope(alloc, job, sheet)
 }
