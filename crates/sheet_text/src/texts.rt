@@ -83,6 +83,13 @@ impl<'r> Texts<'r> {
         Ok(())
     }
 
+    /// How many they are.
+    pub fn len(&self) -> usize
+        ensures { result ≡ length self.now }
+    {
+        self.parts.len()
+    }
+
     /// This text, counted from 0, and those behind it that can be written with it, so many at most.
     pub fn joined(&self, nth: usize, most: usize) -> Joined<'_, 'r>
         requires nth { nth < length self.now }
