@@ -23,17 +23,17 @@ pub(crate) struct SheetRule<T: Texts> {
 }
 
 impl<'r, T: Texts> Protocol<FinishedSheets<'r>, ()> for SheetRule<T> {
-    ghost use Rattle.imposer.specs.Batches.{HaveTexts};
+    ghost use Rattle.sheet_writer.specs.Writing.{HaveTexts};
 
-    ghost holds = { λ items views. All (λ m. HaveTexts T.text m.sheets.items) items };
+    ghost holds = { λ items views. All (λ m. HaveTexts T.text m) items };
 
     ghost first = { tt };
 }
 
 impl<'r, T: Texts> Outcome<FinishedSheets<'r>, ()> for SheetRule<T> {
-    ghost use Rattle.imposer.specs.Batches.{HaveTexts};
+    ghost use Rattle.sheet_writer.specs.Writing.{HaveTexts};
 
-    ghost then = { λ v m w. HaveTexts T.text m.sheets.items };
+    ghost then = { λ v m w. HaveTexts T.text m };
 }
 
 impl<'r, T: Texts> Lesson<FinishedSheets<'r>, ()> for SheetRule<T> {

@@ -4,8 +4,6 @@ ghost use Rattle.sheet_writer.specs.Sinks.{IsCountable};
 ghost use Rattle.crossbeam_channel.specs.Claims.{IsSeatAt};
 ghost use Rattle.crossbeam_channel.specs.Ends.{receives_on};
 ghost use Rattle.made_sheets.specs.MadeOutput.{dressed_preamble};
-ghost use Rattle.sheet_text.specs.Jobs.{JobView, text_of};
-ghost use Rattle.imposer.specs.Batches.{HaveTexts};
 ghost use Rattle.sheet_writer.specs.Writing.{Stands, GoesOn, AreEarly};
 
 use crate::channel::{RuledJob, SheetReceiver, SheetRule, Texts, Ticket};
@@ -55,12 +53,12 @@ impl<'s, 'r, 'j, 'd, 'a, T: Texts, G: Gate, S: Sink> Collector<CollectorState<'a
     ghost is_ready_to_collect = { λ input state. IsSeatAt (receives_on input.receiver.now) state.ticket.now
         × (state.header.now ≡ dressed_preamble (length input.job.now.plan.sheets) input.job.now.header input.job.now.units)
         × (state.progress ≡ record { next = 0; written = 0; halted = None })
-        × AreEarly input.job.now state.early.now.places.items
+        × AreEarly input.job.now state.early.now.groups.items
         × IsCountable (S.seen state.sink.now) };
 
     ghost collected = { λ input old new.
         Stands input.job.now (S.seen old.sink.now) (S.seen new.sink.now) new.progress
-        × AreEarly input.job.now new.early.now.places.items };
+        × AreEarly input.job.now new.early.now.groups.items };
 
     fn collect<R: Wait>(&self, rt: &R, state: &mut CollectorState<'a, 'r, S>) {
         state.progress = write_text(state.sink, state.progress, state.header);
@@ -79,8 +77,8 @@ fn take_all<'r, R: Wait, T: Texts, G: Gate, S: Sink>(
     requires countable { IsCountable (S.seen state.old.sink.now) }
     requires ticket { IsSeatAt (receives_on input.now.receiver.now) state.old.ticket.now }
     requires going { state.old.progress.halted ≡ None }
-    requires early { AreEarly input.now.job.now state.old.early.now.places.items }
-    ensures early { AreEarly input.now.job.now state.new.early.now.places.items }
+    requires early { AreEarly input.now.job.now state.old.early.now.groups.items }
+    ensures early { AreEarly input.now.job.now state.new.early.now.groups.items }
     ensures same { state.new.sink.ghost_name ≡ state.old.sink.ghost_name }
     ensures goes_on { GoesOn input.now.job.now (S.seen state.old.sink.now) (S.seen state.new.sink.now)
         state.old.progress state.new.progress }
@@ -104,10 +102,10 @@ fn take_turn<'r, R: Wait, T: Texts, G: Gate, S: Sink>(
     requires countable { IsCountable (S.seen state.old.sink.now) }
     requires ticket { IsSeatAt (receives_on input.now.receiver.now) state.old.ticket.now }
     requires going { state.old.progress.halted ≡ None }
-    requires early { AreEarly input.now.job.now state.old.early.now.places.items }
+    requires early { AreEarly input.now.job.now state.old.early.now.groups.items }
     ensures ticket { IsSeatAt (receives_on input.now.receiver.now) state.new.ticket.now }
     ensures going { IsTrue result → state.new.progress.halted ≡ None }
-    ensures early { AreEarly input.now.job.now state.new.early.now.places.items }
+    ensures early { AreEarly input.now.job.now state.new.early.now.groups.items }
     ensures same { state.new.sink.ghost_name ≡ state.old.sink.ghost_name }
     ensures goes_on { GoesOn input.now.job.now (S.seen state.old.sink.now) (S.seen state.new.sink.now)
         state.old.progress state.new.progress }
@@ -137,9 +135,9 @@ fn take_one<'r, R: Wait, T: Texts, G: Gate, S: Sink>(
     requires countable { IsCountable (S.seen state.old.sink.now) }
     requires ticket { IsSeatAt (receives_on input.now.receiver.now) state.old.ticket.now }
     requires going { state.old.progress.halted ≡ None }
-    requires early { AreEarly input.now.job.now state.old.early.now.places.items }
+    requires early { AreEarly input.now.job.now state.old.early.now.groups.items }
     ensures ticket { IsSeatAt (receives_on input.now.receiver.now) state.new.ticket.now }
-    ensures early { AreEarly input.now.job.now state.new.early.now.places.items }
+    ensures early { AreEarly input.now.job.now state.new.early.now.groups.items }
     ensures same { state.new.sink.ghost_name ≡ state.old.sink.ghost_name }
     ensures goes_on { GoesOn input.now.job.now (S.seen state.old.sink.now) (S.seen state.new.sink.now)
         state.old.progress state.new.progress }

@@ -311,7 +311,7 @@ fn finish<'d, S: Sink>(
     requires countable { IsSome ended → state.old.progress.halted ≡ None → IsCountable (S.seen state.old.sink.now) }
     requires next { IsSome ended → state.old.progress.halted ≡ None
         → state.old.progress.next ≤ length job.now.plan.sheets }
-    requires early { IsSome ended → AreEarly job.now state.old.early.now.places.items }
+    requires early { IsSome ended → AreEarly job.now state.old.early.now.groups.items }
     requires trailer { trailer.now ≡ trailer_text job.now.units }
     ensures same_sink { state.new.sink.ghost_name ≡ state.old.sink.ghost_name }
     ensures ended { IsSome ended.entry → Concludes job.now (S.seen state.old.sink.now) (S.seen state.new.sink.now)
@@ -336,7 +336,7 @@ fn conclude<'d, S: Sink>(
 ) -> Gathered<'d>
     requires countable { state.old.progress.halted ≡ None → IsCountable (S.seen state.old.sink.now) }
     requires next { state.old.progress.halted ≡ None → state.old.progress.next ≤ length job.now.plan.sheets }
-    requires early { AreEarly job.now state.old.early.now.places.items }
+    requires early { AreEarly job.now state.old.early.now.groups.items }
     requires trailer { trailer.now ≡ trailer_text job.now.units }
     ensures same_sink { state.new.sink.ghost_name ≡ state.old.sink.ghost_name }
     ensures ended { Concludes job.now (S.seen state.old.sink.now) (S.seen state.new.sink.now) state.old.progress
@@ -344,7 +344,7 @@ fn conclude<'d, S: Sink>(
     ensures tokens { HandsBack ended.entry result }
 
     // The report counts the sheets that hadn't come.
-    ensures swept { IfOk result.outcome (λ report. report.swept ≡ not_come state.old.early.now.places.items
+    ensures swept { IfOk result.outcome (λ report. report.swept ≡ not_come state.old.early.now
         state.old.progress.next (length job.now.plan.sheets - state.old.progress.next)) }
 {
     let rest = write_rest(alloc, job, state.sink, state.progress, state.early, trailer);

@@ -35,7 +35,7 @@ impl<'r, T: Texts> Setup<'r, T> {
         ensures header { IfOk result (λ s. s.header.items
             ≡ dressed_preamble (length job.now.plan.sheets) job.now.header job.now.units) }
         ensures trailer { IfOk result (λ s. s.trailer.items ≡ trailer_text job.now.units) }
-        ensures early { IfOk result (λ s. AreEarly job.now s.early.places.items) }
+        ensures early { IfOk result (λ s. AreEarly job.now s.early.groups.items) }
         ensures receiving { IfOk result (λ s. IsSeatAt (receives_on s.receiver) s.receiving) }
         ensures sending { IfOk result (λ s. IsSeatAt (sends_on s.sender) s.sending) }
     {

@@ -28,12 +28,3 @@ returns-clause-tokens g c = tokens_read _ _ 1 _ _ c.requires.tokens c.impose_tak
 pub returns-clause-imposes : goal.returns-clause-imposes
 returns-clause-imposes g c = imposes_read _ _ c.impose_taken.ensures.reads
 
-pub returns-clause-texts : goal.returns-clause-texts
-returns-clause-texts g c =
-    let input = c.args.self.now in
-    let m = c.in-Some.imposed in
-    let text : m.text ≡ text_of input.shared.now.job.now m.sheet = search rules in
-    have_pushed g.T.Texts.text input.shared.now.job.now input.ruled.now.job.now c.args.batch.now.sheets.items _ m
-    input.same_job input.ruled.now.texts
-    (c.in_ok-push.ensures ∙ ap (λ sheets. sheets.items ++ m ∷ []) c.take_spent-spent.ensures)
-    text c.requires.texts
