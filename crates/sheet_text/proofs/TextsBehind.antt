@@ -1,8 +1,8 @@
 -- Texts that stand in the same memory: what adding one does, and which can be written together.
-use Rattle.std.proofs.Common.{ℕ, zero, suc, List, [], ◌∷◌, ◌+◌, ◌-◌, ◌<◌, ◌≤◌, ◌++◌, ◌≡◌, ap, sym, subst, refl, ◌∙◌, length, take, drop, arith, append_assoc, length-append, length-drop, slice_index_or, take-add, drop-drop, Bool, true, false}
-use Rattle.std.specs.Prelude.{map, flat_map, slice_get, Some, ◌==◌}
+use Rattle.std.proofs.Common.{ℕ, zero, suc, List, [], ◌∷◌, ◌+◌, ◌-◌, ◌<◌, ◌≤◌, ◌++◌, ◌≡◌, ap, sym, subst, refl, ◌∙◌, length, take, drop, arith, length-append, length-drop, slice_index_or, take-add, drop-drop, Bool, true}
+use Rattle.std.specs.Prelude.{slice_get, Some, ◌==◌}
 use Rattle.std.proofs.lemmas.Option.{slice_get_read, same_Some}
-use Rattle.std.proofs.lemmas.List.{take-append-le, drop-append-le, take-append-drop, append-nil, map-append, length-map, nil_from_length, length-take-le}
+use Rattle.std.proofs.lemmas.List.{take-append-le, drop-append-le, append-nil, map-append, length-map, nil_from_length, length-take-le}
 use Rattle.std.proofs.lemmas.List.Concat.{flat_map-append}
 use Rattle.std.proofs.Math.Seq.{take-length, drop-cons, drop-append_seam}
 use Rattle.lengths.proofs.Numbers.{same_byte}
@@ -54,8 +54,8 @@ pub pushed_in : (own more own_now : List ℕ) (ps ps_now : List Part) (p : Part)
     → p.start ≡ length own → p.end ≡ length own_now → p.slices.items ≡ ss → AreIn own ps → AreInPlace 0 (length more) ss → AreIn own_now ps_now
 pushed_in own more own_now ps ps_now p {ss} grown added start end same h placed =
     subst (λ xs. AreIn xs ps_now) (sym grown) (subst (λ qs. AreIn (own ++ more) qs) (sym added)
-        (are_in_with (own ++ more) ps p (are_in_more own more ps h)
-            (is_behind own more p start (end ∙ ap (λ x. length x) grown) (subst (λ xs. AreInPlace 0 (length more) xs) (sym same) placed))))
+    (are_in_with (own ++ more) ps p (are_in_more own more ps h)
+    (is_behind own more p start (end ∙ ap (λ x. length x) grown) (subst (λ xs. AreInPlace 0 (length more) xs) (sym same) placed))))
 
 pub pushed_behind : (own more own_now : List ℕ) (ps ps_now : List Part) (p : Part) {ss : List Placed} {texts : List (List ℕ)} {text : List ℕ}
     → own_now ≡ own ++ more → ps_now ≡ ps ++ p ∷ [] → p.start ≡ length own → p.end ≡ length own_now → p.slices.items ≡ ss → AreIn own ps
@@ -110,7 +110,7 @@ one_is_bytes own ps n p lt h is no_slices =
       up = fits.0;
       within = fits.1;
       bytes = ap (λ ts. joined (take 1 ts)) (text_at own n ps p lt) ∙ append-nil (text_in own (slice_index_or ps n p)) ∙ ap (λ q. text_in own q) (sym is)
-        ∙ ap (λ ss. woven 0 (take (p.end - p.start) (drop p.start own)) ss) no_slices;
+          ∙ ap (λ ss. woven 0 (take (p.end - p.start) (drop p.start own)) ss) no_slices;
     }
 
 -- and one more right behind them, without slices
@@ -121,19 +121,19 @@ more_are_bytes own ps n count start end next p lt comes h before is at no_slices
     let texts = texts_in own ps in
     let fits : IsIn own p = subst (λ q. IsIn own q) (sym is) (is_in_at own next ps p lt h) in
     let rest : drop count (drop n texts) ≡ text_in own p ∷ drop (suc next) texts =
-        drop-drop count n texts ∙ ap (λ k. drop k texts) (omega (arith, comes)) ∙ text_at own next ps p lt ∙ ap (λ q. text_in own q ∷ drop (suc next) texts) (sym is) in
+    drop-drop count n texts ∙ ap (λ k. drop k texts) (omega (arith, comes)) ∙ text_at own next ps p lt ∙ ap (λ q. text_in own q ∷ drop (suc next) texts) (sym is) in
     let one : take 1 (drop count (drop n texts)) ≡ text_in own p ∷ [] = ap (λ ts. take 1 ts) rest in
     let bytes : text_in own p ≡ take (p.end - end) (drop end own) =
-        ap (λ ss. woven 0 (take (p.end - p.start) (drop p.start own)) ss) no_slices ∙ ap (λ s. take (p.end - s) (drop s own)) at in
+    ap (λ ss. woven 0 (take (p.end - p.start) (drop p.start own)) ss) no_slices ∙ ap (λ s. take (p.end - s) (drop s own)) at in
     record {
       some = omega (arith, before.some);
       parts = omega (arith, comes, lt);
       up = omega (arith, before.up, at, fits.0);
       within = fits.1;
       bytes = ap (λ ts. joined ts) (take-add count 1 (drop n texts) ∙ ap (λ ts. take count (drop n texts) ++ ts) one)
-        ∙ flat_map-append (λ text. text) (take count (drop n texts)) (text_in own p ∷ [])
-        ∙ ap (λ x. x ++ (text_in own p ++ [])) before.bytes ∙ ap (λ x. take (end - start) (drop start own) ++ x) (append-nil (text_in own p) ∙ bytes)
-        ∙ bytes_behind own start end p.end before.up (omega (arith, at, fits.0)) fits.1;
+          ∙ flat_map-append (λ text. text) (take count (drop n texts)) (text_in own p ∷ [])
+          ∙ ap (λ x. x ++ (text_in own p ++ [])) before.bytes ∙ ap (λ x. take (end - start) (drop start own) ++ x) (append-nil (text_in own p) ∙ bytes)
+          ∙ bytes_behind own start end p.end before.up (omega (arith, at, fits.0)) fits.1;
     }
 
 -- what stands at an index, and what an empty list of slices has
@@ -170,5 +170,5 @@ one_in_place own xs p ss same slices h =
     let rest_len : length (drop p.start own) ≡ length own - p.start = length-drop p.start own in
     let len : length (take (p.end - p.start) (drop p.start own)) ≡ p.end - p.start = length-take-le (p.end - p.start) (drop p.start own) (omega (arith, h.0, h.1, rest_len)) in
     subst (λ ys. AreInPlace 0 (0 + length (take (p.end - p.start) (drop p.start ys))) ss) (sym same)
-        (subst (λ zs. AreInPlace 0 (0 + length (take (p.end - p.start) (drop p.start own))) zs) (sym slices)
-            (subst (λ n. AreInPlace 0 n p.slices.items) (omega (arith, len)) h.2))
+    (subst (λ zs. AreInPlace 0 (0 + length (take (p.end - p.start) (drop p.start own))) zs) (sym slices)
+    (subst (λ n. AreInPlace 0 n p.slices.items) (omega (arith, len)) h.2))

@@ -1,5 +1,5 @@
 -- How the steps of writing make the output.
-use Rattle.std.proofs.Common.{ℕ, zero, suc, ◌+◌, ◌≤◌, ◌<◌, ◌≡◌, ◌∙◌, refl, ap, sym, subst, List, [], ◌∷◌, ◌++◌, length, take, drop, Option, Some, None, slice_get, true, true≢false, ◌⊎◌, inl, inr, ⊎_elim, slice_set, arith, append_assoc, append-nil}
+use Rattle.std.proofs.Common.{ℕ, zero, suc, ◌+◌, ◌≤◌, ◌≡◌, ◌∙◌, refl, ap, sym, subst, List, [], ◌∷◌, ◌++◌, length, take, drop, Option, Some, None, slice_get, true, true≢false, ◌⊎◌, inl, inr, ⊎_elim, slice_set, arith, append_assoc, append-nil}
 use Rattle.std.specs.Prelude.{flat_map, is_some}
 use Rattle.std.specs.List.{range_with_len}
 use Rattle.std.specs.Io.KnownBytes.{Appends, Keeps}

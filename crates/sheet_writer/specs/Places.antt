@@ -12,7 +12,7 @@ last_of (sheet ∷ sheets) = max sheet (last_of sheets)
 
 -- the number of a sheet's place
 abbrev pub place_of : Early → ℕ → ℕ
-place_of early sheet = sheet % length early.places.items
+place_of early sheet = sheet % length early.groups.items
 
 -- what lies at the place of this sheet, if there is such a place
 abbrev pub in_place : Early → ℕ → Option (Option FinishedSheets)

@@ -121,19 +121,31 @@ impl<'r> Early<'r> {
             return;
         }
         for nth in 0..finished.sheets.len() {
-            let place = self.place_of(finished.sheets[nth]);
-            if place < self.places.len() {
-                self.places[place] = Place { group, nth };
-            }
+            self.mark(finished.sheets[nth], Place { group, nth });
         }
         self.groups[group] = Some(finished);
     }
 
+    /// Notes where a sheet lies.
+    fn mark(&mut self, sheet: u32, at: Place)
+        ensures groups { self.new.groups ≡ self.old.groups }
+        ensures count { length self.new.places.items ≡ length self.old.places.items }
+        ensures marked { place_of self.old sheet < length self.old.places.items → 0 < length self.old.groups.items
+            → slice_get self.new.places.items (place_of self.old sheet) ≡ Some at }
+        ensures others { (k : ℕ) → k ≢ place_of self.old sheet → 0 < length self.old.groups.items
+            → slice_get self.new.places.items k ≡ slice_get self.old.places.items k }
+    {
+        let place = self.place_of(sheet);
+        if place < self.places.len() {
+            self.places[place] = at;
+        }
+    }
+
     /// The number of a sheet's place.
     fn place_of(&self, sheet: u32) -> usize
-        ensures { (0 < length self.now.places.items) → result ≡ place_of self.now sheet }
+        ensures { 0 < length self.now.groups.items → result ≡ place_of self.now sheet }
     {
-        sheet as usize % self.places.len().max(1)
+        sheet as usize % self.groups.len().max(1)
     }
 
     /// The text of a sheet, if it came, and those of the sheets behind it that can be written with it, so many at most.

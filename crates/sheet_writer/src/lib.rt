@@ -7,4 +7,4 @@ mod writing;
 
 pub use early::{Early, FinishedSheets, Spent};
 pub use sink::{MemorySink, Sink, SinkFault, WriteSink};
-pub use writing::{Halt, Progress, Rest, write_early, write_rest, write_in_pieces, write_text};
+pub use writing::{Halt, Progress, Rest, write_early, write_in_pieces, write_rest, write_text};

@@ -6,7 +6,7 @@ ghost use Rattle.rules.specs.Filters.{trailer_text};
 ghost use Rattle.sheet_writer.specs.declared.writing.Halt.TheVariants.{Failed};
 ghost use Rattle.sheet_writer.specs.Sinks.{IsCountable};
 ghost use Rattle.sheet_writer.specs.Writing.{Handed, GoesOn, AreEarly, EndsAfter, texts_from};
-ghost use Rattle.sheet_writer.specs.Places.{not_come};
+ghost use Rattle.sheet_writer.specs.Places.{has_come, not_come};
 
 use crate::early::{Early, Spent};
 use crate::sink::{Sink, Stopped, write_all, write_pieces};
@@ -102,6 +102,7 @@ fn write_sheets<S: Sink>(
     requires countable { IsCountable (S.seen sink.old) }
     requires going { progress.halted ≡ None }
     requires within { progress.next + count ≤ length job.now.plan.sheets }
+    requires few { progress.next + count ≤ u32.MAX }
     requires text { text ≡ texts_from job.now progress.next count }
     ensures goes_on { GoesOn job.now (S.seen sink.old) (S.seen sink.new) progress result }
     ensures next { result.next ≡ progress.next + count }
@@ -178,14 +179,8 @@ pub fn write_rest<S: Sink>(
     if progress.halted.is_some() {
         return Rest { progress, swept };
     }
-    for sheet in progress.next..job.sheets() {
-        progress = match early.joined(sheet, 1) {
-            Some(next) => write_sheets(job, sink, progress, next.text, next.count),
-            None => {
-                swept += 1;
-                write_anew(alloc, job, sink, progress)
-            }
-        };
+    for _ in progress.next..job.sheets() {
+        progress = write_next(alloc, job, sink, progress, early, &mut swept);
         if progress.halted.is_some() {
             return Rest { progress, swept };
         }
@@ -196,20 +191,29 @@ pub fn write_rest<S: Sink>(
     }
 }
 
-/// Writes the next sheet, which never came: it is made anew.
-fn write_anew<S: Sink>(
+/// Writes the next sheet. One that never came is made anew, and counted.
+fn write_next<S: Sink>(
     alloc: Global,
     job: &Job<'_, '_>,
     sink: &mut S,
     progress: Progress,
+    early: &Early<'_>,
+    swept: &mut u32,
 ) -> Progress
     requires countable { IsCountable (S.seen sink.old) }
     requires going { progress.halted ≡ None }
     requires within { progress.next < length job.now.plan.sheets }
+    requires few { (progress.next < u32.MAX) × (swept.old < u32.MAX) }
+    requires early { AreEarly job.now early.now.groups.items }
     ensures goes_on { GoesOn job.now (S.seen sink.old) (S.seen sink.new) progress result }
     ensures next { result.halted ≡ None → result.next ≡ progress.next + 1 }
     ensures steady { result.halted ≡ None → (S.seen sink.new).failures ≡ (S.seen sink.old).failures }
+    ensures swept { swept.new ≡ swept.old + (if has_come early.now progress.next then 0 else 1) }
 {
+    if let Some(next) = early.joined(progress.next, 1) {
+        return write_sheets(job, sink, progress, next.text, next.count);
+    }
+    *swept += 1;
     match sheet_rope(alloc, job, progress.next) {
         Ok(text) => write_sheets(job, sink, progress, text.pieces(), 1),
         Err(_) => halted(progress, progress.written, Halt::NoMemory),

@@ -1,4 +1,4 @@
-use Rattle.std.proofs.Common.{◌≡◌, ◌+◌, ◌≤◌, length}
+use Rattle.std.proofs.Common.{◌≡◌, ◌+◌, ◌≤◌}
 use Rattle.sheet_text.proofs.TextsBehind.{AreBytes}
 use Rattle.sheet_text.proofs.texts.plain.Given as goal
 

@@ -1,14 +1,14 @@
-use Rattle.std.proofs.Common.{◌≡◌, ◌≢◌, ℕ, ◌+◌, ◌-◌, ◌<◌, ◌≤◌, None, Some, IfOk, IfErr, OnOk, length, if◌then◌else◌, ◌*◌}
-use Rattle.sheet_text.specs.Jobs.{text_of}
-use Rattle.rules.specs.Filters.{trailer_text}
-use Rattle.sheet_writer.specs.declared.writing.Halt.TheVariants.{Failed}
-use Rattle.sheet_writer.specs.Sinks.{IsCountable}
-use Rattle.sheet_writer.specs.Writing.{Handed, GoesOn, AreEarly, EndsAfter, texts_from}
-use Rattle.sheet_writer.specs.Places.{not_come}
+use Rattle.std.proofs.Common.{◌≡◌, None, ◌-◌, length}
+use Rattle.sheet_writer.specs.Writing.{GoesOn, AreEarly}
 use Rattle.sheet_writer.proofs.writing.write_early.Given as goal
 
 abbrev pub invariant-loop-progress : goal.invariant-loop-progress
-invariant-loop-progress g l = ?
+invariant-loop-progress g l = record {
+  going : l.progress.halted ≡ None;
+  early : AreEarly l.job l.early.groups.items;
+  goes_on : GoesOn l.job (g.S.Sink.seen l.initial.sink) (g.S.Sink.seen l.sink) l.initial.progress l.progress;
+  steady : (g.S.Sink.seen l.sink).failures ≡ (g.S.Sink.seen l.initial.sink).failures;
+}
 
 abbrev pub decreases-loop-progress : goal.decreases-loop-progress
-decreases-loop-progress g l = ?
+decreases-loop-progress g l = length l.job.plan.sheets - l.progress.next

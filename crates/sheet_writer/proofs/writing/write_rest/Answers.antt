@@ -1,75 +1,32 @@
-use Rattle.std.proofs.Common.{rules, ◌≡◌, ◌≢◌, ℕ, ◌+◌, ◌-◌, ◌<◌, ◌≤◌, None, Some, IfOk, IfErr, OnOk, length, if◌then◌else◌, ◌*◌, ◌/◌, ◌%◌, Bool, true, false, nat_eq, nat_lt, List, [], ◌∷◌, ◌++◌, slice_index_or, slice_set, bit_and, bit_or, Fits, w8, w32, w64, Bor, MutBor}
-use Rattle.sheet_text.specs.Jobs.{text_of}
-use Rattle.rules.specs.Filters.{trailer_text}
-use Rattle.sheet_writer.specs.declared.writing.Halt.TheVariants.{Failed}
-use Rattle.sheet_writer.specs.Sinks.{IsCountable}
-use Rattle.sheet_writer.specs.Writing.{Handed, GoesOn, AreEarly, EndsAfter, texts_from}
-use Rattle.sheet_writer.specs.Places.{not_come}
+use Rattle.std.proofs.Common.{rules, arith, ap, ◌+◌, ◌∙◌}
+use Rattle.std.proofs.Common.{if◌then◌else◌}
+use Rattle.sheet_writer.specs.Places.{has_come}
+use Rattle.sheet_writer.proofs.Fronts.{halted_ends, trailer_handed}
+use Rattle.sheet_writer.proofs.Places.{count_next}
 use Rattle.sheet_writer.proofs.writing.write_rest.Goals as goal
 
--- src/writing.rt:181:5
-pub loop-sheet-init : goal.loop-sheet-init
-loop-sheet-init g c = ?
+pub returns-then-is_some-clause-ended : goal.returns-then-is_some-clause-ended
+returns-then-is_some-clause-ended g c = λ start stands. halted_ends c.args.job.now start _ c.args.progress (search rules) stands
 
--- src/writing.rt:183:27
-pub write_sheets-progress-requires-clause-countable :
-    goal.write_sheets-progress-requires-clause-countable
-write_sheets-progress-requires-clause-countable g c = ?
-
--- src/writing.rt:183:27
-pub write_sheets-progress-requires-clause-going : goal.write_sheets-progress-requires-clause-going
-write_sheets-progress-requires-clause-going g c = ?
-
--- src/writing.rt:183:27
-pub write_sheets-progress-requires-clause-within :
-    goal.write_sheets-progress-requires-clause-within
-write_sheets-progress-requires-clause-within g c = ?
-
--- src/writing.rt:183:27
-pub write_sheets-progress-requires-clause-text : goal.write_sheets-progress-requires-clause-text
-write_sheets-progress-requires-clause-text g c = ?
-
--- src/writing.rt:185:17
-pub overflow_add-swept : goal.overflow_add-swept
-overflow_add-swept g c = ?
-
--- src/writing.rt:186:17
-pub write_anew-progress-requires-clause-countable :
-    goal.write_anew-progress-requires-clause-countable
-write_anew-progress-requires-clause-countable g c = ?
-
--- src/writing.rt:186:17
-pub write_anew-progress-requires-clause-going : goal.write_anew-progress-requires-clause-going
-write_anew-progress-requires-clause-going g c = ?
-
--- src/writing.rt:186:17
-pub write_anew-progress-requires-clause-within : goal.write_anew-progress-requires-clause-within
-write_anew-progress-requires-clause-within g c = ?
-
--- src/writing.rt:190:13
 pub returns-then-is_some-2-clause-ended : goal.returns-then-is_some-2-clause-ended
-returns-then-is_some-2-clause-ended g c = ?
+returns-then-is_some-2-clause-ended g c = λ start stands.
+    halted_ends c.args.job.now start _ c.write_next-progress.result (search rules) (c.write_next-progress.ensures.goes_on start (c.loop.invariant.goes_on start stands))
 
--- src/writing.rt:190:13
-pub returns-then-is_some-2-clause-swept : goal.returns-then-is_some-2-clause-swept
-returns-then-is_some-2-clause-swept g c = ?
+pub loop-preserved : goal.loop-preserved
+loop-preserved g c = record {
+  going = search rules;
+  next = search rules;
+  goes_on = λ start stands. c.write_next-progress.ensures.goes_on start (c.loop.invariant.goes_on start stands);
+  steady = search rules;
+  swept = search rules;
+  first = (let f = c.loop.invariant.first in omega (arith, f));
+  counted =
+      c.write_next-progress.ensures.swept
+      ∙ ap (λ n. c.loop.swept + (if has_come c.args.early.now n then 0 else 1)) c.loop.invariant.next
+      ∙ count_next c.args.early.now c.args.progress.next c.loop.counter c.loop.swept c.loop.invariant.first c.loop.invariant.counted;
+}
 
--- src/writing.rt:181:5
-pub loop-sheet-preserved : goal.loop-sheet-preserved
-loop-sheet-preserved g c = ?
-
--- src/writing.rt:194:19
-pub write_text-requires : goal.write_text-requires
-write_text-requires g c = ?
-
--- src/writing.rt:157:1
 pub returns-clause-ended : goal.returns-clause-ended
-returns-clause-ended g c = ?
-
--- src/writing.rt:157:1
-pub returns-clause-swept : goal.returns-clause-swept
-returns-clause-swept g c = ?
-
--- src/writing.rt:157:1
-pub returns-clause-counted : goal.returns-clause-counted
-returns-clause-counted g c = ?
+returns-clause-ended g c = λ start stands.
+    trailer_handed c.args.job.now start (g.S.Sink.seen c.loop.sink) _ c.loop.progress c.write_text.result c.args.trailer.now (search rules) c.requires.trailer
+    c.loop.invariant.going c.write_text.ensures.handed (c.loop.invariant.goes_on start stands)

@@ -1,20 +1,14 @@
-use Rattle.std.proofs.Common.{rules, ◌≡◌, ◌≢◌, ℕ, ◌+◌, ◌-◌, ◌<◌, ◌≤◌, None, Some, IfOk, IfErr, OnOk, length, if◌then◌else◌, ◌*◌, ◌/◌, ◌%◌, Bool, true, false, nat_eq, nat_lt, List, [], ◌∷◌, ◌++◌, slice_index_or, slice_set, bit_and, bit_or, Fits, w8, w32, w64, Bor, MutBor}
-use Rattle.sheet_text.specs.Jobs.{text_of}
-use Rattle.rules.specs.Filters.{trailer_text}
-use Rattle.sheet_writer.specs.declared.writing.Halt.TheVariants.{Failed}
-use Rattle.sheet_writer.specs.Sinks.{IsCountable}
-use Rattle.sheet_writer.specs.Writing.{Handed, GoesOn, AreEarly, EndsAfter, texts_from}
-use Rattle.sheet_writer.specs.Places.{not_come}
+use Rattle.std.proofs.Common.{arith, ap, ◌+◌}
+use Rattle.sheet_writer.proofs.Fronts.{sheets_handed}
 use Rattle.sheet_writer.proofs.writing.write_sheets.Goals as goal
 
--- src/writing.rt:112:31
 pub overflow_cast-result : goal.overflow_cast-result
-overflow_cast-result g c = ?
+overflow_cast-result g c = omega (arith, c.requires.few)
 
--- src/writing.rt:112:15
 pub overflow_add-result : goal.overflow_add-result
-overflow_add-result g c = ?
+overflow_add-result g c = omega (arith, c.requires.few, c.write_in_pieces-progress.ensures.next)
 
--- src/writing.rt:95:1
 pub returns-clause-goes_on : goal.returns-clause-goes_on
-returns-clause-goes_on g c = ?
+returns-clause-goes_on g c = λ start stands.
+    sheets_handed c.args.job.now start _ _ c.args.progress _ c.args.text c.args.count (ap (λ n. n + c.args.count) c.write_in_pieces-progress.ensures.next)
+    c.requires.within c.requires.text c.requires.going c.write_in_pieces-progress.ensures.handed stands

@@ -9,7 +9,7 @@ pub plain-count-requires-clause-plain : goal.plain-count-requires-clause-plain
 plain-count-requires-clause-plain c part at =
     let len : vec_len c.index-part.result.now.slices ≡ length c.index-part.result.now.slices.items = search rules in
     no_slices_at _ _ _ _ part c.as_slice-then-is_empty.ensures.value (below_parts _ _ _ c.args.nth c.self.view_is c.requires.nth) c.index-part.ensures
-        (nil_told _ _ (c.is_empty.ensures ∙ ap (λ n. n == 0) len) c.if-is_empty.true) at
+    (nil_told _ _ (c.is_empty.ensures ∙ ap (λ n. n == 0) len) c.if-is_empty.true) at
 
 pub slice_bounds-result-count : goal.slice_bounds-result-count
 slice_bounds-result-count c =
@@ -29,7 +29,7 @@ slice_bounds-result-end c =
 pub invariant_of-result-2 : goal.invariant_of-result-2
 invariant_of-result-2 c =
     one_in_place _ _ c.index-part.result.now _ c.as_slice-2.ensures.value c.as_slice-3.ensures.value
-        (one_in _ _ _ _ (below_parts _ _ _ c.args.nth c.self.view_is c.requires.nth) c.self.invariant c.index-part.ensures)
+    (one_in _ _ _ _ (below_parts _ _ _ c.args.nth c.self.view_is c.requires.nth) c.self.invariant c.index-part.ensures)
 
 pub returns-clause-text : goal.returns-clause-text
 returns-clause-text c =

@@ -1,11 +1,14 @@
-use Rattle.std.proofs.Common.{rules, ◌≡◌, ◌≢◌, ℕ, ◌+◌, ◌<◌, ◌≤◌, ◌++◌, ◌∷◌, Option, Some, None, [], length, take, drop, slice_get, true, false, List, flat_map, IfOk, IfSome, IsNone, MatchOption, OnOk, OnErr, ◌-◌, ◌*◌, ◌/◌, ◌%◌, Bool, nat_eq, nat_lt, slice_index_or, slice_set, bit_and, bit_or, Fits, w8, w32, w64, Bor, MutBor}
-use Rattle.std.specs.List.{range_with_len}
-use Rattle.sheet_text.specs.Jobs.{JobView, text_of}
-use Rattle.sheet_writer.specs.Writing.{HaveTexts, AreEarly, texts_from}
-use Rattle.sheet_writer.specs.declared.early.FinishedSheets.{FinishedSheets}
-use Rattle.sheet_writer.specs.Places.{last_of, place_of, in_place, has_come}
+use Rattle.std.proofs.Common.{rules, arith, length, ◌<◌}
+use Rattle.sheet_text.specs.Jobs.{text_of}
+use Rattle.sheet_writer.proofs.Places.{comes_by, lies_at, told_by}
 use Rattle.sheet_writer.proofs.early.Early.joined.Goals as goal
 
--- src/early.rt:140:5
 pub returns-clause-came : goal.returns-clause-came
-returns-clause-came c = ?
+returns-clause-came c job early =
+    let lt : c.index.result.now.group < length c.args.self.now.groups.items = search rules in
+    let some : 0 < length c.args.self.now.groups.items = omega (arith, lt) in
+    let have = early c.index.result.now.group c.in-Some.finished (lies_at _ c.index.result.now.group _ c.in-Some.finished lt c.index-2.ensures c.in-Some.is) in
+    told_by c.joined.result _ c.args.sheet _
+    (comes_by c.args.self.now c.args.sheet c.place_of-place.result c.index.result.now c.index-2.result.now c.in-Some.finished (c.place_of-place.ensures some)
+    (search rules) c.index.ensures lt c.index-2.ensures c.in-Some.is)
+    (c.joined.ensures.found (text_of job) have) (c.joined.ensures.none (text_of job) have)

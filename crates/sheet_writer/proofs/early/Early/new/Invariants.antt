@@ -1,10 +1,12 @@
-use Rattle.std.proofs.Common.{◌≡◌, ◌≢◌, ℕ, ◌+◌, ◌<◌, ◌≤◌, ◌++◌, ◌∷◌, Option, Some, None, [], length, take, drop, slice_get, true, false, List, flat_map, IfOk, IfSome, IsNone, MatchOption, OnOk, OnErr, ◌-◌, ◌*◌}
-use Rattle.std.specs.List.{range_with_len}
-use Rattle.sheet_text.specs.Jobs.{JobView, text_of}
-use Rattle.sheet_writer.specs.Writing.{HaveTexts, AreEarly, texts_from}
-use Rattle.sheet_writer.specs.declared.early.FinishedSheets.{FinishedSheets}
-use Rattle.sheet_writer.specs.Places.{last_of, place_of, in_place, has_come}
+use Rattle.std.proofs.Common.{◌≡◌, ◌≤◌, length, vec_capacity}
+use Rattle.sheet_writer.proofs.Fronts.{AreNone}
 use Rattle.sheet_writer.proofs.early.Early.new.Given as goal
 
 abbrev pub invariant-loop : goal.invariant-loop
-invariant-loop l = ?
+invariant-loop l = record {
+  places : length l.places.items ≡ l.counter;
+  groups : length l.groups.items ≡ l.counter;
+  places_room : l.count ≤ vec_capacity l.places;
+  groups_room : l.count ≤ vec_capacity l.groups;
+  none : AreNone l.groups.items;
+}

@@ -1,39 +1,44 @@
-use Rattle.std.proofs.Common.{rules, ◌≡◌, ◌≢◌, ℕ, ◌+◌, ◌<◌, ◌≤◌, ◌++◌, ◌∷◌, Option, Some, None, [], length, take, drop, slice_get, true, false, List, flat_map, IfOk, IfSome, IsNone, MatchOption, OnOk, OnErr, ◌-◌, ◌*◌, ◌/◌, ◌%◌, Bool, nat_eq, nat_lt, slice_index_or, slice_set, bit_and, bit_or, Fits, w8, w32, w64, Bor, MutBor}
-use Rattle.std.specs.List.{range_with_len}
-use Rattle.sheet_text.specs.Jobs.{JobView, text_of}
-use Rattle.sheet_writer.specs.Writing.{HaveTexts, AreEarly, texts_from}
-use Rattle.sheet_writer.specs.declared.early.FinishedSheets.{FinishedSheets}
-use Rattle.sheet_writer.specs.Places.{last_of, place_of, in_place, has_come}
+use Rattle.std.proofs.Common.{rules, arith, ap, sym, subst, refl, length, ◌≡◌, ◌<◌, ◌∙◌}
+use Rattle.std.specs.Prelude.{vec_len}
+use Rattle.sheet_writer.specs.Places.{place_of, last_of}
+use Rattle.sheet_writer.specs.Writing.{AreEarly}
+use Rattle.sheet_writer.proofs.Fronts.{early_filled}
+use Rattle.sheet_writer.proofs.Places.{free_place, filled_place, other_place, none_there}
 use Rattle.sheet_writer.proofs.early.Early.put.Goals as goal
 
--- src/early.rt:121:13
-pub returns-then-group-len-clause-put : goal.returns-then-group-len-clause-put
-returns-then-group-len-clause-put c = ?
-
--- src/early.rt:123:9
 pub loop-nth-init : goal.loop-nth-init
-loop-nth-init c = ?
+loop-nth-init c = record { groups = refl; places = refl }
 
--- src/early.rt:123:9
 pub loop-nth-preserved : goal.loop-nth-preserved
-loop-nth-preserved c = ?
+loop-nth-preserved c = record {
+  groups = c.mark.ensures.groups ∙ c.loop-nth.invariant.groups;
+  places = c.mark.ensures.count ∙ c.loop-nth.invariant.places;
+}
 
--- src/early.rt:129:9
-pub index_mut-requires-2 : goal.index_mut-requires-2
-index_mut-requires-2 c = ?
+pub index_mut-requires : goal.index_mut-requires
+index_mut-requires c = let same = ap (λ v. vec_len v) c.loop-nth.invariant.groups in omega (arith, same, c.if-group-len.false, c.len.ensures)
 
--- src/early.rt:108:5
 pub returns-clause-early : goal.returns-clause-early
-returns-clause-early c = ?
+returns-clause-early c = λ job have early.
+    early_filled job _ c.place_of-group.result c.args.finished have (subst (λ v. AreEarly job v.items) (sym c.loop-nth.invariant.groups) early)
 
--- src/early.rt:108:5
 pub returns-clause-put : goal.returns-clause-put
-returns-clause-put c = ?
+returns-clause-put c = λ free.
+    let lt : c.place_of-group.result < length c.args.self.now.groups.items = search rules in
+    let at : c.place_of-group.result ≡ place_of c.args.self.now (last_of c.args.finished.sheets.items) =
+    c.place_of-group.ensures (omega (arith, lt)) ∙ ap (λ s. place_of c.args.self.now s) c.last.ensures in
+    filled_place c.args.self.now (last_of c.args.finished.sheets.items) c.place_of-group.result c.args.finished (ap (λ v. v.items) c.loop-nth.invariant.groups) at lt
 
--- src/early.rt:108:5
 pub returns-clause-others : goal.returns-clause-others
-returns-clause-others c = ?
+returns-clause-others c = λ k other.
+    let lt : c.place_of-group.result < length c.args.self.now.groups.items = search rules in
+    let at : c.place_of-group.result ≡ place_of c.args.self.now (last_of c.args.finished.sheets.items) =
+    c.place_of-group.ensures (omega (arith, lt)) ∙ ap (λ s. place_of c.args.self.now s) c.last.ensures in
+    other_place _ _ c.place_of-group.result k _ (ap (λ v. v.items) c.loop-nth.invariant.groups) (λ same. other (same ∙ at))
 
--- src/early.rt:108:5
 pub returns-clause-dropped : goal.returns-clause-dropped
-returns-clause-dropped c = ?
+returns-clause-dropped c = λ other there.
+    let lt : c.place_of-group.result < length c.args.self.now.groups.items = search rules in
+    let at : c.place_of-group.result ≡ place_of c.args.self.now (last_of c.args.finished.sheets.items) =
+    c.place_of-group.ensures (omega (arith, lt)) ∙ ap (λ s. place_of c.args.self.now s) c.last.ensures in
+    absurd (none_there _ other (sym c.is_some.ensures ∙ c.if-is_some.false) (sym (free_place c.args.self.now _ _ _ at lt c.index.ensures) ∙ there))

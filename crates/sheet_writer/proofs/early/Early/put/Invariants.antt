@@ -1,10 +1,8 @@
-use Rattle.std.proofs.Common.{◌≡◌, ◌≢◌, ℕ, ◌+◌, ◌<◌, ◌≤◌, ◌++◌, ◌∷◌, Option, Some, None, [], length, take, drop, slice_get, true, false, List, flat_map, IfOk, IfSome, IsNone, MatchOption, OnOk, OnErr, ◌-◌, ◌*◌}
-use Rattle.std.specs.List.{range_with_len}
-use Rattle.sheet_text.specs.Jobs.{JobView, text_of}
-use Rattle.sheet_writer.specs.Writing.{HaveTexts, AreEarly, texts_from}
-use Rattle.sheet_writer.specs.declared.early.FinishedSheets.{FinishedSheets}
-use Rattle.sheet_writer.specs.Places.{last_of, place_of, in_place, has_come}
+use Rattle.std.proofs.Common.{◌≡◌, length}
 use Rattle.sheet_writer.proofs.early.Early.put.Given as goal
 
 abbrev pub invariant-loop-nth : goal.invariant-loop-nth
-invariant-loop-nth l = ?
+invariant-loop-nth l = record {
+  groups : l.self.groups ≡ l.initial.self.groups;
+  places : length l.self.places.items ≡ length l.initial.self.places.items;
+}

@@ -1,10 +1,6 @@
-use Rattle.std.proofs.Common.{◌≡◌, ◌≢◌, ℕ, ◌+◌, ◌<◌, ◌≤◌, ◌++◌, ◌∷◌, Option, Some, None, [], length, take, drop, slice_get, true, false, List, flat_map, IfOk, IfSome, IsNone, MatchOption, OnOk, OnErr, ◌-◌, ◌*◌}
-use Rattle.std.specs.List.{range_with_len}
-use Rattle.sheet_text.specs.Jobs.{JobView, text_of}
-use Rattle.sheet_writer.specs.Writing.{HaveTexts, AreEarly, texts_from}
-use Rattle.sheet_writer.specs.declared.early.FinishedSheets.{FinishedSheets}
-use Rattle.sheet_writer.specs.Places.{last_of, place_of, in_place, has_come}
+use Rattle.std.proofs.Common.{◌≡◌, drop, max}
+use Rattle.sheet_writer.specs.Places.{last_of}
 use Rattle.sheet_writer.proofs.early.FinishedSheets.last.Given as goal
 
 abbrev pub invariant-loop-sheet : goal.invariant-loop-sheet
-invariant-loop-sheet l = ?
+invariant-loop-sheet l = max l.last (last_of (drop l.sheet-index l.sheet-items)) ≡ last_of l.sheet-items
