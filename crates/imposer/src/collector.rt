@@ -28,7 +28,7 @@ pub(crate) struct CollectorInput<'s, 'r, 'j, 'd, T: Texts, G> {
     /// How many imposers haven't ended.
     pub(crate) imposers_left: &'s AtomicU32,
     pub(crate) receiver: &'s SheetReceiver<'r, T>,
-    /// Where texts go that were written.
+    /// Where sheets go that were written.
     pub(crate) spent: &'s ArrayQueue<FinishedSheets<'r>>,
     /// It moves as sheets are written.
     pub(crate) window: &'s Window,

@@ -13,7 +13,7 @@ use sheet_text::Job;
 use sheet_writer::{Early, FinishedSheets};
 use std::alloc::{AllocError, Global};
 
-/// The texts round the sheets, places for sheets that come before their turn and for texts that were written, and the
+/// The texts round the sheets, places for sheets that come before their turn and for those that were written, and the
 /// channel of finished sheets, with a ticket for the collector and one for the imposers.
 #[derive(Drop)]
 pub(crate) struct Setup<'r, T: Texts> {
@@ -24,12 +24,12 @@ pub(crate) struct Setup<'r, T: Texts> {
     pub(crate) receiver: SheetReceiver<'r, T>,
     pub(crate) receiving: Ticket<'r>,
     pub(crate) sending: Ticket<'r>,
-    /// For texts that were written.
+    /// For sheets that were written.
     pub(crate) spent: ArrayQueue<FinishedSheets<'r>>,
 }
 
 impl<'r, T: Texts> Setup<'r, T> {
-    /// Places, channel and the queue of written texts have room for all sheets of a window of this many, so that no
+    /// Places, channel and the queue of written sheets have room for all sheets of a window of this many, so that no
     /// imposer waits.
     pub(crate) fn new(alloc: Global, job: &Job<'_, '_>, window: u32) -> Result<Self, AllocError>
         ensures header { IfOk result (λ s. s.header.items

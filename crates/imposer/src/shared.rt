@@ -61,7 +61,7 @@ pub(crate) struct Shared<'s, 'r, 'j, 'd, G> {
 pub(crate) struct WorkerInput<'s, 'r, 'j, 'd, T: Texts, G> {
     pub(crate) shared: &'s Shared<'s, 'r, 'j, 'd, G>,
     pub(crate) sender: &'s SheetSender<'r, T>,
-    /// Texts that were written, whose memory is used again.
+    /// Sheets that were written, whose memory is used again.
     pub(crate) spent: &'s ArrayQueue<FinishedSheets<'r>>,
     /// The same job, with the texts of the channel's rule.
     pub(crate) ruled: &'s RuledJob<'s, 'j, 'd, T>,
