@@ -2,6 +2,7 @@ pub mod Made
 pub mod Refusals
 pub mod Held
 pub mod ByRight
+pub mod OwnPages
 pub mod Texts
 pub mod Holdings
 pub mod HandedOn

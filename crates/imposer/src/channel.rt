@@ -2,10 +2,10 @@
 ghost use Rattle.std.specs.Prelude.{◌≡◌, ℕ, List, [], All, ⊤};
 ghost use Rattle.sheet_text.specs.Jobs.{text_of};
 
-use crate::batch::Batch;
 use crossbeam_channel::protocol::{Lesson, Outcome, Protocol, Split};
 use crossbeam_channel::{Pass, RuledReceiver, RuledSender};
 use sheet_text::Job;
+use sheet_writer::FinishedSheets;
 use std::marker::{Brand, PhantomData};
 
 /// Ghost parameter, chosen in the proof of each call; no code: the text that each sheet of the run's job has.
@@ -22,21 +22,21 @@ pub(crate) struct SheetRule<T: Texts> {
     of: PhantomData<T>,
 }
 
-impl<'r, T: Texts> Protocol<Batch<'r>, ()> for SheetRule<T> {
-    ghost use Rattle.imposer.specs.Batches.{HaveTexts};
+impl<'r, T: Texts> Protocol<FinishedSheets<'r>, ()> for SheetRule<T> {
+    ghost use Rattle.sheet_writer.specs.Writing.{HaveTexts};
 
-    ghost holds = { λ items views. All (λ m. HaveTexts T.text m.sheets.items) items };
+    ghost holds = { λ items views. All (λ m. HaveTexts T.text m) items };
 
     ghost first = { tt };
 }
 
-impl<'r, T: Texts> Outcome<Batch<'r>, ()> for SheetRule<T> {
-    ghost use Rattle.imposer.specs.Batches.{HaveTexts};
+impl<'r, T: Texts> Outcome<FinishedSheets<'r>, ()> for SheetRule<T> {
+    ghost use Rattle.sheet_writer.specs.Writing.{HaveTexts};
 
-    ghost then = { λ v m w. HaveTexts T.text m.sheets.items };
+    ghost then = { λ v m w. HaveTexts T.text m };
 }
 
-impl<'r, T: Texts> Lesson<Batch<'r>, ()> for SheetRule<T> {
+impl<'r, T: Texts> Lesson<FinishedSheets<'r>, ()> for SheetRule<T> {
     ghost fact = { λ v items. ⊤ };
 }
 
@@ -55,8 +55,8 @@ pub(crate) struct RuledJob<'s, 'j, 'd, T: Texts> {
 }
 
 /// What a thread needs to send or to receive.
-pub(crate) type Ticket<'r> = Pass<Batch<'r>, ()>;
+pub(crate) type Ticket<'r> = Pass<FinishedSheets<'r>, ()>;
 
-pub(crate) type SheetSender<'r, T> = RuledSender<Batch<'r>, (), SheetRule<T>>;
+pub(crate) type SheetSender<'r, T> = RuledSender<FinishedSheets<'r>, (), SheetRule<T>>;
 
-pub(crate) type SheetReceiver<'r, T> = RuledReceiver<Batch<'r>, (), SheetRule<T>>;
+pub(crate) type SheetReceiver<'r, T> = RuledReceiver<FinishedSheets<'r>, (), SheetRule<T>>;

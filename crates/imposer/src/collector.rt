@@ -4,18 +4,15 @@ ghost use Rattle.sheet_writer.specs.Sinks.{IsCountable};
 ghost use Rattle.crossbeam_channel.specs.Claims.{IsSeatAt};
 ghost use Rattle.crossbeam_channel.specs.Ends.{receives_on};
 ghost use Rattle.made_sheets.specs.MadeOutput.{dressed_preamble};
-ghost use Rattle.sheet_text.specs.Jobs.{JobView, text_of};
-ghost use Rattle.imposer.specs.Batches.{HaveTexts};
 ghost use Rattle.sheet_writer.specs.Writing.{Stands, GoesOn, AreEarly};
 
-use crate::batch::Batch;
 use crate::channel::{RuledJob, SheetReceiver, SheetRule, Texts, Ticket};
 use crate::gate::{Gate, Look};
-use crate::spent::{SpentTexts, Written};
+use crate::spent::Written;
 use crate::window::{Idling, Window};
 use crossbeam_queue::ArrayQueue;
 use sheet_text::Job;
-use sheet_writer::{Early, FinishedSheet, Progress, Sink, write_early, write_text};
+use sheet_writer::{Early, FinishedSheets, Progress, Sink, write_early, write_text};
 use std::sync::Wait;
 use std::sync::atomic::AtomicU32;
 use std::sync::atomic::Ordering::SeqCst;
@@ -31,8 +28,8 @@ pub(crate) struct CollectorInput<'s, 'r, 'j, 'd, T: Texts, G> {
     /// How many imposers haven't ended.
     pub(crate) imposers_left: &'s AtomicU32,
     pub(crate) receiver: &'s SheetReceiver<'r, T>,
-    /// Where texts go that were written.
-    pub(crate) spent: &'s ArrayQueue<SpentTexts<'r>>,
+    /// Where sheets go that were written.
+    pub(crate) spent: &'s ArrayQueue<FinishedSheets<'r>>,
     /// It moves as sheets are written.
     pub(crate) window: &'s Window,
     ghost same_job: { ruled.now.job.now ≡ job.now },
@@ -44,7 +41,6 @@ pub(crate) struct CollectorInput<'s, 'r, 'j, 'd, T: Texts, G> {
 pub(crate) struct CollectorState<'a, 'r, S> {
     pub(crate) sink: &'a mut S,
     pub(crate) early: &'a mut Early<'r>,
-    pub(crate) written: &'a mut Written<'r>,
     pub(crate) header: &'a [u8],
     pub(crate) ticket: &'a mut Ticket<'r>,
     pub(crate) progress: Progress,
@@ -57,12 +53,12 @@ impl<'s, 'r, 'j, 'd, 'a, T: Texts, G: Gate, S: Sink> Collector<CollectorState<'a
     ghost is_ready_to_collect = { λ input state. IsSeatAt (receives_on input.receiver.now) state.ticket.now
         × (state.header.now ≡ dressed_preamble (length input.job.now.plan.sheets) input.job.now.header input.job.now.units)
         × (state.progress ≡ record { next = 0; written = 0; halted = None })
-        × AreEarly input.job.now state.early.now.places.items
+        × AreEarly input.job.now state.early.now.groups.items
         × IsCountable (S.seen state.sink.now) };
 
     ghost collected = { λ input old new.
         Stands input.job.now (S.seen old.sink.now) (S.seen new.sink.now) new.progress
-        × AreEarly input.job.now new.early.now.places.items };
+        × AreEarly input.job.now new.early.now.groups.items };
 
     fn collect<R: Wait>(&self, rt: &R, state: &mut CollectorState<'a, 'r, S>) {
         state.progress = write_text(state.sink, state.progress, state.header);
@@ -81,8 +77,8 @@ fn take_all<'r, R: Wait, T: Texts, G: Gate, S: Sink>(
     requires countable { IsCountable (S.seen state.old.sink.now) }
     requires ticket { IsSeatAt (receives_on input.now.receiver.now) state.old.ticket.now }
     requires going { state.old.progress.halted ≡ None }
-    requires early { AreEarly input.now.job.now state.old.early.now.places.items }
-    ensures early { AreEarly input.now.job.now state.new.early.now.places.items }
+    requires early { AreEarly input.now.job.now state.old.early.now.groups.items }
+    ensures early { AreEarly input.now.job.now state.new.early.now.groups.items }
     ensures same { state.new.sink.ghost_name ≡ state.old.sink.ghost_name }
     ensures goes_on { GoesOn input.now.job.now (S.seen state.old.sink.now) (S.seen state.new.sink.now)
         state.old.progress state.new.progress }
@@ -106,10 +102,10 @@ fn take_turn<'r, R: Wait, T: Texts, G: Gate, S: Sink>(
     requires countable { IsCountable (S.seen state.old.sink.now) }
     requires ticket { IsSeatAt (receives_on input.now.receiver.now) state.old.ticket.now }
     requires going { state.old.progress.halted ≡ None }
-    requires early { AreEarly input.now.job.now state.old.early.now.places.items }
+    requires early { AreEarly input.now.job.now state.old.early.now.groups.items }
     ensures ticket { IsSeatAt (receives_on input.now.receiver.now) state.new.ticket.now }
     ensures going { IsTrue result → state.new.progress.halted ≡ None }
-    ensures early { AreEarly input.now.job.now state.new.early.now.places.items }
+    ensures early { AreEarly input.now.job.now state.new.early.now.groups.items }
     ensures same { state.new.sink.ghost_name ≡ state.old.sink.ghost_name }
     ensures goes_on { GoesOn input.now.job.now (S.seen state.old.sink.now) (S.seen state.new.sink.now)
         state.old.progress state.new.progress }
@@ -139,9 +135,9 @@ fn take_one<'r, R: Wait, T: Texts, G: Gate, S: Sink>(
     requires countable { IsCountable (S.seen state.old.sink.now) }
     requires ticket { IsSeatAt (receives_on input.now.receiver.now) state.old.ticket.now }
     requires going { state.old.progress.halted ≡ None }
-    requires early { AreEarly input.now.job.now state.old.early.now.places.items }
+    requires early { AreEarly input.now.job.now state.old.early.now.groups.items }
     ensures ticket { IsSeatAt (receives_on input.now.receiver.now) state.new.ticket.now }
-    ensures early { AreEarly input.now.job.now state.new.early.now.places.items }
+    ensures early { AreEarly input.now.job.now state.new.early.now.groups.items }
     ensures same { state.new.sink.ghost_name ≡ state.old.sink.ghost_name }
     ensures goes_on { GoesOn input.now.job.now (S.seen state.old.sink.now) (S.seen state.new.sink.now)
         state.old.progress state.new.progress }
@@ -156,26 +152,17 @@ fn take_one<'r, R: Wait, T: Texts, G: Gate, S: Sink>(
     let Ok(batch) = received else {
         return false;
     };
-    let Batch { sheets, mut spent } = batch;
-    put_all(state.early, sheets);
+    state.early.put(batch);
+    let mut written = Written {
+        rt,
+        queue: input.spent,
+    };
     state.progress = write_early(
         input.job,
         state.sink,
         state.progress,
         state.early,
-        state.written,
+        &mut written,
     );
-    state.written.move_into(&mut spent);
-    let _ = input.spent.push(rt, spent);
     true
-}
-
-/// Puts the sheets in their places.
-fn put_all<'r>(early: &mut Early<'r>, sheets: Vec<FinishedSheet<'r>>)
-    ensures early { (job : JobView) → HaveTexts (text_of job) sheets.entry.items
-        → AreEarly job early.old.places.items → AreEarly job early.new.places.items }
-{
-    for imposed in sheets {
-        early.put(imposed);
-    }
 }

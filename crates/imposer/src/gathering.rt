@@ -200,7 +200,6 @@ fn gather_as<'r, 'd, T: Texts + Send + Sync, R: Threads + Wait + Sync, G: Gate +
         header,
         trailer,
         mut early,
-        mut written,
         sender,
         receiver,
         mut receiving,
@@ -229,7 +228,6 @@ fn gather_as<'r, 'd, T: Texts + Send + Sync, R: Threads + Wait + Sync, G: Gate +
     let state = CollectorState {
         sink,
         early: &mut early,
-        written: &mut written,
         header: header.as_slice(),
         ticket: &mut receiving,
         progress: Progress {
@@ -265,7 +263,6 @@ fn gather_as<'r, 'd, T: Texts + Send + Sync, R: Threads + Wait + Sync, G: Gate +
     let CollectorState {
         sink: _,
         early: _,
-        written: _,
         header: _,
         ticket: _,
         progress: _,
@@ -314,7 +311,7 @@ fn finish<'d, S: Sink>(
     requires countable { IsSome ended → state.old.progress.halted ≡ None → IsCountable (S.seen state.old.sink.now) }
     requires next { IsSome ended → state.old.progress.halted ≡ None
         → state.old.progress.next ≤ length job.now.plan.sheets }
-    requires early { IsSome ended → AreEarly job.now state.old.early.now.places.items }
+    requires early { IsSome ended → AreEarly job.now state.old.early.now.groups.items }
     requires trailer { trailer.now ≡ trailer_text job.now.units }
     ensures same_sink { state.new.sink.ghost_name ≡ state.old.sink.ghost_name }
     ensures ended { IsSome ended.entry → Concludes job.now (S.seen state.old.sink.now) (S.seen state.new.sink.now)
@@ -339,7 +336,7 @@ fn conclude<'d, S: Sink>(
 ) -> Gathered<'d>
     requires countable { state.old.progress.halted ≡ None → IsCountable (S.seen state.old.sink.now) }
     requires next { state.old.progress.halted ≡ None → state.old.progress.next ≤ length job.now.plan.sheets }
-    requires early { AreEarly job.now state.old.early.now.places.items }
+    requires early { AreEarly job.now state.old.early.now.groups.items }
     requires trailer { trailer.now ≡ trailer_text job.now.units }
     ensures same_sink { state.new.sink.ghost_name ≡ state.old.sink.ghost_name }
     ensures ended { Concludes job.now (S.seen state.old.sink.now) (S.seen state.new.sink.now) state.old.progress
@@ -347,7 +344,7 @@ fn conclude<'d, S: Sink>(
     ensures tokens { HandsBack ended.entry result }
 
     // The report counts the sheets that hadn't come.
-    ensures swept { IfOk result.outcome (λ report. report.swept ≡ not_come state.old.early.now.places.items
+    ensures swept { IfOk result.outcome (λ report. report.swept ≡ not_come state.old.early.now
         state.old.progress.next (length job.now.plan.sheets - state.old.progress.next)) }
 {
     let rest = write_rest(alloc, job, state.sink, state.progress, state.early, trailer);

@@ -1,7 +1,6 @@
 //! A run: a document and a page specification in, the sheets out.
 #![tactic(auto)]
 
-mod batch;
 mod channel;
 mod collector;
 mod gate;

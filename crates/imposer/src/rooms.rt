@@ -28,7 +28,8 @@ pub(crate) fn most_puts(plan: &Plan<'_>, number: u32, count: u32) -> u32
     ensures { result ≡ most_puts (layout plan.now) count number }
 {
     let mut puts = 0;
-    for page in 0..plan.pages() {
+    // Its own pages lie as far apart as there are preparers.
+    for page in (number..plan.pages()).step_by(count as usize) {
         puts = with_page(plan, number, count, page, puts);
     }
     puts

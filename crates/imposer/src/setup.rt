@@ -7,37 +7,35 @@ ghost use Rattle.made_sheets.specs.MadeOutput.{dressed_preamble};
 ghost use Rattle.sheet_writer.specs.Writing.{AreEarly};
 
 use crate::channel::{SheetReceiver, SheetRule, SheetSender, Texts, Ticket};
-use crate::spent::{SpentTexts, Written};
 use crossbeam_channel::bounded_with;
 use crossbeam_queue::ArrayQueue;
 use sheet_text::Job;
-use sheet_writer::Early;
+use sheet_writer::{Early, FinishedSheets};
 use std::alloc::{AllocError, Global};
 
-/// The texts round the sheets, places for sheets that come before their turn and for texts that were written, and the
+/// The texts round the sheets, places for sheets that come before their turn and for those that were written, and the
 /// channel of finished sheets, with a ticket for the collector and one for the imposers.
 #[derive(Drop)]
 pub(crate) struct Setup<'r, T: Texts> {
     pub(crate) header: Vec<u8>,
     pub(crate) trailer: Vec<u8>,
     pub(crate) early: Early<'r>,
-    pub(crate) written: Written<'r>,
     pub(crate) sender: SheetSender<'r, T>,
     pub(crate) receiver: SheetReceiver<'r, T>,
     pub(crate) receiving: Ticket<'r>,
     pub(crate) sending: Ticket<'r>,
-    /// For texts that were written.
-    pub(crate) spent: ArrayQueue<SpentTexts<'r>>,
+    /// For sheets that were written.
+    pub(crate) spent: ArrayQueue<FinishedSheets<'r>>,
 }
 
 impl<'r, T: Texts> Setup<'r, T> {
-    /// Places, channel and the queue of written texts have room for all sheets of a window of this many, so that no
+    /// Places, channel and the queue of written sheets have room for all sheets of a window of this many, so that no
     /// imposer waits.
     pub(crate) fn new(alloc: Global, job: &Job<'_, '_>, window: u32) -> Result<Self, AllocError>
         ensures header { IfOk result (λ s. s.header.items
             ≡ dressed_preamble (length job.now.plan.sheets) job.now.header job.now.units) }
         ensures trailer { IfOk result (λ s. s.trailer.items ≡ trailer_text job.now.units) }
-        ensures early { IfOk result (λ s. AreEarly job.now s.early.places.items) }
+        ensures early { IfOk result (λ s. AreEarly job.now s.early.groups.items) }
         ensures receiving { IfOk result (λ s. IsSeatAt (receives_on s.receiver) s.receiving) }
         ensures sending { IfOk result (λ s. IsSeatAt (sends_on s.sender) s.sending) }
     {
@@ -45,7 +43,6 @@ impl<'r, T: Texts> Setup<'r, T> {
         let trailer = job.document().trailer_text()?;
         let room = job.sheets().min(window).max(1);
         let early = Early::new(alloc, room)?;
-        let written = Written::new(alloc, room as usize)?;
         let (sender, receiver, mut receiving) = bounded_with::<_, _, SheetRule<T>, Global>(
             alloc,
             room as usize,
@@ -56,7 +53,6 @@ impl<'r, T: Texts> Setup<'r, T> {
             header,
             trailer,
             early,
-            written,
             sender,
             receiver,
             receiving,

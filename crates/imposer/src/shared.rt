@@ -4,13 +4,13 @@ ghost use Rattle.rules.specs.Sheets.{layout};
 ghost use Rattle.handover.specs.Shelves.{IsShelfOf};
 
 use crate::channel::{RuledJob, SheetSender, Texts};
-use crate::spent::SpentTexts;
 use crate::turns::Turns;
 use crate::window::Window;
 use crossbeam_queue::ArrayQueue;
 use gather_table::GatherTable;
 use handover::{Ready, Shelf};
 use sheet_text::Job;
+use sheet_writer::FinishedSheets;
 use std::alloc::Global;
 use std::sync::atomic::AtomicU32;
 
@@ -61,8 +61,8 @@ pub(crate) struct Shared<'s, 'r, 'j, 'd, G> {
 pub(crate) struct WorkerInput<'s, 'r, 'j, 'd, T: Texts, G> {
     pub(crate) shared: &'s Shared<'s, 'r, 'j, 'd, G>,
     pub(crate) sender: &'s SheetSender<'r, T>,
-    /// Texts that were written, whose memory is used again.
-    pub(crate) spent: &'s ArrayQueue<SpentTexts<'r>>,
+    /// Sheets that were written, whose memory is used again.
+    pub(crate) spent: &'s ArrayQueue<FinishedSheets<'r>>,
     /// The same job, with the texts of the channel's rule.
     pub(crate) ruled: &'s RuledJob<'s, 'j, 'd, T>,
     ghost same_job: { ruled.now.job.now ≡ shared.now.job.now },

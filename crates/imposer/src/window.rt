@@ -16,7 +16,7 @@ use std::sync::atomic::{AtomicBool, AtomicU64};
 use std::time::Duration;
 
 /// About how many bytes the texts of the window's sheets have together.
-const BYTES_AHEAD: usize = 524_288;
+const BYTES_AHEAD: usize = 786_432;
 
 /// About how many bytes of text stand round a placed page.
 const BYTES_ROUND_A_PAGE: usize = 256;
@@ -25,7 +25,7 @@ const BYTES_ROUND_A_PAGE: usize = 256;
 const BYTES_BESIDE: usize = 32;
 
 /// How many sheets there are in a window at most.
-const MOST_SHEETS: usize = 1_024;
+const MOST_SHEETS: usize = 4_096;
 
 /// With at least so many sheets in a window it is moved by a quarter at a time, and who finds nothing to do sleeps at
 /// once.
@@ -57,8 +57,8 @@ pub(crate) struct Window {
 }
 
 impl Window {
-    /// A window of about half a megabyte of text, of a job whose slots have so many bytes of text. Two sheets at least,
-    /// and one for each imposer, lie in it.
+    /// A window of about three quarters of a megabyte of text, of a job whose slots have so many bytes of text. Two
+    /// sheets at least, and one for each imposer, lie in it.
     ///
     /// A run's end rests on the step: all sheets of a window may be imposed without a word, so a step that is no longer is
     /// reached, and then the window moves on.

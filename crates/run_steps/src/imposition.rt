@@ -17,7 +17,6 @@ ghost use Rattle.run_steps.specs.LookUps.{pages_of, LooksUp, LooksUpUntil, Looks
 use gather_table::{GatherTable, Seat};
 use handover::{Prepared, Shelf, Shelved};
 use sheet_text::{Job, Openings, Rope, append_placed, begin_sheet, end_sheet};
-use sheet_writer::FinishedSheet;
 use std::alloc::Global;
 use thiserror::Error;
 
@@ -65,16 +64,12 @@ pub fn impose<'d>(
         shelf,
         is_of_document: false,
     };
-    let finished = match imposition.impose(
-        Rope::new(alloc),
-        &mut Openings::new(alloc),
-        seat,
-        sheet,
-    ) {
-        Ok(finished) => finished,
+    let mut text = Rope::new(alloc);
+    match imposition.impose(&mut text, &mut Openings::new(alloc), seat, sheet) {
+        Ok(()) => {}
         Err(error) => return Err(error),
-    };
-    let Ok(text) = finished.text.to_vec(alloc) else {
+    }
+    let Ok(text) = text.to_vec(alloc) else {
         return Err(ImposeError::NoMemory);
     };
     Ok(Imposed { sheet, text })
@@ -95,35 +90,35 @@ pub struct Imposition<'s, 'r, 'j, 't, 'd> {
 
 impl<'s, 'r, 'j, 't, 'd> Imposition<'s, 'r, 'j, 't, 'd> {
     /// Does what `impose` does, with texts before placed pages that were kept from other sheets, and in the memory of
-    /// `spent`, a text that nobody needs any more or an empty one.
+    /// this text. What it had before is gone.
     pub fn impose(
         &self,
-        spent: Rope<'r>,
+        text: &mut Rope<'r>,
         openings: &mut Openings,
         seat: &mut Seat,
         sheet: u32,
-    ) -> Result<FinishedSheet<'r>, ImposeError>
+    ) -> Result<(), ImposeError>
         requires seat { IsSeatOf self.now.table.now seat.old }
         requires sheet { sheet < length self.now.job.now.plan.sheets }
         requires complete { IsComplete self.now.table.now.layout seat.old.front sheet }
-        ensures text { IfOk result (λ m. (m.sheet ≡ sheet) × (m.text ≡ text_of self.now.job.now sheet)) }
+        ensures text { OnOk result (text.new ≡ text_of self.now.job.now sheet) }
         ensures looked_up { MatchResult result
             (λ m. LooksUp (pages_of self.now.table.now.layout sheet) (length (pages_of self.now.table.now.layout sheet))
             seat.old seat.new)
             (λ e. LooksUpUntil (pages_of self.now.table.now.layout sheet) e seat.old seat.new) }
     {
         let job = self.job;
-        let Ok(mut text) = begin_sheet(spent, job, sheet) else {
+        let Ok(()) = begin_sheet(text, job, sheet) else {
             return Err(ImposeError::NoMemory);
         };
-        match self.append_shelved_slots(&mut text, openings, seat, sheet) {
+        match self.append_shelved_slots(text, openings, seat, sheet) {
             Ok(()) => {}
             Err(error) => return Err(error),
         }
-        let Ok(()) = end_sheet(&mut text, job, sheet) else {
+        let Ok(()) = end_sheet(text, job, sheet) else {
             return Err(ImposeError::NoMemory);
         };
-        Ok(FinishedSheet { sheet, text })
+        Ok(())
     }
 
     /// Looks up the pages of all slots of a sheet, in order, and appends the slots' texts.

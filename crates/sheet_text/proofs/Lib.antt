@@ -7,3 +7,4 @@ pub mod Ropes
 pub mod LineEnds
 pub mod HemKinds
 pub mod Rooming
+pub mod TextsBehind

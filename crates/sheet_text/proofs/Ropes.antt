@@ -120,3 +120,22 @@ pub closed : {E : Type 0} (r : Result (Unit {0}) E) (own : List ℕ) (ss : List 
     → OnOk r (new ≡ own ++ more) → AreInPlace 0 (length own) ss → OnOk r (woven 0 new ss ≡ value ++ more)
 closed (Ok u) own ss value new more view is placed = woven_grown own ss value new more view is placed
 closed (Err e) own ss value new more view is placed = tt
+
+-- the bytes of the slices from this one on
+pub bytes_from : (n : ℕ) (ss : List Placed) (d : Placed) → n < length ss → bytes_of (drop n ss) ≡ length (slice_index_or ss n d).bytes.now + bytes_of (drop (n + 1) ss)
+bytes_from n ss d h =
+    let one = slice_index_or ss n d in
+    let sums : bytes_of (one ∷ drop (n + 1) ss) ≡ (0 + length one.bytes.now) + bytes_of (drop (n + 1) ss) = sum_by-append (λ x. length x.bytes.now) (one ∷ []) (drop (n + 1) ss) in
+    ap (λ xs. bytes_of xs) (first_of n ss d h) ∙ omega (arith, sums)
+
+pub no_bytes_behind : (n : ℕ) (ss : List Placed) → length ss ≤ n → bytes_of (drop n ss) ≡ 0
+no_bytes_behind n ss h = ap (λ xs. bytes_of xs) (drop_of_length-le ss h)
+
+-- one slice more is counted, or can't be
+pub counted_on : (n : ℕ) (ss : List Placed) (d : Placed) (count : ℕ) {next total : ℕ} → n < length ss → count + length (slice_index_or ss n d).bytes.now ≡ next
+    → count + bytes_of (drop n ss) ≡ total → next + bytes_of (drop (n + 1) ss) ≡ total
+counted_on n ss d count h step all = let left = bytes_from n ss d h in omega (arith, left, step, all)
+
+pub not_counted : (n : ℕ) (ss : List Placed) (d : Placed) (count : ℕ) {most total : ℕ} → n < length ss → (count + length (slice_index_or ss n d).bytes.now < suc most → ⊥)
+    → count + bytes_of (drop n ss) ≡ total → most < total
+not_counted n ss d count h step all = let left = bytes_from n ss d h in omega (arith, left, step, all)

@@ -6,3 +6,4 @@ pub mod Jobs
 pub mod PapersOf
 pub mod Rooms
 pub mod Ropes
+pub mod Texts

@@ -7,9 +7,11 @@ mod openings;
 mod papers;
 mod rope;
 mod sheet;
+mod texts;
 
 pub use dress::{Dress, Lines, SheetLines};
 pub use job::Job;
 pub use openings::Openings;
 pub use rope::{Pieces, Rope};
 pub use sheet::{append_placed, begin_sheet, end_sheet, sheet_rope, sheet_text};
+pub use texts::{Joined, Texts};

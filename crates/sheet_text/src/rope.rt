@@ -13,15 +13,15 @@ pub(crate) const LEAST_BORROWED: usize = 4_096;
 /// sees it as the list of all its bytes.
 #[derive(Drop)]
 pub struct Rope<'r> {
-    own: Vec<u8>,
-    slices: Vec<Placed<'r>>,
+    pub(crate) own: Vec<u8>,
+    pub(crate) slices: Vec<Placed<'r>>,
 }
 
 /// A slice that stands before the byte `at` of a rope's own bytes, or behind all of them.
 #[derive(Clone, Copy)]
-struct Placed<'r> {
-    at: usize,
-    bytes: &'r [u8],
+pub(crate) struct Placed<'r> {
+    pub(crate) at: usize,
+    pub(crate) bytes: &'r [u8],
 }
 
 impl<'r> Model for Rope<'r> {
@@ -98,18 +98,6 @@ impl<'r> Rope<'r> {
         self.own.capacity()
     }
 
-    /// How many bytes the text has. None if there are more than a number can count: one slice may stand in it often.
-    pub fn len(&self) -> Option<usize>
-        ensures counted { IfSome result (λ count. count ≡ length self.now) }
-        ensures uncounted { IsNone result → usize.MAX < length self.now }
-    {
-        let mut count = self.own.len();
-        for placed in self.slices.as_slice() {
-            count = count.checked_add(placed.bytes.len())?;
-        }
-        Some(count)
-    }
-
     /// Its pieces from the first on.
     pub fn pieces(&self) -> Pieces<'_, 'r>
         ensures { result ≡ self.now }
@@ -139,11 +127,11 @@ impl<'r> Rope<'r> {
 #[derive(Drop)]
 pub struct Pieces<'p, 'r> {
     /// The place of the first of its own bytes that are left.
-    from: usize,
-    own: &'p [u8],
-    slices: &'p [Placed<'r>],
+    pub(crate) from: usize,
+    pub(crate) own: &'p [u8],
+    pub(crate) slices: &'p [Placed<'r>],
     /// The index of the first slice that is left.
-    next: usize,
+    pub(crate) next: usize,
 }
 
 impl<'p, 'r> Model for Pieces<'p, 'r> {
@@ -158,6 +146,18 @@ impl<'p, 'r> Model for Pieces<'p, 'r> {
 }
 
 impl<'p, 'r> Pieces<'p, 'r> {
+    /// How many bytes they have. None if there are more than a number can count: one slice may stand among them often.
+    pub fn len(&self) -> Option<usize>
+        ensures counted { IfSome result (λ count. count ≡ length self.now) }
+        ensures uncounted { IsNone result → usize.MAX < length self.now }
+    {
+        let mut count = self.own.len();
+        for nth in self.next..self.slices.len() {
+            count = count.checked_add(self.slices[nth].bytes.len())?;
+        }
+        Some(count)
+    }
+
     /// Takes the next piece, which has a byte at least. None if none is left.
     pub fn take_next(&mut self) -> Option<&'p [u8]>
         ensures taken { IfSome result (λ piece. self.old ≡ piece.now ++ self.new) }

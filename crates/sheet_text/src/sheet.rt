@@ -34,31 +34,27 @@ pub fn sheet_rope<'r>(alloc: Global, job: &Job<'_, '_>, sheet: u32) -> Result<Ro
     requires { sheet < length job.now.plan.sheets }
     ensures { IfOk result (λ text. text ≡ text_of job.now sheet) }
 {
-    let mut text = begin_sheet(Rope::new(alloc), job, sheet)?;
+    let mut text = Rope::new(alloc);
+    begin_sheet(&mut text, job, sheet)?;
     append_slots(alloc, &mut text, job, sheet)?;
     end_sheet(&mut text, job, sheet)?;
     Ok(text)
 }
 
-/// The page line of a sheet and the lines at its start. The memory of `spent`, a text that nobody needs any more or an
-/// empty one, is used again. A text without memory gets room for about all that is copied into the text of the sheet.
-pub fn begin_sheet<'r>(
-    spent: Rope<'r>,
-    job: &Job<'_, '_>,
-    sheet: u32,
-) -> Result<Rope<'r>, AllocError>
+/// Makes a text the page line of a sheet and the lines at its start. What it had before is gone, and its memory is used
+/// again. A text without memory gets room for about all that is copied into the text of the sheet.
+pub fn begin_sheet(text: &mut Rope<'_>, job: &Job<'_, '_>, sheet: u32) -> Result<(), AllocError>
     requires { sheet < length job.now.plan.sheets }
-    ensures { IfOk result (λ text. text ≡ page_line sheet ++ lines_text (sheet_of job.now sheet).start) }
+    ensures { OnOk result (text.new ≡ page_line sheet ++ lines_text (sheet_of job.now sheet).start) }
 {
-    let mut text = spent;
     text.clear();
     // One that was used before mostly has the room.
     if text.capacity() == 0 {
         text.reserve(likely_len(job, sheet))?;
     }
-    append_page_line(&mut text, sheet)?;
+    append_page_line(text, sheet)?;
     text.append(job.start(sheet))?;
-    Ok(text)
+    Ok(())
 }
 
 /// Appends the lines at the end of a sheet, and the line that ends it and prints it.

@@ -1,5 +1,5 @@
 -- How the steps of writing make the output.
-use Rattle.std.proofs.Common.{ℕ, zero, suc, ◌+◌, ◌≤◌, ◌<◌, ◌≡◌, ◌∙◌, refl, ap, sym, subst, List, [], ◌∷◌, ◌++◌, length, take, drop, Option, Some, None, slice_get, true, true≢false, ◌⊎◌, inl, inr, ⊎_elim, slice_set, arith, append_assoc, append-nil}
+use Rattle.std.proofs.Common.{ℕ, zero, suc, ◌+◌, ◌≤◌, ◌≡◌, ◌∙◌, refl, ap, sym, subst, List, [], ◌∷◌, ◌++◌, length, take, drop, Option, Some, None, slice_get, true, true≢false, ◌⊎◌, inl, inr, ⊎_elim, slice_set, arith, append_assoc, append-nil}
 use Rattle.std.specs.Prelude.{flat_map, is_some}
 use Rattle.std.specs.List.{range_with_len}
 use Rattle.std.specs.Io.KnownBytes.{Appends, Keeps}
@@ -11,8 +11,8 @@ use Rattle.rules.specs.Filters.{trailer_text}
 use Rattle.made_sheets.specs.MadeOutput.{dressed_preamble}
 use Rattle.sheet_text.specs.Jobs.{JobView, text_of, output_of}
 use Rattle.sheet_writer.specs.Sinks.{SinkView, Took, FailedBehind, IsUntouched}
-use Rattle.sheet_writer.specs.Writing.{front_text, WroteFirst, AfterHalt, Halts, Handed, HasFront, HasAll, Stands, Ends, AreEarly}
-use Rattle.sheet_writer.specs.declared.early.FinishedSheet.{FinishedSheet}
+use Rattle.sheet_writer.specs.Writing.{front_text, WroteFirst, AfterHalt, Halts, Handed, HasFront, HasAll, Stands, Ends, HaveTexts, AreEarly, texts_from}
+use Rattle.sheet_writer.specs.declared.early.FinishedSheets.{FinishedSheets}
 use Rattle.sheet_writer.specs.declared.writing.Halt.{Halt}
 use Rattle.sheet_writer.specs.declared.writing.Halt.TheVariants.{Failed, NoMemory}
 use Rattle.sheet_writer.specs.declared.writing.Progress.{Progress}
@@ -106,14 +106,23 @@ handed_behind job start old new p q text grown within none handed stands =
     (λ (more, same). (subst (WroteFirst job start new) (sym (more ∙ was.1)) (wrote_front job start old new p.next was.2.0 same.0), same.1 ∙ was.2.1))
     handed
 
--- the next sheet was handed to the sink
-pub sheet_handed : (job : JobView) (start old new : SinkView) (p q : Progress) (text : List ℕ)
-    → q.next ≡ p.next + 1 → p.next < length job.plan.sheets → text ≡ text_of job p.next → p.halted ≡ None
+-- some sheets more
+front_more : (job : JobView) (n count : ℕ) → n + count ≤ length job.plan.sheets → front_text job n ++ texts_from job n count ≡ front_text job (n + count)
+front_more job n zero within = append-nil (front_text job n) ∙ ap (front_text job) (omega arith)
+front_more job n (suc count) within =
+    let header = dressed_preamble (length job.plan.sheets) job.header job.units in
+    sym (append_assoc (front_text job n) (text_of job n) (texts_from job (n + 1) count))
+    ∙ ap (λ t. t ++ texts_from job (n + 1) count) (job_sheet_more job header n (omega (arith, within)))
+    ∙ front_more job (n + 1) count (omega (arith, within)) ∙ ap (front_text job) (omega arith)
+
+-- the next sheets were handed to the sink
+pub sheets_handed : (job : JobView) (start old new : SinkView) (p q : Progress) (text : List ℕ) (count : ℕ)
+    → q.next ≡ p.next + count → p.next + count ≤ length job.plan.sheets → text ≡ texts_from job p.next count → p.halted ≡ None
     → Handed text old new p q → Stands job start old p → Stands job start new q
-sheet_handed job start old new p q text next within is =
+sheets_handed job start old new p q text count next within is =
     handed_behind job start old new p q text
-    (ap (λ t. front_text job p.next ++ t) is ∙ job_sheet_more job (dressed_preamble (length job.plan.sheets) job.header job.units) p.next within ∙ ap (front_text job) (sym next))
-    (omega (arith, next))
+    (ap (λ t. front_text job p.next ++ t) is ∙ front_more job p.next count within ∙ ap (front_text job) (sym next))
+    (omega (arith, next, within))
 
 -- the header was handed to it, before anything else
 pub header_handed : (job : JobView) (old new : SinkView) (p q : Progress) (text : List ℕ)
@@ -153,14 +162,14 @@ some_inside {A = A} x y e = ap (λ o. inside o) e
     inside (Some z) = z
 
 -- a sheet's place was emptied
-pub early_taken : (job : JobView) (places : List (Option FinishedSheet)) (j : ℕ) (x : Option FinishedSheet) → x ≡ None → AreEarly job places → AreEarly job (slice_set places j x)
+pub early_taken : (job : JobView) (places : List (Option FinishedSheets)) (j : ℕ) (x : Option FinishedSheets) → x ≡ None → AreEarly job places → AreEarly job (slice_set places j x)
 early_taken job places j x none early k m at =
     ⊎_elim (λ p. absurd (cc (none, p.1))) (λ p. early k m p) (found_after places j k x (Some m) at)
 
 -- a sheet's place was filled
-pub early_filled : (job : JobView) (places : List (Option FinishedSheet)) (j : ℕ) (new : FinishedSheet) → new.text ≡ text_of job new.sheet → AreEarly job places → AreEarly job (slice_set places j (Some new))
+pub early_filled : (job : JobView) (places : List (Option FinishedSheets)) (j : ℕ) (new : FinishedSheets) → HaveTexts (text_of job) new → AreEarly job places → AreEarly job (slice_set places j (Some new))
 early_filled job places j new is early k m at = ⊎_elim
-    (λ p. let same : new ≡ m = some_inside new m (some_inside (Some new) (Some m) p.1) in subst (λ t. t.text ≡ text_of job t.sheet) same is)
+    (λ p. let same : new ≡ m = some_inside new m (some_inside (Some new) (Some m) p.1) in subst (λ t. HaveTexts (text_of job) t) same is)
     (λ p. early k m p)
     (found_after places j k (Some new) (Some m) at)
 
@@ -170,6 +179,11 @@ pub starved : (job : JobView) (start now : SinkView) (p : Progress) (n : ℕ) �
 starved job start now p n none stands =
     let was = while_going job start now p (HasFront job start now p) none stands in
     (subst (WroteFirst job start now) (sym was.1) (wrote_front job start now now p.next was.2.0 (Keeps-refl now.bytes)), was.2.1)
+
+-- the next sheet couldn't be made
+pub starves : (job : JobView) (start now : SinkView) (p q : Progress) → p.halted ≡ None → q ≡ record { next = p.next; written = p.written; halted = Some NoMemory }
+    → Stands job start now p → Stands job start now q
+starves job start now p q none is stands = subst (λ r. Stands job start now r) (sym is) (starved job start now p p.next none stands)
 
 -- what was halted has ended
 pub halted_ends : (job : JobView) (start now : SinkView) (p : Progress) → is_some p.halted ≡ true → Stands job start now p → Ends job start now p
@@ -206,10 +220,10 @@ trailer_handed job start old new p q text all is none handed stands =
     handed
 
 -- no sheet came yet
-abbrev pub AreNone : List (Option FinishedSheet) → Type 0
-AreNone places = (k : ℕ) (m : FinishedSheet) → slice_get places k ≡ Some (Some m) → ⊥
+abbrev pub AreNone : List (Option FinishedSheets) → Type 0
+AreNone places = (k : ℕ) (m : FinishedSheets) → slice_get places k ≡ Some (Some m) → ⊥
 
-pub none_pushed : (places : List (Option FinishedSheet)) → AreNone places → AreNone (places ++ None ∷ [])
+pub none_pushed : (places : List (Option FinishedSheets)) → AreNone places → AreNone (places ++ None ∷ [])
 none_pushed [] none zero m at = absurd (cc (at))
 none_pushed [] none (suc k) m at = absurd (cc (at))
 none_pushed (x ∷ places) none zero m at = none zero m at

@@ -2,3 +2,4 @@ pub mod Appending
 pub mod Sheets
 pub mod Fronts
 pub mod Places
+pub mod InRow

@@ -1,34 +1,91 @@
 -- What lies in a sheet's place.
-use Rattle.std.proofs.Common.{ℕ, suc, ◌+◌, ◌-◌, ◌<◌, ◌≤◌, ◌%◌, ◌≡◌, ◌∙◌, sym, ap, subst, Bool, List, Option, Some, length}
-use Rattle.std.proofs.Common.{max, if◌then◌else◌, arith}
-use Rattle.std.specs.Prelude.{slice_get}
-use Rattle.std.proofs.Math.ListN.{get_or}
-use Rattle.std.proofs.lemmas.Option.{get_or_from_slice_get}
-use Rattle.sheet_writer.specs.declared.early.FinishedSheet.{FinishedSheet}
-use Rattle.sheet_writer.specs.Places.{in_place, has_come, not_come}
-
-inside_same : (a b : FinishedSheet) → Some (Some a) ≡ Some (Some b) → a ≡ b
-inside_same a b is = cc
-
--- what is found at the number of the place is what lies there
-pub lies_in_place : (places : List (Option FinishedSheet)) (sheet n len : ℕ) (m x : FinishedSheet) (o : Option FinishedSheet) → in_place places sheet ≡ Some (Some m)
-    → n ≡ max len 1 → len ≡ length places → sheet % n < len → o ≡ get_or places (sheet % n) o → o ≡ Some x → x ≡ m
-lies_in_place places sheet n len m x o there bound is below found holds =
-    let same : n ≡ length places = omega (arith, bound, is, below) in
-    let at : slice_get places (sheet % n) ≡ Some (Some m) = ap (λ k. slice_get places (sheet % k)) same ∙ there in
-    let read : get_or places (sheet % n) o ≡ Some m = get_or_from_slice_get places (sheet % n) (Some m) o at in
-    inside_same x m (ap (λ t. Some t) (sym holds ∙ found ∙ read))
+use Rattle.std.proofs.Common.{ℕ, suc, ◌+◌, ◌-◌, ◌<◌, ◌≤◌, ◌≡◌, ◌∙◌, sym, ap, subst, refl, Bool}
+use Rattle.std.proofs.Common.{if◌then◌else◌, arith, zero, ◌%◌, true, false, true≢false, slice_set, [], ◌∷◌, List, Option, Some, None, length, slice_index_or, eq-eqb, ne_eqb}
+use Rattle.std.specs.Prelude.{slice_get, is_some, IfSome, IsNone, MatchOption}
+use Rattle.std.proofs.lemmas.Option.{slice_get_read}
+use Rattle.sheet_writer.specs.declared.early.FinishedSheets.{FinishedSheets}
+use Rattle.sheet_writer.specs.declared.early.Place.{Place}
+use Rattle.sheet_writer.specs.Places.{place_of, in_place, is_number, is_nth, is_there}
+use Rattle.sheet_writer.specs.declared.early.Early.{Early}
+use Rattle.sheet_writer.specs.Places.{has_come, not_come}
 
 -- one sheet more of those that didn't come
 abbrev one_without : Bool → ℕ
 one_without b = if b then 0 else 1
 
-pub count_next : (places now : List (Option FinishedSheet)) (first sheet counted : ℕ) → first ≤ sheet → ((t : ℕ) → sheet ≤ t → has_come now t ≡ has_come places t)
-    → counted ≡ not_come places first (sheet - first)
-    → counted + one_without (has_come now sheet) ≡ not_come places first (sheet + 1 - first)
-count_next places now first sheet counted le same is =
+pub count_next : (early : Early) (first sheet counted : ℕ) → first ≤ sheet → counted ≡ not_come early first (sheet - first)
+    → counted + one_without (has_come early sheet) ≡ not_come early first (sheet + 1 - first)
+count_next early first sheet counted le is =
     let there : first + (sheet - first) ≡ sheet = omega (arith, le) in
-    let one : one_without (has_come now sheet) ≡ one_without (has_come places (first + (sheet - first))) =
-    ap one_without (same sheet (omega arith) ∙ ap (has_come places) (sym there)) in
+    let one : one_without (has_come early sheet) ≡ one_without (has_come early (first + (sheet - first))) = ap (λ s. one_without (has_come early s)) (sym there) in
     let e : suc (sheet - first) ≡ sheet + 1 - first = omega (arith, le) in
-    subst (λ k. counted + one_without (has_come now sheet) ≡ not_come places first k) e (omega (arith, one, is))
+    subst (λ k. counted + one_without (has_come early sheet) ≡ not_come early first k) e (omega (arith, one, is))
+
+-- what lies at this place
+pub lies_at : (groups : List (Option FinishedSheets)) (k : ℕ) (o : Option FinishedSheets) (finished : FinishedSheets) → k < length groups → o ≡ slice_index_or groups k o
+    → o ≡ Some finished → slice_get groups k ≡ Some (Some finished)
+lies_at groups k o finished lt is holds = slice_get_read groups (length groups) k o refl lt is ∙ ap (λ x. Some x) holds
+
+-- whether the sheet came, if these are its place and what lies there
+pub comes_by : (early : Early) (sheet place : ℕ) (p : Place) (o : Option FinishedSheets) (finished : FinishedSheets)
+    → place ≡ place_of early sheet → place < length early.places.items → p ≡ slice_index_or early.places.items place p
+    → p.group < length early.groups.items → o ≡ slice_index_or early.groups.items p.group o → o ≡ Some finished
+    → has_come early sheet ≡ is_number sheet (slice_get finished.sheets.items p.nth)
+comes_by early sheet place p o finished at lt is group_lt group_is holds =
+    let its : slice_get early.places.items (place_of early sheet) ≡ Some p =
+    ap (λ k. slice_get early.places.items k) (sym at) ∙ slice_get_read early.places.items (length early.places.items) place p refl lt is in
+    let those = lies_at early.groups.items p.group o finished group_lt group_is holds in
+    ap (λ x. is_there sheet early.groups.items x) its ∙ ap (λ x. is_nth sheet p.nth x) those
+
+number_is : (sheet : ℕ) (at : Option ℕ) → at ≡ Some sheet → is_number sheet at ≡ true
+number_is sheet at is = ap (λ x. is_number sheet x) is ∙ eq-eqb sheet sheet refl
+
+number_is_not : (sheet : ℕ) (at : Option ℕ) → (at ≡ Some sheet → ⊥) → is_number sheet at ≡ false
+number_is_not sheet None other = refl
+number_is_not sheet (Some number) other = ne_eqb number sheet (λ same. other (ap (λ x. Some x) same))
+
+-- the answer tells whether it came
+pub told_by : {X : Type 0} (o : Option X) (come : Bool) (sheet : ℕ) (at : Option ℕ) → come ≡ is_number sheet at
+    → IfSome o (λ x. at ≡ Some sheet) → (IsNone o → at ≡ Some sheet → ⊥) → MatchOption o (come ≡ false) (λ x. come ≡ true)
+told_by None come sheet at is found none = is ∙ number_is_not sheet at (none refl)
+told_by (Some x) come sheet at is found none = is ∙ number_is sheet at found
+
+-- what lies in the place of a sheet that is free, or not
+pub free_place : (early : Early) (sheet place : ℕ) (o : Option FinishedSheets) → place ≡ place_of early sheet → place < length early.groups.items
+    → o ≡ slice_index_or early.groups.items place o → in_place early sheet ≡ Some o
+free_place early sheet place o at lt is =
+    ap (λ k. slice_get early.groups.items k) (sym at) ∙ slice_get_read early.groups.items (length early.groups.items) place o refl lt is
+
+-- a place that was filled, and the others
+get_filled : {A : Type 0} (xs : List A) (k : ℕ) (x : A) → k < length xs → slice_get (slice_set xs k x) k ≡ Some x
+get_filled [] k x lt = absurd (omega (arith, lt))
+get_filled (y ∷ xs) zero x lt = refl
+get_filled (y ∷ xs) (suc k) x lt = get_filled xs k x (omega (arith, lt))
+
+length_filled : {A : Type 0} (xs : List A) (k : ℕ) (x : A) → length (slice_set xs k x) ≡ length xs
+length_filled [] k x = refl
+length_filled (y ∷ xs) zero x = refl
+length_filled (y ∷ xs) (suc k) x = ap suc (length_filled xs k x)
+
+get_other : {A : Type 0} (xs : List A) (k j : ℕ) (x : A) → (j ≡ k → ⊥) → slice_get (slice_set xs k x) j ≡ slice_get xs j
+get_other [] k j x other = refl
+get_other (y ∷ xs) zero zero x other = absurd (other refl)
+get_other (y ∷ xs) zero (suc j) x other = refl
+get_other (y ∷ xs) (suc k) zero x other = refl
+get_other (y ∷ xs) (suc k) (suc j) x other = get_other xs k j x (λ same. other (ap suc same))
+
+pub filled_place : (early : Early) (sheet place : ℕ) (finished : FinishedSheets) {groups : List (Option FinishedSheets)} → groups ≡ early.groups.items
+    → place ≡ place_of early sheet → place < length early.groups.items
+    → slice_get (slice_set groups place (Some finished)) (sheet % length (slice_set groups place (Some finished))) ≡ Some (Some finished)
+filled_place early sheet place finished {groups} same at lt =
+    let len : length (slice_set groups place (Some finished)) ≡ length early.groups.items = length_filled groups place (Some finished) ∙ ap (λ xs. length xs) same in
+    let here : sheet % length (slice_set groups place (Some finished)) ≡ place = ap (λ n. sheet % n) len ∙ sym at in
+    ap (λ k. slice_get (slice_set groups place (Some finished)) k) here ∙ get_filled groups place (Some finished) (subst (λ xs. place < length xs) (sym same) lt)
+
+pub other_place : (groups before : List (Option FinishedSheets)) (place k : ℕ) (x : Option FinishedSheets) → groups ≡ before → (k ≡ place → ⊥)
+    → slice_get (slice_set groups place x) k ≡ slice_get before k
+other_place groups before place k x same other = get_other groups place k x other ∙ ap (λ xs. slice_get xs k) same
+
+pub none_there : (o : Option FinishedSheets) (other : FinishedSheets) → is_some o ≡ false → Some o ≡ Some (Some other) → ⊥
+none_there None other none there = cc (there)
+none_there (Some x) other none there = true≢false none

@@ -1,27 +1,44 @@
 -- The places of sheets that wait for their turn.
-use Rattle.std.specs.Prelude.{ℕ, zero, suc, ◌+◌, ◌%◌, ◌==◌, Bool, false, if◌then◌else◌, List, length, slice_get}
+use Rattle.std.specs.Prelude.{ℕ, zero, suc, ◌+◌, ◌%◌, ◌==◌, Bool, false, if◌then◌else◌, List, [], ◌∷◌, length, max, slice_get}
 use Rattle.std.specs.Prelude.{Option, Some, None}
-use Rattle.sheet_writer.specs.declared.early.FinishedSheet.{FinishedSheet}
+use Rattle.sheet_writer.specs.declared.early.Early.{Early}
+use Rattle.sheet_writer.specs.declared.early.FinishedSheets.{FinishedSheets}
+use Rattle.sheet_writer.specs.declared.early.Place.{Place}
+
+-- the last of these sheets
+abbrev pub last_of : List ℕ → ℕ
+last_of [] = 0
+last_of (sheet ∷ sheets) = max sheet (last_of sheets)
 
 -- the number of a sheet's place
-abbrev pub place_of : List (Option FinishedSheet) → ℕ → ℕ
-place_of places sheet = sheet % length places
+abbrev pub place_of : Early → ℕ → ℕ
+place_of early sheet = sheet % length early.groups.items
 
--- what stands in the place of this sheet, if there is such a place
-abbrev pub in_place : List (Option FinishedSheet) → ℕ → Option (Option FinishedSheet)
-in_place places sheet = slice_get places (place_of places sheet)
+-- what lies at the place of this sheet, if there is such a place
+abbrev pub in_place : Early → ℕ → Option (Option FinishedSheets)
+in_place early sheet = slice_get early.groups.items (place_of early sheet)
 
--- this sheet lies there
-abbrev pub is_there : ℕ → Option (Option FinishedSheet) → Bool
-is_there sheet None = false
-is_there sheet (Some None) = false
-is_there sheet (Some (Some imposed)) = imposed.sheet == sheet
+-- this number is that of the sheet
+abbrev pub is_number : ℕ → Option ℕ → Bool
+is_number sheet None = false
+is_number sheet (Some number) = number == sheet
 
--- the sheet came, and wasn't taken yet: it lies in its place
-abbrev pub has_come : List (Option FinishedSheet) → ℕ → Bool
-has_come places sheet = is_there sheet (in_place places sheet)
+-- among these sheets it is the one with this index
+abbrev pub is_nth : ℕ → ℕ → Option (Option FinishedSheets) → Bool
+is_nth sheet nth None = false
+is_nth sheet nth (Some None) = false
+is_nth sheet nth (Some (Some finished)) = is_number sheet (slice_get finished.sheets.items nth)
+
+-- it lies where its place says
+abbrev pub is_there : ℕ → List (Option FinishedSheets) → Option Place → Bool
+is_there sheet groups None = false
+is_there sheet groups (Some place) = is_nth sheet place.nth (slice_get groups place.group)
+
+-- the sheet came, and not all that came with it are written
+abbrev pub has_come : Early → ℕ → Bool
+has_come early sheet = is_there sheet early.groups.items (slice_get early.places.items (place_of early sheet))
 
 -- how many of n sheets, from the first one on, didn't come
-abbrev pub not_come : List (Option FinishedSheet) → (first n : ℕ) → ℕ
-not_come places first zero = 0
-not_come places first (suc n) = not_come places first n + (if has_come places (first + n) then 0 else 1)
+abbrev pub not_come : Early → (first n : ℕ) → ℕ
+not_come early first zero = 0
+not_come early first (suc n) = not_come early first n + (if has_come early (first + n) then 0 else 1)

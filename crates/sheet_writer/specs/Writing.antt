@@ -1,11 +1,11 @@
 -- How far the output of a job is written.
-use Rattle.std.specs.Prelude.{◌≡◌, ℕ, ◌+◌, ◌≤◌, List, ◌++◌, length, take, flat_map, slice_get, Option, Some, None}
+use Rattle.std.specs.Prelude.{◌≡◌, ℕ, ◌+◌, ◌≤◌, List, ◌++◌, length, take, flat_map, map, slice_get, Option, Some, None}
 use Rattle.std.specs.List.{range_with_len}
 use Rattle.std.specs.Io.KnownBytes.{Appends}
 use Rattle.made_sheets.specs.MadeOutput.{dressed_preamble}
 use Rattle.sheet_text.specs.Jobs.{JobView, text_of, output_of}
 use Rattle.sheet_writer.specs.Sinks.{SinkView, Took, FailedBehind, IsUntouched}
-use Rattle.sheet_writer.specs.declared.early.FinishedSheet.{FinishedSheet}
+use Rattle.sheet_writer.specs.declared.early.FinishedSheets.{FinishedSheets}
 use Rattle.sheet_writer.specs.declared.writing.Halt.{Halt}
 use Rattle.sheet_writer.specs.declared.writing.Halt.TheVariants.{Failed, NoMemory}
 use Rattle.sheet_writer.specs.declared.writing.Progress.{Progress}
@@ -15,6 +15,10 @@ abbrev pub front_text : JobView → ℕ → List ℕ
 front_text job n =
     dressed_preamble (length job.plan.sheets) job.header job.units
     ++ flat_map (text_of job) (take n (range_with_len 0 (length job.plan.sheets)))
+
+-- the texts of so many sheets, from this one on
+abbrev pub texts_from : JobView → (first count : ℕ) → List ℕ
+texts_from job first count = flat_map (text_of job) (range_with_len first count)
 
 -- the first n bytes of the output were written, and nothing else
 abbrev pub WroteFirst : JobView → (old new : SinkView) → ℕ → Type 0
@@ -64,6 +68,10 @@ Ends job old new p = Halts job old new p (HasAll job old new p)
 abbrev pub EndsAfter : JobView → (old new : SinkView) → Progress → Progress → Type 0
 EndsAfter job old new p q = (start : SinkView) → Stands job start old p → Ends job start new q
 
--- each sheet that came before its turn has its text
-abbrev pub AreEarly : JobView → List (Option FinishedSheet) → Type 0
-AreEarly job places = (k : ℕ) (m : FinishedSheet) → slice_get places k ≡ Some (Some m) → m.text ≡ text_of job m.sheet
+-- each of these sheets has the text that is its own
+abbrev pub HaveTexts : (text : ℕ → List ℕ) → FinishedSheets → Type 0
+HaveTexts text m = m.texts ≡ map text m.sheets.items
+
+-- so has each sheet that came before its turn
+abbrev pub AreEarly : JobView → List (Option FinishedSheets) → Type 0
+AreEarly job groups = (k : ℕ) (m : FinishedSheets) → slice_get groups k ≡ Some (Some m) → HaveTexts (text_of job) m

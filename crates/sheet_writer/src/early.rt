@@ -1,88 +1,234 @@
 //! The sheets that came before their turn.
-ghost use Rattle.std.specs.Prelude.{◌≡◌, ◌≢◌, ℕ, Option, Some, None, length, slice_get, true, false, IfOk, IfSome};
-ghost use Rattle.std.specs.Prelude.{MatchOption};
+ghost use Rattle.std.specs.Prelude.{◌≡◌, ◌≢◌, ℕ, ◌+◌, ◌<◌, ◌≤◌, ◌++◌, ◌∷◌, Option, Some, None, [], length, take, drop, slice_get, true, false};
+ghost use Rattle.std.specs.Prelude.{List, flat_map, IfOk, IfSome, IsNone, MatchOption, OnOk, OnErr};
+ghost use Rattle.std.specs.List.{range_with_len};
 ghost use Rattle.sheet_text.specs.Jobs.{JobView, text_of};
-ghost use Rattle.sheet_writer.specs.Writing.{AreEarly};
-ghost use Rattle.sheet_writer.specs.declared.early.FinishedSheet.{FinishedSheet};
-ghost use Rattle.sheet_writer.specs.Places.{place_of, in_place, has_come};
+ghost use Rattle.sheet_writer.specs.Writing.{HaveTexts, AreEarly, texts_from};
+ghost use Rattle.sheet_writer.specs.declared.early.FinishedSheets.{FinishedSheets};
+ghost use Rattle.sheet_writer.specs.Places.{last_of, place_of, in_place, has_come};
 
-use sheet_text::Rope;
+use sheet_text::{Joined, Rope, Texts};
 use std::alloc::{AllocError, Global};
 
-/// A finished sheet, counted from 0, with its text.
+/// Finished sheets, counted from 0, and the text of each.
 #[derive(Drop)]
-pub struct FinishedSheet<'r> {
-    pub sheet: u32,
-    pub text: Rope<'r>,
+pub struct FinishedSheets<'r> {
+    pub sheets: Vec<u32>,
+    pub texts: Texts<'r>,
 }
 
-/// Takes the texts that were written, whose memory may be used again.
+impl<'r> FinishedSheets<'r> {
+    /// None yet. They take no memory.
+    pub fn new(alloc: Global) -> Self
+        ensures sheets { result.sheets.items ≡ [] }
+        ensures texts { result.texts ≡ [] }
+    {
+        FinishedSheets {
+            sheets: Vec::new(alloc),
+            texts: Texts::new(alloc),
+        }
+    }
+
+    /// Lets all of them go. Their memory is kept.
+    pub fn clear(&mut self)
+        ensures sheets { self.new.sheets.items ≡ [] }
+        ensures texts { self.new.texts ≡ [] }
+    {
+        self.sheets.clear();
+        self.texts.clear();
+    }
+
+    /// Adds a sheet with its text, and leaves an empty text, which keeps its memory. If memory is refused, nothing is
+    /// added.
+    pub fn push(&mut self, sheet: u32, text: &mut Rope<'r>) -> Result<(), AllocError>
+        ensures sheet { OnOk result (self.new.sheets.items ≡ self.old.sheets.items ++ sheet ∷ []) }
+        ensures text { OnOk result (self.new.texts ≡ self.old.texts ++ text.old ∷ []) }
+        ensures emptied { OnOk result (text.new ≡ []) }
+        ensures unchanged { OnErr result ((self.new.sheets.items ≡ self.old.sheets.items)
+            × (self.new.texts ≡ self.old.texts) × (text.new ≡ text.old)) }
+    {
+        self.sheets.reserve(1)?;
+        self.texts.push(text)?;
+        self.sheets.push_reserved(sheet);
+        Ok(())
+    }
+
+    /// The last of them.
+    fn last(&self) -> u32
+        ensures { result ≡ last_of self.now.sheets.items }
+    {
+        let mut last = 0;
+        for sheet in self.sheets.as_slice() {
+            last = (*sheet).max(last);
+        }
+        last
+    }
+}
+
+/// Takes sheets that were written, whose memory may be used again.
 pub trait Spent<'r> {
-    /// Takes a text that nobody needs any more.
-    fn give_back(&mut self, text: Rope<'r>);
+    /// Takes sheets whose texts nobody needs any more.
+    fn give_back(&mut self, sheets: FinishedSheets<'r>);
+}
+
+/// Where a sheet lies: among which sheets, and at which index there.
+#[derive(Clone, Copy)]
+pub struct Place {
+    pub group: usize,
+    pub nth: usize,
 }
 
 /// Places for sheets that wait for their turn. A sheet has the place that its number leaves when it is divided by
-/// their count, so the sheets of one window have places of their own.
+/// their count, so the sheets of one window have places of their own. Sheets that came together lie at the place of the
+/// last of them: when it is written, all of them are.
 #[derive(Drop)]
 pub struct Early<'r> {
-    pub places: Vec<Option<FinishedSheet<'r>>>,
+    pub places: Vec<Place>,
+    pub groups: Vec<Option<FinishedSheets<'r>>>,
 }
 
 impl<'r> Early<'r> {
     /// So many places, and no sheet yet.
     pub fn new(alloc: Global, count: u32) -> Result<Self, AllocError>
-        ensures early { IfOk result (λ early. (job : JobView) → AreEarly job early.places.items) }
-        ensures count { IfOk result (λ early. length early.places.items ≡ count) }
+        ensures early { IfOk result (λ early. (job : JobView) → AreEarly job early.groups.items) }
+        ensures places { IfOk result (λ early. length early.places.items ≡ count) }
+        ensures groups { IfOk result (λ early. length early.groups.items ≡ count) }
     {
         let mut places = Vec::with_capacity(alloc, count as usize)?;
+        let mut groups = Vec::with_capacity(alloc, count as usize)?;
         for _ in 0..count {
-            places.push_reserved(None);
+            places.push_reserved(Place { group: 0, nth: 0 });
+            groups.push_reserved(None);
         }
-        Ok(Early { places })
+        Ok(Early { places, groups })
     }
 
-    /// Puts a sheet in its place. If another sheet is there, the new one is dropped: a sheet that never came is made
-    /// anew.
-    pub fn put(&mut self, imposed: FinishedSheet<'r>)
-        ensures early { (job : JobView) → imposed.entry.text ≡ text_of job imposed.entry.sheet
-            → AreEarly job self.old.places.items → AreEarly job self.new.places.items }
+    /// Puts sheets in their places. If others lie where these are to lie, these are dropped: a sheet that never came is
+    /// made anew.
+    pub fn put(&mut self, finished: FinishedSheets<'r>)
+        ensures early { (job : JobView) → HaveTexts (text_of job) finished.entry
+            → AreEarly job self.old.groups.items → AreEarly job self.new.groups.items }
         ensures count { length self.new.places.items ≡ length self.old.places.items }
-        ensures placed { in_place self.old.places.items imposed.entry.sheet ≡ Some None
-            → in_place self.new.places.items imposed.entry.sheet ≡ Some (Some imposed.entry) }
-        ensures others { (k : ℕ) → k ≢ place_of self.old.places.items imposed.entry.sheet
-            → slice_get self.new.places.items k ≡ slice_get self.old.places.items k }
-        ensures dropped { (other : FinishedSheet) → in_place self.old.places.items imposed.entry.sheet ≡ Some (Some other)
-            → self.new.places.items ≡ self.old.places.items }
+        ensures put { in_place self.old (last_of finished.entry.sheets.items) ≡ Some None
+            → in_place self.new (last_of finished.entry.sheets.items) ≡ Some (Some finished.entry) }
+        ensures others { (k : ℕ) → k ≢ place_of self.old (last_of finished.entry.sheets.items)
+            → slice_get self.new.groups.items k ≡ slice_get self.old.groups.items k }
+        ensures dropped { (other : FinishedSheets) → in_place self.old (last_of finished.entry.sheets.items) ≡ Some (Some other)
+            → self.new ≡ self.old }
     {
-        let place = imposed.sheet as usize % self.places.len().max(1);
-        if place < self.places.len() && self.places[place].is_none() {
-            self.places[place] = Some(imposed);
+        let group = self.place_of(finished.last());
+        if group >= self.groups.len() || self.groups[group].is_some() {
+            return;
+        }
+        for nth in 0..finished.sheets.len() {
+            self.mark(finished.sheets[nth], Place { group, nth });
+        }
+        self.groups[group] = Some(finished);
+    }
+
+    /// Notes where a sheet lies.
+    fn mark(&mut self, sheet: u32, at: Place)
+        ensures groups { self.new.groups ≡ self.old.groups }
+        ensures count { length self.new.places.items ≡ length self.old.places.items }
+        ensures marked { place_of self.old sheet < length self.old.places.items → 0 < length self.old.groups.items
+            → slice_get self.new.places.items (place_of self.old sheet) ≡ Some at }
+        ensures others { (k : ℕ) → k ≢ place_of self.old sheet → 0 < length self.old.groups.items
+            → slice_get self.new.places.items k ≡ slice_get self.old.places.items k }
+    {
+        let place = self.place_of(sheet);
+        if place < self.places.len() {
+            self.places[place] = at;
         }
     }
 
-    /// Takes the text of a sheet, if it came.
-    pub fn take(&mut self, sheet: u32) -> Option<Rope<'r>>
-        ensures text { (job : JobView) → AreEarly job self.old.places.items
-            → IfSome result (λ text. text ≡ text_of job sheet) }
-        ensures left { (job : JobView) → AreEarly job self.old.places.items → AreEarly job self.new.places.items }
-        ensures found { (imposed : FinishedSheet) → in_place self.old.places.items sheet ≡ Some (Some imposed)
-            → imposed.sheet ≡ sheet → result ≡ Some imposed.text }
-        ensures other { (imposed : FinishedSheet) → in_place self.old.places.items sheet ≡ Some (Some imposed)
-            → imposed.sheet ≢ sheet → self.new.places.items ≡ self.old.places.items }
-        ensures came { MatchOption result (has_come self.old.places.items sheet ≡ false) (λ text.
-            has_come self.old.places.items sheet ≡ true) }
-        ensures others { (t : ℕ) → t ≢ sheet → has_come self.new.places.items t ≡ has_come self.old.places.items t }
+    /// The number of a sheet's place.
+    fn place_of(&self, sheet: u32) -> usize
+        ensures { 0 < length self.now.groups.items → result ≡ place_of self.now sheet }
     {
-        let place = sheet as usize % self.places.len().max(1);
+        sheet as usize % self.groups.len().max(1)
+    }
+
+    /// The text of a sheet, if it came, and those of the sheets behind it that can be written with it, so many at most.
+    pub fn joined(&self, sheet: u32, most: u32) -> Option<Joined<'_, 'r>>
+        requires most { 0 < most }
+        ensures count { IfSome result (λ j. (0 < j.count) × (j.count ≤ most)) }
+        ensures text { (job : JobView) → AreEarly job self.now.groups.items
+            → IfSome result (λ j. j.text ≡ texts_from job sheet j.count) }
+        ensures came { (job : JobView) → AreEarly job self.now.groups.items
+            → MatchOption result (has_come self.now sheet ≡ false) (λ j. has_come self.now sheet ≡ true) }
+    {
+        let place = self.place_of(sheet);
         if place >= self.places.len() {
             return None;
         }
-        let has_come = matches!(&self.places[place], Some(imposed) if imposed.sheet == sheet);
-        if !has_come {
+        let Place { group, nth } = self.places[place];
+        if group >= self.groups.len() {
             return None;
         }
-        let imposed = self.places[place].take()?;
-        Some(imposed.text)
+        let Some(finished) = &self.groups[group] else {
+            return None;
+        };
+        finished.joined(sheet, nth, most)
     }
+
+    /// The sheets that are all written when this one is, if there are such.
+    pub fn take_written(&mut self, sheet: u32) -> Option<FinishedSheets<'r>>
+        ensures early { (job : JobView) → AreEarly job self.old.groups.items → AreEarly job self.new.groups.items }
+        ensures places { self.new.places ≡ self.old.places }
+        ensures taken { IfSome result (λ m. in_place self.old sheet ≡ Some (Some m)) }
+        ensures last { IfSome result (λ m. last_of m.sheets.items ≡ sheet) }
+        ensures others { (k : ℕ) → k ≢ place_of self.old sheet
+            → slice_get self.new.groups.items k ≡ slice_get self.old.groups.items k }
+        ensures none { IsNone result → self.new ≡ self.old }
+    {
+        let place = self.place_of(sheet);
+        if place >= self.groups.len() {
+            return None;
+        }
+        let is_last = matches!(&self.groups[place], Some(finished) if finished.last() == sheet);
+        if !is_last {
+            return None;
+        }
+        self.groups[place].take()
+    }
+}
+
+impl<'r> FinishedSheets<'r> {
+    /// The text of a sheet, if it has this index, and those of the sheets behind it that can be written with it, so many
+    /// at most.
+    fn joined(&self, sheet: u32, nth: usize, most: u32) -> Option<Joined<'_, 'r>>
+        requires most { 0 < most }
+        ensures count { IfSome result (λ j. (0 < j.count) × (j.count ≤ most)) }
+        ensures text { (text : ℕ → List ℕ) → HaveTexts text self.now
+            → IfSome result (λ j. j.text ≡ flat_map text (range_with_len sheet j.count)) }
+        ensures found { (text : ℕ → List ℕ) → HaveTexts text self.now
+            → IfSome result (λ j. slice_get self.now.sheets.items nth ≡ Some sheet) }
+        ensures none { (text : ℕ → List ℕ) → HaveTexts text self.now
+            → IsNone result → slice_get self.now.sheets.items nth ≢ Some sheet }
+    {
+        if nth >= self.sheets.len() || self.sheets[nth] != sheet || nth >= self.texts.len() {
+            return None;
+        }
+        let count = count_in_row(self.sheets.as_slice(), nth, most);
+        Some(self.texts.joined(nth, count))
+    }
+}
+
+/// How many sheets follow each other from this one on, so many at most.
+fn count_in_row(sheets: &[u32], nth: usize, most: u32) -> usize
+    requires nth { nth < length sheets.now }
+    requires most { 0 < most }
+    ensures count { (0 < result) × (result ≤ most) }
+    ensures row { (sheet : ℕ) → slice_get sheets.now nth ≡ Some sheet
+        → take result (drop nth sheets.now) ≡ range_with_len sheet result }
+{
+    let first = u64::from(sheets[nth]);
+    let mut count = 1;
+    for next in nth + 1..sheets.len() {
+        if count == most || u64::from(sheets[next]) != first + u64::from(count) {
+            break;
+        }
+        count += 1;
+    }
+    count as usize
 }

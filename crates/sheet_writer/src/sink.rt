@@ -5,7 +5,7 @@ ghost use Rattle.std.specs.Io.KnownBytes.{Appends, Keeps};
 ghost use Rattle.sheet_writer.specs.Sinks.{SinkView, IsCountable};
 ghost use Rattle.sheet_writer.specs.Memory.{MemoryState, acceptable, IsSpent, after_taking};
 
-use sheet_text::Rope;
+use sheet_text::Pieces;
 use std::alloc::{AllocError, Global};
 use std::io;
 use std::marker::Model;
@@ -56,17 +56,17 @@ pub(crate) fn write_all<S: Sink>(sink: &mut S, bytes: &[u8]) -> Result<(), Stopp
 }
 
 /// Hands the sink all pieces of a text, in order.
-pub(crate) fn write_pieces<S: Sink>(sink: &mut S, text: &Rope<'_>) -> Result<(), Stopped>
+pub(crate) fn write_pieces<S: Sink>(sink: &mut S, text: Pieces<'_, '_>) -> Result<(), Stopped>
     requires countable { IsCountable (S.seen sink.old) }
-    requires counted { length text.now ≤ u64.MAX }
-    ensures whole { OnOk result (Appends (S.seen sink.old).bytes (S.seen sink.new).bytes text.now) }
+    requires counted { length text ≤ u64.MAX }
+    ensures whole { OnOk result (Appends (S.seen sink.old).bytes (S.seen sink.new).bytes text.entry) }
     ensures steady { OnOk result ((S.seen sink.new).failures ≡ (S.seen sink.old).failures) }
-    ensures within { IfErr result (λ e. e.written < length text.now) }
-    ensures part { IfErr result (λ e. Appends (S.seen sink.old).bytes (S.seen sink.new).bytes (take e.written text.now)) }
+    ensures within { IfErr result (λ e. e.written < length text.entry) }
+    ensures part { IfErr result (λ e. Appends (S.seen sink.old).bytes (S.seen sink.new).bytes (take e.written text.entry)) }
     ensures raised { OnErr result ((S.seen sink.new).failures ≡ (S.seen sink.old).failures + 1) }
 {
     let mut written = 0;
-    let mut pieces = text.pieces();
+    let mut pieces = text;
     while let Some(piece) = pieces.take_next() {
         match write_all(sink, piece) {
             Ok(()) => written += piece.len(),

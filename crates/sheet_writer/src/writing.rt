@@ -5,13 +5,13 @@ ghost use Rattle.sheet_text.specs.Jobs.{text_of};
 ghost use Rattle.rules.specs.Filters.{trailer_text};
 ghost use Rattle.sheet_writer.specs.declared.writing.Halt.TheVariants.{Failed};
 ghost use Rattle.sheet_writer.specs.Sinks.{IsCountable};
-ghost use Rattle.sheet_writer.specs.Writing.{Handed, GoesOn, AreEarly, EndsAfter};
+ghost use Rattle.sheet_writer.specs.Writing.{Handed, GoesOn, AreEarly, EndsAfter, texts_from};
 ghost use Rattle.sheet_writer.specs.Places.{has_come, not_come};
 
 use crate::early::{Early, Spent};
 use crate::sink::{Sink, Stopped, write_all, write_pieces};
-use sheet_text::{Job, Rope, sheet_rope};
-use std::alloc::{AllocError, Global};
+use sheet_text::{Job, Pieces, sheet_rope};
+use std::alloc::Global;
 
 /// Why nothing more is written.
 #[derive(Clone, Copy, Debug)]
@@ -43,9 +43,9 @@ pub fn write_text<S: Sink>(sink: &mut S, progress: Progress, text: &[u8]) -> Pro
 }
 
 /// Hands the sink a text in pieces, and counts its bytes.
-pub fn write_rope<S: Sink>(sink: &mut S, progress: Progress, text: &Rope<'_>) -> Progress
+pub fn write_in_pieces<S: Sink>(sink: &mut S, progress: Progress, text: Pieces<'_, '_>) -> Progress
     requires countable { IsCountable (S.seen sink.old) }
-    ensures handed { Handed text.now (S.seen sink.old) (S.seen sink.new) progress result }
+    ensures handed { Handed text.entry (S.seen sink.old) (S.seen sink.new) progress result }
     ensures next { result.next ≡ progress.next }
 {
     let total = text
@@ -91,29 +91,31 @@ fn halted(progress: Progress, written: u64, why: Halt) -> Progress
     }
 }
 
-/// Writes the text of the next sheet.
-fn write_sheet<S: Sink>(
+/// Writes the texts of the next sheets, of which there are so many.
+fn write_sheets<S: Sink>(
     job: &Job<'_, '_>,
     sink: &mut S,
     progress: Progress,
-    text: &Rope<'_>,
+    text: Pieces<'_, '_>,
+    count: usize,
 ) -> Progress
     requires countable { IsCountable (S.seen sink.old) }
-    requires going { (progress.halted ≡ None) × (progress.next < length job.now.plan.sheets)
-        × (progress.next < u32.MAX) }
-    requires text { text.now ≡ text_of job.now progress.next }
+    requires going { progress.halted ≡ None }
+    requires within { progress.next + count ≤ length job.now.plan.sheets }
+    requires few { progress.next + count ≤ u32.MAX }
+    requires text { text ≡ texts_from job.now progress.next count }
     ensures goes_on { GoesOn job.now (S.seen sink.old) (S.seen sink.new) progress result }
-    ensures next { result.next ≡ progress.next + 1 }
+    ensures next { result.next ≡ progress.next + count }
     ensures steady { result.halted ≡ None → (S.seen sink.new).failures ≡ (S.seen sink.old).failures }
 {
-    let progress = write_rope(sink, progress, text);
+    let progress = write_in_pieces(sink, progress, text);
     Progress {
-        next: progress.next + 1,
+        next: progress.next + count as u32,
         ..progress
     }
 }
 
-/// Writes the sheets that came before their turn and whose turn it is now, and gives back their texts.
+/// Writes the sheets that came before their turn and whose turn it is now, and gives back those that were all written.
 pub fn write_early<'r, S: Sink, B: Spent<'r>>(
     job: &Job<'_, '_>,
     sink: &mut S,
@@ -123,18 +125,20 @@ pub fn write_early<'r, S: Sink, B: Spent<'r>>(
 ) -> Progress
     requires countable { IsCountable (S.seen sink.old) }
     requires going { progress.halted ≡ None }
-    requires early { AreEarly job.now early.old.places.items }
+    requires early { AreEarly job.now early.old.groups.items }
     ensures goes_on { GoesOn job.now (S.seen sink.old) (S.seen sink.new) progress result }
-    ensures early { AreEarly job.now early.new.places.items }
+    ensures early { AreEarly job.now early.new.groups.items }
     ensures steady { result.halted ≡ None → (S.seen sink.new).failures ≡ (S.seen sink.old).failures }
 {
     let mut progress = progress;
-    for sheet in progress.next..job.sheets() {
-        let Some(text) = early.take(sheet) else {
+    while progress.next < job.sheets() {
+        let Some(next) = early.joined(progress.next, job.sheets() - progress.next) else {
             break;
         };
-        progress = write_sheet(job, sink, progress, &text);
-        spent.give_back(text);
+        progress = write_sheets(job, sink, progress, next.text, next.count);
+        if let Some(written) = early.take_written(progress.next - 1) {
+            spent.give_back(written);
+        }
         if progress.halted.is_some() {
             break;
         }
@@ -156,33 +160,27 @@ pub fn write_rest<S: Sink>(
     job: &Job<'_, '_>,
     sink: &mut S,
     progress: Progress,
-    early: &mut Early<'_>,
+    early: &Early<'_>,
     trailer: &[u8],
 ) -> Rest
     requires countable { progress.halted ≡ None → IsCountable (S.seen sink.old) }
     requires next { progress.halted ≡ None → progress.next ≤ length job.now.plan.sheets }
-    requires early { AreEarly job.now early.old.places.items }
+    requires early { AreEarly job.now early.now.groups.items }
     requires trailer { trailer.now ≡ trailer_text job.now.units }
     ensures ended { EndsAfter job.now (S.seen sink.old) (S.seen sink.new) progress result.progress }
     ensures swept { result.swept ≤ length job.now.plan.sheets }
 
     // At the end those are counted that hadn't come, and no others.
     ensures counted { result.progress.halted ≡ None → result.swept
-        ≡ not_come early.old.places.items progress.next (length job.now.plan.sheets - progress.next) }
+        ≡ not_come early.now progress.next (length job.now.plan.sheets - progress.next) }
 {
     let mut progress = progress;
     let mut swept = 0;
     if progress.halted.is_some() {
         return Rest { progress, swept };
     }
-    for sheet in progress.next..job.sheets() {
-        let Ok(text) = next_text(alloc, job, early, sheet, &mut swept) else {
-            return Rest {
-                progress: halted(progress, progress.written, Halt::NoMemory),
-                swept,
-            };
-        };
-        progress = write_sheet(job, sink, progress, &text);
+    for _ in progress.next..job.sheets() {
+        progress = write_next(alloc, job, sink, progress, early, &mut swept);
         if progress.halted.is_some() {
             return Rest { progress, swept };
         }
@@ -193,26 +191,31 @@ pub fn write_rest<S: Sink>(
     }
 }
 
-/// The text of a sheet whose turn it is. One that never came is made anew, and counted.
-fn next_text<'r>(
+/// Writes the next sheet. One that never came is made anew, and counted.
+fn write_next<S: Sink>(
     alloc: Global,
     job: &Job<'_, '_>,
-    early: &mut Early<'r>,
-    sheet: u32,
+    sink: &mut S,
+    progress: Progress,
+    early: &Early<'_>,
     swept: &mut u32,
-) -> Result<Rope<'r>, AllocError>
-    requires sheet { sheet < length job.now.plan.sheets }
-    requires early { AreEarly job.now early.old.places.items }
-    requires few { swept.old < u32.MAX }
-    ensures text { IfOk result (λ text. text ≡ text_of job.now sheet) }
-    ensures early { AreEarly job.now early.new.places.items }
-    ensures swept { swept.new ≡ swept.old + (if has_come early.old.places.items sheet then 0 else 1) }
-    ensures others { (t : ℕ) → t ≢ sheet
-        → has_come early.new.places.items t ≡ has_come early.old.places.items t }
+) -> Progress
+    requires countable { IsCountable (S.seen sink.old) }
+    requires going { progress.halted ≡ None }
+    requires within { progress.next < length job.now.plan.sheets }
+    requires few { (progress.next < u32.MAX) × (swept.old < u32.MAX) }
+    requires early { AreEarly job.now early.now.groups.items }
+    ensures goes_on { GoesOn job.now (S.seen sink.old) (S.seen sink.new) progress result }
+    ensures next { result.halted ≡ None → result.next ≡ progress.next + 1 }
+    ensures steady { result.halted ≡ None → (S.seen sink.new).failures ≡ (S.seen sink.old).failures }
+    ensures swept { swept.new ≡ swept.old + (if has_come early.now progress.next then 0 else 1) }
 {
-    if let Some(text) = early.take(sheet) {
-        return Ok(text);
+    if let Some(next) = early.joined(progress.next, 1) {
+        return write_sheets(job, sink, progress, next.text, next.count);
     }
     *swept += 1;
-    sheet_rope(alloc, job, sheet)
+    match sheet_rope(alloc, job, progress.next) {
+        Ok(text) => write_sheets(job, sink, progress, text.pieces(), 1),
+        Err(_) => halted(progress, progress.written, Halt::NoMemory),
+    }
 }

@@ -13,5 +13,5 @@ invariant-loop g l = record {
   same : l.state.sink.ghost_name ≡ l.initial.state.sink.ghost_name;
   goes_on : GoesOn l.input.job.now (g.S.Sink.seen l.initial.state.sink.now) (g.S.Sink.seen l.state.sink.now) l.initial.state.progress l.state.progress;
   steady : (g.S.Sink.seen l.state.sink.now).failures ≡ (g.S.Sink.seen l.initial.state.sink.now).failures;
-  early : AreEarly l.input.job.now l.state.early.now.places.items;
+  early : AreEarly l.input.job.now l.state.early.now.groups.items;
 }

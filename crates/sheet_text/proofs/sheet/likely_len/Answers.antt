@@ -1,11 +1,8 @@
-use Rattle.std.proofs.Common.{◌+◌, ◌≤◌, ◌∙◌, ap, arith, length, take, sum_by}
-use Rattle.std.proofs.lemmas.List.Sums.{sum_by-take-le}
+use Rattle.std.proofs.Common.{◌+◌, ◌∙◌, ap, arith, length}
 use Rattle.rules.specs.Sheets.{Plan}
-use Rattle.rules.specs.Parts.{pages}
 use Rattle.made_sheets.specs.Dress.{lines_text}
 use Rattle.sheet_plan.specs.Plans.{pages_on}
-use Rattle.sheet_text.specs.Jobs.{sheet_of, slots_of}
-use Rattle.sheet_text.specs.Rooms.{slot_room}
+use Rattle.sheet_text.specs.Jobs.{sheet_of}
 use Rattle.sheet_text.proofs.Rooming.{room_turn}
 use Rattle.sheet_text.proofs.sheet.likely_len.Goals as goal
 

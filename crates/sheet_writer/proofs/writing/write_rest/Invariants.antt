@@ -1,17 +1,15 @@
-use Rattle.std.proofs.Common.{◌≡◌, ℕ, None, ◌-◌, ◌≤◌}
-use Rattle.sheet_writer.specs.Writing.{GoesOn, AreEarly}
-use Rattle.sheet_writer.specs.Places.{has_come, not_come}
+use Rattle.std.proofs.Common.{◌≡◌, None, ◌-◌, ◌≤◌}
+use Rattle.sheet_writer.specs.Writing.{GoesOn}
+use Rattle.sheet_writer.specs.Places.{not_come}
 use Rattle.sheet_writer.proofs.writing.write_rest.Given as goal
 
-abbrev pub invariant-loop-sheet : goal.invariant-loop-sheet
-invariant-loop-sheet g l = record {
+abbrev pub invariant-loop : goal.invariant-loop
+invariant-loop g l = record {
   going : l.progress.halted ≡ None;
-  next : l.progress.next ≡ l.sheet;
-  early : AreEarly l.job l.early.places.items;
+  next : l.progress.next ≡ l.counter;
   goes_on : GoesOn l.job (g.S.Sink.seen l.initial.sink) (g.S.Sink.seen l.sink) l.initial.progress l.progress;
   steady : (g.S.Sink.seen l.sink).failures ≡ (g.S.Sink.seen l.initial.sink).failures;
-  swept : l.swept ≤ l.sheet;
-  first : l.initial.progress.next ≤ l.sheet;
-  others : (t : ℕ) → l.sheet ≤ t → has_come l.early.places.items t ≡ has_come l.initial.early.places.items t;
-  counted : l.swept ≡ not_come l.initial.early.places.items l.initial.progress.next (l.sheet - l.initial.progress.next);
+  swept : l.swept ≤ l.counter;
+  first : l.initial.progress.next ≤ l.counter;
+  counted : l.swept ≡ not_come l.early l.initial.progress.next (l.counter - l.initial.progress.next);
 }

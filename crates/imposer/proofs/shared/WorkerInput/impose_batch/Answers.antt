@@ -1,15 +1,13 @@
-use Rattle.std.proofs.Common.{rules, ◌≡◌, sym, subst}
-use Rattle.std.proofs.lemmas.List.Elements.{All-nil}
-use Rattle.sheet_writer.specs.declared.early.FinishedSheet.{FinishedSheet}
-use Rattle.imposer.specs.Batches.{HaveTexts}
+use Rattle.std.proofs.Common.{rules, sym, subst}
 use Rattle.imposer.specs.Tokens.{OnlyImposes}
 use Rattle.imposer.proofs.Held.{imposes_both}
+use Rattle.imposer.proofs.Texts.{have_none}
 use Rattle.imposer.proofs.shared.WorkerInput.impose_batch.Goals as goal
 use Rattle.imposer.proofs.shared.WorkerInput.impose_batch.Goals.{else-loop-test, then-loop-test+in_ok-impose_more+then-not-branch}
 
 pub impose_into-requires-clause-texts : goal.impose_into-requires-clause-texts
 impose_into-requires-clause-texts g c =
-    subst (HaveTexts g.T.Texts.text) (sym c.new-batch.ensures) (All-nil (λ (m : FinishedSheet). m.text ≡ g.T.Texts.text m.sheet))
+    have_none g.T.Texts.text c.clear.new.self c.clear.ensures.sheets c.clear.ensures.texts
 
 pub loop-preserved : goal.loop-preserved
 loop-preserved g c = record {

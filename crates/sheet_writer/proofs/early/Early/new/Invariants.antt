@@ -4,7 +4,9 @@ use Rattle.sheet_writer.proofs.early.Early.new.Given as goal
 
 abbrev pub invariant-loop : goal.invariant-loop
 invariant-loop l = record {
-  count : length l.places.items ≡ l.counter;
-  room : l.count ≤ vec_capacity l.places;
-  none : AreNone l.places.items;
+  places : length l.places.items ≡ l.counter;
+  groups : length l.groups.items ≡ l.counter;
+  places_room : l.count ≤ vec_capacity l.places;
+  groups_room : l.count ≤ vec_capacity l.groups;
+  none : AreNone l.groups.items;
 }
