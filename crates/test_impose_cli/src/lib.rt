@@ -1,4 +1,4 @@
-//! Trials of the command `impose`: words, documents, messages and reports. There is no code here but tests.
+//! Trials of the command `impose`: words, what each asks for, and mistakes in them. There is no code here but tests.
 #![tactic(auto)]
 
 #[cfg(test)]

@@ -1,10 +1,10 @@
 //! Texts with a caret below the place of a fault.
-use super::read;
 use impose_cli::{Fault, Layout, Request, fault_text};
 use imposer::RunError;
 use pagespec::SpecError;
 use std::process::Abort;
 use std::test::Fail;
+use test_impose_tools::read;
 
 const LONG: &str =
     "0,1,2,3,4,5,6,7,8,9,0,1,2,3,4,5,6,7,8,9,0,1,2,3,4,5,6,7,8,9,0,1,2,3,4,5,6,7,8,9,0,1,2,3,4,5,6,7,8,9";

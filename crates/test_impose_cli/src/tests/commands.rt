@@ -1,5 +1,4 @@
 //! Command lines as they are typed, and what each asks for.
-use super::read;
 use impose_cli::{
     CellOption, CommandFault, GridCommand, Layout, LengthOption, PaperOption, Product, Request,
     Spacing, signing_named, size_named,
@@ -9,6 +8,7 @@ use lengths::{Grains, Number, Paper, paper_by_name};
 use rows::{Part, Signing};
 use std::process::Abort;
 use std::test::Fail;
+use test_impose_tools::read;
 
 fn paper(rt: &impl Abort, name: &str) -> Paper {
     paper_by_name(name).expect(rt, "a paper with a name")
@@ -440,6 +440,53 @@ fn pages_with_lines_for_notes(rt: HostRuntime) -> Result<(), Fail> {
         );
     }
     Ok(())
+}
+
+#[test]
+fn posters(rt: HostRuntime) -> Result<(), Fail> {
+    let request = read(rt.alloc(), "poster 2x3 --overlap 1cm --reverse in.ps")?;
+    assert!(rt;
+        matches!(
+            request.layout,
+            Layout::Poster {
+                columns: 2,
+                rows: 3,
+            }
+        )
+    );
+    assert_eq!(rt;
+        Some(request.spacing.overlap),
+        Grains::new(3_600_000_000_000)
+    );
+    assert!(rt; request.choice.backwards);
+    Ok(())
+}
+
+#[test]
+fn grids_that_no_poster_has(rt: HostRuntime) {
+    for word in ["4", "2x", "0x2", "33x32"] {
+        assert!(rt;
+            is_refused(&rt, "poster", GridCommand::Poster, word),
+            "at {word}"
+        );
+    }
+}
+
+#[test]
+fn words_that_are_not_of_a_poster(rt: HostRuntime) {
+    let refused = read(rt.alloc(), "poster 2x2 --overlap x");
+    assert!(rt;
+        matches!(
+            refused,
+            Err(CommandFault::BadLength(LengthOption::Overlap, _))
+        )
+    );
+    for line in ["poster", "poster 2x2 --gap 1mm", "nup 2 --overlap 1cm"] {
+        assert!(rt;
+            matches!(read(rt.alloc(), line), Err(CommandFault::Words(_))),
+            "at {line}"
+        );
+    }
 }
 
 #[test]

@@ -1,9 +1,9 @@
 //! What is said of words that the command doesn't take, and of names that no terminal should get as they are.
-use super::{read, words_of};
 use impose_cli::{CommandFault, Fault, fault_text, read_command, words_text};
 use std::alloc::{AllocError, Global};
 use std::process::Abort;
 use std::test::Fail;
+use test_impose_tools::{read, words_of};
 
 /// What is said of words that the command doesn't take, and nothing of others.
 fn said(alloc: Global, words: &[String]) -> Result<String, AllocError> {

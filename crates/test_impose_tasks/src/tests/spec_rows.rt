@@ -1,5 +1,4 @@
 //! Specifications on rows of pages: which pages stand on which sheet, and what is told of the document.
-use super::read;
 use document_paper::Comment;
 use impose_cli::{Finished, PaperOrigin, RoomyText, run_request};
 use imposer::MemorySink;
@@ -7,6 +6,7 @@ use std::str;
 use std::sync::Wait;
 use std::test::Fail;
 use std::thread::Threads;
+use test_impose_tools::read;
 
 /// Three pages, each with a line that has its number, and another document behind them.
 const THREE: &str = "%!PS\n%%DocumentMedia: A 420 595 0 () ()\n%%Page: 1 1\n(1) pop\nshowpage\n\

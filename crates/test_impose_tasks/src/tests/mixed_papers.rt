@@ -1,5 +1,4 @@
 //! Documents whose pages have papers of their own.
-use super::read;
 use document_paper::Comment;
 use impose_cli::{Finished, PaperOrigin, RoomyText, run_request};
 use imposer::MemorySink;
@@ -9,6 +8,7 @@ use std::str;
 use std::sync::Wait;
 use std::test::Fail;
 use std::thread::Threads;
+use test_impose_tools::read;
 
 /// Two pages, the first of a4 and the second of a3.
 const MIXED: &str = "%!PS\n%%DocumentMedia: A 595 842 0 () ()\n%%+ B 842 1191 0 () ()\n\

@@ -1,43 +1,17 @@
 //! Plans and pictures of sheets: what they tell, where they are written, and when they are refused.
-use super::{read, words_of};
-use impose_cli::{CommandFault, Done, Ended, Fault, Product, ProductOption, impose};
+use impose_cli::{CommandFault, Done, Ended, Fault, Product, ProductOption};
 use rows::RowError;
 use std::alloc::{AllocError, Global};
 use std::io::ErrorKind;
 use std::process::Abort;
 use std::str;
-use std::sync::Wait;
 use std::sync::atomic::AtomicU32;
 use std::test::Fail;
-use std::thread::Threads;
+use test_impose_tools::{AMPLE, ended, read};
 use test_world::{InMemory, Takes};
-
-/// Room for every output.
-const AMPLE: Takes = Takes::Bytes(200_000);
 
 const PAPER: &str =
     "%!PS-Adobe-3.0\n%%Pages: 5\n%%DocumentMedia: a4 595 842 0 () ()\n%%EndComments\n";
-
-/// Runs the program over a document of five pages, `in.ps`.
-fn ended<'a, R: Threads + Wait + Sync>(
-    rt: &R,
-    alloc: Global,
-    line: &str,
-    document: &'a str,
-    takes: Takes,
-    opened: &'a AtomicU32,
-) -> Result<Ended<InMemory<'a>>, AllocError> {
-    let words = words_of(alloc, line)?;
-    let world = InMemory {
-        alloc,
-        opened,
-        name: "in.ps",
-        text: document,
-        home: None,
-        takes,
-    };
-    Ok(impose(rt, alloc, words.as_slice(), b"", world))
-}
 
 fn five_pages(alloc: Global) -> Result<String, AllocError> {
     let mut document = String::from_str(alloc, PAPER)?;

@@ -1,5 +1,5 @@
 //! Each message, as docs/USING.md has it.
-use super::{assert_told, read};
+use super::assert_told;
 use dsc::DscError;
 use impose_cli::{
     CellOption, CommandFault, Fault, GridCommand, LengthOption, PaperOption, ProductOption,
@@ -12,6 +12,7 @@ use sheet_plan::PlanError;
 use std::io;
 use std::io::ErrorKind;
 use std::test::Fail;
+use test_impose_tools::read;
 
 #[test]
 fn command_lines(rt: HostRuntime) -> Result<(), Fail> {

@@ -1,5 +1,4 @@
 //! Requests with documents: which paper and specification they come to, what is printed of them, and what is refused.
-use super::read;
 use arranged_sheets::PosterError;
 use document_paper::Comment;
 use dsc::DscError;
@@ -16,6 +15,7 @@ use std::str;
 use std::sync::Wait;
 use std::test::Fail;
 use std::thread::Threads;
+use test_impose_tools::read;
 
 const ONE_PAGE: &str = "%!PS-Adobe-3.0\n%%EndComments\n%%Page: 1 1\nshowpage\n%%EOF\n";
 

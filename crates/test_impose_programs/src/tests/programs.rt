@@ -1,5 +1,4 @@
 //! The whole program over a world in memory: what it reads, what it creates and writes, and how it ends.
-use super::words_of;
 use dsc::DscError;
 use impose_cli::{CommandFault, Done, Ended, Fault, PaperOrigin, impose};
 use imposer::RunError;
@@ -13,11 +12,9 @@ use std::sync::Wait;
 use std::sync::atomic::AtomicU32;
 use std::test::Fail;
 use std::thread::Threads;
+use test_impose_tools::{AMPLE, ended, words_of};
 use test_tools::with_lines;
 use test_world::{InMemory, Takes};
-
-/// Room for every output.
-const AMPLE: Takes = Takes::Bytes(200_000);
 
 const ONE_PAGE: &str = "%!PS-Adobe-3.0\n%%EndComments\n%%Page: 1 1\n(0) pop\nshowpage\n%%EOF\n";
 
@@ -38,27 +35,6 @@ const TWO_PAGES_ON_A_SHEET: &str = "%!PS-Adobe-3.0\n%%Pages: 1\n%%EndComments\n%
     [0 0.7 -0.7 0 595.27559 420.94488] concat\n\
     newpath 0 0 moveto 595 0 lineto 595 842 lineto 0 842 lineto closepath clip newpath\n\
     (1) pop\nshowpage\nImposeSave restore\nshowpage\n%%EOF\n";
-
-/// Runs the program over a world with this document as the file `in.ps`.
-fn ended<'a, R: Threads + Wait + Sync>(
-    rt: &R,
-    alloc: Global,
-    line: &str,
-    document: &'a str,
-    takes: Takes,
-    opened: &'a AtomicU32,
-) -> Result<Ended<InMemory<'a>>, AllocError> {
-    let words = words_of(alloc, line)?;
-    let world = InMemory {
-        alloc,
-        opened,
-        name: "in.ps",
-        text: document,
-        home: None,
-        takes,
-    };
-    Ok(impose(rt, alloc, words.as_slice(), b"", world))
-}
 
 /// Runs the program where this is the value of `PAPERSIZE`, and this the text of `/etc/papersize`, over one page.
 fn ended_at<'a, R: Threads + Wait + Sync>(

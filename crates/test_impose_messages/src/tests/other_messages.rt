@@ -1,5 +1,5 @@
 //! Messages that the README has no example of, and what is said of a finished run.
-use super::{assert_told, read};
+use super::assert_told;
 use arranged_sheets::PosterError;
 use document_paper::Comment;
 use dsc::DscError;
@@ -13,6 +13,7 @@ use rows::RowError;
 use sheet_plan::{MadeError, PlanError};
 use std::process::Abort;
 use std::test::Fail;
+use test_impose_tools::read;
 
 #[test]
 fn layouts_plans_and_faulty_documents(rt: HostRuntime) -> Result<(), Fail> {

@@ -1,0 +1,3 @@
+//! Whole programs over a world in memory, and the text that they read.
+mod programs;
+mod roomy_texts;
