@@ -7,7 +7,7 @@ use Rattle.imposer.proofs.shared.WorkerInput.impose_batch.Goals.{else-loop-test,
 
 pub impose_into-requires-clause-texts : goal.impose_into-requires-clause-texts
 impose_into-requires-clause-texts g c =
-    have_none g.T.Texts.text c.clear.new.batch c.clear.ensures.sheets c.clear.ensures.texts
+    have_none g.T.Texts.text c.clear.new.self c.clear.ensures.sheets c.clear.ensures.texts
 
 pub loop-preserved : goal.loop-preserved
 loop-preserved g c = record {
