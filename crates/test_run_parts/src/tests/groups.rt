@@ -32,6 +32,44 @@ fn one_sheet<'r>(
     Ok(finished)
 }
 
+/// Which of the first sheets are found.
+fn assert_found<R: Abort>(rt: &R, early: &Early<'_>, found: &[bool]) {
+    for (sheet, is_found) in (0u32..8).zip(found.iter()) {
+        let joined = early.joined(sheet, 1);
+        assert_eq!(rt; joined.is_some(), *is_found, "sheet {sheet}");
+    }
+}
+
+/// The text that is found of a sheet has these bytes.
+fn assert_text<R: Abort>(
+    rt: &R,
+    alloc: Global,
+    early: &Early<'_>,
+    sheet: u32,
+    bytes: &[u8],
+) -> Result<(), AllocError> {
+    let Some(joined) = early.joined(sheet, 1) else {
+        panic!(rt; "sheet {sheet} isn't there");
+    };
+    assert!(rt; bytes_of(alloc, joined.text)?.as_slice() == bytes);
+    Ok(())
+}
+
+/// How many sheets are given back with this one.
+fn count_taken(early: &mut Early<'_>, sheet: u32) -> usize {
+    match early.take_written(sheet) {
+        Some(written) => written.sheets.len(),
+        None => 0,
+    }
+}
+
+/// With each of these sheets so many are given back.
+fn assert_taken<R: Abort>(rt: &R, early: &mut Early<'_>, counts: &[(u32, usize)]) {
+    for (sheet, count) in counts {
+        assert_eq!(rt; count_taken(early, *sheet), *count, "sheet {sheet}");
+    }
+}
+
 #[test]
 fn a_sheet_waits_in_its_place(rt: HostRuntime) -> Result<(), Fail> {
     let mut early = Early::new(rt.alloc(), 2)?;
@@ -39,21 +77,11 @@ fn a_sheet_waits_in_its_place(rt: HostRuntime) -> Result<(), Fail> {
     early.put(one_sheet(rt.alloc(), 1, b"a")?);
     // Another sheet has the same place: it is dropped, and asking for it leaves the first one there.
     early.put(one_sheet(rt.alloc(), 3, b"b")?);
-    assert!(rt; early.joined(3, 1).is_none() && early.joined(0, 1).is_none());
-    assert!(rt; early.take_written(3).is_none() && early.take_written(0).is_none());
-    let Some(joined) = early.joined(1, 1) else {
-        panic!(rt; "the sheet isn't there");
-    };
-    assert_eq!(rt; joined.count, 1);
-    assert_eq!(rt;
-        bytes_of(rt.alloc(), joined.text)?.as_slice(),
-        b"a".as_slice()
-    );
-    let Some(written) = early.take_written(1) else {
-        panic!(rt; "the sheet isn't there");
-    };
-    assert_eq!(rt; written.sheets.as_slice(), [1].as_slice());
-    assert!(rt; early.joined(1, 1).is_none() && early.take_written(1).is_none());
+    assert_found(&rt, &early, &[false, true, false, false]);
+    assert_taken(&rt, &mut early, &[(3, 0), (0, 0)]);
+    assert_text(&rt, rt.alloc(), &early, 1, b"a")?;
+    assert_taken(&rt, &mut early, &[(1, 1), (1, 0)]);
+    assert_found(&rt, &early, &[false, false, false, false]);
     Ok(())
 }
 
@@ -73,12 +101,19 @@ fn sheets_are_dropped_together(rt: HostRuntime) -> Result<(), Fail> {
     early.put(empty_sheets(rt.alloc(), &[1, 3])?);
     // They lie at the place of the last of them, which is taken.
     early.put(empty_sheets(rt.alloc(), &[4, 7])?);
-    assert!(rt; early.joined(4, 1).is_none() && early.joined(7, 1).is_none());
-    // Now the first of these lies in the place of another sheet, which is as if it had not come.
+    assert_found(
+        &rt,
+        &early,
+        &[false, true, false, true, false, false, false, false],
+    );
+    // Now the first of these has the place of another sheet, which is as if it had not come.
     early.put(empty_sheets(rt.alloc(), &[5, 6])?);
-    assert!(rt; early.joined(1, 1).is_none() && early.joined(5, 1).is_some());
-    assert!(rt; early.take_written(1).is_none() && early.take_written(5).is_none());
-    assert!(rt; early.take_written(3).is_some() && early.take_written(6).is_some());
+    assert_found(
+        &rt,
+        &early,
+        &[false, false, false, true, false, true, true, false],
+    );
+    assert_taken(&rt, &mut early, &[(1, 0), (5, 0), (3, 2), (6, 2)]);
     Ok(())
 }
 
@@ -239,6 +274,23 @@ fn sheet_of(alloc: Global, page: u32, body: &str) -> Result<String, AllocError> 
     sheet(alloc, page.saturating_add(1), &text)
 }
 
+/// The first two sheets together, the third one's text before its page, the page and what stands behind it, and the last
+/// sheet.
+fn lengths_of(alloc: Global, bodies: &[String; 4]) -> Result<[usize; 5], AllocError> {
+    let [first, second, third, fourth] = bodies;
+    let first = sheet_of(alloc, 0, first)?;
+    let second = sheet_of(alloc, 1, second)?;
+    let opening = opening(alloc, A4_SIDES, UNMOVED)?;
+    let fourth = sheet_of(alloc, 3, fourth)?;
+    Ok([
+        first.len().saturating_add(second.len()),
+        opening.len().saturating_add("%%Page: 3 3\n".len()),
+        third.len(),
+        "ImposeSave restore\nshowpage\n".len(),
+        fourth.len(),
+    ])
+}
+
 #[test]
 fn neighbours_are_written_by_one_call(rt: HostRuntime) -> Result<(), Fail> {
     let bodies = bodies(rt.alloc())?;
@@ -248,18 +300,10 @@ fn neighbours_are_written_by_one_call(rt: HostRuntime) -> Result<(), Fail> {
     let plan = Plan::new(rt.alloc(), &spec, document.pages())?;
     let job = Job::new(&plan, &document, a4(), None);
     let calls = calls_of_all(&rt, rt.alloc(), &job, &bodies)?;
-    let [first, second, third, fourth] = &bodies;
-    let before = sheet_of(rt.alloc(), 0, first)?.len();
-    let pair = before.saturating_add(sheet_of(rt.alloc(), 1, second)?.len());
-    let opening = opening(rt.alloc(), A4_SIDES, UNMOVED)?;
-    let wanted = [
-        pair,
-        opening.len().saturating_add("%%Page: 3 3\n".len()),
-        third.len(),
-        "ImposeSave restore\nshowpage\n".len(),
-        sheet_of(rt.alloc(), 3, fourth)?.len(),
-    ];
-    assert_eq!(rt; calls.as_slice(), wanted.as_slice());
+    assert_eq!(rt;
+        calls.as_slice(),
+        lengths_of(rt.alloc(), &bodies)?.as_slice()
+    );
     Ok(())
 }
 
