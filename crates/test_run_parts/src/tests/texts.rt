@@ -76,10 +76,10 @@ fn rooms_of_one<R: Abort>(
         panic!(rt; "one page stands on {} sheets", plan.sheets());
     }
     let job = Job::new(&plan, &document, paper, None);
-    let mut spent = Rope::new(alloc);
-    spent.reserve(before)?;
-    let had = spent.capacity();
-    let text = begin_sheet(spent, &job, 0)?;
+    let mut text = Rope::new(alloc);
+    text.reserve(before)?;
+    let had = text.capacity();
+    begin_sheet(&mut text, &job, 0)?;
     Ok((had, text.capacity()))
 }
 
@@ -105,7 +105,7 @@ fn a_text_in_pieces_copies_short_slices_alone(rt: HostRuntime) -> Result<(), Fai
     text.append_borrowed(&long)?;
     text.append_borrowed(&long)?;
     text.append(b"ef")?;
-    assert_eq!(rt; text.len(), Some(8_198));
+    assert_eq!(rt; text.pieces().len(), Some(8_198));
     let mut pieces = text.pieces();
     assert!(rt; pieces.take_next() == Some(b"abcd".as_slice()));
     assert!(rt; pieces.take_next() == Some(long.as_slice()));
@@ -113,7 +113,7 @@ fn a_text_in_pieces_copies_short_slices_alone(rt: HostRuntime) -> Result<(), Fai
     assert!(rt; pieces.take_next() == Some(b"ef".as_slice()));
     assert!(rt; pieces.take_next().is_none());
     text.clear();
-    assert_eq!(rt; text.len(), Some(0));
+    assert_eq!(rt; text.pieces().len(), Some(0));
     assert!(rt; text.pieces().take_next().is_none());
     Ok(())
 }

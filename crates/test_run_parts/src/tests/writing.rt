@@ -1,16 +1,12 @@
-//! A writer as a sink, a sink that has answered its calls, sheets that never came, and texts that are given back.
-ghost use Rattle.std.specs.Prelude.{◌<◌, length};
-ghost use Rattle.sheet_writer.specs.Writing.{AreEarly};
+//! A writer as a sink, a sink that has answered its calls, and sheets that never came.
+ghost use Rattle.std.specs.Prelude.{◌<◌};
 
 use dsc::Document;
 use lengths::a4;
 use pagespec::read_spec;
 use sheet_plan::Plan;
-use sheet_text::{Job, Rope, sheet_rope};
-use sheet_writer::{
-    Early, FinishedSheet, MemorySink, Progress, Rest, Sink, SinkFault, Spent, WriteSink,
-    write_early, write_rest,
-};
+use sheet_text::Job;
+use sheet_writer::{Early, MemorySink, Progress, Rest, Sink, SinkFault, WriteSink, write_rest};
 use std::alloc::{AllocError, Global};
 use std::io::{self, ErrorKind, Write};
 use std::process::Abort;
@@ -66,7 +62,7 @@ fn a_writer_that_is_full_fails(rt: HostRuntime) -> Result<(), Fail> {
 }
 
 /// Nothing was written.
-const START: Progress = Progress {
+pub(super) const START: Progress = Progress {
     next: 0,
     written: 0,
     halted: None,
@@ -77,8 +73,8 @@ fn write_anew(alloc: Global, job: &Job<'_, '_>, sink: &mut MemorySink) -> Result
     requires countable { sink.old.failures < 10 }
 {
     let trailer = job.document().trailer_text()?;
-    let mut early = Early::new(alloc, 2)?;
-    let rest = write_rest(alloc, job, sink, START, &mut early, trailer.as_slice());
+    let early = Early::new(alloc, 2)?;
+    let rest = write_rest(alloc, job, sink, START, &early, trailer.as_slice());
     Ok(rest)
 }
 
@@ -100,90 +96,4 @@ fn what_never_came_is_made_and_counted(rt: HostRuntime) -> Result<(), Fail> {
     assert_eq!(rt; sink.bytes(), sheets_and_trailer(rt.alloc())?.as_bytes());
     assert_eq!(rt; (rest.swept, rest.progress.written), (2, 910));
     Ok(())
-}
-
-/// A text of these bytes.
-fn rope_of<'r>(alloc: Global, bytes: &[u8]) -> Result<Rope<'r>, AllocError> {
-    let mut text = Rope::new(alloc);
-    text.append(bytes)?;
-    Ok(text)
-}
-
-#[test]
-fn a_sheet_waits_in_its_place(rt: HostRuntime) -> Result<(), Fail> {
-    let mut early = Early::new(rt.alloc(), 2)?;
-    assert_eq!(rt; early.places.len(), 2);
-    let text = rope_of(rt.alloc(), b"a")?;
-    early.put(FinishedSheet { sheet: 1, text });
-    // Another sheet has the same place: it is dropped, and asking for it leaves the first one there.
-    let text = rope_of(rt.alloc(), b"b")?;
-    early.put(FinishedSheet { sheet: 3, text });
-    assert!(rt; early.take(3).is_none());
-    assert!(rt; early.take(0).is_none());
-    let Some(text) = early.take(1) else {
-        return Err(AllocError)?;
-    };
-    assert_eq!(rt; text.to_vec(rt.alloc())?.as_slice(), b"a".as_slice());
-    assert!(rt; early.take(1).is_none());
-    Ok(())
-}
-
-/// Counts the bytes of the texts that are given back.
-#[derive(Drop)]
-struct Counter {
-    bytes: usize,
-}
-
-impl<'r> Spent<'r> for Counter {
-    fn give_back(&mut self, text: Rope<'r>) {
-        self.bytes = self.bytes.saturating_add(text.len().unwrap_or(0));
-    }
-}
-
-/// Puts a sheet in its place.
-fn put_sheet(
-    alloc: Global,
-    job: &Job<'_, '_>,
-    early: &mut Early<'_>,
-    sheet: u32,
-) -> Result<(), AllocError>
-    requires sheet { sheet < length job.now.plan.sheets }
-    requires early { AreEarly job.now early.old.places.items }
-    ensures { AreEarly job.now early.new.places.items }
-{
-    let text = sheet_rope(alloc, job, sheet)?;
-    early.put(FinishedSheet { sheet, text });
-    Ok(())
-}
-
-/// Writes two sheets that came early: how many bytes of texts were given back.
-fn write_pair(alloc: Global, job: &Job<'_, '_>, sink: &mut MemorySink) -> Result<usize, AllocError>
-    requires sheets { 1 < length job.now.plan.sheets }
-    requires countable { sink.old.failures < 10 }
-{
-    let mut early = Early::new(alloc, 2)?;
-    put_sheet(alloc, job, &mut early, 0)?;
-    put_sheet(alloc, job, &mut early, 1)?;
-    let mut counter = Counter { bytes: 0 };
-    write_early(job, sink, START, &mut early, &mut counter);
-    Ok(counter.bytes)
-}
-
-/// All bytes that were written are given back.
-fn assert_given_back<R: Abort>(rt: &R, alloc: Global, job: &Job<'_, '_>) -> Result<(), AllocError> {
-    assert!(rt; job.sheets() == 2);
-    let mut sink = MemorySink::new(alloc, 2_000, 2_000, 100)?;
-    let given_back = write_pair(alloc, job, &mut sink)?;
-    assert_eq!(rt; (given_back, sink.bytes().len()), (894, 894));
-    Ok(())
-}
-
-#[test]
-fn written_texts_are_given_back(rt: HostRuntime) -> Result<(), Fail> {
-    let spec = read_spec(rt.alloc(), TWO_UP)?;
-    let text = document_of(rt.alloc(), 4)?;
-    let document = Document::read(rt.alloc(), text.as_bytes())?;
-    let plan = Plan::new(rt.alloc(), &spec, document.pages())?;
-    let job = Job::new(&plan, &document, a4(), None);
-    Ok(assert_given_back(&rt, rt.alloc(), &job)?)
 }

@@ -19,8 +19,8 @@ const YIELDS: u32 = 20_000_000;
 /// How many pages the documents here have.
 const PAGES: usize = 6;
 
-/// How many bytes a page has, so that three of them are more than the texts of a window.
-const PAGE_LEN: usize = 300_000;
+/// How many bytes a page has, so that two of them are more than the texts of a window.
+const PAGE_LEN: usize = 400_000;
 
 /// The pages in their order, each on a sheet of its own.
 const FORWARD: &str = "0";

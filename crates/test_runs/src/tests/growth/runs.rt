@@ -126,10 +126,10 @@ fn runs_by_many(rt: HostRuntime) -> Result<(), Fail> {
     Ok(())
 }
 
-// Eight sheets of twelve lie in the window, of those with pages of 60,000 bytes.
+// Eight sheets of twelve lie in the window, of those with pages of 90,000 bytes.
 #[test]
 fn runs_whose_sheets_wait_for_their_turn(rt: HostRuntime) -> Result<(), Fail> {
-    let document = large_pages(rt.alloc(), 12, 6_666)?;
+    let document = large_pages(rt.alloc(), 12, 10_000)?;
     for counts in [(1, 1), (2, 3)] {
         let trial = Trial {
             document: &document,
@@ -177,7 +177,7 @@ fn runs_whose_first_sheet_comes_last(rt: HostRuntime) -> Result<(), Fail> {
 // Seventeen sheets of 24 lie in the window, and an imposer sends two of them together.
 #[test]
 fn runs_whose_sheets_go_together(rt: HostRuntime) -> Result<(), Fail> {
-    let large = large_pages(rt.alloc(), 24, 3_333)?;
+    let large = large_pages(rt.alloc(), 24, 5_000)?;
     refuse_first_last(&rt, rt.alloc(), &large, &[(2, 1)])?;
     Ok(())
 }

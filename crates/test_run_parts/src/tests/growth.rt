@@ -1,0 +1,2 @@
+//! Single calls in which each growth is refused in turn, as in `test_refused_growth`.
+mod joined_texts;
