@@ -98,8 +98,8 @@
 #define GIVE_ROOM(j, r) r = (PUTS_OF(j) < room_left -> PUTS_OF(j) : room_left); room_left = room_left - r
 #endif
 
-/* A finished sheet is a byte: its number and 1 in the low half, the number of its text and 1 in the high half. A group of
-   them, which came or comes in one message, is three such bytes, 0 where there is none. */
+/* A finished sheet is a byte: its number and 1 in the low half, the number of its text and 1 in the high half. A group
+   is the sheets of one message: three such bytes, 0 where there is none. */
 #define FINISHED(s, t) (16 * ((t) + 1) + (s) + 1)
 #define SHEET(m) (((m) & 15) - 1)
 #define TEXT(m) ((m) / 16 - 1)
@@ -108,7 +108,7 @@
 /* FinishedSheets::last */
 #define LAST(m, n, o) (MOST(MOST((m) & 15, (n) & 15), (o) & 15) - 1)
 
-/* What threads share. Setup::new, gather_as: the channel, places and the queue of written sheets have room for a window. */
+/* What threads share. Setup::new, gather_as: channel, places and the queue of written sheets have room for a window. */
 byte missing[S];
 chan q = [S] of { byte };                /* Ready; what a pass may put is counted in each pass's room */
 #ifndef SPENT
@@ -130,7 +130,7 @@ bool turn_p, turn_i;
 byte next;                       /* Progress.next */
 bool halted;                     /* Progress.halted */
 byte lying[3 * CAP];             /* Early.groups: group g is at 3 * g, with the nth of its sheets at 3 * g + n */
-byte noted[CAP];                 /* Early.places: where a sheet with this place lies there, 3 * group + nth (Early::new) */
+byte noted[CAP];                 /* Early.places: where the sheet lies that has this place, 3 * group + nth (Early::new) */
 
 /* What is only watched. */
 bool fault;                      /* something failed */
@@ -147,8 +147,8 @@ byte swept;
 #define FIRST(h) ((h) & 1 -> 0 : ((h) & 2 -> 1 : ((h) & 4 -> 2 : ((h) & 8 -> 3 : ((h) & 16 -> 4 : 99)))))
 
 #ifdef SPENT
-/* Memory of groups is counted from 1. `there` has a bit for each that there is; there are never more than sheets. What the
-   texts of a group are is what was last written to its memory, wherever the group lies. */
+/* Memory of groups is counted from 1. `there` has a bit for each that there is; there are never more than sheets. The
+   texts of a group are what was last written to its memory, wherever the group lies. */
 chan going = [CAP] of { byte };          /* WorkerInput.spent */
 byte there;
 byte text[3 * S];
@@ -631,7 +631,8 @@ inline hand_to_sink(sheet, n)
 #define TEXT_AT(at) TEXT(lying[at])
 #endif
 
-/* Early::joined, FinishedSheets::joined: a sheet came if there is a group where its place says, and it has this index. */
+/* Early::joined, FinishedSheets::joined: a sheet came if the group that its place names is there, and has it at this
+   index. */
 #ifndef BAD_NOT_COMPARED
 #define HAS_COME(s) (SHEET(lying[noted[PLACE(s)]]) == (s))
 #else
@@ -730,8 +731,8 @@ inline take_written(sheet)
 	g = 0
 }
 
-/* write_early, write_sheets: as long as the next sheet came, it and those that lie behind it and follow it (count_in_row)
-   go to the sink by one call, or fewer of them if one has a long body (Texts::joined). */
+/* write_early, write_sheets: as long as the next sheet came, it and those behind it in its group that follow it
+   (count_in_row) go to the sink by one call, or fewer of them if one has a long body (Texts::joined, plain). */
 inline write_next_ones()
 {
 	do
