@@ -11,7 +11,7 @@
    POLL:    who finds nothing looks again (for the search for endless runs); else it waits until a look could find
             something, which shows an endless run as an invalid end state.
    TURNS:   workers of a kind take turns.
-   SPENT:   texts that were written are counted on their way back.
+   SPENT:   the memory of a message's texts is told apart, and goes back to the imposers; else each message has its own.
    BAD_...: a wrong variant. */
 
 #ifndef S
@@ -98,18 +98,23 @@
 #define GIVE_ROOM(j, r) r = (PUTS_OF(j) < room_left -> PUTS_OF(j) : room_left); room_left = room_left - r
 #endif
 
-/* A finished sheet is a byte: its number and 1 in the low half, the number of its text and 1 in the high half. */
+/* A finished sheet is a byte: its number and 1 in the low half, the number of its text and 1 in the high half. A group
+   is the sheets of one message: three such bytes, 0 where there is none. */
 #define FINISHED(s, t) (16 * ((t) + 1) + (s) + 1)
 #define SHEET(m) (((m) & 15) - 1)
 #define TEXT(m) ((m) / 16 - 1)
+#define MOST(a, b) ((a) > (b) -> (a) : (b))
 
-/* What threads share. Setup::new, gather_as: the channel, places and the queue of written texts have room for a window. */
+/* FinishedSheets::last */
+#define LAST(m, n, o) (MOST(MOST((m) & 15, (n) & 15), (o) & 15) - 1)
+
+/* What threads share. Setup::new, gather_as: channel, places and the queue of written sheets have room for a window. */
 byte missing[S];
 chan q = [S] of { byte };                /* Ready; what a pass may put is counted in each pass's room */
 #ifndef SPENT
 chan c = [CAP] of { byte, byte, byte };  /* the channel of finished sheets, three in a message at most */
 #else
-chan c = [CAP] of { byte, byte, byte, byte, byte };  /* and how many spent texts, and for how many there is room */
+chan c = [CAP] of { byte, byte, byte, byte };  /* and the number of their memory */
 #endif
 byte preparers_left = P;
 byte imposers_left = K;
@@ -124,7 +129,8 @@ bool turn_p, turn_i;
 /* What the collector keeps. */
 byte next;                       /* Progress.next */
 bool halted;                     /* Progress.halted */
-byte early[CAP];                 /* a finished sheet, or 0 */
+byte lying[3 * CAP];             /* Early.groups: group g is at 3 * g, with the nth of its sheets at 3 * g + n */
+byte noted[CAP];                 /* Early.places: where the sheet lies that has this place, 3 * group + nth (Early::new) */
 
 /* What is only watched. */
 bool fault;                      /* something failed */
@@ -141,11 +147,24 @@ byte swept;
 #define FIRST(h) ((h) & 1 -> 0 : ((h) & 2 -> 1 : ((h) & 4 -> 2 : ((h) & 8 -> 3 : ((h) & 16 -> 4 : 99)))))
 
 #ifdef SPENT
-/* Texts that go back together: lists of them on their way, how many each has and for how many there is room; those
-   that the collector has (Written). `texts` counts all that exist. */
-chan going = [CAP] of { byte, byte };
-byte written;
-byte texts;
+/* Memory of groups is counted from 1. `there` has a bit for each that there is; there are never more than sheets. The
+   texts of a group are what was last written to its memory, wherever the group lies. */
+chan going = [CAP] of { byte };          /* WorkerInput.spent */
+byte there;
+byte text[3 * S];
+byte memory_of[CAP];                     /* that of the group that lies there */
+
+#define BYTES(memory, n) text[3 * ((memory) - 1) + (n)]
+#define IS_FREE(memory) !(there & bit((memory) - 1))
+
+/* FinishedSheets::clear, Texts::clear */
+#define CLEAR(memory) BYTES(memory, 0) = 0; BYTES(memory, 1) = 0; BYTES(memory, 2) = 0
+
+/* A group is dropped. */
+#define LET_GO(memory) CLEAR(memory); there = there & ~bit((memory) - 1); memory = 0
+
+/* How many groups there are. */
+#define IN_ALL ((there & 1) + ((there >> 1) & 1) + ((there >> 2) & 1) + ((there >> 3) & 1))
 #endif
 
 #ifdef TURNS
@@ -291,34 +310,44 @@ over:
 #define LIFTS 4                  /* a sheet isn't made, so the window is lifted */
 #define ENDS 5                   /* there is no memory */
 
-/* Batch::push */
+/* FinishedSheets::push, Texts::push: the text is written behind the others in the group's memory */
+#ifdef SPENT
+#define WRITE_TEXT(n, m) BYTES(memory, n) = m
+#else
+#define WRITE_TEXT(n, m) skip
+#endif
 inline add(m)
 {
 	if
-	:: b0 == 0 -> b0 = m
-	:: b0 != 0 && b1 == 0 -> b1 = m
-	:: else -> b2 = m
+	:: b0 == 0 -> b0 = m; WRITE_TEXT(0, m)
+	:: b0 != 0 && b1 == 0 -> b1 = m; WRITE_TEXT(1, m)
+	:: else -> b2 = m; WRITE_TEXT(2, m)
 	fi
 }
 
 #ifdef SPENT
-/* WorkerInput::impose_batch: a list of texts for its first sheet; Batch::take_spent */
-inline take_text()
+/* WorkerInput::impose_batch: for its first sheet, a group that was written, or a new one. In a window there are no more
+   groups than sheets. */
+inline take_memory()
 {
 	if
 	:: finds == 0 ->
 		if
-		:: going?spent,room
-		:: empty(going) -> spent = 0; room = 0
+		:: going?memory ->
+#ifdef BAD_NOT_CLEARED
+			b0 = BYTES(memory, 0); b1 = BYTES(memory, 1); b2 = BYTES(memory, 2)
+#else
+			CLEAR(memory)
+#endif
+		:: empty(going) ->
+			memory = (IS_FREE(1) -> 1 : (IS_FREE(2) -> 2 : (IS_FREE(3) -> 3 : 4)));
+			assert(memory <= S && IS_FREE(memory));
+			there = there | bit(memory - 1);
+			assert(lifted || IN_ALL <= CAP)
 		fi
 	:: else
-	fi;
-	if
-	:: spent > 0 -> spent--
-	:: else -> texts++
 	fi
 }
-#define BATCHED ((b0 != 0) + (b1 != 0) + (b2 != 0))
 #endif
 
 /* WorkerInput::impose_into, Shared::impose_taken, is_complete, Imposition::impose. A look at a sheet that is complete
@@ -326,7 +355,7 @@ inline take_text()
 inline impose_sheet()
 {
 #ifdef SPENT
-	take_text();
+	take_memory();
 #endif
 	none_left = false;
 	finds = (finds == 0 -> 1 : finds);
@@ -338,21 +367,11 @@ inline impose_sheet()
 #endif
 	if
 	:: add(FINISHED(s, s)); to = MORE
-#ifdef SPENT
-		;
-		if
-		:: room < spent + BATCHED -> room = spent + BATCHED
-		:: else
-		fi
-#endif
 #ifdef F_IMP
 	:: fault = true; to = ENDS
 #endif
 #ifdef F_SHOWN
 	:: fault = true;
-#ifdef SPENT
-		texts--;
-#endif
 #if defined(BAD_NOT_SHOWN)
 		to = MORE
 #elif defined(BAD_NOT_SHOWN_IN_BATCH)
@@ -404,11 +423,11 @@ proctype imposer()
 {
 	byte held;                       /* a bit for each sheet */
 	byte looked_to, end, s, to;
-	byte b0, b1, b2;                 /* Batch.sheets */
+	byte b0, b1, b2;                 /* its batch, FinishedSheets.sheets */
 	byte finds;                      /* looks for sheets that the batch has had, with the first one */
 	bool none_left;
 #ifdef SPENT
-	byte spent, room;                /* Batch.spent */
+	byte memory;                     /* that of its batch, or 0 */
 #endif
 #ifdef TURNS
 	bool has;
@@ -491,7 +510,7 @@ send:
 		if
 		:: b0 == 0 ->
 #ifdef SPENT
-			texts = texts - spent; spent = 0; room = 0;
+			LET_GO(memory);
 #endif
 			goto again
 		:: b0 != 0
@@ -512,7 +531,7 @@ send:
 			:: else
 			fi;
 #ifdef SPENT
-			c!b0,b1,b2,spent,room; spent = 0; room = 0;
+			c!b0,b1,b2,memory; memory = 0;
 #else
 			c!b0,b1,b2;
 #endif
@@ -527,7 +546,7 @@ refused:
 	/* the batch is dropped */
 	atomic {
 #ifdef SPENT
-		texts = texts - spent - BATCHED; spent = 0; room = 0;
+		LET_GO(memory);
 #endif
 #ifdef BAD_CHANNEL
 		b0 = 0; b1 = 0; b2 = 0; goto again
@@ -566,7 +585,7 @@ no_memory:
 	/* What the imposer holds, and its batch, are lost with it. */
 	atomic {
 #ifdef SPENT
-		texts = texts - 1 - spent - BATCHED; spent = 0; room = 0;
+		LET_GO(memory);
 #endif
 		held = 0; s = 0; end = 0; b0 = 0; b1 = 0; b2 = 0; finds = 0; oom = true
 	};
@@ -587,7 +606,8 @@ over:
 	skip
 }
 
-/* write_all, write_text, write_rope, counted: the sink takes it, or fails. n is 1 for a sheet, 0 for header and trailer. */
+/* write_all, write_text, write_in_pieces, counted: the sink takes it, or fails. n is how many sheets, 0 for header and
+   trailer. */
 inline hand_to_sink(sheet, n)
 {
 	assert(!dead);
@@ -600,28 +620,151 @@ inline hand_to_sink(sheet, n)
 	fi
 }
 
+/* Early::place_of */
 #define PLACE(s) ((s) % CAP)
 
-/* Early::put. Whether it finds its place free rests on the window. */
-inline put_early(m)
+/* The group of a sheet that lies at `at`, and its text. */
+#define GROUP(at) ((at) / 3)
+#ifdef SPENT
+#define TEXT_AT(at) TEXT(BYTES(memory_of[GROUP(at)], (at) % 3))
+#else
+#define TEXT_AT(at) TEXT(lying[at])
+#endif
+
+/* Early::joined, FinishedSheets::joined: a sheet came if the group that its place names is there, and has it at this
+   index. */
+#ifndef BAD_NOT_COMPARED
+#define HAS_COME(s) (SHEET(lying[noted[PLACE(s)]]) == (s))
+#else
+#define HAS_COME(s) (lying[noted[PLACE(s)]] != 0)
+#endif
+
+/* Whether a sheet lies where this place says, and waits. */
+#define WAITS(p) (lying[noted[p]] != 0 && PLACE(SHEET(lying[noted[p]])) == (p) && SHEET(lying[noted[p]]) >= next)
+
+/* Early::mark: what was noted is overwritten. In a window a sheet that waits keeps its place. */
+inline mark_place(m, at)
 {
 	if
 	:: m == 0
 	:: else ->
-		if
-		:: early[PLACE(SHEET(m))] == 0 -> early[PLACE(SHEET(m))] = m
-#if defined(BAD_PUSH)
-		:: else
-#elif defined(BAD_EARLY_OVERWRITES)
-		:: else -> early[PLACE(SHEET(m))] = m
-#else
-		:: else -> assert(lifted)
-#ifdef SPENT
-			; texts--
+#if !defined(BAD_PUSH)
+		assert(lifted || !WAITS(PLACE(SHEET(m))));
 #endif
-#endif
-		fi
+		noted[PLACE(SHEET(m))] = at
 	fi
+}
+
+/* Early::put: a group lies at the place of its last sheet. Whether it is free rests on the window. */
+#ifndef BAD_PLACE_OF_FIRST
+#define OWN_PLACE(m0, m1, m2) PLACE(LAST(m0, m1, m2))
+#else
+#define OWN_PLACE(m0, m1, m2) PLACE(SHEET(m0))
+#endif
+inline put_early()
+{
+	g = OWN_PLACE(m0, m1, m2);
+	if
+	:: lying[3 * g] == 0 -> skip
+#if defined(BAD_EARLY_OVERWRITES)
+	:: else -> skip
+#else
+	:: else ->
+#if !defined(BAD_PUSH)
+		assert(lifted);
+#endif
+#ifdef SPENT
+		LET_GO(memory);
+#endif
+		m0 = 0; m1 = 0; m2 = 0
+#endif
+	fi;
+	if
+	:: m0 != 0 ->
+		mark_place(m0, 3 * g); mark_place(m1, 3 * g + 1); mark_place(m2, 3 * g + 2);
+		lying[3 * g] = m0; lying[3 * g + 1] = m1; lying[3 * g + 2] = m2;
+#ifdef SPENT
+		memory_of[g] = memory; memory = 0;
+#endif
+		m0 = 0; m1 = 0; m2 = 0
+	:: else
+	fi;
+	g = 0
+}
+
+/* Written::give_back: what the queue refuses is let go. In a window there are no more groups than it has room for. */
+inline give_back(which)
+{
+	if
+#ifndef BAD_LET_GO
+	:: nfull(going) -> going!which; which = 0
+	:: full(going) -> assert(lifted); LET_GO(which)
+#else
+	:: LET_GO(which)
+#endif
+	fi
+}
+
+/* Early::take_written: the group that lies at the place of this sheet, if it is its last. */
+#if defined(BAD_TAKEN_WITH_ANY)
+#define OWN_GROUP(s) GROUP(noted[PLACE(s)])
+#define IS_WRITTEN(g, s) true
+#elif defined(BAD_PLACE_OF_FIRST)
+#define OWN_GROUP(s) GROUP(noted[PLACE(s)])
+#define IS_WRITTEN(g, s) (LAST(lying[3 * (g)], lying[3 * (g) + 1], lying[3 * (g) + 2]) == (s))
+#else
+#define OWN_GROUP(s) PLACE(s)
+#define IS_WRITTEN(g, s) (LAST(lying[3 * (g)], lying[3 * (g) + 1], lying[3 * (g) + 2]) == (s))
+#endif
+inline take_written(sheet)
+{
+	g = OWN_GROUP(sheet);
+	if
+	:: IS_WRITTEN(g, sheet) ->
+		lying[3 * g] = 0; lying[3 * g + 1] = 0; lying[3 * g + 2] = 0;
+#if defined(SPENT) && !defined(BAD_GIVEN_BACK_EARLY)
+		give_back(memory_of[g]);
+#endif
+		skip
+	:: else
+	fi;
+	g = 0
+}
+
+/* write_early, write_sheets: as long as the next sheet came, it and those behind it in its group that follow it
+   (count_in_row) go to the sink by one call, or fewer of them if one has a long body (Texts::joined, plain). */
+inline write_next_ones()
+{
+	do
+	:: next < S && !halted && HAS_COME(next) ->
+		at = noted[PLACE(next)];
+		assert(TEXT_AT(at) == next);
+		count = 1;
+		do
+		:: at % 3 + count < 3 && next + count < S && SHEET(lying[at + count]) == next + count ->
+			if
+			:: assert(TEXT_AT(at + count) == next + count); count++
+			:: break
+			fi
+		:: else -> break
+		od;
+		hand_to_sink(next, count);
+#if defined(SPENT) && defined(BAD_GIVEN_BACK_EARLY)
+		/* when the first of its sheets is written, and it lies on */
+		if
+		:: at % 3 == 0 -> memory = memory_of[GROUP(at)]; give_back(memory)
+		:: else
+		fi;
+#endif
+		next = next + count;
+#ifdef BAD_ASKED_FOR_FIRST
+		take_written(next - count)
+#else
+		take_written(next - 1)
+#endif
+	:: else -> break
+	od;
+	at = 0; count = 0
 }
 
 init
@@ -630,8 +773,9 @@ init
 	byte room_left = BLANKS;                 /* of the run's pass: most_puts_in_all */
 	bool none_left;
 	bool gathered;
+	byte g, at, count;
 #ifdef SPENT
-	byte spent, room;
+	byte memory;
 #endif
 
 	/* The table: run_plan, gather_on. Ready::by_right, most_puts_in_all: the pass has room for all puts. */
@@ -712,44 +856,18 @@ init
 #endif
 		if
 		:: atomic {
-			/* take_one, put_all, write_early, write_sheet, Early::take */
+			/* take_one */
 #ifdef SPENT
-			c?m0,m1,m2,spent,room ->
+			c?m0,m1,m2,memory ->
 #else
 			c?m0,m1,m2 ->
 #endif
-			put_early(m0); put_early(m1); put_early(m2);
-			m0 = 0; m1 = 0; m2 = 0; none_left = false;
+			put_early();
+			none_left = false;
 #ifdef BAD_TOLD_EARLY
 			wnext = next + 1;
 #endif
-			do
-			:: next < S && !halted && SHEET(early[PLACE(next)]) == next ->
-				assert(TEXT(early[PLACE(next)]) == next);
-				early[PLACE(next)] = 0;
-				hand_to_sink(next, 1);
-				next++;
-#ifdef SPENT
-				/* Written::give_back */
-				if
-				:: written < CAP -> written++
-				:: else -> texts--
-				fi
-#endif
-			:: else -> break
-			od;
-#ifdef SPENT
-			/* Written::move_into, and the push: what the queue refuses is let go */
-			do
-			:: spent < room && written > 0 -> spent++; written--
-			:: else -> break
-			od;
-			if
-			:: nfull(going) -> going!spent,room
-			:: full(going) -> texts = texts - spent
-			fi;
-			spent = 0; room = 0;
-#endif
+			write_next_ones();
 #ifdef BAD_GOES_ON_AFTER_FAIL
 			halted = false;
 #endif
@@ -796,13 +914,11 @@ join:
 	:: !gathered -> assert(wrote == 0 && fault)
 	:: gathered && oom -> assert(fault)
 	:: gathered && !oom ->
-		/* finish, conclude, write_rest, next_text */
+		/* finish, conclude, write_rest, write_next */
 		do
 		:: !halted && next < S ->
 			if
-			:: SHEET(early[PLACE(next)]) == next ->
-				assert(TEXT(early[PLACE(next)]) == next);
-				early[PLACE(next)] = 0
+			:: HAS_COME(next) -> assert(TEXT_AT(noted[PLACE(next)]) == next)
 			:: else ->
 				swept++;
 #ifdef F_REST
@@ -824,9 +940,6 @@ join:
 		fi
 	fi;
 done:
-#ifdef TEXTS
-	assert(texts <= TEXTS);
-#endif
 	assert(fault || (wrote == S && swept == 0 && !halted));
 	skip
 }
