@@ -443,26 +443,6 @@ fn pages_with_lines_for_notes(rt: HostRuntime) -> Result<(), Fail> {
 }
 
 #[test]
-fn posters(rt: HostRuntime) -> Result<(), Fail> {
-    let request = read(rt.alloc(), "poster 2x3 --overlap 1cm --reverse in.ps")?;
-    assert!(rt;
-        matches!(
-            request.layout,
-            Layout::Poster {
-                columns: 2,
-                rows: 3,
-            }
-        )
-    );
-    assert_eq!(rt;
-        Some(request.spacing.overlap),
-        Grains::new(3_600_000_000_000)
-    );
-    assert!(rt; request.choice.backwards);
-    Ok(())
-}
-
-#[test]
 fn grids_that_no_poster_has(rt: HostRuntime) {
     for word in ["4", "2x", "0x2", "33x32"] {
         assert!(rt;
