@@ -326,8 +326,9 @@ inline add(m)
 }
 
 #ifdef SPENT
-/* WorkerInput::impose_batch: for its first sheet, a group that was written, or a new one. In a window there are no more
-   groups than sheets. */
+/* WorkerInput::impose_batch, FinishedSheets::with_room, Texts::with_room: for its first sheet, a group that was written,
+   or a new one. One for which memory is refused (F_IMP) is here for a moment, till `no_memory` lets it go; in the code it
+   never is. In a window there are no more groups than sheets. */
 inline take_memory()
 {
 	if
@@ -351,7 +352,8 @@ inline take_memory()
 #endif
 
 /* WorkerInput::impose_into, Shared::impose_taken, is_complete, Imposition::impose. A look at a sheet that is complete
-   always shows it so, and a window never goes back, so there is no step of its own for these. */
+   always shows it so, and a window never goes back, so there is no step of its own for these. F_IMP: memory is refused
+   for its text, for room in its batch or, if it is the first, for the batch; it was taken, and is lost with the imposer. */
 inline impose_sheet()
 {
 #ifdef SPENT
@@ -399,7 +401,7 @@ inline find_held()
 }
 
 /* WorkerInput::impose_batch, WorkerInput::impose_more: further sheets, before the same end of the window, until the
-   queue is asked, there is nothing, or the batch is full. Then on to where that leads. */
+   queue is asked, there is nothing, or the batch is full (Window::batch). Then on to where that leads. */
 inline further()
 {
 	do
@@ -655,7 +657,7 @@ inline mark_place(m, at)
 	fi
 }
 
-/* Early::put: a group lies at the place of its last sheet. Whether it is free rests on the window. */
+/* Early::put, Early::mark_all: a group lies at the place of its last sheet. Whether it is free rests on the window. */
 #ifndef BAD_PLACE_OF_FIRST
 #define OWN_PLACE(m0, m1, m2) PLACE(LAST(m0, m1, m2))
 #else
@@ -811,9 +813,9 @@ init
 		n++
 	:: else -> n = 0; break
 	od;
-	/* run_workers, start, start_preparers, start_imposers; each preparer's room by WorkerInput::split_preparer,
-	   Shared::room_for, most_puts, with_page, Ready::split_with_room; an imposer has none (WorkerInput::split,
-	   Ready::split) */
+	/* supplies_of, gather_at, run_workers, start, start_preparers, start_imposers; each preparer's room by
+	   WorkerInput::split_preparer, Shared::room_for, most_puts, with_page, Ready::split_with_room; an imposer has none
+	   (WorkerInput::split, Ready::split) */
 #ifdef F_START
 	do
 	:: n < P ->
@@ -914,7 +916,7 @@ join:
 	:: !gathered -> assert(wrote == 0 && fault)
 	:: gathered && oom -> assert(fault)
 	:: gathered && !oom ->
-		/* finish, conclude, write_rest, write_next */
+		/* gather_at, finish, conclude, write_rest, write_next */
 		do
 		:: !halted && next < S ->
 			if

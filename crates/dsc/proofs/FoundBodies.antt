@@ -1,7 +1,7 @@
 -- A body that was found is the prepared body of its page.
 use Rattle.std.specs.Prelude.{Ok, map}
-use Rattle.std.proofs.Common.{Bool, true, false, if◌then◌else◌, ◌≡◌, ℕ, zero, suc, ◌+◌, ◌-◌, ◌<◌, ◌≤◌, List, [], ◌∷◌, length, take, drop, get_or, refl, ap, arith, length-take, length-drop, sym, ◌∙◌, subst}
-use Rattle.std.proofs.lemmas.List.{drop-drop, drop-take, length-map}
+use Rattle.std.proofs.Common.{Bool, true, false, if◌then◌else◌, ◌≡◌, ℕ, zero, suc, ◌-◌, ◌<◌, ◌≤◌, List, [], ◌∷◌, length, drop, get_or, refl, ap, arith, sym, ◌∙◌, subst}
+use Rattle.std.proofs.lemmas.List.{length-map}
 use Rattle.rules.specs.Units.{is_end, cut, ◌>>=◌}
 use Rattle.rules.specs.Parts.{NestedUnit, nested, page_run, split_pages, bytes_of, pages}
 use Rattle.rules.specs.Filters.{kept, drops_in_page, ended, prepared}
@@ -33,23 +33,15 @@ mapped [] p = refl
 mapped (x ∷ xs) zero = refl
 mapped (x ∷ xs) (suc p) = mapped xs p
 
--- the rest of a slice
-rest_of : (text : List ℕ) (at n end : ℕ) → at ≤ n → n ≤ end → drop (n - at) (take (end - at) (drop at text)) ≡ take (end - n) (drop n text)
-rest_of text at n end h g =
-    let sum : end - at ≡ (n - at) + (end - n) = omega (arith, h, g) in
-    let place : at + (n - at) ≡ n = omega (arith, h) in
-    ap (λ k. drop (n - at) (take k (drop at text))) sum ∙ drop-take (n - at) (end - n) (drop at text)
-    ∙ ap (take (end - n)) (drop-drop (n - at) at text ∙ ap (λ k. drop k text) place)
-
 pub not_0 : (n : ℕ) → (n ≡ 0 → ⊥) → 0 < n
 not_0 zero h = absurd (h refl)
 not_0 (suc n) h = omega arith
 
 -- as the code finds it
-pub body_at : (text starts bodies row others : List ℕ) (stop p start end : ℕ) (us : List NestedUnit) → HasItsParts text starts bodies stop → units_of text ≡ us → p < length (pages us)
-    → row ≡ bodies → others ≡ starts → start ≡ get_or row p 0 → end ≡ get_or others (p + 1) stop
-    → (p < length row) × (p < length others) × (0 < start → (start ≤ end) × (end ≤ length text) × (prepared (get_or (pages us) p []) ≡ Ok (take (end - start) (drop start text))))
-body_at text starts bodies row others stop p start end us i v h r o s e =
+pub body_start_at : (text starts bodies row others : List ℕ) (stop p start first : ℕ) (us : List NestedUnit) → HasItsParts text starts bodies stop → units_of text ≡ us → p < length (pages us)
+    → row ≡ bodies → others ≡ starts → start ≡ get_or row p 0 → first ≡ get_or others p 0
+    → (p < length row) × (p < length others) × (0 < start → (first ≤ start) × (start - first ≤ length (get_or (pages us) p [])) × (prepared (get_or (pages us) p []) ≡ Ok (drop (start - first) (get_or (pages us) p []))))
+body_start_at text starts bodies row others stop p start first us i v h r o s f =
     let vs : List NestedUnit = units_of text in
     let parts : List (List NestedUnit) = split_pages (page_run vs) in
     let below : p < length (pages vs) = subst (λ ws. p < length (pages ws)) (sym v) h in
@@ -58,23 +50,18 @@ body_at text starts bodies row others stop p start end us i v h r o s e =
     let found = page_found text starts stop p i.is_cut i.starts_are i.stop_is below in
     let unit : List NestedUnit = get_or parts p [] in
     let alone : StandAlone unit = pages-alone text (or_none (cut text)) i.is_cut p [] (omega (arith, below, count)) in
-    let last : end ≡ get_or starts (p + 1) stop = e ∙ ap (λ xs. get_or xs (p + 1) stop) o in
-    let at : ℕ = get_or starts p 0 in
-    let page : take (end - at) (drop at text) ≡ bytes_of unit = ap (λ k. take (k - at) (drop at text)) last ∙ found.3 ∙ mapped parts p in
+    let page : get_or (pages us) p [] ≡ bytes_of unit = ap (λ ws. get_or (pages ws) p []) (sym v) ∙ mapped parts p in
     let start_is : start ≡ get_or bodies p 0 = s ∙ ap (λ xs. get_or xs p 0) r in
-    let at_is : get_or (starts_of vs) p 0 ≡ at = ap (λ xs. get_or xs p 0) (sym i.starts_are) in
-    let right : IsBodyStart at start unit = subst (λ k. IsBodyStart k start unit) at_is (subst (λ k. IsBodyStart (get_or (starts_of vs) p 0) k unit) (sym start_is) (i.bodies_are.each p here)) in (
+    let first_is : get_or (starts_of vs) p 0 ≡ first = ap (λ xs. get_or xs p 0) (sym (o ∙ i.starts_are)) ∙ sym f in
+    let right : IsBodyStart first start unit = subst (λ k. IsBodyStart k start unit) first_is (subst (λ k. IsBodyStart (get_or (starts_of vs) p 0) k unit) (sym start_is) (i.bodies_are.each p here)) in (
       (let same = ap length r in omega (arith, here, same)),
       (let same = ap length o in omega (arith, found.0, same)),
       λ some.
-          let w = right some in
-          let size : length (bytes_of unit) ≡ end - at =
-          sym (ap length page) ∙ (let t = length-take (end - at) (drop at text) in let d = length-drop at text in omega (arith, t, d, found.1, found.2, last)) in
-          let within : start ≤ end = omega (arith, w.1, size, found.1, last) in (
-            within,
-            omega (arith, found.2, last),
-            ap (λ ws. prepared (get_or (pages ws) p [])) (sym v) ∙ ap prepared (mapped parts p) ∙ alone_prepared unit alone
-                ∙ ap (λ t. Ok (ended t)) w.2 ∙ ap Ok (rest_stays (start - at) (bytes_of unit) false w.3)
-                ∙ ap Ok (ap (drop (start - at)) (sym page) ∙ rest_of text at start end w.0 within),
+          let w = right some in (
+            w.0,
+            (let size = ap length page in let most = w.1 in omega (arith, most, size)),
+            ap prepared page ∙ alone_prepared unit alone
+                ∙ ap (λ t. Ok (ended t)) w.2 ∙ ap Ok (rest_stays (start - first) (bytes_of unit) false w.3)
+                ∙ ap (λ t. Ok (drop (start - first) t)) (sym page),
           ),
     )

@@ -112,35 +112,37 @@ impl<'d> Document<'d> {
     }
 
     /// The prepared body of a page, counted from 0, as `Body::prepare` makes it of the page. If lines are dropped at
-    /// the page's start alone and what is kept ends with a line end, it was found as the document was read.
+    /// the page's start alone and what is kept ends with a line end, nothing is looked at: `body_start` tells it.
     pub fn body(&self, alloc: Global, p: u32) -> Result<Body<'d>, AllocError>
         requires { p < length (pages self.now) }
         ensures body { IfOk result (λ b. prepared (slice_index_or (pages self.now) p []) ≡ Ok b) }
     {
-        if let Some(body) = self.found_body(p) {
-            return Ok(body);
+        let page = self.page(p);
+        if let Some(start) = self.body_start(p) {
+            return Ok(Body::of_run(&page[start as usize..]));
         }
-        match Body::prepare(alloc, self.page(p)) {
+        match Body::prepare(alloc, page) {
             Ok(body) => Ok(body),
             Err(DscError::NoMemory) => Err(AllocError),
             Err(_) => unreachable!(),
         }
     }
 
-    /// The prepared body of a page, if it is the rest of the page.
-    fn found_body(&self, p: u32) -> Option<Body<'d>>
+    /// From which of its bytes on a page, counted from 0, is its prepared body, if that was found as the document was
+    /// read: if lines are dropped at the page's start alone and what is kept ends with a line end.
+    pub fn body_start(&self, p: u32) -> Option<u32>
         requires { p < length (pages self.now) }
-        ensures { IfSome result (λ b. prepared (slice_index_or (pages self.now) p []) ≡ Ok b) }
+        ensures within { IfSome result (λ start. start ≤ length (slice_index_or (pages self.now) p [])) }
+        ensures body { IfSome result (λ start. prepared (slice_index_or (pages self.now) p [])
+            ≡ Ok (drop start (slice_index_or (pages self.now) p []))) }
     {
-        let p = p as usize;
         let bodies = self.bodies.as_slice();
         let starts = self.starts.as_slice();
-        let start = entry(bodies, p);
-        let end = next_or(starts, p, self.stop);
+        let start = bodies[p as usize];
         if start == 0 {
             return None;
         }
-        Some(Body::of_run(part(self.text, start, end)))
+        Some(start - starts[p as usize])
     }
 
     /// What is kept of the preamble, with `%%Pages: ` and the number of sheets on a line of its own behind the first

@@ -1,14 +1,14 @@
 -- The rooms of passes, one by one and together.
-use Rattle.std.proofs.Common.{◌≡◌, ◌≢◌, ⊎_elim, ℕ, zero, suc, ◌+◌, ◌-◌, ◌<◌, ◌≤◌, Bool, true, false, true≢false, List, [], ◌∷◌, ◌++◌, length, set, Option, Some, None, is_some, refl, sym, ap, ◌∙◌, subst, arith}
+use Rattle.std.proofs.Common.{◌≡◌, ◌≢◌, ⊎_elim, ℕ, zero, suc, ◌+◌, ◌-◌, ◌<◌, ◌≤◌, Bool, false, true≢false, List, [], ◌∷◌, ◌++◌, length, set, Option, Some, None, is_some, refl, sym, ap, ◌∙◌, subst, arith}
 use mathlib.Core.Option.{some, some-injective, some-ne-none}
 use lib.ListN.{get_elem?}
 use Rattle.atomic_table.proofs.Lists.{at_set, at_snoc}
 use Rattle.histories.specs.Seats.{total, share_of}
-use Rattle.histories.proofs.Totals.{total_set, total-append, total_zero, total_has, total_alone}
+use Rattle.histories.proofs.Totals.{total_zero, total_alone}
 use Rattle.handover.specs.Queue.{Move, Put, Take, sheets_put}
-use Rattle.handover.specs.Passes.{PassView, Joined, Makes, puts_in, room_after, room_kept, room_given, both_rooms}
+use Rattle.handover.specs.Passes.{PassView, Makes, puts_in, room_after, room_kept, room_given, both_rooms}
 use Rattle.handover.specs.Laws.{RoomIsUsedUp}
-use Rattle.handover.specs.Rule.{Sight, SeatSight, seats_of, room_of, IsRoomed, AreRooms}
+use Rattle.handover.specs.Rule.{Sight, seats_of, room_of, IsRoomed, AreRooms}
 
 -- one room
 pub kind_after : (m : Move) (r : Option ℕ) → is_some (room_after m r) ≡ is_some r

@@ -1,5 +1,5 @@
 -- Each step keeps the rule.
-use Rattle.std.proofs.Common.{◌≡◌, ◌≢◌, ◌⊎◌, inl, inr, ⊎_elim, ℕ, zero, suc, ◌+◌, ◌<◌, ◌≤◌, List, [], ◌∷◌, ◌++◌, length, set, Option, Some, None, is_some, refl, sym, ap, ◌∙◌, arith, subst, length-append}
+use Rattle.std.proofs.Common.{◌≡◌, ◌≢◌, ◌⊎◌, ⊎_elim, ℕ, zero, suc, ◌+◌, ◌<◌, ◌≤◌, List, [], ◌∷◌, ◌++◌, length, set, Option, None, is_some, refl, sym, ap, ◌∙◌, arith, subst, length-append}
 use mathlib.Core.Option.{some}
 use lib.ListN.{get_elem?}
 use Rattle.crossbeam_queue.specs.Fifo.{Pushes, Pops, Forks, Merges}
@@ -9,7 +9,7 @@ use Rattle.histories.specs.Seats as sights
 use Rattle.histories.proofs.Shares.{adds, splits, absorbs, opens, whole_front, rekeys}
 use Rattle.histories.proofs.Totals.{total_set, total-append, total_has}
 use Rattle.handover.specs.Queue.{Move, Put, Take, content, after, Fits, IsQueueHistory}
-use Rattle.handover.specs.Passes.{puts_in, room_after, room_kept, room_given, both_rooms}
+use Rattle.handover.specs.Passes.{puts_in, room_after}
 use Rattle.handover.specs.Rule.{Sight, SeatSight, Kept, AreRooms, IsRoomed, opening, spent, seats_of, room_of}
 use Rattle.handover.specs.Steps.{Adds, Sees, Learns, keeps_of, gets_of, both_of, opened, spent_of}
 use Rattle.handover.proofs.Histories.{after_push, AllFit_push}

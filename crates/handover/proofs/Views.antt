@@ -1,5 +1,5 @@
 -- What each step tells, as clauses see it, and that a pass between two calls stays one.
-use Rattle.std.proofs.Common.{◌≡◌, inl, inr, ℕ, zero, suc, ◌+◌, ◌-◌, ◌<◌, [], Option, Some, None, refl, sym, ap, ◌∙◌, subst, arith}
+use Rattle.std.proofs.Common.{◌≡◌, inl, inr, ℕ, zero, suc, ◌+◌, ◌-◌, ◌<◌, Option, Some, None, refl, sym, ap, ◌∙◌, subst, arith}
 use Rattle.std.specs.Prelude.{Result, Ok, Err, IfSome, MatchOption, MatchResult}
 use Rattle.atomic_table.specs.Seated.{TableId}
 use Rattle.histories.specs.Seats.{Learned, whole_share}

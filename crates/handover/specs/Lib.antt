@@ -1,8 +1,9 @@
--- Read in this order: prepared pages, the row that names a document's pages, what a shelf
+-- Read in this order: prepared pages and what they keep of their bodies, the row that names a document's pages, what a shelf
 -- holds, the shelf and its tokens; histories of the queue, the queue and its passes as
 -- clauses see them, what holds of every history and of every pass; the rule that every step keeps, and what each step
 -- tells.
 pub mod Pages
+pub mod Kept
 pub mod Naming
 pub mod Entries
 pub mod Shelves

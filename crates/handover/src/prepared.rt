@@ -12,25 +12,43 @@ use std::alloc::{AllocError, Global};
 use std::marker::Model;
 
 /// A page of a document with its prepared body: what is kept of its bytes when it is placed on a sheet (the page
-/// comments and the page setup lines of DSC 3.0 are dropped). It takes 48 bytes, and memory for a copy of the body only
-/// if that is no run of the page's bytes.
+/// comments and the page setup lines of DSC 3.0 are dropped). It takes 32 bytes, and memory beside them only if the body
+/// isn't the rest of the page, or is that of a page that was prepared from its bytes.
 #[derive(Drop)]
 pub struct Prepared<'d> {
-    page: u32,
+    kept: Kept<'d>,
+}
+
+/// A shelf holds every page until its run ends, so a page takes as little as it can: most bodies are the rest of their
+/// page.
+#[derive(Drop)]
+enum Kept<'d> {
+    Rest {
+        raw: &'d [u8],
+        page: u32,
+        /// From which byte on the rest is the body.
+        start: u32,
+    },
+    Boxed(Box<Whole<'d>>),
+}
+
+#[derive(Drop)]
+struct Whole<'d> {
     raw: &'d [u8],
+    page: u32,
     body: Body<'d>,
 }
 
 impl<'d> Model for Prepared<'d> {
     ghost use Rattle.std.specs.Prelude.{◌≡◌, Ok};
-    ghost use Rattle.rules.specs.Filters.{prepared};
-    ghost use Rattle.handover.specs.Pages.{PreparedPage};
+    ghost use Rattle.handover.specs.Pages.{PreparedPage, IsPrepared};
+    ghost use Rattle.handover.specs.Kept.{page_of, BeginsWithin};
 
     ghost Value = { PreparedPage };
 
-    ghost view = { λ p. record { page = p.page; raw = p.raw.now; body = p.body } };
+    ghost view = { λ p. page_of p.kept };
 
-    ghost invariant = { λ p. prepared p.raw.now ≡ Ok p.body };
+    ghost invariant = { λ p. IsPrepared (page_of p.kept) × BeginsWithin p.kept };
 }
 
 impl<'d> Prepared<'d> {
@@ -44,7 +62,10 @@ impl<'d> Prepared<'d> {
         ensures memory_alone { HasBody raw.now → IfErr result (λ e. e ≡ NoMemory) }
     {
         let body = Body::prepare(alloc, raw)?;
-        Ok(Prepared { page, raw, body })
+        match Prepared::whole(alloc, page, raw, body) {
+            Ok(prepared) => Ok(prepared),
+            Err(_) => Err(DscError::NoMemory),
+        }
     }
 
     /// A page of a document, counted from 0, with its prepared body. Refused for memory alone.
@@ -58,11 +79,29 @@ impl<'d> Prepared<'d> {
         ensures raw { IfOk result (λ p. p.raw ≡ slice_index_or (pages document.now) page []) }
         ensures body { IfOk result (λ p. prepared p.raw ≡ Ok p.body) }
     {
+        let raw = document.page(page);
+        if let Some(start) = document.body_start(page) {
+            return Ok(Prepared {
+                kept: Kept::Rest { raw, page, start },
+            });
+        }
         let body = document.body(alloc, page)?;
+        Prepared::whole(alloc, page, raw, body)
+    }
+
+    /// A page with a body that is kept as it is.
+    fn whole(
+        alloc: Global,
+        page: u32,
+        raw: &'d [u8],
+        body: Body<'d>,
+    ) -> Result<Prepared<'d>, AllocError>
+        requires { prepared raw.now ≡ Ok body }
+        ensures { IfOk result (λ p. (p.page ≡ page) × (p.raw ≡ raw.now) × (p.body ≡ body.entry)) }
+    {
+        let whole = Box::new(alloc, Whole { raw, page, body })?;
         Ok(Prepared {
-            page,
-            raw: document.page(page),
-            body,
+            kept: Kept::Boxed(whole),
         })
     }
 
@@ -70,14 +109,20 @@ impl<'d> Prepared<'d> {
     pub fn page(&self) -> u32
         ensures { result ≡ self.now.page }
     {
-        self.page
+        match &self.kept {
+            Kept::Rest { page, .. } => *page,
+            Kept::Boxed(whole) => whole.page,
+        }
     }
 
     /// The bytes of the page, as they stand in the input.
     pub fn raw(&self) -> &'d [u8]
         ensures { result.now ≡ self.now.raw }
     {
-        self.raw
+        match &self.kept {
+            Kept::Rest { raw, .. } => raw,
+            Kept::Boxed(whole) => whole.raw,
+        }
     }
 
     /// The prepared body.
@@ -85,6 +130,9 @@ impl<'d> Prepared<'d> {
         ensures body { result.now ≡ self.now.body }
         ensures prepared { prepared self.now.raw ≡ Ok result.now }
     {
-        self.body.as_slice()
+        match &self.kept {
+            Kept::Rest { raw, start, .. } => &raw[*start as usize..],
+            Kept::Boxed(whole) => whole.body.as_slice(),
+        }
     }
 }

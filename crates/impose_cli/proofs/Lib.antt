@@ -11,3 +11,4 @@ pub mod Again
 pub mod Examples
 pub mod Programs
 pub mod Ranges
+pub mod FourLines

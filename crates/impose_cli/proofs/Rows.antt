@@ -13,7 +13,7 @@ use Rattle.rows.specs.Sewing.{signing_of}
 use Rattle.sheet_writer.specs.Sinks.{SinkView}
 use Rattle.imposer.specs.declared.outcome.Report.{Report}
 use Rattle.row_runs.specs.declared.run.RowJob.{RowJob}
-use Rattle.impose_cli.specs.Endings.{Ends, EndsBySpec, EndsTask, Finishes}
+use Rattle.impose_cli.specs.Endings.{Ends, EndsBeforeRow, EndsBeforeRun, EndsBySpec, EndsInRow, EndsInRun, EndsTask, FailsAs, Finishes}
 use Rattle.own_papers.specs.AsOne.{as_one, kinds, paper_among}
 use Rattle.own_papers.specs.declared.cuts.Cut.{Cut}
 use Rattle.paper_names.specs.Names.{paper_named}
@@ -22,11 +22,13 @@ use Rattle.sheet_text.specs.Jobs.{is_border}
 use Rattle.impose_cli.specs.Faults.{without_memory}
 use Rattle.dsc.specs.PagesBehind.{pages_behind}
 use Rattle.impose_cli.specs.declared.task.PaperOrigin.{PaperOrigin}
-use Rattle.impose_cli.specs.Tasks.{HasBehind, HasPages}
+use Rattle.impose_cli.specs.Tasks.{HasBehind, HasPages, IsSpec}
 use Rattle.impose_cli.specs.declared.fault.Fault.TheVariants as fault
 use Rattle.impose_cli.specs.Refusals.{RefusesDocument, RefusesLaying, RefusesRowTask, RefusesSides}
-use Rattle.impose_cli.specs.RowTasks.{ArePapersOf, cut_in, papers_in, row_paper, sheet_paper_in, text_for, FinishesRow, ImposesTask, IsJobOf, IsRowJob, IsRowPaper, IsRowTask}
+use Rattle.impose_cli.specs.RowTasks.{ArePapersOf, cut_in, papers_in, row_paper, sheet_paper_in, text_for, FinishesRow, ImposesTask, IsJobOf, IsRowJob, IsRowPaper, IsRowTask, LaysRows}
 use Rattle.impose_cli.specs.declared.fault.Fault.{Fault}
+use Rattle.impose_cli.specs.declared.request.Layout.{Layout}
+use Rattle.impose_cli.specs.declared.request.Layout.TheVariants as layout
 use Rattle.impose_cli.specs.declared.request.Request.{Request}
 use Rattle.impose_cli.specs.declared.row_task.RowTask.{RowTask}
 use Rattle.impose_cli.specs.declared.task.Finished.{Finished}
@@ -101,15 +103,43 @@ finishes_row r input t old new report is h = record {
   imposes = h.2;
 }
 
-pub stops_before : (r : Request) (input : List ℕ) (sink : SinkView) (f : Fault) → RefusesRowTask r input f → Ends r input sink sink (Err f)
-stops_before r input sink f h = inl (record { refused = inr h; unwritten = (stays sink.bytes, refl) })
+-- a request whose layout lays rows fails as one on its row
+on_row : (l : Layout) (r : Request) (input : List ℕ) (old new : SinkView) (f : Fault) → LaysRows l → EndsBeforeRow r input old new f ⊎ EndsInRow r input old new f
+    → FailsAs l r input old new f
+on_row (layout.NUp cells) r input old new f rows h = h
+on_row (layout.Cards cells) r input old new f rows h = h
+on_row (layout.Stack cells duplex) r input old new f rows h = h
+on_row (layout.Notes pages) r input old new f rows h = h
+on_row (layout.Poster columns on) r input old new f rows h = h
+on_row (layout.Booklet signing long_edge) r input old new f rows h = h
+on_row layout.Selection r input old new f rows h = h
+on_row (layout.Spec specs) r input old new f rows h = absurd rows
+on_row (layout.SpecRow specs signing) r input old new f rows h = absurd rows
 
-pub stops_in : (r : Request) (input : List ℕ) (t : RowTask) (old new : SinkView) (f : Fault) → IsRowTask r input t → EndsTask r t old new f → Ends r input old new (Err f)
-stops_in r input t old new f is h = inr (inr (inl (record { task = t; is_task = is; ended = h })))
+pub stops_before : (r : Request) (input : List ℕ) (sink : SinkView) (f : Fault) → LaysRows r.layout → RefusesRowTask r input f → Ends r input sink sink (Err f)
+stops_before r input sink f rows h = on_row r.layout r input sink sink f rows (inl (record { refused = h; unwritten = (stays sink.bytes, refl) }))
 
-pub spec_ends : (r : Request) (input : List ℕ) (old new : SinkView) (result : Result Finished Fault) → EndsBySpec r input old new result → Ends r input old new result
-spec_ends r input old new (Ok done) h = (inl h.0, h.1)
-spec_ends r input old new (Err f) h = elim h [ inl before ↦ inl before | inr run ↦ inr (inl run) ]
+pub stops_in : (r : Request) (input : List ℕ) (t : RowTask) (old new : SinkView) (f : Fault) → LaysRows r.layout → IsRowTask r input t → EndsTask r t old new f
+    → Ends r input old new (Err f)
+stops_in r input t old new f rows is h = on_row r.layout r input old new f rows (inr (record { task = t; is_task = is; ended = h }))
+
+-- a request whose layout is a specification fails as one by it
+by_spec : (l : Layout) (text : List ℕ) (r : Request) (input : List ℕ) (old new : SinkView) (f : Fault) → IsSpec l text
+    → EndsBeforeRun r input old new f ⊎ EndsInRun r input old new f → FailsAs l r input old new f
+by_spec (layout.Spec specs) text r input old new f is h = h
+by_spec (layout.NUp cells) text r input old new f is h = absurd is
+by_spec (layout.Cards cells) text r input old new f is h = absurd is
+by_spec (layout.Stack cells duplex) text r input old new f is h = absurd is
+by_spec (layout.Notes pages) text r input old new f is h = absurd is
+by_spec (layout.Poster columns on) text r input old new f is h = absurd is
+by_spec (layout.Booklet signing long_edge) text r input old new f is h = absurd is
+by_spec layout.Selection text r input old new f is h = absurd is
+by_spec (layout.SpecRow specs signing) text r input old new f is h = absurd is
+
+pub spec_ends : (r : Request) (input : List ℕ) (old new : SinkView) (result : Result Finished Fault) → ((text : List ℕ) × IsSpec r.layout text) → EndsBySpec r input old new result
+    → Ends r input old new result
+spec_ends r input old new (Ok done) is h = (inl h.0, h.1)
+spec_ends r input old new (Err f) is h = by_spec r.layout is.0 r input old new f is.1 h
 
 pub ends_finished : (r : Request) (input : List ℕ) (old new : SinkView) (result : Result Finished Fault) → Ends r input old new result
     → IfOk result (Finishes r input old.bytes new.bytes)

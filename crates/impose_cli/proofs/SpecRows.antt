@@ -4,10 +4,12 @@ use Rattle.rules.specs.Admissible.{Takes, most_slots}
 use Rattle.rules.specs.Run.{document_of}
 use Rattle.sheet_writer.specs.Sinks.{SinkView}
 use Rattle.imposer.specs.declared.outcome.Report.{Report}
-use Rattle.impose_cli.specs.Endings.{Ends}
-use Rattle.impose_cli.specs.SpecRows.{EndsSpecTask, FinishesSpecRow, ImposesSpecTask, IsSpecRow, IsSpecRowTask, RefusesSpecRowTask}
+use Rattle.impose_cli.specs.Endings.{Ends, FailsAs}
+use Rattle.impose_cli.specs.SpecRows.{EndsSpecRow, EndsSpecTask, FinishesSpecRow, ImposesSpecTask, IsSpecRow, IsSpecRowTask, LaysSpecRow, RefusesSpecRowTask}
 use Rattle.impose_cli.specs.Tasks.{taken_text}
 use Rattle.impose_cli.specs.declared.fault.Fault.{Fault}
+use Rattle.impose_cli.specs.declared.request.Layout.{Layout}
+use Rattle.impose_cli.specs.declared.request.Layout.TheVariants as layout
 use Rattle.impose_cli.specs.declared.request.Request.{Request}
 use Rattle.impose_cli.specs.declared.spec_row.SpecRowTask.{SpecRowTask}
 use Rattle.impose_cli.proofs.Ending.{stays}
@@ -32,8 +34,21 @@ finishes_spec_row r input t old new report is h =
       imposes = h.2;
     }
 
-pub spec_row_stops_before : (r : Request) (input : List ℕ) (sink : SinkView) (f : Fault) → RefusesSpecRowTask r input f → Ends r input sink sink (Err f)
-spec_row_stops_before r input sink f h = inr (inr (inr (inl (record { refused = h; unwritten = (stays sink.bytes, refl) }))))
+-- a request whose layout is a specification on a row fails as one by it
+on_spec_row : (l : Layout) (r : Request) (input : List ℕ) (old new : SinkView) (f : Fault) → LaysSpecRow l → EndsSpecRow r input old new f → FailsAs l r input old new f
+on_spec_row (layout.SpecRow specs signing) r input old new f rows h = h
+on_spec_row (layout.NUp cells) r input old new f rows h = absurd rows
+on_spec_row (layout.Cards cells) r input old new f rows h = absurd rows
+on_spec_row (layout.Stack cells duplex) r input old new f rows h = absurd rows
+on_spec_row (layout.Notes pages) r input old new f rows h = absurd rows
+on_spec_row (layout.Poster columns on) r input old new f rows h = absurd rows
+on_spec_row (layout.Booklet signing long_edge) r input old new f rows h = absurd rows
+on_spec_row layout.Selection r input old new f rows h = absurd rows
+on_spec_row (layout.Spec specs) r input old new f rows h = absurd rows
 
-pub spec_row_stops_in : (r : Request) (input : List ℕ) (t : SpecRowTask) (old new : SinkView) (f : Fault) → IsSpecRowTask r input t → EndsSpecTask r t old new f → Ends r input old new (Err f)
-spec_row_stops_in r input t old new f is h = inr (inr (inr (inr (record { task = t; is_task = is; ended = h }))))
+pub spec_row_stops_before : (r : Request) (input : List ℕ) (sink : SinkView) (f : Fault) → LaysSpecRow r.layout → RefusesSpecRowTask r input f → Ends r input sink sink (Err f)
+spec_row_stops_before r input sink f rows h = on_spec_row r.layout r input sink sink f rows (inl (record { refused = h; unwritten = (stays sink.bytes, refl) }))
+
+pub spec_row_stops_in : (r : Request) (input : List ℕ) (t : SpecRowTask) (old new : SinkView) (f : Fault) → LaysSpecRow r.layout → IsSpecRowTask r input t → EndsSpecTask r t old new f
+    → Ends r input old new (Err f)
+spec_row_stops_in r input t old new f rows is h = on_spec_row r.layout r input old new f rows (inr (record { task = t; is_task = is; ended = h }))

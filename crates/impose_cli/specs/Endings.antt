@@ -14,15 +14,22 @@ use Rattle.impose_cli.specs.Refusals.{IsRefusedFor, RefusesRowTask, RefusesTask}
 use Rattle.dsc.specs.declared.errors.DscError.{DscError}
 use Rattle.imposer.specs.Outcomes.{of_document as of_read}
 use Rattle.impose_cli.specs.declared.row_task.RowTask.{RowTask}
+use Rattle.impose_cli.specs.declared.request.Layout.{Layout}
+use Rattle.impose_cli.specs.declared.request.Layout.TheVariants as layout
 use Rattle.impose_cli.specs.declared.request.Request.{Request}
 use Rattle.impose_cli.specs.declared.fault.Fault.{Fault}
 use Rattle.impose_cli.specs.declared.fault.Fault.TheVariants as fault
 use Rattle.impose_cli.specs.declared.task.Task.{Task}
 use Rattle.impose_cli.specs.declared.task.Finished.{Finished}
 
--- the fault was found before the run: it is why there is no task, or no row. Nothing was written, and no write failed
+-- the fault was found before the run: it is why there is no task. Nothing was written, and no write failed
 pub record EndsBeforeRun (r : Request) (input : List ℕ) (old new : SinkView) (f : Fault) : Type 0 where
-  pub refused : RefusesTask r input f ⊎ RefusesRowTask r input f
+  pub refused : RefusesTask r input f
+  pub unwritten : IsUntouched old new
+
+-- the same of a task with a row
+pub record EndsBeforeRow (r : Request) (input : List ℕ) (old new : SinkView) (f : Fault) : Type 0 where
+  pub refused : RefusesRowTask r input f
   pub unwritten : IsUntouched old new
 
 -- the fault is the error of the run of the request's task: it names the first check that fails; as much of the output
@@ -73,9 +80,13 @@ abbrev pub Finishes : Request → (input : List ℕ) → (old new : Option (List
 Finishes r input old new done =
     FinishesSpec r input old new done ⊎ (FinishesRow r input old new done ⊎ FinishesSpecRow r input old new done)
 
+-- how a request failed: by its specification, by that on its row, or on the row of another layout
+abbrev pub FailsAs : Layout → Request → (input : List ℕ) → (old new : SinkView) → Fault → Type 0
+FailsAs (layout.Spec specs) r input old new f = EndsBeforeRun r input old new f ⊎ EndsInRun r input old new f
+FailsAs (layout.SpecRow specs signing) r input old new f = EndsSpecRow r input old new f
+FailsAs other r input old new f = EndsBeforeRow r input old new f ⊎ EndsInRow r input old new f
+
 -- the request was carried out and no write failed; or its fault was found before the run, or is the run's
 abbrev pub Ends : Request → (input : List ℕ) → (old new : SinkView) → Result Finished Fault → Type 0
 Ends r input old new (Ok done) = Finishes r input old.bytes new.bytes done × (new.failures ≡ old.failures)
-Ends r input old new (Err f) =
-    EndsBeforeRun r input old new f
-    ⊎ (EndsInRun r input old new f ⊎ (EndsInRow r input old new f ⊎ EndsSpecRow r input old new f))
+Ends r input old new (Err f) = FailsAs r.layout r input old new f

@@ -1,6 +1,6 @@
 //! What the words ask for.
 ghost use Rattle.std.specs.Prelude.{◌≡◌, [], IfOk, IfErr, None, Some, codes, false, map, option_map, string_bytes, true};
-ghost use Rattle.clap.specs.Words.{fault_of, first_of, found_of, is_simple, rows_of, subcommand_of, subcommand_rows_of};
+ghost use Rattle.clap.specs.Words.{Text, fault_of, first_of, found_of, is_simple, rows_of, subcommand_of, subcommand_rows_of};
 ghost use Rattle.impose_cli.specs.Command.{impose};
 ghost use Rattle.impose_cli.specs.Words.{AsksFor, Entered, ParseRefuses, Reads, Refuses, RefusesFound};
 ghost use Rattle.impose_cli.specs.Words.{RefusesArguments, border_found, file_asked, is_outfile, paper_id};
@@ -93,10 +93,25 @@ fn request_of(alloc: Global, name: &str, found: &ArgMatches<'_>) -> Result<Reque
         Ok(sizes) => sizes,
         Err(fault) => return Err(fault),
     };
-    let layout = match layout_of(alloc, name, found) {
-        Ok(layout) => layout,
-        Err(fault) => return Err(fault),
-    };
+    match layout_of(alloc, name, found) {
+        Ok(layout) => request_for(alloc, sizes, layout, found),
+        Err(fault) => Err(fault),
+    }
+}
+
+/// The request for this layout of these sizes: what else was found is read in its order, and the first fault is told.
+fn request_for(
+    alloc: Global,
+    sizes: Sizes,
+    layout: Layout,
+    found: &ArgMatches<'_>,
+) -> Result<Request, CommandFault>
+    requires sizes { ReadsSizes (rows_of (found_of found.now)) sizes.page_paper sizes.sheet_paper sizes.border }
+    ensures read { (name : Text) → AsksFor name (rows_of (found_of found.now)) layout
+        → IfOk result (Reads name (rows_of (found_of found.now))) }
+    ensures refused { (name : Text) → AsksFor name (rows_of (found_of found.now)) layout
+        → IfErr result (RefusesFound name (rows_of (found_of found.now))) }
+{
     let spacing = match spacing_of(alloc, &layout, found) {
         Ok(spacing) => spacing,
         Err(fault) => return Err(fault),

@@ -1,4 +1,8 @@
 //! What is said of a finished run.
+ghost use Rattle.std.specs.Prelude.{◌≡◌, IfOk, Some, option_map, string_bytes};
+ghost use Rattle.impose_cli.specs.Said.{HasCounts, IsNote, IsOfCut, IsReport, behind_text as text_of_behind};
+ghost use Rattle.impose_cli.specs.Said.{is_pdf_name as names_pdf, origin_text as text_of_origin};
+
 use crate::request::{Layout, Request};
 use crate::shown::shown_word;
 use crate::task::{Finished, PaperOrigin};
@@ -9,11 +13,9 @@ use own_papers::Cut;
 use std::alloc::{AllocError, Global};
 
 /// What is said of a finished run.
-pub fn report_text(
-    alloc: Global,
-    done: &Finished,
-    request: &Request,
-) -> Result<String, AllocError> {
+pub fn report_text(alloc: Global, done: &Finished, request: &Request) -> Result<String, AllocError>
+    ensures { IfOk result (λ text. IsReport done.now (Some (string_bytes text))) }
+{
     let counts = counts_text(alloc, &done.report, request)?;
     let counts = counts.as_str();
     let size = size_text(alloc, &done.page_paper)?;
@@ -23,7 +25,9 @@ pub fn report_text(
 }
 
 /// How many pages, blanks, sheets and leaves there are, and how many bytes.
-fn counts_text(alloc: Global, report: &Report, request: &Request) -> Result<String, AllocError> {
+fn counts_text(alloc: Global, report: &Report, request: &Request) -> Result<String, AllocError>
+    ensures { IfOk result (λ text. HasCounts report.now (string_bytes text)) }
+{
     let pages = report.pages;
     let sheets = report.sheets;
     let bytes = report.bytes;
@@ -72,7 +76,9 @@ fn size_text(alloc: Global, paper: &Paper) -> Result<String, AllocError> {
 }
 
 /// What is said of pages that the paper cuts which is named for them.
-pub fn cut_text(alloc: Global, done: &Finished) -> Result<Option<String>, AllocError> {
+pub fn cut_text(alloc: Global, done: &Finished) -> Result<Option<String>, AllocError>
+    ensures { IfOk result (λ text. IsOfCut done.now.cut (option_map string_bytes text)) }
+{
     let Some(cut) = done.cut else {
         return Ok(None);
     };
@@ -86,7 +92,9 @@ pub fn cut_text(alloc: Global, done: &Finished) -> Result<Option<String>, AllocE
 }
 
 /// What is said of pages that stand behind the document's trailer.
-pub fn behind_text(alloc: Global, done: &Finished) -> Result<Option<String>, AllocError> {
+pub fn behind_text(alloc: Global, done: &Finished) -> Result<Option<String>, AllocError>
+    ensures { IfOk result (λ text. option_map string_bytes text ≡ text_of_behind done.now.behind) }
+{
     let pages = done.behind;
     match pages {
         0 => Ok(None),
@@ -115,7 +123,9 @@ fn cut_pages_text(alloc: Global, cut: &Cut) -> Result<String, AllocError> {
 }
 
 /// What else is said of a finished run, if there is something: that a file named as a PDF isn't one.
-pub fn note_text(alloc: Global, request: &Request) -> Result<Option<String>, AllocError> {
+pub fn note_text(alloc: Global, request: &Request) -> Result<Option<String>, AllocError>
+    ensures { IfOk result (λ text. IsNote (option_map string_bytes request.now.outfile) (option_map string_bytes text)) }
+{
     match &request.outfile {
         Some(name) if is_pdf_name(name.as_str()) => {
             let name = shown_word(alloc, name.as_str())?;
@@ -128,11 +138,16 @@ pub fn note_text(alloc: Global, request: &Request) -> Result<Option<String>, All
     }
 }
 
-fn is_pdf_name(name: &str) -> bool {
-    name.ends_with(".pdf") || name.ends_with(".PDF")
+fn is_pdf_name(name: &str) -> bool
+    ensures { result ≡ names_pdf name.now }
+{
+    let name = name.as_bytes();
+    name.ends_with(b".pdf") || name.ends_with(b".PDF")
 }
 
-fn origin_text(origin: PaperOrigin) -> &'static str {
+fn origin_text(origin: PaperOrigin) -> &'static str
+    ensures { result.now ≡ text_of_origin origin }
+{
     match origin {
         PaperOrigin::Named => "as named",
         PaperOrigin::ByComment(Comment::DocumentMedia) => "by its %%DocumentMedia",

@@ -32,18 +32,19 @@ given_away run first count joined n m room old seat pass seat_is pass_is had =
     (record { work = had.work; order = record { puts = had.order.puts; closes = had.order.closes }; puts = had.puts }))
 
 -- what was begun with, before anything was called
-pub begun : {G : Type 0} (run : Shared G) (count : ℕ) (first : Tokens) (seat_unused : first.seat.own ≡ [])
-    → HasGathered run first count 0 (record { tokens = first; unshelved = None })
-begun run count first unused = record {
-  work = λ none w. ap (λ own. held.done w (record first { seat = record first.seat { own = own } })) unused;
-  order = record {
-    puts = λ s. omega arith;
-    closes = subst (λ own. CloseWhatTheyFill (entries_at first.seat.front own)) (sym unused) (λ s g. refl);
-  };
-  puts = λ by_right s.
-      let none : held.completed s first ≡ 0 = ap (λ own. held.completed s (record first { seat = record first.seat { own = own } })) unused in
-      omega (arith, none);
-}
+pub begun : {G : Type 0} (run : Shared G) (count : ℕ) (h : Holding) (seat_unused : h.tokens.seat.own ≡ [])
+    → HasGathered run h.tokens count 0 h
+begun run count h unused =
+    let first = h.tokens in record {
+      work = λ none w. ap (λ own. held.done w (record first { seat = record first.seat { own = own } })) unused;
+      order = record {
+        puts = λ s. omega arith;
+        closes = subst (λ own. CloseWhatTheyFill (entries_at first.seat.front own)) (sym unused) (λ s g. refl);
+      };
+      puts = λ by_right s.
+          let none : held.completed s first ≡ 0 = ap (λ own. held.completed s (record first { seat = record first.seat { own = own } })) unused in
+          omega (arith, none);
+    }
 
 none_of_two : {A : Type 0} (one two new : Option A) → new ≡ option_or one two → IsNone new → IsNone one × IsNone two
 none_of_two None two new is none = (refl, subst IsNone is none)

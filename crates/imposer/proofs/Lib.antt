@@ -3,6 +3,7 @@ pub mod Refusals
 pub mod Held
 pub mod ByRight
 pub mod OwnPages
+pub mod TextBytes
 pub mod Texts
 pub mod Holdings
 pub mod HandedOn

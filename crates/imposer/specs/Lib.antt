@@ -9,4 +9,5 @@ pub mod Tokens
 pub mod Rooms
 pub mod Windows
 pub mod Joining
+pub mod Desks
 pub mod Promises

@@ -1,5 +1,7 @@
 -- What each worker of a run promises, and what is known of all that are joined.
-use Rattle.std.specs.Prelude.{◌≡◌, ℕ, ◌+◌, ◌≤◌, IfSome, IsNone, IsTrue}
+use Rattle.std.specs.Prelude.{◌≡◌, ℕ, ◌+◌, ◌≤◌, [], IfSome, IsNone, IsTrue}
+use Rattle.histories.specs.Seats.{times}
+use Rattle.sheet_plan.specs.Places.{born_complete}
 use Rattle.handover.specs.Passes.{puts_in}
 use Rattle.handover.specs.Shelves.{IsOn}
 use Rattle.run_steps.specs.Duty.{Duty, share_below, shares, most_puts, most_puts_of}
@@ -15,6 +17,13 @@ use Rattle.imposer.specs.declared.tokens.Holding.{Holding}
 pub record IsHeld {G : Type 0} (run : Shared G) (share : ℕ) (h : Holding) : Type 0 where
   pub tokens : AreTokens run.table.now run.ready.now share h.tokens
   pub unshelved : IfSome h.unshelved (IsOn run.shelf.now)
+
+-- what the workers of a run begin with: nothing was called on the table, and no sheets were put but those without pages; if
+-- puts are made by right, all of these were
+pub record HavePutBlankSheets {G : Type 0} (run : Shared G) (first : Tokens) : Type 0 where
+  pub no_calls : first.seat.own ≡ []
+  pub no_others : (s : ℕ) → put s first ≤ times s (born_complete run.table.now.layout)
+  pub all : IsTrue run.by_right → (s : ℕ) → put s first ≡ times s (born_complete run.table.now.layout)
 
 -- one share, with which nothing was done yet
 pub record IsNew {G : Type 0} (run : Shared G) (h : Holding) : Type 0 where

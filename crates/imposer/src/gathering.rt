@@ -1,7 +1,9 @@
 //! The part of a run in which all its workers start and end.
-ghost use Rattle.std.specs.Prelude.{◌≡◌, ℕ, ◌-◌, ◌<◌, ◌≤◌, List, Option, None, Err, length, IfOk, IfErr, IfSome, IsNone};
+ghost use Rattle.std.specs.Prelude.{◌≡◌, ℕ, ◌+◌, ◌-◌, ◌<◌, ◌≤◌, List, Option, None, Err, length, IfOk, IfErr, IfSome, IsNone};
 ghost use Rattle.std.specs.Prelude.{IsSome, IsSomeAnd, IsTrue, MatchResult, OnOk, ⊤};
 ghost use Rattle.std.specs.Io.KnownBytes.{Appends};
+ghost use Rattle.crossbeam_channel.specs.Claims.{IsSeatAt};
+ghost use Rattle.crossbeam_channel.specs.Ends.{receives_on, sends_on};
 ghost use Rattle.rules.specs.Sheets.{layout};
 ghost use Rattle.rules.specs.Filters.{trailer_text};
 ghost use Rattle.histories.specs.Seats.{whole_share};
@@ -16,18 +18,20 @@ ghost use Rattle.sheet_writer.specs.Places.{not_come};
 ghost use Rattle.sheet_writer.specs.Sinks.{IsCountable};
 ghost use Rattle.sheet_writer.specs.Writing.{AreEarly};
 ghost use Rattle.imposer.specs.Tokens.{AreTokens, AreUnused};
-ghost use Rattle.run_steps.specs.Gathered.{IsGathered, IsHandedOn, AreAllPut};
+ghost use Rattle.run_steps.specs.Gathered.{HasPages, IsGathered, IsHandedOn, AreAllPut};
+ghost use Rattle.imposer.specs.Desks.{IsDeskOf};
+ghost use Rattle.imposer.specs.Promises.{HavePutBlankSheets, IsEnough, IsHeld};
 ghost use Rattle.imposer.specs.Rooms.{HasRoomForAll};
 ghost use Rattle.imposer.specs.Gathering.{IsFreshSeat, IsFreshPass, ReportsOf, WrotePartOf, HandsBackTokens, AreWhole};
 ghost use Rattle.imposer.specs.Gathering.{Answers, Concludes, HandsBack, GivesUp};
 
-use crate::channel::{RuledJob, Texts};
+use crate::channel::{RuledJob, Texts, Ticket};
 use crate::collector::{CollectorInput, CollectorState};
 use crate::gate::Gate;
 use crate::options::Workers;
 use crate::outcome::{Report, RunError};
 use crate::rooms::most_puts_in_all;
-use crate::setup::Setup;
+use crate::setup::{Desk, Setup};
 use crate::shared::{Floor, Shared, WorkerInput};
 use crate::tokens::{Holding, Tokens};
 use crate::turns::Turns;
@@ -189,20 +193,16 @@ fn gather_as<'r, 'd, T: Texts + Send + Sync, R: Threads + Wait + Sync, G: Gate +
         × (IsTrue shared.now.by_right → AreAllPut shared.now.table.now.layout t.0.front t.1.front)) }
     ensures unshelved { IfSome result.unshelved (IsOn shared.now.shelf.now) }
 {
-    let alloc = shared.alloc;
     let job = shared.job;
     let mut tokens = tokens;
     put_blank_sheets(rt, shared, job.plan().born_complete(), &mut tokens.pass);
-    let Ok(setup) = Setup::<'r, T>::new(alloc, job, shared.window.len()) else {
+    let Ok(setup) = Setup::<'r, T>::new(shared.alloc, job, shared.window.len()) else {
         return out_of_memory(0);
     };
     let Setup {
-        header,
-        trailer,
-        mut early,
+        desk,
         sender,
         receiver,
-        mut receiving,
         sending,
         spent,
     } = setup;
@@ -225,6 +225,72 @@ fn gather_as<'r, 'd, T: Texts + Send + Sync, R: Threads + Wait + Sync, G: Gate +
         spent: &spent,
         window: &shared.window,
     };
+    let supplies = supplies_of(shared.alloc, workers, tokens, sending);
+    gather_at(rt, &worker_input, &collector_input, desk, supplies, sink)
+}
+
+/// What is given out to the workers: the tokens, and the ticket for sending.
+fn supplies_of<'r, 'd>(
+    alloc: Global,
+    workers: Workers,
+    tokens: Tokens,
+    sending: Ticket<'r>,
+) -> Supplies<Holding<'d>, Ticket<'r>>
+    ensures crew { (result.crew.preparers ≡ workers.preparers) × (result.crew.imposers ≡ workers.imposers) }
+    ensures held { result.held ≡ record { tokens = tokens; unshelved = None } }
+    ensures ticket { result.ticket ≡ sending.entry }
+{
+    Supplies {
+        crew: Crew {
+            alloc,
+            preparers: workers.preparers,
+            imposers: workers.imposers,
+        },
+        held: Holding {
+            tokens,
+            unshelved: None,
+        },
+        ticket: sending,
+    }
+}
+
+/// `gather`, once the sheets without pages are on the queue: the workers work with these supplies, the collector writes
+/// at this desk what they finish, and when all have ended the run is answered.
+fn gather_at<'r, 'd, T: Texts + Send + Sync, R: Threads + Wait + Sync, G: Gate + Sync, S: Sink>(
+    rt: &R,
+    input: &WorkerInput<'_, 'r, '_, 'd, T, G>,
+    collector: &CollectorInput<'_, 'r, '_, 'd, T, G>,
+    desk: Desk<'r>,
+    supplies: Supplies<Holding<'d>, Ticket<'r>>,
+    sink: &mut S,
+) -> Gathered<'d>
+    requires pages { HasPages input.now.shared.now.table.now.layout }
+    requires crew { (0 < supplies.crew.preparers)
+        × (supplies.crew.preparers + supplies.crew.imposers < whole_share) }
+    requires held { IsHeld input.now.shared.now whole_share supplies.held }
+    requires blank_sheets { HavePutBlankSheets input.now.shared.now supplies.held.tokens }
+    requires enough { IsEnough input.now.shared.now supplies.crew.preparers 0 supplies.held }
+    requires sending { IsSeatAt (sends_on input.now.sender.now) supplies.ticket }
+    requires receiving { IsSeatAt (receives_on collector.now.receiver.now) desk.receiving }
+    requires desk { IsDeskOf collector.now.job.now desk }
+    requires countable { IsCountable (S.seen sink.old) }
+    ensures outcome { Answers collector.now.job.now (S.seen sink.old) (S.seen sink.new) result.outcome }
+    ensures tokens { MatchResult result.outcome (λ _. IsSomeAnd result.tokens (λ t. ⊤)) (λ e.
+        HandsBackTokens e result.tokens) }
+    ensures whole { IfSome result.tokens (λ t. AreWhole input.now.shared.now.table.now input.now.shared.now.ready.now t.0 t.1
+        × IsHandedOn t.1.front
+        × (IsNone result.unshelved → IsGathered input.now.shared.now.table.now.layout t.0.front)
+        × (IsTrue input.now.shared.now.by_right
+        → AreAllPut input.now.shared.now.table.now.layout t.0.front t.1.front)) }
+    ensures unshelved { IfSome result.unshelved (IsOn input.now.shared.now.shelf.now) }
+{
+    let alloc = input.shared.alloc;
+    let Desk {
+        header,
+        trailer,
+        mut early,
+        mut receiving,
+    } = desk;
     let state = CollectorState {
         sink,
         early: &mut early,
@@ -237,28 +303,8 @@ fn gather_as<'r, 'd, T: Texts + Send + Sync, R: Threads + Wait + Sync, G: Gate +
         },
     };
     let mut ended = None;
-    let crew = Crew {
-        alloc,
-        preparers: workers.preparers,
-        imposers: workers.imposers,
-    };
-    let supplies = Supplies {
-        crew,
-        held: Holding {
-            tokens,
-            unshelved: None,
-        },
-        ticket: sending,
-    };
-    let mut state = gather_by(
-        rt,
-        &worker_input,
-        &collector_input,
-        supplies,
-        state,
-        &mut ended,
-    );
-    let gathered = finish(alloc, job, &mut state, trailer.as_slice(), ended);
+    let mut state = gather_by(rt, input, collector, supplies, state, &mut ended);
+    let gathered = finish(alloc, collector.job, &mut state, trailer.as_slice(), ended);
     // Taken apart, so that what became of the sink is known.
     let CollectorState {
         sink: _,

@@ -95,15 +95,15 @@ pub fn run_plan<R: Threads + Wait + Sync, G: Gate + Sync, S: Sink>(
     ensures steady { OnOk result ((S.seen sink.new).failures ≡ (S.seen sink.old).failures) }
     ensures failed { IfErr result (λ e. FailedIn e (S.seen sink.old) (S.seen sink.new)) }
 {
+    // Room for all puts, so that none is refused.
+    let room = most_puts_in_all(job.plan(), workers.preparers).min(u64::from(u32::MAX)) as u32;
+    let Ok((ready, pass)) = Ready::by_right(alloc, room.max(job.sheets()).max(1)) else {
+        return Err(RunError::NoMemory { written: 0 });
+    };
     let Ok((table, seat)) = GatherTable::new(alloc, job.plan()) else {
         return Err(RunError::NoMemory { written: 0 });
     };
     let Ok(shelf) = Shelf::of_document(alloc, job.document()) else {
-        return Err(RunError::NoMemory { written: 0 });
-    };
-    // Room for all puts, so that none is refused.
-    let room = most_puts_in_all(job.plan(), workers.preparers).min(u64::from(u32::MAX)) as u32;
-    let Ok((ready, pass)) = Ready::by_right(alloc, room.max(job.sheets()).max(1)) else {
         return Err(RunError::NoMemory { written: 0 });
     };
     let floor = Floor {
@@ -115,8 +115,19 @@ pub fn run_plan<R: Threads + Wait + Sync, G: Gate + Sync, S: Sink>(
         is_of_document: true,
         ready: &ready,
     };
+    keep_blocks(alloc);
     let gathered = gather_on(rt, &floor, Tokens { seat, pass }, workers, sink);
     gathered.outcome
+}
+
+/// How large the blocks are that are kept.
+const KEPT_BLOCK: usize = 4_194_304;
+
+/// Makes a block and gives it back. From then on the C library keeps blocks up to this size that workers give back, in
+/// place of handing them to the system and asking for new ones, which must be cleared. Lists that were made before are
+/// still handed to the system. Without it a run is only slower.
+fn keep_blocks(alloc: Global) {
+    drop(Vec::<u8>::with_capacity(alloc, KEPT_BLOCK));
 }
 
 /// What a run was given, once it is read.

@@ -1,9 +1,11 @@
 //! Which sheets may be imposed now.
-ghost use Rattle.std.specs.Prelude.{◌≡◌, ◌<◌, ◌≤◌, ◌↔◌, IfSome, IfNone, OnOk, OnErr, IsTrue, length, if◌then◌else◌};
+ghost use Rattle.std.specs.Prelude.{◌≡◌, ◌<◌, ◌≤◌, ◌↔◌, IfSome, IfNone, OnOk, OnErr, IsTrue, length, min};
+ghost use Rattle.std.specs.Prelude.{if◌then◌else◌};
 ghost use Rattle.std.specs.FinSet as set;
 ghost use Rattle.std.specs.Duration.{as_nanos};
 ghost use Rattle.sheet_set.specs.Numbers.{IsFirst, HasNoneBelow};
-ghost use Rattle.imposer.specs.Windows.{window_len};
+ghost use Rattle.rules.specs.Parts.{pages};
+ghost use Rattle.imposer.specs.Windows.{bytes_of_texts, bytes_together, window_len};
 
 use crate::options::Workers;
 use crossbeam_utils::{Backoff, CachePadded};
@@ -54,6 +56,8 @@ pub(crate) struct Window {
     step: u32,
     /// How many sheets an imposer sends together at most.
     batch: u32,
+    /// About how many bytes of text these have.
+    batch_bytes: usize,
 }
 
 impl Window {
@@ -63,20 +67,24 @@ impl Window {
     /// A run's end rests on the step: all sheets of a window may be imposed without a word, so a step that is no longer is
     /// reached, and then the window moves on.
     pub(crate) fn new(job: &Job<'_, '_>, workers: Workers, bytes: usize) -> Self
+        requires bytes { bytes ≡ min (bytes_of_texts job.now) usize.MAX }
         ensures len { result.len ≡ window_len (length job.now.plan.sheets) workers.imposers bytes }
         ensures step { (0 < result.step) × (result.step ≤ result.len) }
         ensures batch { (0 < result.batch) × (result.batch ≤ result.len) }
+        ensures batch_bytes { result.batch_bytes ≤ 786_432 }
     {
         let text = (bytes / (job.sheets() as usize).max(1)).min(BYTES_AHEAD);
         let fitting = (BYTES_AHEAD / (text + BYTES_BESIDE)).min(MOST_SHEETS) as u32;
         let len = fitting.max(workers.imposers).max(2);
         let share = job.sheets() / workers.imposers.max(1);
+        let batch = (len.min(share) / BATCHES).max(1);
         Window {
             next: CachePadded::new(AtomicU64::new(0)),
             lifted: AtomicBool::new(false),
             len,
             step: if len < MANY_SHEETS { 1 } else { len / 4 },
-            batch: (len.min(share) / BATCHES).max(1),
+            batch,
+            batch_bytes: (text * batch as usize).min(BYTES_AHEAD),
         }
     }
 
@@ -88,6 +96,11 @@ impl Window {
     /// How many sheets an imposer sends together at most.
     pub(crate) fn batch(&self) -> u32 {
         self.batch
+    }
+
+    /// About how many bytes of text these sheets have.
+    pub(crate) fn batch_bytes(&self) -> usize {
+        self.batch_bytes
     }
 
     /// The first sheet behind it.
@@ -174,8 +187,12 @@ impl Idling {
     }
 }
 
-/// How many bytes all pages have together, and about how many the texts of all slots.
-pub(crate) fn bytes_of_pages(job: &Job<'_, '_>) -> (usize, usize) {
+/// How many bytes all pages have together, and about how many the texts of all slots: the largest `usize`, if there are
+/// more.
+pub(crate) fn bytes_of_pages(job: &Job<'_, '_>) -> (usize, usize)
+    ensures pages { result.0 ≡ min (bytes_together (pages job.now.units)) usize.MAX }
+    ensures texts { result.1 ≡ min (bytes_of_texts job.now) usize.MAX }
+{
     let mut of_pages = 0usize;
     let mut of_slots = 0usize;
     for page in 0..job.plan().pages() {

@@ -143,10 +143,6 @@ fn fault_of_creating(cause: &io::Error) -> Fault
 /// How much of the output is written at once, in bytes, if sheets are smaller.
 const WRITTEN_AT_ONCE: usize = 16_384;
 
-/// A block of this many bytes is made and given back before the run. From then on the C library keeps blocks up to this
-/// size that are given back, in place of handing them to the system and asking for new ones, which must be cleared.
-const KEPT_BLOCK: usize = 4_194_304;
-
 /// Runs the request into an output that was just created, and flushes what it wrote.
 fn run_into<R: Threads + Wait + Sync, W: World>(
     rt: &R,
@@ -161,8 +157,6 @@ fn run_into<R: Threads + Wait + Sync, W: World>(
         → RunsInto request.now input.now tells (option_and_then W.Output.contents result.output) result.status
         result.line.items }
 {
-    // Without it the run is only slower.
-    drop(Vec::<u8>::with_capacity(alloc, KEPT_BLOCK));
     let mut sink = match buffered(alloc, WRITTEN_AT_ONCE, output) {
         Ok(sink) => sink,
         Err(output) => {

@@ -1,5 +1,5 @@
 //! Texts of several sheets in the same memory.
-ghost use Rattle.std.specs.Prelude.{◌≡◌, ◌<◌, ◌≤◌, ◌+◌, ◌++◌, ◌∷◌, [], length, take, drop, OnOk, OnErr, Some, slice_get};
+ghost use Rattle.std.specs.Prelude.{◌≡◌, ◌<◌, ◌≤◌, ◌+◌, ◌++◌, ◌∷◌, [], length, take, drop, IfOk, OnOk, OnErr, Some, slice_get};
 ghost use Rattle.sheet_text.specs.Texts.{joined, texts_in, AreIn};
 ghost use Rattle.sheet_text.specs.declared.texts.Part.{Part};
 
@@ -54,6 +54,17 @@ impl<'r> Texts<'r> {
             own: Vec::new(alloc),
             parts: Vec::new(alloc),
         }
+    }
+
+    /// None yet, with memory for so many texts and so many bytes of their own, which they keep.
+    pub fn with_room(alloc: Global, texts: u32, bytes: usize) -> Result<Texts<'r>, AllocError>
+        ensures { IfOk result (λ made. made ≡ []) }
+    {
+        Ok(Texts {
+            alloc,
+            own: Vec::with_capacity(alloc, bytes)?,
+            parts: Vec::with_capacity(alloc, texts as usize)?,
+        })
     }
 
     /// Lets all of them go. Their memory is kept.
@@ -144,5 +155,5 @@ fn plain<'p>(own: &'p [u8], parts: &[Part<'_>], nth: usize, most: usize) -> (usi
         end = part.end;
         count += 1;
     }
-    (count, &own[first.start..end])
+    (count, &own[start..end])
 }

@@ -3,3 +3,4 @@ pub mod Sheets
 pub mod Fronts
 pub mod Places
 pub mod InRow
+pub mod Marked

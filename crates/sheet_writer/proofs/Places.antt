@@ -1,8 +1,8 @@
 -- What lies in a sheet's place.
 use Rattle.std.proofs.Common.{ℕ, suc, ◌+◌, ◌-◌, ◌<◌, ◌≤◌, ◌≡◌, ◌∙◌, sym, ap, subst, refl, Bool}
 use Rattle.std.proofs.Common.{if◌then◌else◌, arith, zero, ◌%◌, true, false, true≢false, slice_set, [], ◌∷◌, List, Option, Some, None, length, slice_index_or, eq-eqb, ne_eqb}
-use Rattle.std.specs.Prelude.{slice_get, is_some, IfSome, IsNone, MatchOption}
-use Rattle.std.proofs.lemmas.Option.{slice_get_read}
+use Rattle.std.specs.Prelude.{All, slice_get, is_some, IfSome, IsNone, MatchOption}
+use Rattle.std.proofs.lemmas.Option.{slice_get_read, slice_get-get_or}
 use Rattle.sheet_writer.specs.declared.early.FinishedSheets.{FinishedSheets}
 use Rattle.sheet_writer.specs.declared.early.Place.{Place}
 use Rattle.sheet_writer.specs.Places.{place_of, in_place, is_number, is_nth, is_there}
@@ -37,7 +37,7 @@ comes_by early sheet place p o finished at lt is group_lt group_is holds =
     let those = lies_at early.groups.items p.group o finished group_lt group_is holds in
     ap (λ x. is_there sheet early.groups.items x) its ∙ ap (λ x. is_nth sheet p.nth x) those
 
-number_is : (sheet : ℕ) (at : Option ℕ) → at ≡ Some sheet → is_number sheet at ≡ true
+pub number_is : (sheet : ℕ) (at : Option ℕ) → at ≡ Some sheet → is_number sheet at ≡ true
 number_is sheet at is = ap (λ x. is_number sheet x) is ∙ eq-eqb sheet sheet refl
 
 number_is_not : (sheet : ℕ) (at : Option ℕ) → (at ≡ Some sheet → ⊥) → is_number sheet at ≡ false
@@ -57,12 +57,12 @@ free_place early sheet place o at lt is =
     ap (λ k. slice_get early.groups.items k) (sym at) ∙ slice_get_read early.groups.items (length early.groups.items) place o refl lt is
 
 -- a place that was filled, and the others
-get_filled : {A : Type 0} (xs : List A) (k : ℕ) (x : A) → k < length xs → slice_get (slice_set xs k x) k ≡ Some x
+pub get_filled : {A : Type 0} (xs : List A) (k : ℕ) (x : A) → k < length xs → slice_get (slice_set xs k x) k ≡ Some x
 get_filled [] k x lt = absurd (omega (arith, lt))
 get_filled (y ∷ xs) zero x lt = refl
 get_filled (y ∷ xs) (suc k) x lt = get_filled xs k x (omega (arith, lt))
 
-length_filled : {A : Type 0} (xs : List A) (k : ℕ) (x : A) → length (slice_set xs k x) ≡ length xs
+pub length_filled : {A : Type 0} (xs : List A) (k : ℕ) (x : A) → length (slice_set xs k x) ≡ length xs
 length_filled [] k x = refl
 length_filled (y ∷ xs) zero x = refl
 length_filled (y ∷ xs) (suc k) x = ap suc (length_filled xs k x)
@@ -89,3 +89,17 @@ other_place groups before place k x same other = get_other groups place k x othe
 pub none_there : (o : Option FinishedSheets) (other : FinishedSheets) → is_some o ≡ false → Some o ≡ Some (Some other) → ⊥
 none_there None other none there = cc (there)
 none_there (Some x) other none there = true≢false none
+
+-- this place is there, and nothing lies in it
+pub is_free : (groups : List (Option FinishedSheets)) (k : ℕ) (o : Option FinishedSheets) → k < length groups → o ≡ slice_index_or groups k o
+    → is_some o ≡ false → slice_get groups k ≡ Some None
+is_free groups k None lt is none = slice_get_read groups (length groups) k None refl lt is
+is_free groups k (Some x) lt is none = absurd (true≢false none)
+
+pub all_are_free : (groups : List (Option FinishedSheets)) → ((k : ℕ) (finished : FinishedSheets) → slice_get groups k ≡ Some (Some finished) → ⊥)
+    → All (λ group. group ≡ None) groups
+all_are_free groups none k d lt = is_none_at (slice_index_or groups k d) refl
+  where
+    is_none_at : (group : Option FinishedSheets) → slice_index_or groups k d ≡ group → slice_index_or groups k d ≡ None
+    is_none_at None is = is
+    is_none_at (Some finished) is = absurd (none k finished (slice_get-get_or groups k d lt ∙ ap (λ x. Some x) is))

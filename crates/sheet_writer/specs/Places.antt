@@ -1,6 +1,6 @@
 -- The places of sheets that wait for their turn.
-use Rattle.std.specs.Prelude.{ℕ, zero, suc, ◌+◌, ◌%◌, ◌==◌, Bool, false, if◌then◌else◌, List, [], ◌∷◌, length, max, slice_get}
-use Rattle.std.specs.Prelude.{Option, Some, None}
+use Rattle.std.specs.Prelude.{◌≢◌, ℕ, zero, suc, ◌+◌, ◌%◌, ◌<◌, ◌==◌, Bool, false, if◌then◌else◌, List, [], ◌∷◌, length, max}
+use Rattle.std.specs.Prelude.{All, AllPairs, slice_get, Option, Some, None}
 use Rattle.sheet_writer.specs.declared.early.Early.{Early}
 use Rattle.sheet_writer.specs.declared.early.FinishedSheets.{FinishedSheets}
 use Rattle.sheet_writer.specs.declared.early.Place.{Place}
@@ -13,6 +13,11 @@ last_of (sheet ∷ sheets) = max sheet (last_of sheets)
 -- the number of a sheet's place
 abbrev pub place_of : Early → ℕ → ℕ
 place_of early sheet = sheet % length early.groups.items
+
+-- each of these sheets has a place, and no two of them the same one
+abbrev pub HavePlacesOfTheirOwn : Early → List ℕ → Type 0
+HavePlacesOfTheirOwn early sheets = All (λ sheet. place_of early sheet < length early.places.items) sheets
+    × AllPairs (λ one other. place_of early one ≢ place_of early other) sheets
 
 -- what lies at the place of this sheet, if there is such a place
 abbrev pub in_place : Early → ℕ → Option (Option FinishedSheets)

@@ -1,11 +1,11 @@
 //! The sheets that came before their turn.
 ghost use Rattle.std.specs.Prelude.{◌≡◌, ◌≢◌, ℕ, ◌+◌, ◌<◌, ◌≤◌, ◌++◌, ◌∷◌, Option, Some, None, [], length, take, drop, slice_get, true, false};
-ghost use Rattle.std.specs.Prelude.{List, flat_map, IfOk, IfSome, IsNone, MatchOption, OnOk, OnErr};
+ghost use Rattle.std.specs.Prelude.{List, All, flat_map, IfOk, IfSome, IsNone, MatchOption, OnOk, OnErr};
 ghost use Rattle.std.specs.List.{range_with_len};
 ghost use Rattle.sheet_text.specs.Jobs.{JobView, text_of};
 ghost use Rattle.sheet_writer.specs.Writing.{HaveTexts, AreEarly, texts_from};
 ghost use Rattle.sheet_writer.specs.declared.early.FinishedSheets.{FinishedSheets};
-ghost use Rattle.sheet_writer.specs.Places.{last_of, place_of, in_place, has_come};
+ghost use Rattle.sheet_writer.specs.Places.{last_of, place_of, in_place, HavePlacesOfTheirOwn, has_come};
 
 use sheet_text::{Joined, Rope, Texts};
 use std::alloc::{AllocError, Global};
@@ -27,6 +27,17 @@ impl<'r> FinishedSheets<'r> {
             sheets: Vec::new(alloc),
             texts: Texts::new(alloc),
         }
+    }
+
+    /// None yet, with memory for so many sheets and so many bytes of text, which it keeps.
+    pub fn with_room(alloc: Global, sheets: u32, bytes: usize) -> Result<Self, AllocError>
+        ensures sheets { IfOk result (λ finished. finished.sheets.items ≡ []) }
+        ensures texts { IfOk result (λ finished. finished.texts ≡ []) }
+    {
+        Ok(FinishedSheets {
+            sheets: Vec::with_capacity(alloc, sheets as usize)?,
+            texts: Texts::with_room(alloc, sheets, bytes)?,
+        })
     }
 
     /// Lets all of them go. Their memory is kept.
@@ -93,6 +104,7 @@ impl<'r> Early<'r> {
         ensures early { IfOk result (λ early. (job : JobView) → AreEarly job early.groups.items) }
         ensures places { IfOk result (λ early. length early.places.items ≡ count) }
         ensures groups { IfOk result (λ early. length early.groups.items ≡ count) }
+        ensures free { IfOk result (λ early. All (λ group. group ≡ None) early.groups.items) }
     {
         let mut places = Vec::with_capacity(alloc, count as usize)?;
         let mut groups = Vec::with_capacity(alloc, count as usize)?;
@@ -103,8 +115,9 @@ impl<'r> Early<'r> {
         Ok(Early { places, groups })
     }
 
-    /// Puts sheets in their places. If others lie where these are to lie, these are dropped: a sheet that never came is
-    /// made anew.
+    /// Puts sheets in their places, where each is found if no two of them have the same one. Another sheet whose place
+    /// they take is as if it had never come. If others lie where these are to lie, these are dropped: a sheet that never
+    /// came is made anew.
     pub fn put(&mut self, finished: FinishedSheets<'r>)
         ensures early { (job : JobView) → HaveTexts (text_of job) finished.entry
             → AreEarly job self.old.groups.items → AreEarly job self.new.groups.items }
@@ -113,6 +126,12 @@ impl<'r> Early<'r> {
             → in_place self.new (last_of finished.entry.sheets.items) ≡ Some (Some finished.entry) }
         ensures others { (k : ℕ) → k ≢ place_of self.old (last_of finished.entry.sheets.items)
             → slice_get self.new.groups.items k ≡ slice_get self.old.groups.items k }
+        ensures came { in_place self.old (last_of finished.entry.sheets.items) ≡ Some None
+            → HavePlacesOfTheirOwn self.old finished.entry.sheets.items
+            → All (λ sheet. has_come self.new sheet ≡ true) finished.entry.sheets.items }
+        ensures elsewhere { (sheet : ℕ)
+            → All (λ one. place_of self.old sheet ≢ place_of self.old one) finished.entry.sheets.items
+            → has_come self.new sheet ≡ has_come self.old sheet }
         ensures dropped { (other : FinishedSheets) → in_place self.old (last_of finished.entry.sheets.items) ≡ Some (Some other)
             → self.new ≡ self.old }
     {
@@ -120,10 +139,24 @@ impl<'r> Early<'r> {
         if group >= self.groups.len() || self.groups[group].is_some() {
             return;
         }
-        for nth in 0..finished.sheets.len() {
-            self.mark(finished.sheets[nth], Place { group, nth });
-        }
+        self.mark_all(finished.sheets.as_slice(), group);
         self.groups[group] = Some(finished);
+    }
+
+    /// Notes where each of the sheets lies that came together.
+    fn mark_all(&mut self, sheets: &[u32], group: usize)
+        ensures groups { self.new.groups ≡ self.old.groups }
+        ensures count { length self.new.places.items ≡ length self.old.places.items }
+        ensures marked { 0 < length self.old.groups.items → HavePlacesOfTheirOwn self.old sheets.now
+            → (nth sheet : ℕ) → slice_get sheets.now nth ≡ Some sheet
+            → slice_get self.new.places.items (place_of self.old sheet) ≡ Some (record { group = group; nth = nth }) }
+        ensures others { 0 < length self.old.groups.items
+            → (k : ℕ) → All (λ sheet. k ≢ place_of self.old sheet) sheets.now
+            → slice_get self.new.places.items k ≡ slice_get self.old.places.items k }
+    {
+        for (nth, sheet) in sheets.iter().enumerate() {
+            self.mark(*sheet, Place { group, nth });
+        }
     }
 
     /// Notes where a sheet lies.

@@ -3,11 +3,11 @@ use Rattle.impose_cli.proofs.Rows.{finishes_row, stops_before, stops_in}
 use Rattle.impose_cli.proofs.row_task.run_row.Goals as goal
 
 pub returns-in-Err : goal.returns-in-Err
-returns-in-Err g c = record { ended = stops_before c.args.request.now c.args.input.items _ c.in-Err.fault c.in-Err.ensures.refused }
+returns-in-Err g c = record { ended = stops_before c.args.request.now c.args.input.items _ c.in-Err.fault c.requires.rows c.in-Err.ensures.refused }
 
 pub returns-in-Err-impose_task : goal.returns-in-Err-impose_task
 returns-in-Err-impose_task g c = record {
-  ended = stops_in c.args.request.now c.args.input.items c.in-Ok.task _ _ c.in-Err-impose_task.fault c.in-Ok.ensures.is_task c.in-Err-impose_task.ensures.ended;
+  ended = stops_in c.args.request.now c.args.input.items c.in-Ok.task _ _ c.in-Err-impose_task.fault c.requires.rows c.in-Ok.ensures.is_task c.in-Err-impose_task.ensures.ended;
 }
 
 pub returns : goal.returns

@@ -3,11 +3,11 @@ use Rattle.impose_cli.proofs.SpecRows.{finishes_spec_row, spec_row_stops_before,
 use Rattle.impose_cli.proofs.spec_row.run_spec_row.Goals as goal
 
 pub returns-in-Err : goal.returns-in-Err
-returns-in-Err g c = record { ended = spec_row_stops_before c.args.request.now c.args.input.items _ c.in-Err.fault c.in-Err.ensures.refused }
+returns-in-Err g c = record { ended = spec_row_stops_before c.args.request.now c.args.input.items _ c.in-Err.fault c.requires.rows c.in-Err.ensures.refused }
 
 pub returns-in-Err-impose_spec_task : goal.returns-in-Err-impose_spec_task
 returns-in-Err-impose_spec_task g c = record {
-  ended = spec_row_stops_in c.args.request.now c.args.input.items c.in-Ok.task _ _ c.in-Err-impose_spec_task.fault c.in-Ok.ensures.is_task c.in-Err-impose_spec_task.ensures.ended;
+  ended = spec_row_stops_in c.args.request.now c.args.input.items c.in-Ok.task _ _ c.in-Err-impose_spec_task.fault c.requires.rows c.in-Ok.ensures.is_task c.in-Err-impose_spec_task.ensures.ended;
 }
 
 pub returns : goal.returns

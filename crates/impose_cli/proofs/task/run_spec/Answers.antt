@@ -3,7 +3,7 @@ use Rattle.impose_cli.proofs.Ending.{finishes, stays}
 use Rattle.impose_cli.proofs.task.run_spec.Goals as goal
 
 pub returns-in-Err : goal.returns-in-Err
-returns-in-Err g c = record { ended = inl (record { refused = inl c.in-Err.ensures.refused; unwritten = (stays _, refl) }) }
+returns-in-Err g c = record { ended = inl (record { refused = c.in-Err.ensures.refused; unwritten = (stays _, refl) }) }
 
 pub returns-in-Err-run_task : goal.returns-in-Err-run_task
 returns-in-Err-run_task g c = record {

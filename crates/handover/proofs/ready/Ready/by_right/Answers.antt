@@ -1,4 +1,4 @@
-use Rattle.std.proofs.Common.{Some, refl}
+use Rattle.std.proofs.Common.{refl}
 use Rattle.handover.proofs.RuleKept.{begins}
 use Rattle.handover.proofs.Views.{view_opens}
 use Rattle.handover.proofs.ready.Ready.by_right.Goals as goal

@@ -1,0 +1,96 @@
+-- The places of sheets that came together say where each of them lies.
+use Rattle.std.proofs.Common.{ℕ, zero, suc, ◌+◌, ◌%◌, ◌<◌, ◌≡◌, ◌∙◌, sym, ap, subst, refl, true, false, below_more, ne_eqb}
+use Rattle.std.proofs.Common.{slice_set, slice_index_or, List, [], ◌∷◌, Option, Some, None, length}
+use Rattle.std.specs.Prelude.{◌≢◌, All, slice_get}
+use Rattle.std.proofs.lemmas.Option.{same_Some, slice_get_within, get_or_from_slice_get, slice_get-get_or}
+use Rattle.sheet_writer.specs.declared.early.FinishedSheets.{FinishedSheets}
+use Rattle.sheet_writer.specs.declared.early.Place.{Place}
+use Rattle.sheet_writer.specs.declared.early.Early.{Early}
+use Rattle.sheet_writer.specs.Places.{place_of, HavePlacesOfTheirOwn, is_number, is_nth, is_there, has_come}
+use Rattle.sheet_writer.proofs.Places.{length_filled, get_filled, number_is}
+
+-- the places of the first n of these sheets say that each lies in this group
+abbrev pub AreMarked : Early → List ℕ → (group n : ℕ) → List Place → Type 0
+AreMarked early sheets group n places = HavePlacesOfTheirOwn early sheets → (k : ℕ) → k < n → (one : ℕ) → slice_get sheets k ≡ Some one
+    → slice_get places (place_of early one) ≡ Some (record { group = group; nth = k })
+
+-- one sheet more
+pub marked_more : (early : Early) (sheets : List ℕ) (group n sheet place : ℕ) (old new : List Place)
+    → slice_get sheets n ≡ Some sheet → place ≡ place_of early sheet
+    → (place < length early.places.items → slice_get new place ≡ Some (record { group = group; nth = n }))
+    → ((k : ℕ) → k ≢ place → slice_get new k ≡ slice_get old k)
+    → AreMarked early sheets group n old → AreMarked early sheets group (n + 1) new
+marked_more early sheets group n sheet place old new at is here others before own =
+    let within : n < length sheets = slice_get_within sheets n sheet at in
+    let read : slice_index_or sheets n 0 ≡ sheet = get_or_from_slice_get sheets n sheet 0 at in
+    let its : place_of early (slice_index_or sheets n 0) ≡ place = ap (λ s. place_of early s) read ∙ sym is in
+    below_more (λ k. (one : ℕ) → slice_get sheets k ≡ Some one → slice_get new (place_of early one) ≡ Some (record { group = group; nth = k })) n
+    (λ k less one found.
+    others (place_of early one)
+    (λ same. own.1 k n 0 less within (ap (λ s. place_of early s) (get_or_from_slice_get sheets k one 0 found) ∙ same ∙ sym its))
+    ∙ before own k less one found)
+    (λ one found.
+    subst (λ p. slice_get new p ≡ Some (record { group = group; nth = n })) (is ∙ ap (λ s. place_of early s) (same_Some sheet one (sym at ∙ found)))
+    (here (subst (λ p. p < length early.places.items) its (own.0 n 0 within))))
+
+-- this place is none of those of these sheets, and so not that of this one
+pub not_its_place : (early : Early) (sheets : List ℕ) (n sheet place k : ℕ) → slice_get sheets n ≡ Some sheet → place ≡ place_of early sheet
+    → All (λ one. k ≢ place_of early one) sheets → k ≢ place
+not_its_place early sheets n sheet place k at is none same =
+    none n 0 (slice_get_within sheets n sheet at)
+    (same ∙ is ∙ ap (λ s. place_of early s) (sym (get_or_from_slice_get sheets n sheet 0 at)))
+
+-- whether a sheet came, when this group was put at its place
+come_by : (groups before : List (Option FinishedSheets)) (group sheet : ℕ) (x : Option FinishedSheets) (places : List Place) → groups ≡ before
+    → is_there sheet (slice_set groups group x) (slice_get places (sheet % length (slice_set groups group x)))
+    ≡ is_there sheet (slice_set before group x) (slice_get places (sheet % length before))
+come_by groups before group sheet x places same =
+    ap (λ gs. is_there sheet (slice_set gs group x) (slice_get places (sheet % length (slice_set gs group x)))) same
+    ∙ ap (λ n. is_there sheet (slice_set before group x) (slice_get places (sheet % n))) (length_filled before group x)
+
+-- each sheet of a group has come when their places are marked and the group is put
+pub have_come : (early : Early) (finished : FinishedSheets) (sheets : List ℕ) (group : ℕ) (groups : List (Option FinishedSheets)) (places : List Place)
+    → groups ≡ early.groups.items → group < length early.groups.items → sheets ≡ finished.sheets.items
+    → ((nth sheet : ℕ) → slice_get sheets nth ≡ Some sheet → slice_get places (place_of early sheet) ≡ Some (record { group = group; nth = nth }))
+    → All (λ sheet. is_there sheet (slice_set groups group (Some finished)) (slice_get places (sheet % length (slice_set groups group (Some finished)))) ≡ true)
+    finished.sheets.items
+have_come early finished sheets group groups places same lt those marked k d within =
+    let sheet : ℕ = slice_index_or finished.sheets.items k d in
+    let at : slice_get finished.sheets.items k ≡ Some sheet = slice_get-get_or finished.sheets.items k d within in
+    let now : List (Option FinishedSheets) = slice_set early.groups.items group (Some finished) in
+    come_by groups early.groups.items group sheet (Some finished) places same
+    ∙ ap (λ p. is_there sheet now p) (marked k sheet (ap (λ xs. slice_get xs k) those ∙ at))
+    ∙ ap (λ x. is_nth sheet k x) (get_filled early.groups.items group (Some finished) lt)
+    ∙ number_is sheet (slice_get finished.sheets.items k) at
+
+-- one that isn't the group's is there as before when the group is put at a place that was free
+there_as_before : (finished : FinishedSheets) (sheet nth : ℕ) → is_number sheet (slice_get finished.sheets.items nth) ≡ false
+    → (groups : List (Option FinishedSheets)) (group k : ℕ) → slice_get groups group ≡ Some None
+    → is_nth sheet nth (slice_get (slice_set groups group (Some finished)) k) ≡ is_nth sheet nth (slice_get groups k)
+there_as_before finished sheet nth other [] group k free = refl
+there_as_before finished sheet nth other (g ∷ groups) zero zero free = other ∙ ap (λ x. is_nth sheet nth x) (sym free)
+there_as_before finished sheet nth other (g ∷ groups) zero (suc k) free = refl
+there_as_before finished sheet nth other (g ∷ groups) (suc group) zero free = refl
+there_as_before finished sheet nth other (g ∷ groups) (suc group) (suc k) free = there_as_before finished sheet nth other groups group k free
+
+-- whether another sheet has come is as before
+pub come_as_before : (early : Early) (finished : FinishedSheets) (group : ℕ) (groups : List (Option FinishedSheets)) (places : List Place) (sheet : ℕ)
+    → groups ≡ early.groups.items → slice_get early.groups.items group ≡ Some None
+    → slice_get places (place_of early sheet) ≡ slice_get early.places.items (place_of early sheet)
+    → All (λ one. place_of early sheet ≢ place_of early one) finished.sheets.items
+    → is_there sheet (slice_set groups group (Some finished)) (slice_get places (sheet % length (slice_set groups group (Some finished)))) ≡ has_come early sheet
+come_as_before early finished group groups places sheet same free kept elsewhere =
+    come_by groups early.groups.items group sheet (Some finished) places same
+    ∙ ap (λ p. is_there sheet (slice_set early.groups.items group (Some finished)) p) kept
+    ∙ there (slice_get early.places.items (place_of early sheet))
+  where
+    not_among : (at : Option ℕ) (nth : ℕ) → slice_get finished.sheets.items nth ≡ at → is_number sheet at ≡ false
+    not_among None nth is = refl
+    not_among (Some number) nth is = ne_eqb number sheet
+        (λ one. elsewhere nth 0 (slice_get_within finished.sheets.items nth number is)
+        (ap (λ s. place_of early s) (sym (get_or_from_slice_get finished.sheets.items nth number 0 is ∙ one))))
+
+    there : (p : Option Place) → is_there sheet (slice_set early.groups.items group (Some finished)) p ≡ is_there sheet early.groups.items p
+    there None = refl
+    there (Some p) =
+        there_as_before finished sheet p.nth (not_among (slice_get finished.sheets.items p.nth) p.nth refl) early.groups.items group p.group free
