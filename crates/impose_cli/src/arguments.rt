@@ -70,7 +70,7 @@ fn nup<'a>(alloc: Global) -> Result<Command<'a>, AllocError>
         gap(alloc, "Keep so much free between pages"),
         trim(alloc),
         marks(alloc, "Draw short lines where sheets are cut: cut"),
-        rtl(alloc),
+        rtl(alloc, "From the right to the left"),
         pages(alloc),
         odd(alloc),
         even(alloc),
@@ -98,7 +98,7 @@ fn cards<'a>(alloc: Global) -> Result<Command<'a>, AllocError>
         gap(alloc, "Keep so much free between pages"),
         trim(alloc),
         marks(alloc, "Draw short lines where sheets are cut: cut"),
-        rtl(alloc),
+        rtl(alloc, "From the right to the left"),
         pages(alloc),
         odd(alloc),
         even(alloc),
@@ -129,7 +129,7 @@ fn stack<'a>(alloc: Global) -> Result<Command<'a>, AllocError>
         gap(alloc, "Keep so much free between pages"),
         trim(alloc),
         marks(alloc, "Draw short lines where sheets are cut: cut"),
-        rtl(alloc),
+        rtl(alloc, "From the right to the left"),
         pages(alloc),
         odd(alloc),
         even(alloc),
@@ -204,7 +204,7 @@ fn booklet<'a>(alloc: Global) -> Result<Command<'a>, AllocError>
             alloc,
             "Draw short lines at the fold (fold), where the margin is cut off (cut), or both (fold,cut)"
         ),
-        rtl(alloc),
+        rtl(alloc, "Bind the booklet at the right"),
         pages(alloc),
         odd(alloc),
         even(alloc),
@@ -320,10 +320,10 @@ fn marks<'a>(alloc: Global, help: &'a str) -> Arg<'a>
     option(alloc, "marks", "MARKS").help(help)
 }
 
-fn rtl<'a>(alloc: Global) -> Arg<'a>
+fn rtl<'a>(alloc: Global, help: &'a str) -> Arg<'a>
     ensures { rule_of result ≡ flag_rule (codes "rtl") }
 {
-    flag(alloc, "rtl").help("From the right to the left; a booklet is bound at the right")
+    flag(alloc, "rtl").help(help)
 }
 
 fn pages<'a>(alloc: Global) -> Arg<'a>
@@ -368,7 +368,7 @@ fn spec<'a>(alloc: Global) -> Result<Command<'a>, AllocError>
     ensures { IfOk result (λ c. app_of c ≡ spec_app) }
 {
     let specs = required(alloc, "specs", "SPECS").help(
-        "A page specification, as 2:0L@.7(21cm,0)+1L@.7(21cm,14.85cm)",
+        "A page specification, as 2:0L@.7(21cm,0)+1L@.7(21cm,14.85cm), of the pages that are chosen",
     );
     let signature = option(alloc, "signature", "SIDES").help(
         "Put the pages into signatures of so many sides first, a multiple of four, or auto",

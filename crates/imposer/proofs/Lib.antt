@@ -1,3 +1,4 @@
+pub mod Examples
 pub mod Made
 pub mod Refusals
 pub mod Held
