@@ -1,7 +1,9 @@
--- Which lines belong to the header comments, worked out.
-use Rattle.std.proofs.Common.{◌≡◌, true, false, [], ◌∷◌, refl}
-use Rattle.std.specs.Prelude.{codes}
+-- Which lines belong to the header comments, and which tell a box, worked out.
+use Rattle.std.proofs.Common.{◌≡◌, ℕ, true, false, List, [], ◌∷◌, refl}
+use Rattle.std.specs.Prelude.{codes, None, Some}
+use Rattle.rules.specs.Parts.{NestedUnit}
 use Rattle.dsc.specs.Header.{stays, is_last}
+use Rattle.dsc.specs.TrailerBoxes.{box_in, box_among}
 
 -- Which lines go on with the header comments.
 
@@ -47,6 +49,9 @@ end_of_file = refl
 longer_key : stays (codes "%%EOFs") ≡ true
 longer_key = refl
 
+longer_trailer_key : stays (codes "%%TrailerX") ≡ true
+longer_trailer_key = refl
+
 -- each key that begins so ends them, whatever it goes on with
 data_block : stays (codes "%%BeginData: 1") ≡ false
 data_block = refl
@@ -83,3 +88,26 @@ longer_end_comments = refl
 
 shorter_end_comments : is_last (codes "%%EndComment") ≡ false
 shorter_end_comments = refl
+
+-- the prolog may end behind them, not with them
+end_of_prolog : is_last (codes "%%EndProlog") ≡ false
+end_of_prolog = refl
+
+-- Which box a line tells.
+
+-- a line with this content, so deep in embedded documents
+abbrev a_line : (depth : ℕ) (content : List ℕ) → NestedUnit
+a_line depth content = record { depth = depth; unit = record { content = content; bytes = []; is_block = false } }
+
+box : box_in (a_line 0 (codes "%%BoundingBox: 0 0 612 792")) ≡ Some (codes "0" ∷ codes "0" ∷ codes "612" ∷ codes "792" ∷ [])
+box = refl
+
+finer_box : box_in (a_line 0 (codes "%%HiResBoundingBox: 0 0 611.5 791.5")) ≡ None
+finer_box = refl
+
+box_of_an_embedded_document : box_in (a_line 1 (codes "%%BoundingBox: 0 0 612 792")) ≡ None
+box_of_an_embedded_document = refl
+
+-- of two the first one counts
+first_box : box_among (a_line 0 (codes "showpage") ∷ a_line 0 (codes "%%BoundingBox: 1") ∷ a_line 0 (codes "%%BoundingBox: 2") ∷ []) ≡ Some (codes "1" ∷ [])
+first_box = refl

@@ -1,6 +1,7 @@
 -- What words and requests stand for, worked out.
 use Rattle.std.proofs.Common.{◌≡◌, true, false, [], ◌∷◌, refl, map}
 use Rattle.std.specs.Prelude.{codes, pos, None, Some}
+use Rattle.std.specs.Fmt.{digits}
 use Rattle.clap.specs.declared.error.kind.ErrorKind.TheVariants.{DisplayHelp, DisplayVersion, UnknownArgument}
 use Rattle.lengths.specs.Reading.{number_at}
 use Rattle.rules.specs.Papers.{points}
@@ -29,6 +30,7 @@ use Rattle.impose_cli.specs.Words.{part_by, file_asked, is_outfile, order_by, ru
 use Rattle.impose_cli.specs.Statuses.{words_status, command_status, layout_status, fault_status}
 use Rattle.impose_cli.specs.Tasks.{own_or_home, page_paper_found, sheet_paper_found, taken_text}
 use Rattle.impose_cli.specs.Faults.{of_document}
+use Rattle.impose_cli.specs.Said.{behind_text, is_pdf_name}
 
 -- Sizes of paper.
 
@@ -208,3 +210,27 @@ layouts = refl
 
 faults : map fault_status (fault.NoSuchPage 1 2 ∷ fault.NoSpecification ∷ fault.NoInput ∷ fault.Pdf ∷ fault.Compressed ∷ fault.JobLanguage ∷ fault.TooLong ∷ fault.Read None ∷ fault.Write 0 None ∷ []) ≡ 1 ∷ 1 ∷ 1 ∷ 1 ∷ 1 ∷ 1 ∷ 1 ∷ 3 ∷ 3 ∷ []
 faults = refl
+
+-- What is said of a finished run.
+
+none_behind : behind_text 0 ≡ None
+none_behind = refl
+
+one_behind : behind_text 1 ≡ Some (codes "1 page stands behind %%Trailer or %%EOF and is not imposed")
+one_behind = refl
+
+two_behind : behind_text 2 ≡ Some (codes "2 pages stand behind %%Trailer or %%EOF and are not imposed")
+unfolding digits
+two_behind = refl
+
+pdf_in_small_letters : is_pdf_name (codes "a.pdf") ≡ true
+pdf_in_small_letters = refl
+
+pdf_in_capitals : is_pdf_name (codes "a.PDF") ≡ true
+pdf_in_capitals = refl
+
+pdf_in_both : is_pdf_name (codes "a.Pdf") ≡ false
+pdf_in_both = refl
+
+pdf_before_the_end : is_pdf_name (codes "a.pdf.ps") ≡ false
+pdf_before_the_end = refl

@@ -1,6 +1,10 @@
--- How many sheets may be imposed ahead, worked out.
-use Rattle.std.proofs.Common.{◌≡◌, ◌*◌, List, [], ◌∷◌, refl}
+-- How many sheets may be imposed ahead, and which options a run takes, worked out.
+use Rattle.std.proofs.Common.{◌≡◌, ◌*◌, [], ◌∷◌, refl, arith}
+use Rattle.std.specs.Prelude.{pos, None, Some}
+use Rattle.rules.specs.Papers.{points}
 use Rattle.imposer.specs.Windows.{bytes_together, text_share, window_len}
+use Rattle.imposer.specs.Workers.{AreWorkers}
+use Rattle.imposer.specs.Runs.{frame_of}
 
 -- two pages of one and three bytes
 four_bytes : bytes_together ((37 ∷ []) ∷ (1 ∷ 2 ∷ 3 ∷ []) ∷ []) ≡ 4
@@ -24,3 +28,18 @@ one_imposer = refl
 -- no sheet counts as one
 no_sheets : text_share 0 700 ≡ 700
 no_sheets = refl
+
+-- sixteen of each are taken, and no more
+sixteen : AreWorkers (record { preparers = 16; imposers = 16 })
+sixteen = record { a_preparer = omega arith; few_preparers = omega arith; an_imposer = omega arith; few_imposers = omega arith }
+
+seventeen_preparers : AreWorkers (record { preparers = 17; imposers = 1 }) → ⊥
+seventeen_preparers are = omega (arith, are.few_preparers)
+
+seventeen_imposers : AreWorkers (record { preparers = 1; imposers = 17 }) → ⊥
+seventeen_imposers are = omega (arith, are.few_imposers)
+
+-- paper and border are those of the options
+framed : frame_of (record { paper = points 595 842; border = Some (pos 100_000); sides = None; workers = record { preparers = 1; imposers = 1 } })
+    ≡ record { paper = points 595 842; border = Some (pos 100_000) }
+framed = refl

@@ -15,7 +15,7 @@ use Rattle.layouts.specs.declared.error.LayoutError.TheVariants.{FoldOnLongEdge,
 use Rattle.layouts.specs.Placed.{bare}
 use Rattle.layouts.specs.Cells.{scale_in}
 use Rattle.layouts.specs.Grids.{n_up, best_grid, leaves, arranged, bound, plain}
-use Rattle.layouts.specs.Refusals.{is_count, is_reached, is_scale, is_length, why_not, why_no_booklet, why_not_arranged}
+use Rattle.layouts.specs.Refusals.{is_count, is_reached, is_scale, is_length, why_not, why_no_booklet, why_no_scale, why_not_arranged}
 use Rattle.pagespec.specs.Reading.{joined_at}
 use Rattle.layouts.specs.declared.selections.Which.TheVariants.{All, Odd, Even}
 use Rattle.layouts.specs.Selections.{One, FromTo, From, row_of, misses}
@@ -196,6 +196,10 @@ as_large_as_cells = refl
 larger_than_cells : why_not_arranged a4 a4 (asked (AtLeast 4) (pos 0) (pos 0) (pos 0) (Some (pos 500_000_001))) ≡ Some why.ScaleTooLarge
 unfolding a4 asked
 larger_than_cells = refl
+
+-- a scale that no layout has is told as such, though it is larger than the cells too
+no_scale_and_larger_than_cells : why_no_scale (bare (points 595 842)) 99_999_000_000_001 500_000_000 ≡ Some why.ScaleOutOfRange
+no_scale_and_larger_than_cells = refl
 
 -- the limits, on both sides
 no_page : is_count 0 ≡ false

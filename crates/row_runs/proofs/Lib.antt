@@ -1,4 +1,5 @@
 pub mod BySpec
+pub mod Examples
 pub mod Lines
 mod Alone
 mod OneScale

@@ -1,0 +1,68 @@
+-- Worked examples: the marks and the lines of layings, and how many leaves a signature has.
+use Rattle.std.proofs.Common.{◌≡◌, [], ◌∷◌, false, true, map, refl}
+use Rattle.std.specs.Prelude.{codes, None, Some}
+use Rattle.std.specs.Fmt.{digits}
+use Rattle.rules.specs.Papers.{points}
+use Rattle.made_sheets.specs.Rows.{all_pages}
+use Rattle.made_sheets.specs.Choice.{InOne, OfSides}
+use Rattle.layouts.specs.Grids.{plain_order}
+use Rattle.layouts.specs.declared.setting.Setting.{Setting}
+use Rattle.marks.specs.Drawn.{stroke_line}
+use Rattle.marks.specs.declared.strokes.Marks.{Marks}
+use Rattle.preview.specs.declared.guides.Guide.{Guide}
+use Rattle.preview.specs.declared.guides.GuideKind.{GuideKind}
+use Rattle.preview.specs.declared.guides.GuideKind.TheVariants.{Margin, Fold, Cut}
+use Rattle.row_runs.specs.declared.asked.Laying.TheVariants as laying
+use Rattle.row_runs.specs.Evened.{setting_in}
+use Rattle.row_runs.specs.Guides.{guides_in}
+use Rattle.row_runs.specs.Marked.{strokes_in}
+use Rattle.row_runs.specs.Sheets.{leaves_in}
+
+-- a sheet of 100 by 200 points with a margin of 10 points and a gap of 4, in two columns
+abbrev halves : Setting
+halves = record {
+  room = record { paper = points 100 200; edge = 1_000_000; gap = 400_000; trim = 0 };
+  grid = record { rows = 1; columns = 2; turned = false };
+  order = plain_order;
+  scale = None;
+}
+
+abbrev fold_and_cut : Marks
+fold_and_cut = record { fold = true; cut = true; ruled = false }
+
+-- a booklet's leaf is folded in the middle, and cut 2 points outside of its halves; it isn't cut at the fold
+booklet_marks : map stroke_line (strokes_in fold_and_cut (laying.Booklet halves false 0))
+    ≡ codes "newpath 50 0 moveto 50 10 lineto stroke"
+    ∷ codes "newpath 50 200 moveto 50 190 lineto stroke"
+    ∷ codes "newpath 8 0 moveto 8 10 lineto stroke"
+    ∷ codes "newpath 8 200 moveto 8 190 lineto stroke"
+    ∷ codes "newpath 92 0 moveto 92 10 lineto stroke"
+    ∷ codes "newpath 92 200 moveto 92 190 lineto stroke"
+    ∷ codes "newpath 0 8 moveto 10 8 lineto stroke"
+    ∷ codes "newpath 100 8 moveto 90 8 lineto stroke"
+    ∷ codes "newpath 0 192 moveto 10 192 lineto stroke"
+    ∷ codes "newpath 100 192 moveto 90 192 lineto stroke"
+    ∷ []
+unfolding digits
+booklet_marks = refl
+
+-- in a picture the margin has four lines, and there is one in the middle: where a booklet is folded, and where leaves are cut
+abbrev kind_of : Guide → GuideKind
+kind_of line = line.kind
+
+booklet_is_folded : map kind_of (guides_in (laying.Booklet halves false 0)) ≡ Margin ∷ Margin ∷ Margin ∷ Margin ∷ Fold ∷ []
+booklet_is_folded = refl
+
+leaves_are_cut : map kind_of (guides_in (laying.Leaves halves)) ≡ Margin ∷ Margin ∷ Margin ∷ Margin ∷ Cut ∷ []
+leaves_are_cut = refl
+
+-- cards have one scale, if that is asked for
+cards_have_one : setting_in (laying.Cards halves 2) ≡ Some halves
+cards_have_one = refl
+
+-- signatures of eight sides have two leaves each; one of twenty pages has five
+eight_sides : leaves_in (Some (OfSides 8)) (all_pages 20) ≡ 2
+eight_sides = refl
+
+twenty_pages : leaves_in (Some InOne) (all_pages 20) ≡ 5
+twenty_pages = refl

@@ -1,0 +1,36 @@
+-- Worked examples: which entries stay, how leaves are sewn, and what refusals tell.
+use Rattle.std.proofs.Common.{◌≡◌, ℕ, [], ◌∷◌, refl}
+use Rattle.std.specs.Prelude.{Some, Err}
+use Rattle.made_sheets.specs.Rows.{all_pages}
+use Rattle.made_sheets.specs.Choice.{part_of, sides_for, NotInDocument, NoEntries}
+use Rattle.rows.specs.declared.choices.Part.TheVariants as part
+use Rattle.rows.specs.declared.sewing.Signing.TheVariants as sewn
+use Rattle.rows.specs.declared.error.RowError.TheVariants as error
+use Rattle.rows.specs.Choices.{part_named}
+use Rattle.rows.specs.Sewing.{signing_of}
+use Rattle.rows.specs.Refusals.{RefusesRow}
+
+-- of five pages the first, the third and the fifth; and the two between them
+odd_entries : part_of (part_named part.Odd) (all_pages 5) ≡ Some 0 ∷ Some 2 ∷ Some 4 ∷ []
+odd_entries = refl
+
+even_entries : part_of (part_named part.Even) (all_pages 5) ≡ Some 1 ∷ Some 3 ∷ []
+even_entries = refl
+
+-- 68 pages: in one signature, in signatures of 16 sides, and by themselves in three of six leaves each
+in_one : sides_for (signing_of sewn.InOne) 68 ≡ 68
+in_one = refl
+
+of_sixteen : sides_for (signing_of (sewn.OfSides 16)) 68 ≡ 16
+of_sixteen = refl
+
+by_themselves : sides_for (signing_of sewn.Auto) 68 ≡ 24
+by_themselves = refl
+
+-- a range that the document hasn't is told by the byte at which it begins
+told_at_its_byte : (at told : ℕ) → RefusesRow (Err (NotInDocument at)) (error.NotInDocument told) → at ≡ told
+told_at_its_byte at told is = cc is
+
+-- that no entry is left isn't told as too many of them
+none_is_not_too_many : (told : ℕ) → RefusesRow (Err NoEntries) (error.TooManyEntries told) → ⊥
+none_is_not_too_many told is = cc is
