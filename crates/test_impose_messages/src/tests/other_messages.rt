@@ -194,6 +194,17 @@ fn reports(rt: HostRuntime) -> Result<(), Fail> {
     Ok(())
 }
 
+#[test]
+fn a_report_tells_the_size_of_the_pages(rt: HostRuntime) -> Result<(), Fail> {
+    let request = read(rt.alloc(), "spec 0")?;
+    let mut done = five_pages(&rt, 3, PaperOrigin::Named);
+    done.page_paper = paper_by_name("a3").expect(&rt, "a3 is a paper");
+    let text = report_text(rt.alloc(), &done, &request)?;
+    let wanted = "pages 5, sheets 3, bytes 270; pages of 842 x 1191 pt, as named";
+    assert_eq!(rt; text.as_str(), wanted);
+    Ok(())
+}
+
 /// Five pages of a4 on so many sheets.
 fn five_pages(rt: &impl Abort, sheets: u32, origin: PaperOrigin) -> Finished {
     let report = Report {
