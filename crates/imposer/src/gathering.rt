@@ -48,7 +48,7 @@ use std::thread::Threads;
 use workers::{Crew, Supplies, gather_by};
 
 /// What a run is when all its workers have ended.
-#[derive(Drop)]
+#[derive(Debug, Drop)]
 pub struct Gathered<'d> {
     /// What the run answers; out of memory and a failed write are its only errors.
     pub outcome: Result<Report, RunError>,

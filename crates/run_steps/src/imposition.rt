@@ -21,14 +21,14 @@ use std::alloc::Global;
 use thiserror::Error;
 
 /// An imposed sheet, counted from 0, with its text.
-#[derive(Drop)]
+#[derive(Debug, PartialEq, Eq, Drop)]
 pub struct Imposed {
     pub sheet: u32,
     pub text: Vec<u8>,
 }
 
 /// Why a sheet wasn't imposed.
-#[derive(Debug, Drop, Error)]
+#[derive(Clone, Copy, Debug, PartialEq, Eq, Error)]
 pub enum ImposeError {
     #[error("out of memory")]
     NoMemory,
