@@ -2,6 +2,7 @@
 mod ended_tables;
 mod groups;
 mod growth;
+mod jobs;
 mod joined_texts;
 mod made;
 mod pieces;
