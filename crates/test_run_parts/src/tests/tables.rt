@@ -348,22 +348,7 @@ fn tell<'s, C: Calls>(
     Ok(None)
 }
 
-// The same of both tables of a plan.
-fn tell_both<'s>(
-    alloc: Global,
-    plan: &Plan,
-    story: &'s str,
-) -> Result<Option<&'s str>, AllocError> {
-    let table = PlainTable::new(alloc, plan)?;
-    if let Some(line) = tell(alloc, &mut OneThread { table, plan }, story)? {
-        return Ok(Some(line));
-    }
-    let (table, seat) = GatherTable::new(alloc, plan)?;
-    let table = &table;
-    tell(alloc, &mut Caller { table, plan, seat }, story)
-}
-
-// The same of a document of so many pages.
+// The same of both tables of a document of so many pages.
 fn in_both<'s>(
     alloc: Global,
     text: &str,
@@ -372,7 +357,15 @@ fn in_both<'s>(
 ) -> Result<Option<&'s str>, Fail> {
     let spec = read_spec(alloc, text)?;
     let plan = Plan::new(alloc, &spec, pages)?;
-    Ok(tell_both(alloc, &plan, story)?)
+    let table = PlainTable::new(alloc, &plan)?;
+    let wrong = tell(alloc, &mut OneThread { table, plan: &plan }, story)?;
+    let (table, seat) = GatherTable::new(alloc, &plan)?;
+    let mut caller = Caller {
+        table: &table,
+        plan: &plan,
+        seat,
+    };
+    Ok(wrong.or(tell(alloc, &mut caller, story)?))
 }
 
 // The same of a page in each of so many slots.
