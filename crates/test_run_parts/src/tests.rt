@@ -1,7 +1,11 @@
 //! Worked examples, each public call once, and threads beside each other.
+mod callers;
+mod doubled;
 mod ended_tables;
+mod examples;
 mod groups;
 mod growth;
+mod jobs;
 mod joined_texts;
 mod made;
 mod pieces;

@@ -1,6 +1,7 @@
 //! What the trials share: options, large documents, a run with its report, and a gathering.
 ghost use Rattle.std.specs.Prelude.{◌<◌};
 ghost use Rattle.imposer.specs.Workers.{AreWorkers};
+ghost use Rattle.sheet_writer.specs.Sinks.{IsCountable};
 
 mod examples;
 mod gates;
@@ -13,18 +14,37 @@ mod windows;
 use dsc::Document;
 use gather_table::{GatherTable, Seat};
 use handover::{Pass, Ready, Shelf};
-use imposer::{Gathered, Job, MemorySink, Open, Options, Report, RunError, Workers, gather, run};
+use imposer::{
+    Gate, Gathered, Job, MemorySink, Open, Options, Report, RunError, Sink, Workers, gather, run,
+};
 use lengths::a4;
 use pagespec::read_spec;
 use sheet_plan::Plan;
 use std::alloc::{AllocError, Global};
 use std::sync::Wait;
+use std::sync::atomic::AtomicUsize;
+use std::sync::atomic::Ordering::SeqCst;
 use std::test::Fail;
+use std::thread;
 use std::thread::Threads;
 use test_tools::{TWO_UP, refuse};
 
 /// How many shares a whole seat has, and a whole pass.
 const WHOLE: u64 = 4_294_967_296;
+
+/// How often a wait yields before it runs out.
+const YIELDS: u32 = 20_000_000;
+
+/// Waits until the word is so high, or any wait ran out, and counts a wait that runs out.
+fn wait_for(word: &AtomicUsize, height: usize, run_out: &AtomicUsize) {
+    for _ in 0..YIELDS {
+        if word.load(SeqCst) >= height || run_out.load(SeqCst) > 0 {
+            return;
+        }
+        thread::yield_now();
+    }
+    run_out.fetch_add(1, SeqCst);
+}
 
 /// A4 without a border and without signatures, and so many workers.
 fn workers(preparers: u32, imposers: u32) -> Options {
@@ -47,7 +67,22 @@ struct Trial<'a> {
     counts: (u32, u32),
 }
 
-/// Runs into a sink with ample room: the sink with what was written, and the report.
+/// Runs a trial with this gate into this sink.
+fn run_into<R: Threads + Wait + Sync, G: Gate + Sync, S: Sink>(
+    rt: &R,
+    alloc: Global,
+    trial: &Trial<'_>,
+    gate: &G,
+    sink: &mut S,
+) -> Result<Report, RunError>
+    requires countable { IsCountable (S.seen sink.old) }
+{
+    let options = workers(trial.counts.0, trial.counts.1);
+    let input = trial.document.as_bytes();
+    run(rt, alloc, input, trial.items, &options, gate, sink)
+}
+
+/// Runs into a sink with ample room: the bytes that were written, and the report.
 fn ran<R: Threads + Wait + Sync>(
     rt: &R,
     alloc: Global,
@@ -61,6 +96,32 @@ fn ran<R: Threads + Wait + Sync>(
     Ok((sink, report))
 }
 
+/// Whether a run writes this output, and tells this.
+fn writes<R: Threads + Wait + Sync>(
+    rt: &R,
+    alloc: Global,
+    (document, items): (&str, &str),
+    options: &Options,
+    output: &str,
+    told: &Report,
+) -> Result<bool, RunError> {
+    let (sink, report) = ran(rt, alloc, document, items, options)?;
+    Ok(sink.bytes() == output.as_bytes() && report == *told)
+}
+
+/// Whether a run writes an output that ends so, and tells this.
+fn ends_with<R: Threads + Wait + Sync>(
+    rt: &R,
+    alloc: Global,
+    (document, items): (&str, &str),
+    options: &Options,
+    last: &str,
+    told: &Report,
+) -> Result<bool, RunError> {
+    let (sink, report) = ran(rt, alloc, document, items, options)?;
+    Ok(sink.bytes().ends_with(last.as_bytes()) && report == *told)
+}
+
 /// What a run answers, and how many bytes it has written, into a sink with room for a thousand.
 fn answered<R: Threads + Wait + Sync>(
     rt: &R,
@@ -72,8 +133,7 @@ fn answered<R: Threads + Wait + Sync>(
     let mut sink = MemorySink::new(alloc, 1_000, 1_000, 100)?;
     let input = document.as_bytes();
     let answer = run(rt, alloc, input, items, options, &Open {}, &mut sink);
-    let written = sink.bytes().len();
-    Ok((answer, written))
+    Ok((answer, sink.bytes().len()))
 }
 
 /// What is told of a run whose workers made all sheets.

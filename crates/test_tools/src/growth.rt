@@ -1,5 +1,6 @@
 //! How a test speaks to the library of `checks/refuse.c`, which refuses growth of memory.
 use std::alloc::Global;
+use std::test::Fail;
 
 /// More trials than a call has growths.
 pub const MOST_GROWTHS: u32 = 5_000;
@@ -16,4 +17,20 @@ pub fn refuse(alloc: Global, number: u32) {
 /// Whether one was refused since. No further one is.
 pub fn has_refused(alloc: Global) -> bool {
     Vec::<u8>::with_capacity(alloc, ASKED).is_ok()
+}
+
+/// A call of which a growth is refused.
+pub trait Refused<R> {
+    /// Makes the call with the growth of this number refused: whether one was.
+    fn refuse(&self, rt: &R, alloc: Global, number: u32) -> Result<bool, Fail>;
+}
+
+/// Makes the call with each of its growths refused in turn, until none is: whether it came so far.
+pub fn refuse_each<R, C: Refused<R>>(rt: &R, alloc: Global, call: &C) -> Result<bool, Fail> {
+    for number in 1..MOST_GROWTHS {
+        if !call.refuse(rt, alloc, number)? {
+            return Ok(true);
+        }
+    }
+    Ok(false)
 }

@@ -1,7 +1,8 @@
-//! What tests of several crates write: documents of small pages and their sheets, specifications, and growth of memory
-//! that is refused in turn.
+//! What tests of several crates assert and write: documents of small pages and their sheets, specifications, and growth of
+//! memory that is refused in turn.
 #![tactic(auto)]
 
+mod checks;
 mod documents;
 mod growth;
 mod sheets;
@@ -9,8 +10,9 @@ mod specifications;
 #[cfg(test)]
 mod tests;
 
+pub use checks::{assert_bytes, assert_that, assert_told};
 pub use documents::{ONE_PAGE, TWO_PAGES, document_of, document_with, page_body, with_lines};
-pub use growth::{MOST_GROWTHS, has_refused, refuse};
+pub use growth::{MOST_GROWTHS, Refused, has_refused, refuse, refuse_each};
 pub use sheets::{
     A4_SIDES, UNMOVED, border, one_up_output, one_up_sheet, opening, placed, placed_on, sheet,
     two_up_output, two_up_sheets,

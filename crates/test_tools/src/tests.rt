@@ -4,12 +4,12 @@ use std::test::Fail;
 
 #[test]
 fn documents(rt: HostRuntime) -> Result<(), Fail> {
-    assert_eq!(rt; document_of(rt.alloc(), 1)?.as_str(), ONE_PAGE);
-    assert_eq!(rt; document_of(rt.alloc(), 2)?.as_str(), TWO_PAGES);
+    assert_that(&rt, document_of(rt.alloc(), 1)?.as_str() == ONE_PAGE);
+    assert_that(&rt, document_of(rt.alloc(), 2)?.as_str() == TWO_PAGES);
     let long = with_lines(rt.alloc(), ONE_PAGE, 2)?;
     let body = "(0) pop\n(0) pop\nshowpage\n%%Trailer\n%%EOF\n";
-    assert!(rt; long.ends_with(body));
-    assert_eq!(rt; long.len(), ONE_PAGE.len() + 8);
+    assert_that(&rt, long.ends_with(body));
+    assert_that(&rt, long.len() == ONE_PAGE.len() + 8);
     Ok(())
 }
 
@@ -34,18 +34,18 @@ const PAIR: &str = "%%Page: 1 1\n\
 #[test]
 fn sheets(rt: HostRuntime) -> Result<(), Fail> {
     let pairs = two_up_sheets(rt.alloc(), 2)?;
-    assert!(rt; pairs.starts_with(PAIR));
-    assert_eq!(rt; pairs.len(), 2 * PAIR.len());
-    assert_eq!(rt;
-        border(rt.alloc(), ("2", "3"), ".5")?.as_str(),
-        "gsave .5 setlinewidth newpath 0 0 moveto 2 0 lineto 2 3 lineto 0 3 lineto closepath stroke grestore\n"
-    );
+    assert_that(&rt, pairs.starts_with(PAIR));
+    assert_that(&rt, pairs.len() == 2 * PAIR.len());
+    let edge = "newpath 0 0 moveto 2 0 lineto 2 3 lineto 0 3 lineto closepath";
+    let wanted = format!(in rt.alloc(); "gsave .5 setlinewidth {edge} stroke grestore\n")?;
+    let found = border(rt.alloc(), ("2", "3"), ".5")?;
+    assert_bytes(&rt, found.as_bytes(), wanted.as_bytes());
     Ok(())
 }
 
 #[test]
 fn items(rt: HostRuntime) -> Result<(), Fail> {
-    assert_eq!(rt; same_items(rt.alloc(), "0", 3)?.as_str(), "0+0+0");
-    assert!(rt; same_items(rt.alloc(), "0", 0)?.is_empty());
+    assert_that(&rt, same_items(rt.alloc(), "0", 3)?.as_str() == "0+0+0");
+    assert_that(&rt, same_items(rt.alloc(), "0", 0)?.is_empty());
     Ok(())
 }

@@ -173,13 +173,23 @@ impl<'a, R> Collector<Collected> for Fates<'a, R> {
     }
 }
 
-/// Runs three workers of each kind with these fates: whether shares were handed back, which are as many as before.
-fn hands_back<R: Threads + Wait + Abort + Sync>(
+/// What came of the workers: how often was collected, what the fates tell, and the shares that were handed back.
+struct Came {
+    collected: u32,
+    late: u32,
+    run_out: u32,
+    stopped: u32,
+    begun: (u32, u32),
+    shares: Option<u64>,
+}
+
+/// Runs three workers of each kind with these fates.
+fn gather<R: Threads + Wait + Abort + Sync>(
     rt: &R,
     alloc: Global,
     preparers: u32,
     imposers: u32,
-) -> bool {
+) -> Came {
     let fates = Fates::new(rt, preparers, imposers);
     let supplies = Supplies {
         crew: Crew {
@@ -193,35 +203,50 @@ fn hands_back<R: Threads + Wait + Abort + Sync>(
     let mut ended = None;
     let state = Collected { times: 0 };
     let state = gather_by(rt, &fates, &fates, supplies, state, &mut ended);
-    assert_eq!(rt; state.times, 1);
-    assert_eq!(rt;
-        (fates.late.load(SeqCst), fates.run_out.load(SeqCst)),
-        (0, 0)
-    );
-    assert_eq!(rt; fates.stopped.load(SeqCst), 1);
-    assert_eq!(rt; fates.preparing.load(SeqCst), WORKERS);
-    assert_eq!(rt; fates.imposing.load(SeqCst), WORKERS);
-    match ended {
-        Some(held) => {
-            assert_eq!(rt; held.shares, 100);
-            true
-        }
-        None => false,
+    let shares = match ended {
+        Some(held) => Some(held.shares),
+        None => None,
+    };
+    Came {
+        collected: state.times,
+        late: fates.late.load(SeqCst),
+        run_out: fates.run_out.load(SeqCst),
+        stopped: fates.stopped.load(SeqCst),
+        begun: (fates.preparing.load(SeqCst), fates.imposing.load(SeqCst)),
+        shares,
     }
+}
+
+/// Whether all workers began, nobody waited in vain, and these shares were handed back.
+fn is_right(came: Came, shares: Option<u64>) -> bool {
+    let Came {
+        collected,
+        late,
+        run_out,
+        stopped,
+        begun,
+        shares: handed_back,
+    } = came;
+    (collected, late, run_out, stopped) == (1, 0, 0, 1)
+        && begun == (WORKERS, WORKERS)
+        && handed_back == shares
 }
 
 #[test]
 fn workers_that_find_memory_hand_back_all(rt: HostRuntime) -> Result<(), Fail> {
-    assert!(rt; hands_back(&rt, rt.alloc(), 0, 0));
+    assert!(rt; is_right(gather(&rt, rt.alloc(), 0, 0), Some(100)));
     Ok(())
 }
 
+// As many shares are handed back as there were, or none.
 #[test]
 fn a_worker_without_memory_lets_nobody_wait(rt: HostRuntime) -> Result<(), Fail> {
     for preparers in 0..8u32 {
         for imposers in 0..8u32 {
-            let is_whole = hands_back(&rt, rt.alloc(), preparers, imposers);
-            assert_eq!(rt; is_whole, preparers == 0 && imposers == 0);
+            let came = gather(&rt, rt.alloc(), preparers, imposers);
+            let is_whole = preparers == 0 && imposers == 0;
+            let shares = if is_whole { Some(100) } else { None };
+            assert!(rt; is_right(came, shares));
         }
     }
     Ok(())

@@ -6,6 +6,7 @@ use pagespec::read_spec;
 use sheet_plan::Plan;
 use std::alloc::Global;
 use std::test::Fail;
+use test_tools::assert_that;
 
 /// The most pages that a document may have, and the most sheets that a plan may have.
 const MOST_PAGES: u32 = 1_000_000;
@@ -21,7 +22,7 @@ fn count_bare_pages(alloc: Global, pages: usize) -> Result<u32, Fail> {
 #[test]
 fn a_document_of_a_million_pages(rt: HostRuntime) -> Result<(), Fail> {
     let pages = count_bare_pages(rt.alloc(), MOST_PAGES as usize)?;
-    assert_eq!(rt; pages, MOST_PAGES);
+    assert_that(&rt, pages == MOST_PAGES);
     Ok(())
 }
 
@@ -38,6 +39,6 @@ fn count_sheets(alloc: Global, items: &str, pages: u32) -> Result<u32, Fail> {
 #[test]
 fn tables_of_four_million_places(rt: HostRuntime) -> Result<(), Fail> {
     let sheets = count_sheets(rt.alloc(), "0+0+0+0", MOST_PAGES)?;
-    assert_eq!(rt; sheets, MOST_PAGES);
+    assert_that(&rt, sheets == MOST_PAGES);
     Ok(())
 }

@@ -1,10 +1,11 @@
 //! Tables that are taken apart, and what their words show.
-use super::tables::{bring_one, plan_of, spec_of};
+use super::tables::bring_one;
 use gather_table::GatherTable;
+use pagespec::read_spec;
 use sheet_plan::Plan;
 use std::alloc::{AllocError, Global};
 use std::test::Fail;
-use test_tools::same_items;
+use test_tools::{assert_that, same_items};
 
 // The word of a table, as it is left behind a slot of the first sheet whose page came at index 5; None if the table has
 // no such word.
@@ -17,15 +18,30 @@ fn word_left(alloc: Global, plan: &Plan, slot: u16, word: u32) -> Result<Option<
     Ok(Some(table.end(seat, word)))
 }
 
+// Whether the table of a document of so many pages has these words then, and no others.
+fn words_are(
+    alloc: Global,
+    text: &str,
+    pages: u32,
+    slot: u16,
+    words: &[u64],
+) -> Result<bool, Fail> {
+    let spec = read_spec(alloc, text)?;
+    let plan = Plan::new(alloc, &spec, pages)?;
+    let mut word = 0u32;
+    for wanted in words {
+        if word_left(alloc, &plan, slot, word)? != Some(*wanted) {
+            return Ok(false);
+        }
+        word = word.saturating_add(1);
+    }
+    Ok(word_left(alloc, &plan, slot, word)?.is_none())
+}
+
 /// The word of a page is its index and one more, and 0 if it hasn't come; the bit of its slot is set in the lane.
 #[test]
 fn a_page_and_its_slot_show_in_the_words(rt: HostRuntime) -> Result<(), Fail> {
-    let spec = spec_of(&rt, rt.alloc(), "2:1+0");
-    let plan = plan_of(&rt, rt.alloc(), &spec, 2);
-    assert_eq!(rt; word_left(rt.alloc(), &plan, 1, 0)?, Some(6));
-    assert_eq!(rt; word_left(rt.alloc(), &plan, 1, 1)?, Some(0));
-    assert_eq!(rt; word_left(rt.alloc(), &plan, 1, 2)?, Some(2));
-    assert_eq!(rt; word_left(rt.alloc(), &plan, 1, 3)?, None);
+    assert_that(&rt, words_are(rt.alloc(), "2:1+0", 2, 1, &[6, 0, 2])?);
     Ok(())
 }
 
@@ -33,16 +49,9 @@ fn a_page_and_its_slot_show_in_the_words(rt: HostRuntime) -> Result<(), Fail> {
 /// filled, and that nobody closed, isn't.
 #[test]
 fn groups_show_in_the_words_of_a_wide_sheet(rt: HostRuntime) -> Result<(), Fail> {
-    let mut text = same_items(rt.alloc(), "1", 64)?;
-    text.push_str("+0")?;
-    let text = format!(in rt.alloc(); "2:{}", text.as_str())?;
-    let spec = spec_of(&rt, rt.alloc(), text.as_str());
-    let plan = plan_of(&rt, rt.alloc(), &spec, 1);
-    assert_eq!(rt; word_left(rt.alloc(), &plan, 64, 0)?, Some(6));
-    assert_eq!(rt; word_left(rt.alloc(), &plan, 64, 1)?, Some(0));
-    assert_eq!(rt; word_left(rt.alloc(), &plan, 64, 2)?, Some(1));
-    assert_eq!(rt; word_left(rt.alloc(), &plan, 64, 3)?, Some(u64::MAX));
-    assert_eq!(rt; word_left(rt.alloc(), &plan, 64, 4)?, Some(1));
-    assert_eq!(rt; word_left(rt.alloc(), &plan, 64, 5)?, None);
+    let blanks = same_items(rt.alloc(), "1", 64)?;
+    let text = format!(in rt.alloc(); "2:{}+0", blanks.as_str())?;
+    let words = [6, 0, 1, u64::MAX, 1];
+    assert_that(&rt, words_are(rt.alloc(), text.as_str(), 1, 64, &words)?);
     Ok(())
 }

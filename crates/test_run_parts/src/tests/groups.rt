@@ -3,12 +3,9 @@ ghost use Rattle.std.specs.Prelude.{◌≡◌, ◌<◌, IfOk, OnOk, length};
 ghost use Rattle.sheet_text.specs.Jobs.{text_of};
 ghost use Rattle.sheet_writer.specs.Writing.{AreEarly, HaveTexts};
 
+use super::jobs::{Task, with_job};
 use super::pieces::bytes_of;
 use super::writing::START;
-use dsc::Document;
-use lengths::a4;
-use pagespec::read_spec;
-use sheet_plan::Plan;
 use sheet_text::{Job, Openings, Rope, append_placed, begin_sheet, end_sheet, sheet_text};
 use sheet_writer::{
     Early, FinishedSheets, MemorySink, Sink, Spent, WriteSink, write_early, write_rest,
@@ -17,42 +14,41 @@ use std::alloc::{AllocError, Global};
 use std::io::{self, ErrorKind, Write};
 use std::process::Abort;
 use std::test::Fail;
-use test_tools::{A4_SIDES, UNMOVED, document_with, opening, page_body, placed, sheet};
+use test_tools::{
+    A4_SIDES, UNMOVED, assert_bytes, assert_that, document_with, opening, placed, sheet,
+};
 
-/// A sheet with a text of these bytes, alone.
-fn one_sheet<'r>(
+/// A sheet with a text of these bytes comes alone.
+fn put_one(
     alloc: Global,
+    early: &mut Early<'_>,
     number: u32,
     bytes: &[u8],
-) -> Result<FinishedSheets<'r>, AllocError> {
+) -> Result<(), AllocError> {
     let mut text = Rope::new(alloc);
     text.append(bytes)?;
     let mut finished = FinishedSheets::new(alloc);
     finished.push(number, &mut text)?;
-    Ok(finished)
-}
-
-/// Which of the first sheets are found.
-fn assert_found<R: Abort>(rt: &R, early: &Early<'_>, found: &[bool]) {
-    for (sheet, is_found) in (0u32..8).zip(found.iter()) {
-        let joined = early.joined(sheet, 1);
-        assert_eq!(rt; joined.is_some(), *is_found, "sheet {sheet}");
-    }
-}
-
-/// The text that is found of a sheet has these bytes.
-fn assert_text<R: Abort>(
-    rt: &R,
-    alloc: Global,
-    early: &Early<'_>,
-    sheet: u32,
-    bytes: &[u8],
-) -> Result<(), AllocError> {
-    let Some(joined) = early.joined(sheet, 1) else {
-        panic!(rt; "sheet {sheet} isn't there");
-    };
-    assert!(rt; bytes_of(alloc, joined.text)?.as_slice() == bytes);
+    early.put(finished);
     Ok(())
+}
+
+/// Whether these of the first sheets are found, and not the others.
+fn are_found(early: &Early<'_>, found: &[bool]) -> bool {
+    for (sheet, is_found) in (0u32..8).zip(found.iter()) {
+        if early.joined(sheet, 1).is_some() != *is_found {
+            return false;
+        }
+    }
+    true
+}
+
+/// Whether the text that is found of a sheet has these bytes.
+fn is_text(alloc: Global, early: &Early<'_>, sheet: u32, bytes: &[u8]) -> Result<bool, AllocError> {
+    match early.joined(sheet, 1) {
+        Some(joined) => Ok(bytes_of(alloc, joined.text)?.as_slice() == bytes),
+        None => Ok(false),
+    }
 }
 
 /// How many sheets are given back with this one.
@@ -63,77 +59,80 @@ fn count_taken(early: &mut Early<'_>, sheet: u32) -> usize {
     }
 }
 
-/// With each of these sheets so many are given back.
-fn assert_taken<R: Abort>(rt: &R, early: &mut Early<'_>, counts: &[(u32, usize)]) {
+/// Whether with each of these sheets so many are given back.
+fn are_taken(early: &mut Early<'_>, counts: &[(u32, usize)]) -> bool {
     for (sheet, count) in counts {
-        assert_eq!(rt; count_taken(early, *sheet), *count, "sheet {sheet}");
+        if count_taken(early, *sheet) != *count {
+            return false;
+        }
     }
+    true
 }
 
 #[test]
 fn a_sheet_waits_in_its_place(rt: HostRuntime) -> Result<(), Fail> {
     let mut early = Early::new(rt.alloc(), 2)?;
-    assert_eq!(rt; (early.places.len(), early.groups.len()), (2, 2));
-    early.put(one_sheet(rt.alloc(), 1, b"a")?);
+    assert_that(&rt, (early.places.len(), early.groups.len()) == (2, 2));
+    put_one(rt.alloc(), &mut early, 1, b"a")?;
     // Another sheet has the same place: it is dropped, and asking for it leaves the first one there.
-    early.put(one_sheet(rt.alloc(), 3, b"b")?);
-    assert_found(&rt, &early, &[false, true, false, false]);
-    assert_taken(&rt, &mut early, &[(3, 0), (0, 0)]);
-    assert_text(&rt, rt.alloc(), &early, 1, b"a")?;
-    assert_taken(&rt, &mut early, &[(1, 1), (1, 0)]);
-    assert_found(&rt, &early, &[false, false, false, false]);
+    put_one(rt.alloc(), &mut early, 3, b"b")?;
+    assert_that(&rt, are_found(&early, &[false, true, false, false]));
+    assert_that(&rt, are_taken(&mut early, &[(3, 0), (0, 0)]));
+    assert_that(&rt, is_text(rt.alloc(), &early, 1, b"a")?);
+    assert_that(&rt, are_taken(&mut early, &[(1, 1), (1, 0)]));
+    assert_that(&rt, are_found(&early, &[false; 4]));
     Ok(())
 }
 
-/// Sheets with texts of no bytes, together.
-fn empty_sheets<'r>(alloc: Global, sheets: &[u32]) -> Result<FinishedSheets<'r>, AllocError> {
+/// Sheets with texts of no bytes come together.
+fn put_empty(alloc: Global, early: &mut Early<'_>, sheets: &[u32]) -> Result<(), AllocError> {
     let mut text = Rope::new(alloc);
     let mut finished = FinishedSheets::new(alloc);
     for sheet in sheets {
         finished.push(*sheet, &mut text)?;
     }
-    Ok(finished)
+    early.put(finished);
+    Ok(())
 }
 
 #[test]
 fn sheets_are_dropped_together(rt: HostRuntime) -> Result<(), Fail> {
     let mut early = Early::new(rt.alloc(), 4)?;
-    early.put(empty_sheets(rt.alloc(), &[1, 3])?);
+    put_empty(rt.alloc(), &mut early, &[1, 3])?;
     // They lie at the place of the last of them, which is taken.
-    early.put(empty_sheets(rt.alloc(), &[4, 7])?);
-    assert_found(
-        &rt,
-        &early,
-        &[false, true, false, true, false, false, false, false],
-    );
+    put_empty(rt.alloc(), &mut early, &[4, 7])?;
+    let found = [false, true, false, true, false, false, false, false];
+    assert_that(&rt, are_found(&early, &found));
     // Now the first of these has the place of another sheet, which is as if it had not come.
-    early.put(empty_sheets(rt.alloc(), &[5, 6])?);
-    assert_found(
+    put_empty(rt.alloc(), &mut early, &[5, 6])?;
+    let found = [false, false, false, true, false, true, true, false];
+    assert_that(&rt, are_found(&early, &found));
+    assert_that(
         &rt,
-        &early,
-        &[false, false, false, true, false, true, true, false],
+        are_taken(&mut early, &[(1, 0), (5, 0), (3, 2), (6, 2)]),
     );
-    assert_taken(&rt, &mut early, &[(1, 0), (5, 0), (3, 2), (6, 2)]);
     Ok(())
 }
 
-/// The bodies of four pages. The third one isn't copied to its sheet.
-fn bodies(alloc: Global) -> Result<[String; 4], AllocError> {
-    let mut long = String::new(alloc);
-    for _ in 0..600 {
-        long.push_str("(2) pop\n")?;
-    }
+/// The body of the third of four pages. It isn't copied to its sheet.
+fn long_body(alloc: Global) -> Result<String, AllocError> {
+    let mut long = "(2) pop\n".repeat(alloc, 600)?;
     long.push_str("showpage\n")?;
-    Ok([
-        page_body(alloc, 0)?,
-        page_body(alloc, 1)?,
+    Ok(long)
+}
+
+/// The bodies of the four pages.
+const fn bodies(long: &str) -> [&str; 4] {
+    [
+        "(0) pop\nshowpage\n",
+        "(1) pop\nshowpage\n",
         long,
-        page_body(alloc, 3)?,
-    ])
+        "(3) pop\nshowpage\n",
+    ]
 }
 
 /// A document of these pages.
-fn document_of_pages(alloc: Global, bodies: &[String; 4]) -> Result<String, AllocError> {
+fn document_of_pages(alloc: Global, bodies: &[&str; 4]) -> Result<String, AllocError> {
     let mut text = String::new(alloc);
     for (page, body) in bodies.iter().enumerate() {
         let number = page.saturating_add(1);
@@ -142,9 +141,22 @@ fn document_of_pages(alloc: Global, bodies: &[String; 4]) -> Result<String, Allo
     document_with(alloc, 4, &text)
 }
 
+/// Whether a text is what the sheet's text is otherwise.
+fn is_sheet_text(
+    alloc: Global,
+    job: &Job<'_, '_>,
+    sheet: u32,
+    text: &Rope<'_>,
+) -> Result<bool, AllocError>
+    requires { sheet < length job.now.plan.sheets }
+{
+    let wanted = sheet_text(alloc, job, sheet)?;
+    let bytes = text.to_vec(alloc)?;
+    Ok(bytes.as_slice() == wanted.as_slice())
+}
+
 /// The text of a sheet with a page that isn't copied if it is long.
-fn text_with<'r, R: Abort>(
-    rt: &R,
+fn text_with<'r>(
     alloc: Global,
     job: &Job<'_, '_>,
     sheet: u32,
@@ -153,14 +165,13 @@ fn text_with<'r, R: Abort>(
     requires { sheet < length job.now.plan.sheets }
     ensures { IfOk result (λ text. text ≡ text_of job.now sheet) }
 {
-    assert!(rt; 0 < job.plan().slots(sheet));
+    if job.plan().slots(sheet) == 0 {
+        return Err(AllocError);
+    }
     let mut text = Rope::new(alloc);
     begin_sheet(&mut text, job, sheet)?;
     append_placed(&mut text, &mut Openings::new(alloc), job, sheet, 0, body)?;
     end_sheet(&mut text, job, sheet)?;
-    let wanted = sheet_text(alloc, job, sheet)?;
-    let bytes = text.to_vec(alloc)?;
-    assert!(rt; bytes.as_slice() == wanted.as_slice());
     Ok(text)
 }
 
@@ -177,7 +188,8 @@ fn finish<'r, R: Abort>(
     requires texts { HaveTexts (text_of job.now) finished.old }
     ensures { OnOk result (HaveTexts (text_of job.now) finished.new) }
 {
-    let mut text = text_with(rt, alloc, job, sheet, body)?;
+    let mut text = text_with(alloc, job, sheet, body)?;
+    assert_that(rt, is_sheet_text(alloc, job, sheet, &text)?);
     finished.push(sheet, &mut text)
 }
 
@@ -186,7 +198,7 @@ fn put_sheets<'r, R: Abort>(
     rt: &R,
     alloc: Global,
     job: &Job<'_, '_>,
-    bodies: &'r [String; 4],
+    bodies: &[&'r str; 4],
     early: &mut Early<'r>,
     sheets: &[u32],
 ) -> Result<(), AllocError>
@@ -195,8 +207,10 @@ fn put_sheets<'r, R: Abort>(
 {
     let mut finished = FinishedSheets::new(alloc);
     for sheet in sheets {
-        assert!(rt; *sheet < job.sheets() && *sheet < 4);
-        let body = bodies[*sheet as usize].as_str();
+        if *sheet >= job.sheets() || *sheet >= 4 {
+            return Err(AllocError);
+        }
+        let body = bodies[*sheet as usize];
         finish(rt, alloc, job, &mut finished, *sheet, body.as_bytes())?;
     }
     early.put(finished);
@@ -236,6 +250,14 @@ impl GivenBack {
             bytes: 0,
         }
     }
+
+    /// Whether these are given back, in two groups.
+    fn has_groups(&self, one: &[u32], other: &[u32]) -> bool {
+        match self.groups.as_slice() {
+            [first, second] => first.as_slice() == one && second.as_slice() == other,
+            _ => false,
+        }
+    }
 }
 
 impl<'r> Spent<'r> for GivenBack {
@@ -248,24 +270,26 @@ impl<'r> Spent<'r> for GivenBack {
     }
 }
 
-/// The lengths of the calls by which the sheets are written, if all of them come together.
-fn calls_of_all<R: Abort>(
-    rt: &R,
-    alloc: Global,
-    job: &Job<'_, '_>,
-    bodies: &[String; 4],
-) -> Result<Vec<usize>, AllocError> {
-    let mut early = Early::new(alloc, 4)?;
-    put_sheets(rt, alloc, job, bodies, &mut early, &[0, 1, 2, 3])?;
-    let mut calls = Calls {
-        lengths: Vec::new(alloc),
-    };
-    let mut given_back = GivenBack::new(alloc);
-    let mut sink = WriteSink::new(&mut calls);
-    let progress = write_early(job, &mut sink, START, &mut early, &mut given_back);
-    drop(sink);
-    assert_eq!(rt; progress.next, 4);
-    Ok(calls.lengths)
+/// How long the calls are by which the sheets are written, if all of them come together.
+#[derive(Drop)]
+struct CallsOfAll<'b> {
+    bodies: [&'b str; 4],
+}
+
+impl<'b, R: Abort> Task<R, Vec<usize>> for CallsOfAll<'b> {
+    fn go(&self, rt: &R, alloc: Global, job: &Job<'_, '_>) -> Result<Vec<usize>, Fail> {
+        let mut early = Early::new(alloc, 4)?;
+        put_sheets(rt, alloc, job, &self.bodies, &mut early, &[0, 1, 2, 3])?;
+        let mut calls = Calls {
+            lengths: Vec::new(alloc),
+        };
+        let mut given_back = GivenBack::new(alloc);
+        let mut sink = WriteSink::new(&mut calls);
+        let progress = write_early(job, &mut sink, START, &mut early, &mut given_back);
+        drop(sink);
+        assert_that(rt, progress.next == 4);
+        Ok(calls.lengths)
+    }
 }
 
 /// The text of a sheet with this page, counted from 0.
@@ -276,69 +300,85 @@ fn sheet_of(alloc: Global, page: u32, body: &str) -> Result<String, AllocError> 
 
 /// The first two sheets together, the third one's text before its page, the page and what stands behind it, and the last
 /// sheet.
-fn lengths_of(alloc: Global, bodies: &[String; 4]) -> Result<[usize; 5], AllocError> {
-    let [first, second, third, fourth] = bodies;
-    let first = sheet_of(alloc, 0, first)?;
-    let second = sheet_of(alloc, 1, second)?;
-    let opening = opening(alloc, A4_SIDES, UNMOVED)?;
-    let fourth = sheet_of(alloc, 3, fourth)?;
+fn lengths_of(alloc: Global, bodies: &[&str; 4]) -> Result<[usize; 5], AllocError> {
+    let [first, second, third, fourth] = *bodies;
+    let first = sheet_of(alloc, 0, first)?.len();
+    let second = sheet_of(alloc, 1, second)?.len();
+    let opening = opening(alloc, A4_SIDES, UNMOVED)?.len();
+    let fourth = sheet_of(alloc, 3, fourth)?.len();
     Ok([
-        first.len().saturating_add(second.len()),
-        opening.len().saturating_add("%%Page: 3 3\n".len()),
+        first.saturating_add(second),
+        opening.saturating_add("%%Page: 3 3\n".len()),
         third.len(),
         "ImposeSave restore\nshowpage\n".len(),
-        fourth.len(),
+        fourth,
     ])
+}
+
+/// Does the task with the job of these pages, each on a sheet.
+fn with_pages<R, A, T: Task<R, A>>(
+    rt: &R,
+    alloc: Global,
+    bodies: &[&str; 4],
+    task: &T,
+) -> Result<A, Fail> {
+    let text = document_of_pages(alloc, bodies)?;
+    with_job(rt, alloc, &text, "0", task)
 }
 
 #[test]
 fn neighbours_are_written_by_one_call(rt: HostRuntime) -> Result<(), Fail> {
-    let bodies = bodies(rt.alloc())?;
-    let text = document_of_pages(rt.alloc(), &bodies)?;
-    let document = Document::read(rt.alloc(), text.as_bytes())?;
-    let spec = read_spec(rt.alloc(), "0")?;
-    let plan = Plan::new(rt.alloc(), &spec, document.pages())?;
-    let job = Job::new(&plan, &document, a4(), None);
-    let calls = calls_of_all(&rt, rt.alloc(), &job, &bodies)?;
-    assert_eq!(rt;
-        calls.as_slice(),
-        lengths_of(rt.alloc(), &bodies)?.as_slice()
-    );
+    let long = long_body(rt.alloc())?;
+    let bodies = bodies(&long);
+    let calls = with_pages(&rt, rt.alloc(), &bodies, &CallsOfAll { bodies })?;
+    let wanted = lengths_of(rt.alloc(), &bodies)?;
+    assert_that(&rt, calls.as_slice() == wanted.as_slice());
     Ok(())
 }
 
-/// Of two groups, one of each other sheet, the first is given back when its last sheet is written, and not before.
-fn assert_given_back<R: Abort>(
+/// Of two groups, one of each other sheet, the first is given back when its last sheet is written, and not before: which
+/// sheet is the next one and how many groups were given back, behind each group, and how many bytes were written.
+fn write_two_groups<R: Abort>(
     rt: &R,
     alloc: Global,
     job: &Job<'_, '_>,
-    bodies: &[String; 4],
-) -> Result<(), Fail> {
+    bodies: &[&str; 4],
+    given_back: &mut GivenBack,
+) -> Result<([(u32, usize); 2], usize), AllocError> {
     let mut early = Early::new(alloc, 4)?;
     let mut sink = MemorySink::new(alloc, 10_000, 10_000, 100)?;
-    let mut given_back = GivenBack::new(alloc);
     put_sheets(rt, alloc, job, bodies, &mut early, &[0, 2])?;
-    let progress = write_early(job, &mut sink, START, &mut early, &mut given_back);
-    assert!(rt; progress.halted.is_none());
-    assert_eq!(rt; (progress.next, given_back.groups.len()), (1, 0));
+    let progress = write_early(job, &mut sink, START, &mut early, given_back);
+    assert_that(rt, progress.halted.is_none());
+    let first = (progress.next, given_back.groups.len());
     put_sheets(rt, alloc, job, bodies, &mut early, &[1, 3])?;
-    let progress = write_early(job, &mut sink, progress, &mut early, &mut given_back);
-    assert_eq!(rt; (progress.next, given_back.groups.len()), (4, 2));
-    assert_eq!(rt; given_back.groups[0].as_slice(), [0, 2].as_slice());
-    assert_eq!(rt; given_back.groups[1].as_slice(), [1, 3].as_slice());
-    assert_eq!(rt; given_back.bytes, sink.bytes().len());
-    Ok(())
+    let progress = write_early(job, &mut sink, progress, &mut early, given_back);
+    let second = (progress.next, given_back.groups.len());
+    Ok(([first, second], sink.bytes().len()))
+}
+
+/// The groups are given back one after the other, with all bytes that were written.
+#[derive(Drop)]
+struct TwoGroups<'b> {
+    bodies: [&'b str; 4],
+}
+
+impl<'b, R: Abort> Task<R, ()> for TwoGroups<'b> {
+    fn go(&self, rt: &R, alloc: Global, job: &Job<'_, '_>) -> Result<(), Fail> {
+        let mut given_back = GivenBack::new(alloc);
+        let (counts, written) = write_two_groups(rt, alloc, job, &self.bodies, &mut given_back)?;
+        assert_that(rt, counts == [(1, 0), (4, 2)]);
+        assert_that(rt, given_back.has_groups(&[0, 2], &[1, 3]));
+        assert_that(rt, given_back.bytes == written);
+        Ok(())
+    }
 }
 
 #[test]
 fn sheets_are_given_back_with_the_last_of_them(rt: HostRuntime) -> Result<(), Fail> {
-    let bodies = bodies(rt.alloc())?;
-    let text = document_of_pages(rt.alloc(), &bodies)?;
-    let document = Document::read(rt.alloc(), text.as_bytes())?;
-    let spec = read_spec(rt.alloc(), "0")?;
-    let plan = Plan::new(rt.alloc(), &spec, document.pages())?;
-    let job = Job::new(&plan, &document, a4(), None);
-    assert_given_back(&rt, rt.alloc(), &job, &bodies)
+    let long = long_body(rt.alloc())?;
+    let bodies = bodies(&long);
+    with_pages(&rt, rt.alloc(), &bodies, &TwoGroups { bodies })
 }
 
 /// Writes all sheets and the trailer, if only two of them came, together: how many were made anew.
@@ -346,7 +386,7 @@ fn write_rest_of<R: Abort>(
     rt: &R,
     alloc: Global,
     job: &Job<'_, '_>,
-    bodies: &[String; 4],
+    bodies: &[&str; 4],
     sink: &mut MemorySink,
 ) -> Result<u32, Fail>
     requires countable { sink.old.failures < 10 }
@@ -355,28 +395,40 @@ fn write_rest_of<R: Abort>(
     put_sheets(rt, alloc, job, bodies, &mut early, &[1, 2])?;
     let trailer = job.document().trailer_text()?;
     let rest = write_rest(alloc, job, sink, START, &early, trailer.as_slice());
-    assert!(rt; rest.progress.halted.is_none());
+    assert_that(rt, rest.progress.halted.is_none());
     Ok(rest.swept)
+}
+
+/// All sheets, and the trailer.
+fn sheets_and_trailer(alloc: Global, bodies: &[&str; 4]) -> Result<String, AllocError> {
+    let mut text = String::new(alloc);
+    for (page, body) in (0u32..4).zip(bodies.iter()) {
+        text.push_str(&sheet_of(alloc, page, body)?)?;
+    }
+    text.push_str("%%Trailer\n%%EOF\n")?;
+    Ok(text)
+}
+
+/// Of four sheets two came, together.
+#[derive(Drop)]
+struct HalfOfThem<'b> {
+    bodies: [&'b str; 4],
+}
+
+impl<'b, R: Abort> Task<R, ()> for HalfOfThem<'b> {
+    fn go(&self, rt: &R, alloc: Global, job: &Job<'_, '_>) -> Result<(), Fail> {
+        let mut sink = MemorySink::new(alloc, 10_000, 10_000, 100)?;
+        let swept = write_rest_of(rt, alloc, job, &self.bodies, &mut sink)?;
+        assert_that(rt, swept == 2);
+        let wanted = sheets_and_trailer(alloc, &self.bodies)?;
+        assert_bytes(rt, sink.bytes(), wanted.as_bytes());
+        Ok(())
+    }
 }
 
 #[test]
 fn sheets_that_came_stand_among_those_that_did_not(rt: HostRuntime) -> Result<(), Fail> {
-    let bodies = bodies(rt.alloc())?;
-    let text = document_of_pages(rt.alloc(), &bodies)?;
-    let document = Document::read(rt.alloc(), text.as_bytes())?;
-    let spec = read_spec(rt.alloc(), "0")?;
-    let plan = Plan::new(rt.alloc(), &spec, document.pages())?;
-    let job = Job::new(&plan, &document, a4(), None);
-    let mut sink = MemorySink::new(rt.alloc(), 10_000, 10_000, 100)?;
-    assert_eq!(rt;
-        write_rest_of(&rt, rt.alloc(), &job, &bodies, &mut sink)?,
-        2
-    );
-    let mut wanted = String::new(rt.alloc());
-    for (page, body) in (0u32..4).zip(bodies.iter()) {
-        wanted.push_str(&sheet_of(rt.alloc(), page, body)?)?;
-    }
-    wanted.push_str("%%Trailer\n%%EOF\n")?;
-    assert!(rt; sink.bytes() == wanted.as_bytes());
-    Ok(())
+    let long = long_body(rt.alloc())?;
+    let bodies = bodies(&long);
+    with_pages(&rt, rt.alloc(), &bodies, &HalfOfThem { bodies })
 }

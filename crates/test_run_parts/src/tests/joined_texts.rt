@@ -2,8 +2,8 @@
 use super::pieces::bytes_of;
 use sheet_text::{Rope, Texts};
 use std::alloc::{AllocError, Global};
-use std::process::Abort;
 use std::test::Fail;
+use test_tools::assert_that;
 
 /// A text of a slice between bytes of its own.
 #[derive(Clone, Copy)]
@@ -31,25 +31,48 @@ fn push<'r>(alloc: Global, texts: &mut Texts<'r>, parts: Parts<'r>) -> Result<()
     texts.push(&mut text)
 }
 
-/// One of the texts has these bytes.
-fn assert_text<R: Abort>(
-    rt: &R,
+/// Whether one of the texts has these bytes.
+fn is_text(
     alloc: Global,
     texts: &Texts<'_>,
     nth: usize,
     parts: Parts<'_>,
-) -> Result<(), AllocError> {
-    assert!(rt; nth < texts.len());
+) -> Result<bool, AllocError> {
+    if nth >= texts.len() {
+        return Ok(false);
+    }
     let mut wanted = Vec::new(alloc);
     wanted.extend_from_slice(parts.before)?;
     wanted.extend_from_slice(parts.slice)?;
     wanted.extend_from_slice(parts.behind)?;
     let joined = texts.joined(nth, 1);
-    assert_eq!(rt; joined.count, 1);
-    assert_eq!(rt; joined.text.len(), Some(wanted.len()));
-    let bytes = bytes_of(alloc, joined.text)?;
-    assert!(rt; bytes.as_slice() == wanted.as_slice(), "text {nth}");
-    Ok(())
+    if joined.count != 1 || joined.text.len() != Some(wanted.len()) {
+        return Ok(false);
+    }
+    Ok(bytes_of(alloc, joined.text)?.as_slice() == wanted.as_slice())
+}
+
+/// Adds these texts: whether each comes out as its own.
+fn are_their_own(alloc: Global, all: &[Parts<'_>]) -> Result<bool, AllocError> {
+    let mut texts = Texts::new(alloc);
+    for parts in all {
+        push(alloc, &mut texts, *parts)?;
+    }
+    for (nth, parts) in all.iter().enumerate() {
+        if !is_text(alloc, &texts, nth, *parts)? {
+            return Ok(false);
+        }
+    }
+    Ok(texts.len() == all.len())
+}
+
+/// A text of these parts.
+const fn of<'t>(before: &'t [u8], slice: &'t [u8], behind: &'t [u8]) -> Parts<'t> {
+    Parts {
+        before,
+        slice,
+        behind,
+    }
 }
 
 #[test]
@@ -57,103 +80,82 @@ fn long_texts_and_short_ones_come_out_as_their_own(rt: HostRuntime) -> Result<()
     let long = [b'x'; 4_096];
     let longer = [b'y'; 5_000];
     let all = [
-        Parts {
-            before: b"ab",
-            slice: b"cd",
-            behind: b"ef",
-        },
-        Parts {
-            before: b"",
-            slice: &long,
-            behind: b"g",
-        },
+        of(b"ab", b"cd", b"ef"),
+        of(b"", &long, b"g"),
         own(b"h"),
         own(b""),
-        Parts {
-            before: b"ij",
-            slice: &longer,
-            behind: b"",
-        },
-        Parts {
-            before: b"",
-            slice: &long,
-            behind: b"",
-        },
-        Parts {
-            before: b"k",
-            slice: &long,
-            behind: b"l",
-        },
+        of(b"ij", &longer, b""),
+        of(b"", &long, b""),
+        of(b"k", &long, b"l"),
         own(b"m"),
     ];
-    let mut texts = Texts::new(rt.alloc());
-    for parts in all {
-        push(rt.alloc(), &mut texts, parts)?;
-    }
-    assert_eq!(rt; texts.len(), all.len());
-    for (nth, parts) in all.iter().enumerate() {
-        assert_text(&rt, rt.alloc(), &texts, nth, *parts)?;
-    }
+    assert_that(&rt, are_their_own(rt.alloc(), &all)?);
     Ok(())
 }
 
-/// From one of the texts on so many are joined, of so many at most, and have these bytes in one piece.
-fn assert_joined<R: Abort>(
-    rt: &R,
-    texts: &Texts<'_>,
-    nth: usize,
-    most: usize,
-    count: usize,
-    bytes: &[u8],
-) {
-    assert!(rt; nth < texts.len() && 0 < most);
+/// Whether from one of the texts on so many are joined, of so many at most, and have these bytes in one piece.
+fn are_joined(texts: &Texts<'_>, nth: usize, most: usize, count: usize, bytes: &[u8]) -> bool {
+    if nth >= texts.len() || most == 0 {
+        return false;
+    }
     let joined = texts.joined(nth, most);
-    assert_eq!(rt; joined.count, count, "text {nth}");
     let mut text = joined.text;
-    assert!(rt; text.take_next() == Some(bytes), "text {nth}");
-    assert!(rt; text.take_next().is_none(), "text {nth}");
+    joined.count == count && text.take_next() == Some(bytes) && text.take_next().is_none()
+}
+
+/// Texts with these bytes of their own.
+fn push_own(alloc: Global, texts: &mut Texts<'_>, all: &[&[u8]]) -> Result<(), AllocError> {
+    for bytes in all {
+        let mut text = Rope::new(alloc);
+        text.append(bytes)?;
+        texts.push(&mut text)?;
+    }
+    Ok(())
 }
 
 #[test]
 fn neighbours_without_slices_are_in_one_piece(rt: HostRuntime) -> Result<(), Fail> {
     let long = [b'x'; 4_096];
     let mut texts = Texts::new(rt.alloc());
-    push(rt.alloc(), &mut texts, own(b"ab"))?;
-    push(rt.alloc(), &mut texts, own(b"c"))?;
-    let slice = Parts {
-        before: &[],
-        slice: &long,
-        behind: &[],
-    };
-    push(rt.alloc(), &mut texts, slice)?;
-    push(rt.alloc(), &mut texts, own(b"d"))?;
-    push(rt.alloc(), &mut texts, own(b"ef"))?;
-    push(rt.alloc(), &mut texts, own(b"g"))?;
-    assert_joined(&rt, &texts, 0, 9, 2, b"abc");
-    assert_joined(&rt, &texts, 1, 9, 1, b"c");
-    assert_joined(&rt, &texts, 2, 9, 1, &long);
-    assert_joined(&rt, &texts, 3, 9, 3, b"defg");
-    assert_joined(&rt, &texts, 3, 2, 2, b"def");
-    assert_joined(&rt, &texts, 5, 9, 1, b"g");
+    push_own(rt.alloc(), &mut texts, &[b"ab", b"c"])?;
+    push(rt.alloc(), &mut texts, of(b"", &long, b""))?;
+    push_own(rt.alloc(), &mut texts, &[b"d", b"ef", b"g"])?;
+    assert_that(&rt, are_joined(&texts, 0, 9, 2, b"abc"));
+    assert_that(&rt, are_joined(&texts, 1, 9, 1, b"c"));
+    assert_that(&rt, are_joined(&texts, 2, 9, 1, &long));
+    assert_that(&rt, are_joined(&texts, 3, 9, 3, b"defg"));
+    assert_that(&rt, are_joined(&texts, 3, 2, 2, b"def"));
+    assert_that(&rt, are_joined(&texts, 5, 9, 1, b"g"));
     Ok(())
+}
+
+/// Adds texts of these bytes, one after the other in the same memory: whether each leaves its memory.
+fn leave_memory<'r>(
+    text: &mut Rope<'r>,
+    texts: &mut Texts<'r>,
+    all: &[&[u8]],
+) -> Result<bool, AllocError> {
+    let had = text.capacity();
+    for bytes in all {
+        text.append(bytes)?;
+        texts.push(text)?;
+        if text.pieces().len() != Some(0) || text.capacity() != had {
+            return Ok(false);
+        }
+    }
+    Ok(true)
 }
 
 #[test]
 fn a_text_that_is_added_leaves_its_memory(rt: HostRuntime) -> Result<(), Fail> {
     let mut text = Rope::new(rt.alloc());
     text.reserve(1_000)?;
-    let had = text.capacity();
     let mut texts = Texts::new(rt.alloc());
-    for bytes in [b"ab".as_slice(), b"c".as_slice()] {
-        text.append(bytes)?;
-        texts.push(&mut text)?;
-        assert_eq!(rt; (text.pieces().len(), text.capacity()), (Some(0), had));
-    }
-    assert_joined(&rt, &texts, 0, 9, 2, b"abc");
+    assert_that(&rt, leave_memory(&mut text, &mut texts, &[b"ab", b"c"])?);
+    assert_that(&rt, are_joined(&texts, 0, 9, 2, b"abc"));
     texts.clear();
-    assert_eq!(rt; texts.len(), 0);
-    text.append(b"d")?;
-    texts.push(&mut text)?;
-    assert_joined(&rt, &texts, 0, 9, 1, b"d");
+    assert_that(&rt, texts.len() == 0);
+    assert_that(&rt, leave_memory(&mut text, &mut texts, &[b"d"])?);
+    assert_that(&rt, are_joined(&texts, 0, 9, 1, b"d"));
     Ok(())
 }

@@ -5,9 +5,8 @@ use pagespec::{Item, Measure, Turn};
 use sheet_plan::{MadeSheets, MadeSlot, Plan};
 use sheet_text::{Dress, Job, Lines, SheetLines, sheet_text};
 use std::alloc::{AllocError, Global};
-use std::process::Abort;
 use std::test::Fail;
-use test_tools::{TWO_PAGES, UNMOVED, page_body, placed, placed_on, sheet};
+use test_tools::{TWO_PAGES, UNMOVED, assert_bytes, page_body, placed, placed_on, sheet};
 
 /// The second page on A4, a blank, and the first page on A5.
 fn made_sheet(alloc: Global) -> Result<String, AllocError> {
@@ -60,19 +59,11 @@ fn two_lines(alloc: Global) -> Result<Dress, Fail> {
 }
 
 /// The text of the sheet.
-fn text_of_sheet<R: Abort>(
-    rt: &R,
-    alloc: Global,
-    sheets: &MadeSheets,
-    dress: &Dress,
-) -> Result<Vec<u8>, Fail> {
+fn text_of_sheet(alloc: Global, sheets: &MadeSheets, dress: &Dress) -> Result<Vec<u8>, Fail> {
     let document = Document::read(alloc, TWO_PAGES.as_bytes())?;
     let plan = Plan::of_sheets(alloc, document.pages(), sheets)?;
-    if plan.sheets() != 1 {
-        panic!(rt; "there are {} sheets", plan.sheets());
-    }
-    if dress.len() != sheets.len() {
-        panic!(rt; "{} sheets have lines", dress.len());
+    if plan.sheets() != 1 || dress.len() != sheets.len() {
+        return Err(AllocError)?;
     }
     let job = Job::made(&plan, &document, sheets, None, dress);
     Ok(sheet_text(alloc, &job, 0)?)
@@ -80,11 +71,11 @@ fn text_of_sheet<R: Abort>(
 
 #[test]
 fn a_sheet_that_was_made(rt: HostRuntime) -> Result<(), Fail> {
-    let a5 = paper_by_name("a5").expect(&rt, "a5 is a paper");
+    let a5 = paper_by_name("a5").ok_or(AllocError)?;
     let sheets = one_sheet(rt.alloc(), a4(), a5)?;
     let dress = two_lines(rt.alloc())?;
-    let text = text_of_sheet(&rt, rt.alloc(), &sheets, &dress)?;
+    let text = text_of_sheet(rt.alloc(), &sheets, &dress)?;
     let wanted = made_sheet(rt.alloc())?;
-    assert_eq!(rt; text.as_slice(), wanted.as_bytes());
+    assert_bytes(&rt, text.as_slice(), wanted.as_bytes());
     Ok(())
 }

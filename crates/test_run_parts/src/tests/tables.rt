@@ -5,19 +5,14 @@ ghost use Rattle.gather_table.specs.Shared.{IsSeatOf};
 ghost use Rattle.gather_table.specs.Table.{HasGroup};
 
 use gather_table::{Closing, GatherTable, PlainTable, Published, Reply, Seat};
-use pagespec::{Spec, read_spec};
+use pagespec::read_spec;
 use sheet_plan::Plan;
-use std::alloc::Global;
+use std::alloc::{AllocError, Global};
 use std::marker::{Brand, PhantomData};
-use std::ops::Range;
-use std::process::Abort;
 use std::test::Fail;
 use std::thread;
 use std::thread::Threads;
-use test_tools::same_items;
-
-// A look that shows all of 64 slots, or groups, as missing.
-const ALL: u64 = 18_446_744_073_709_551_615;
+use test_tools::{assert_that, assert_told, same_items};
 
 // The calls of a table, each None if its numbers are out of bounds, the slot is blank, its page has no index, the sheet
 // isn't wide, or a slot of the group to be closed is missing.
@@ -302,317 +297,358 @@ impl<'t, 's> Calls for Caller<'t, 's> {
     }
 }
 
-pub(super) fn spec_of<R: Abort>(rt: &R, alloc: Global, text: &str) -> Spec {
-    let Ok(spec) = read_spec(alloc, text) else {
-        panic!(rt; "a specification is refused")
-    };
-    spec
+// The number that a word of a story is, 0 if it is none.
+fn number(word: Option<&str>) -> u32 {
+    word.unwrap_or("").parse::<u32>().unwrap_or(0)
 }
 
-pub(super) fn plan_of<'s, R: Abort>(rt: &R, alloc: Global, spec: &'s Spec, pages: u32) -> Plan<'s>
-    ensures { result.pages ≡ pages }
-{
-    let Ok(plan) = Plan::new(alloc, spec, pages) else {
-        panic!(rt; "a plan is refused")
-    };
-    plan
-}
-
-// A publish of a page is answered so.
-fn publishes<R: Abort, C: Calls>(rt: &R, table: &mut C, page: u32, index: u32, reply: Published) {
-    assert_eq!(rt; table.publish(page, index), Some(reply), "page {page}");
-}
-
-// A mark of a slot of the first sheet is answered so.
-fn marks<R: Abort, C: Calls>(rt: &R, table: &mut C, slot: u16, reply: Option<Reply>) {
-    assert_eq!(rt; table.mark(0, slot), reply, "slot {slot}");
-}
-
-// A closing of a group of the first sheet is answered so.
-fn closes<R: Abort, C: Calls>(rt: &R, table: &mut C, group: u8, closing: Option<Closing>) {
-    assert_eq!(rt; table.close_group(0, group), closing, "group {group}");
-}
-
-// A look at the first sheet shows this much of it missing.
-fn lacks<R: Abort, C: Calls>(rt: &R, table: &mut C, left: u64) {
-    assert_eq!(rt; table.look(0), Some(left));
-}
-
-// A look at a group of the first sheet shows this much of it missing; None if there is no such group.
-fn group_lacks<R: Abort, C: Calls>(rt: &R, table: &mut C, group: u8, left: Option<u64>) {
-    assert_eq!(rt; table.look_group(0, group), left, "group {group}");
-}
-
-// A look-up of a page finds this index, or none.
-fn is_found<R: Abort, C: Calls>(rt: &R, table: &mut C, page: u32, index: Option<u32>) {
-    assert_eq!(rt; table.page_at(page), Some(index), "page {page}");
-}
-
-// One sheet with two pages: the calls of one caller, and what each answers.
-fn brings_two_pages<R: Abort, C: Calls>(rt: &R, table: &mut C) {
-    publishes(rt, table, 0, 5, Published::Stored);
-    marks(rt, table, 0, Some(Reply::Fresh));
-    marks(rt, table, 0, Some(Reply::Repeated));
-    publishes(rt, table, 0, 9, Published::Held(5));
-    lacks(rt, table, 2);
-    is_found(rt, table, 1, None);
-    publishes(rt, table, 1, 4_294_967_295, Published::Stored);
-    marks(rt, table, 1, Some(Reply::Completing));
-    lacks(rt, table, 0);
-    is_found(rt, table, 0, Some(5));
-    is_found(rt, table, 1, Some(4_294_967_295));
-    marks(rt, table, 1, Some(Reply::Repeated));
-}
-
-// The page comes to the first sheet, of which so much is missing.
-fn stores_the_page<R: Abort, C: Calls>(rt: &R, table: &mut C, left: u64) {
-    lacks(rt, table, left);
-    publishes(rt, table, 0, 0, Published::Stored);
-}
-
-// One sheet with a blank slot and a page.
-fn brings_a_page_beside_a_blank<R: Abort, C: Calls>(rt: &R, table: &mut C) {
-    stores_the_page(rt, table, 2);
-    marks(rt, table, 1, Some(Reply::Completing));
-    marks(rt, table, 1, Some(Reply::Repeated));
-    lacks(rt, table, 0);
-}
-
-// Marks these slots of the first sheet, none of which fills a group.
-fn marks_each<R: Abort, C: Calls>(rt: &R, table: &mut C, slots: Range<u16>) {
-    for slot in slots {
-        marks(rt, table, slot, Some(Reply::Fresh));
-    }
-}
-
-// One sheet with a page in each of its 65 slots, so one of two groups.
-fn brings_a_page_to_65_slots<R: Abort, C: Calls>(rt: &R, table: &mut C) {
-    stores_the_page(rt, table, 3);
-    marks_each(rt, table, 0..63);
-    marks(rt, table, 63, Some(Reply::Fills(0)));
-    group_lacks(rt, table, 0, Some(0));
-    lacks(rt, table, 3);
-    closes(rt, table, 0, Some(Closing::Closed));
-    closes(rt, table, 0, Some(Closing::Again));
-    lacks(rt, table, 2);
-    marks(rt, table, 64, Some(Reply::Fills(1)));
-    closes(rt, table, 1, Some(Closing::Completing));
-    lacks(rt, table, 0);
-    marks(rt, table, 64, Some(Reply::Repeated));
-}
-
-// Marks the slots of a group of the first sheet one after the other: the last one fills it. `missing` is what a look at
-// the group shows if no slot is marked.
-fn fills_group<R: Abort, C: Calls>(rt: &R, table: &mut C, group: u8, slots: u16, missing: u64) {
-    let first = 64 * u16::from(group);
-    let last = first.saturating_add(slots.saturating_sub(1));
-    let highest = 1u64 << slots.saturating_sub(1).min(63);
-    group_lacks(rt, table, group, Some(missing));
-    marks_each(rt, table, first..last);
-    group_lacks(rt, table, group, Some(highest));
-    closes(rt, table, group, None);
-    marks(rt, table, last, Some(Reply::Fills(group)));
-    group_lacks(rt, table, group, Some(0));
-    marks(rt, table, last, Some(Reply::Repeated));
-}
-
-// Closes a group of the first sheet, which is full. `left` is what a look at the sheet shows then.
-fn closes_group<R: Abort, C: Calls>(rt: &R, table: &mut C, group: u8, closing: Closing, left: u64) {
-    closes(rt, table, group, Some(closing));
-    lacks(rt, table, left);
-    closes(rt, table, group, Some(Closing::Again));
-}
-
-// A sheet of 64 slots has no groups: its last mark completes it.
-fn brings_a_page_to_64_slots<R: Abort, C: Calls>(rt: &R, table: &mut C) {
-    group_lacks(rt, table, 0, None);
-    stores_the_page(rt, table, ALL);
-    marks_each(rt, table, 0..63);
-    lacks(rt, table, 1 << 63);
-    marks(rt, table, 63, Some(Reply::Completing));
-    lacks(rt, table, 0);
-    closes(rt, table, 0, None);
-    marks(rt, table, 64, None);
-}
-
-// 128 slots are two whole groups. They are filled and closed from the last one on.
-fn brings_a_page_to_128_slots<R: Abort, C: Calls>(rt: &R, table: &mut C) {
-    group_lacks(rt, table, 2, None);
-    stores_the_page(rt, table, 3);
-    fills_group(rt, table, 1, 64, ALL);
-    closes_group(rt, table, 1, Closing::Closed, 1);
-    fills_group(rt, table, 0, 64, ALL);
-    lacks(rt, table, 1);
-    closes_group(rt, table, 0, Closing::Completing, 0);
-    marks(rt, table, 128, None);
-}
-
-// 129 slots are two whole groups and one of a single slot. All are filled before the first is closed.
-fn brings_a_page_to_129_slots<R: Abort, C: Calls>(rt: &R, table: &mut C) {
-    group_lacks(rt, table, 3, None);
-    stores_the_page(rt, table, 7);
-    for (group, slots, missing) in [(0, 64, ALL), (2, 1, 1), (1, 64, ALL)] {
-        fills_group(rt, table, group, slots, missing);
-    }
-    lacks(rt, table, 7);
-    closes_group(rt, table, 1, Closing::Closed, 5);
-    closes_group(rt, table, 2, Closing::Closed, 1);
-    closes_group(rt, table, 0, Closing::Completing, 0);
-    marks(rt, table, 128, Some(Reply::Repeated));
-    marks(rt, table, 129, None);
-}
-
-// 4,095 slots are 63 whole groups and one of 63 slots.
-fn brings_a_page_to_4095_slots<R: Abort, C: Calls>(rt: &R, table: &mut C) {
-    stores_the_page(rt, table, ALL);
-    let mut left = ALL;
-    for group in 0..63u8 {
-        fills_group(rt, table, group, 64, ALL);
-        left &= !(1u64 << group);
-        closes_group(rt, table, group, Closing::Closed, left);
-    }
-    assert_eq!(rt; left, 1 << 63);
-    fills_group(rt, table, 63, 63, ALL >> 1);
-    closes_group(rt, table, 63, Closing::Completing, 0);
-    marks(rt, table, 4_095, None);
-}
-
-// One sheet with 64 blank slots and then a page.
-fn brings_a_page_behind_a_blank_group<R: Abort, C: Calls>(rt: &R, table: &mut C) {
-    stores_the_page(rt, table, 2);
-    marks(rt, table, 64, Some(Reply::Fills(1)));
-    closes(rt, table, 1, Some(Closing::Completing));
-}
-
-// One sheet with a page in each of its 4,096 slots.
-fn shows_64_groups<R: Abort, C: Calls>(rt: &R, table: &mut C) {
-    lacks(rt, table, ALL);
-    group_lacks(rt, table, 63, Some(ALL));
-    group_lacks(rt, table, 64, None);
-}
-
-// The calls of one caller.
-#[derive(Clone, Copy)]
-enum Story {
-    TwoPages,
-    PageBesideABlank,
-    PageTo64Slots,
-    PageTo65Slots,
-    PageTo128Slots,
-    PageTo129Slots,
-    PageTo4095Slots,
-    PageBehindABlankGroup,
-    SixtyFourGroups,
-}
-
-impl Story {
-    fn tell<R: Abort, C: Calls>(self, rt: &R, table: &mut C) {
-        match self {
-            Story::TwoPages => brings_two_pages(rt, table),
-            Story::PageBesideABlank => brings_a_page_beside_a_blank(rt, table),
-            Story::PageTo64Slots => brings_a_page_to_64_slots(rt, table),
-            Story::PageTo65Slots => brings_a_page_to_65_slots(rt, table),
-            Story::PageTo128Slots => brings_a_page_to_128_slots(rt, table),
-            Story::PageTo129Slots => brings_a_page_to_129_slots(rt, table),
-            Story::PageTo4095Slots => brings_a_page_to_4095_slots(rt, table),
-            Story::PageBehindABlankGroup => brings_a_page_behind_a_blank_group(rt, table),
-            Story::SixtyFourGroups => shows_64_groups(rt, table),
+// Marks these slots of the first sheet: the first answer that isn't Fresh.
+fn marks<C: Calls>(alloc: Global, table: &mut C, from: u32, to: u32) -> Result<String, AllocError> {
+    for slot in from..to {
+        let reply = table.mark(0, slot.min(65_535) as u16);
+        if reply != Some(Reply::Fresh) {
+            return format!(in alloc; "{slot}: {reply:?}");
         }
     }
+    String::from_str(alloc, "all Fresh")
 }
 
-// Both tables answer these calls as they should, of a document of so many pages.
-fn in_both<R: Abort>(
-    rt: &R,
+// What a call of a table is answered. Sheets are the first one.
+fn answer<C: Calls>(alloc: Global, table: &mut C, call: &str) -> Result<String, AllocError> {
+    let mut words = call.split(' ');
+    let name = words.next().unwrap_or("");
+    let first = number(words.next());
+    let second = number(words.next());
+    let group = first.min(255) as u8;
+    match name {
+        "publish" => format!(in alloc; "{:?}", table.publish(first, second)),
+        "mark" => format!(in alloc; "{:?}", table.mark(0, first.min(65_535) as u16)),
+        "marks" => marks(alloc, table, first, second),
+        "look" => format!(in alloc; "{:?}", table.look(0)),
+        "group" => format!(in alloc; "{:?}", table.look_group(0, group)),
+        "page" => format!(in alloc; "{:?}", table.page_at(first)),
+        "close" => format!(in alloc; "{:?}", table.close_group(0, group)),
+        _ => String::from_str(alloc, "no call"),
+    }
+}
+
+// Makes the calls of a story, one a line: the first line that is answered otherwise than it says.
+fn tell<'s, C: Calls>(
+    alloc: Global,
+    table: &mut C,
+    story: &'s str,
+) -> Result<Option<&'s str>, AllocError> {
+    for line in story.lines() {
+        let (call, wanted) = line.split_once(" = ").unwrap_or((line, ""));
+        let found = answer(alloc, table, call)?;
+        if found.as_str() != wanted {
+            return Ok(Some(line));
+        }
+    }
+    Ok(None)
+}
+
+// The same of both tables of a document of so many pages.
+fn in_both<'s>(
     alloc: Global,
     text: &str,
     pages: u32,
-    story: Story,
-) -> Result<(), Fail> {
-    let spec = spec_of(rt, alloc, text);
-    let plan = plan_of(rt, alloc, &spec, pages);
+    story: &'s str,
+) -> Result<Option<&'s str>, Fail> {
+    let spec = read_spec(alloc, text)?;
+    let plan = Plan::new(alloc, &spec, pages)?;
     let table = PlainTable::new(alloc, &plan)?;
-    story.tell(rt, &mut OneThread { table, plan: &plan });
+    let wrong = tell(alloc, &mut OneThread { table, plan: &plan }, story)?;
     let (table, seat) = GatherTable::new(alloc, &plan)?;
     let mut caller = Caller {
         table: &table,
         plan: &plan,
         seat,
     };
-    story.tell(rt, &mut caller);
-    Ok(())
+    Ok(wrong.or(tell(alloc, &mut caller, story)?))
 }
+
+// The same of a page in each of so many slots.
+fn in_slots<'s>(alloc: Global, slots: u32, story: &'s str) -> Result<Option<&'s str>, Fail> {
+    let text = same_items(alloc, "0", slots)?;
+    in_both(alloc, &text, 1, story)
+}
+
+const TWO_PAGES: &str = "\
+    publish 0 5 = Some(Stored)\n\
+    mark 0 = Some(Fresh)\n\
+    mark 0 = Some(Repeated)\n\
+    publish 0 9 = Some(Held(5))\n\
+    look = Some(2)\n\
+    page 1 = Some(None)\n\
+    publish 1 4294967295 = Some(Stored)\n\
+    mark 1 = Some(Completing)\n\
+    look = Some(0)\n\
+    page 0 = Some(Some(5))\n\
+    page 1 = Some(Some(4294967295))\n\
+    mark 1 = Some(Repeated)\n\
+";
 
 #[test]
 fn one_caller_brings_two_pages(rt: HostRuntime) -> Result<(), Fail> {
-    in_both(&rt, rt.alloc(), "2:0+1", 2, Story::TwoPages)
+    assert_told(&rt, in_both(rt.alloc(), "2:0+1", 2, TWO_PAGES)?);
+    Ok(())
 }
+
+const PAGE_BESIDE_A_BLANK: &str = "\
+    look = Some(2)\n\
+    publish 0 0 = Some(Stored)\n\
+    mark 1 = Some(Completing)\n\
+    mark 1 = Some(Repeated)\n\
+    look = Some(0)\n\
+";
 
 #[test]
 fn a_blank_slot_counts_as_marked(rt: HostRuntime) -> Result<(), Fail> {
-    in_both(&rt, rt.alloc(), "2:1+0", 1, Story::PageBesideABlank)
+    assert_told(&rt, in_both(rt.alloc(), "2:1+0", 1, PAGE_BESIDE_A_BLANK)?);
+    Ok(())
 }
+
+// A sheet of 64 slots has no groups: its last mark completes it.
+const PAGE_TO_64_SLOTS: &str = "\
+    group 0 = None\n\
+    look = Some(18446744073709551615)\n\
+    publish 0 0 = Some(Stored)\n\
+    marks 0 63 = all Fresh\n\
+    look = Some(9223372036854775808)\n\
+    mark 63 = Some(Completing)\n\
+    look = Some(0)\n\
+    close 0 = None\n\
+    mark 64 = None\n\
+";
+
+// One sheet with a page in each of its 65 slots, so one of two groups.
+const PAGE_TO_65_SLOTS: &str = "\
+    look = Some(3)\n\
+    publish 0 0 = Some(Stored)\n\
+    marks 0 63 = all Fresh\n\
+    mark 63 = Some(Fills(0))\n\
+    group 0 = Some(0)\n\
+    look = Some(3)\n\
+    close 0 = Some(Closed)\n\
+    close 0 = Some(Again)\n\
+    look = Some(2)\n\
+    mark 64 = Some(Fills(1))\n\
+    close 1 = Some(Completing)\n\
+    look = Some(0)\n\
+    mark 64 = Some(Repeated)\n\
+";
+
+// 128 slots are two whole groups. They are filled and closed from the last one on.
+const PAGE_TO_128_SLOTS: &str = "\
+    group 2 = None\n\
+    look = Some(3)\n\
+    publish 0 0 = Some(Stored)\n\
+    group 1 = Some(18446744073709551615)\n\
+    marks 64 127 = all Fresh\n\
+    group 1 = Some(9223372036854775808)\n\
+    close 1 = None\n\
+    mark 127 = Some(Fills(1))\n\
+    group 1 = Some(0)\n\
+    mark 127 = Some(Repeated)\n\
+    close 1 = Some(Closed)\n\
+    look = Some(1)\n\
+    close 1 = Some(Again)\n\
+    group 0 = Some(18446744073709551615)\n\
+    marks 0 63 = all Fresh\n\
+    group 0 = Some(9223372036854775808)\n\
+    close 0 = None\n\
+    mark 63 = Some(Fills(0))\n\
+    group 0 = Some(0)\n\
+    mark 63 = Some(Repeated)\n\
+    look = Some(1)\n\
+    close 0 = Some(Completing)\n\
+    look = Some(0)\n\
+    close 0 = Some(Again)\n\
+    mark 128 = None\n\
+";
+
+// 129 slots are two whole groups and one of a single slot. All are filled before the first is closed.
+const PAGE_TO_129_SLOTS: &str = "\
+    group 3 = None\n\
+    look = Some(7)\n\
+    publish 0 0 = Some(Stored)\n\
+    group 0 = Some(18446744073709551615)\n\
+    marks 0 63 = all Fresh\n\
+    group 0 = Some(9223372036854775808)\n\
+    close 0 = None\n\
+    mark 63 = Some(Fills(0))\n\
+    group 0 = Some(0)\n\
+    mark 63 = Some(Repeated)\n\
+    group 2 = Some(1)\n\
+    marks 128 128 = all Fresh\n\
+    group 2 = Some(1)\n\
+    close 2 = None\n\
+    mark 128 = Some(Fills(2))\n\
+    group 2 = Some(0)\n\
+    mark 128 = Some(Repeated)\n\
+    group 1 = Some(18446744073709551615)\n\
+    marks 64 127 = all Fresh\n\
+    group 1 = Some(9223372036854775808)\n\
+    close 1 = None\n\
+    mark 127 = Some(Fills(1))\n\
+    group 1 = Some(0)\n\
+    mark 127 = Some(Repeated)\n\
+    look = Some(7)\n\
+    close 1 = Some(Closed)\n\
+    look = Some(5)\n\
+    close 1 = Some(Again)\n\
+    close 2 = Some(Closed)\n\
+    look = Some(1)\n\
+    close 2 = Some(Again)\n\
+    close 0 = Some(Completing)\n\
+    look = Some(0)\n\
+    close 0 = Some(Again)\n\
+    mark 128 = Some(Repeated)\n\
+    mark 129 = None\n\
+";
+
+// One sheet with a page in each of its 4,096 slots.
+const SIXTY_FOUR_GROUPS: &str = "\
+    look = Some(18446744073709551615)\n\
+    group 63 = Some(18446744073709551615)\n\
+    group 64 = None\n\
+";
 
 // One sheet with a page in each of so many slots. Of at most 64 the last mark completes the sheet; of more, groups of 64
 // are filled by marks and closed, and the last closing completes it.
 #[test]
 fn a_page_in_every_slot(rt: HostRuntime) -> Result<(), Fail> {
-    for (slots, story) in [
-        (64, Story::PageTo64Slots),
-        (65, Story::PageTo65Slots),
-        (128, Story::PageTo128Slots),
-        (129, Story::PageTo129Slots),
-        (4_095, Story::PageTo4095Slots),
-        (4_096, Story::SixtyFourGroups),
-    ] {
-        let text = same_items(rt.alloc(), "0", slots)?;
-        in_both(&rt, rt.alloc(), &text, 1, story)?;
-    }
+    assert_told(&rt, in_slots(rt.alloc(), 64, PAGE_TO_64_SLOTS)?);
+    assert_told(&rt, in_slots(rt.alloc(), 65, PAGE_TO_65_SLOTS)?);
+    assert_told(&rt, in_slots(rt.alloc(), 128, PAGE_TO_128_SLOTS)?);
+    assert_told(&rt, in_slots(rt.alloc(), 129, PAGE_TO_129_SLOTS)?);
+    assert_told(&rt, in_slots(rt.alloc(), 4_096, SIXTY_FOUR_GROUPS)?);
     Ok(())
 }
+
+const PAGE_COMES: &str = "\
+    look = Some(18446744073709551615)\n\
+    publish 0 0 = Some(Stored)\n\
+";
+
+// A group of 64 slots is filled and closed. `left` is what a look at the sheet shows then.
+fn fills_group(alloc: Global, group: u32, left: u64) -> Result<String, AllocError> {
+    let first = group.saturating_mul(64);
+    let last = first.saturating_add(63);
+    format!(in alloc;
+        "group {group} = Some(18446744073709551615)\n\
+        marks {first} {last} = all Fresh\n\
+        group {group} = Some(9223372036854775808)\n\
+        close {group} = None\n\
+        mark {last} = Some(Fills({group}))\n\
+        group {group} = Some(0)\n\
+        mark {last} = Some(Repeated)\n\
+        close {group} = Some(Closed)\n\
+        look = Some({left})\n\
+        close {group} = Some(Again)\n"
+    )
+}
+
+const LAST_GROUP_OF_63_SLOTS: &str = "\
+    look = Some(9223372036854775808)\n\
+    group 63 = Some(9223372036854775807)\n\
+    marks 4032 4094 = all Fresh\n\
+    group 63 = Some(4611686018427387904)\n\
+    close 63 = None\n\
+    mark 4094 = Some(Fills(63))\n\
+    group 63 = Some(0)\n\
+    mark 4094 = Some(Repeated)\n\
+    close 63 = Some(Completing)\n\
+    look = Some(0)\n\
+    close 63 = Some(Again)\n\
+    mark 4095 = None\n\
+";
+
+// 4,095 slots are 63 whole groups and one of 63 slots.
+fn page_to_4095_slots(alloc: Global) -> Result<String, AllocError> {
+    let mut story = String::from_str(alloc, PAGE_COMES)?;
+    let mut left = u64::MAX;
+    for group in 0..63u32 {
+        left &= !(1u64 << group);
+        story.push_str(&fills_group(alloc, group, left)?)?;
+    }
+    story.push_str(LAST_GROUP_OF_63_SLOTS)?;
+    Ok(story)
+}
+
+#[test]
+fn a_page_in_every_slot_of_64_groups(rt: HostRuntime) -> Result<(), Fail> {
+    let story = page_to_4095_slots(rt.alloc())?;
+    assert_told(&rt, in_slots(rt.alloc(), 4_095, &story)?);
+    Ok(())
+}
+
+// One sheet with 64 blank slots and then a page.
+const PAGE_BEHIND_A_BLANK_GROUP: &str = "\
+    look = Some(2)\n\
+    publish 0 0 = Some(Stored)\n\
+    mark 64 = Some(Fills(1))\n\
+    close 1 = Some(Completing)\n\
+";
 
 #[test]
 fn a_group_of_blank_slots_is_closed_from_the_start(rt: HostRuntime) -> Result<(), Fail> {
     let blanks = same_items(rt.alloc(), "1", 64)?;
     let text = format!(in rt.alloc(); "2:{}+0", blanks.as_str())?;
-    in_both(&rt, rt.alloc(), &text, 1, Story::PageBehindABlankGroup)
-}
-
-#[test]
-fn a_table_without_pages_has_a_seat(rt: HostRuntime) -> Result<(), Fail> {
-    let spec = spec_of(&rt, rt.alloc(), "0");
-    let plan = plan_of(&rt, rt.alloc(), &spec, 0);
-    let (table, mut one) = GatherTable::new(rt.alloc(), &plan)?;
-    let two = table.split(&mut one, 1);
-    assert_eq!(rt; one.share(), 4_294_967_295);
-    assert_eq!(rt; table.join(one, two).share(), 4_294_967_296);
+    assert_told(
+        &rt,
+        in_both(rt.alloc(), &text, 1, PAGE_BEHIND_A_BLANK_GROUP)?,
+    );
     Ok(())
 }
 
 #[test]
+fn a_table_without_pages_has_a_seat(rt: HostRuntime) -> Result<(), Fail> {
+    let spec = read_spec(rt.alloc(), "0")?;
+    let plan = Plan::new(rt.alloc(), &spec, 0)?;
+    let (table, mut one) = GatherTable::new(rt.alloc(), &plan)?;
+    let two = table.split(&mut one, 1);
+    assert_that(&rt, one.share() == 4_294_967_295);
+    assert_that(&rt, table.join(one, two).share() == 4_294_967_296);
+    Ok(())
+}
+
+// Whether these sheets of a plan have these lanes.
+fn has_lanes(plan: &Plan, table: &GatherTable, lanes: &[(u32, (u32, u8))]) -> bool
+    requires { table.now.layout ≡ layout plan.now }
+{
+    for (sheet, lane) in lanes {
+        if *sheet >= plan.sheets() || plan.slots(*sheet) > 64 || table.lane_of(*sheet) != *lane {
+            return false;
+        }
+    }
+    true
+}
+
+// Whether these sheets of a document of so many pages have these lanes.
+fn lanes_are(
+    alloc: Global,
+    text: &str,
+    pages: u32,
+    lanes: &[(u32, (u32, u8))],
+) -> Result<bool, Fail> {
+    let spec = read_spec(alloc, text)?;
+    let plan = Plan::new(alloc, &spec, pages)?;
+    let (table, _seat) = GatherTable::new(alloc, &plan)?;
+    Ok(has_lanes(&plan, &table, lanes))
+}
+
+#[test]
 fn lanes_follow_one_another(rt: HostRuntime) -> Result<(), Fail> {
-    lanes_are(
-        &rt,
-        rt.alloc(),
-        "2:0+1",
-        100,
-        &[(0, (0, 0)), (31, (0, 62)), (32, (1, 0))],
-    )?;
-    lanes_are(
-        &rt,
-        rt.alloc(),
-        "3:0+1,2",
-        100,
-        &[(40, (0, 60)), (41, (0, 62)), (42, (1, 0)), (43, (1, 2))],
-    )?;
+    let pairs = [(0, (0, 0)), (31, (0, 62)), (32, (1, 0))];
+    assert_that(&rt, lanes_are(rt.alloc(), "2:0+1", 100, &pairs)?);
+    let mixed = [(40, (0, 60)), (41, (0, 62)), (42, (1, 0)), (43, (1, 2))];
+    assert_that(&rt, lanes_are(rt.alloc(), "3:0+1,2", 100, &mixed)?);
     let one_group = same_items(rt.alloc(), "0", 64)?;
-    lanes_are(
-        &rt,
-        rt.alloc(),
-        one_group.as_str(),
-        2,
-        &[(0, (0, 0)), (1, (1, 0))],
-    )
+    let whole = [(0, (0, 0)), (1, (1, 0))];
+    assert_that(&rt, lanes_are(rt.alloc(), one_group.as_str(), 2, &whole)?);
+    Ok(())
 }
 
 // A sheet of 2 slots, one of 65, and one of 2, over and over: 16 times 4 bits are a word.
@@ -620,55 +656,32 @@ fn lanes_follow_one_another(rt: HostRuntime) -> Result<(), Fail> {
 fn wide_sheets_have_no_lane(rt: HostRuntime) -> Result<(), Fail> {
     let wide = same_items(rt.alloc(), "0", 65)?;
     let text = format!(in rt.alloc(); "2:0+1,{},0+1", wide.as_str())?;
-    lanes_are(
-        &rt,
-        rt.alloc(),
-        text.as_str(),
-        100,
-        &[
-            (0, (0, 0)),
-            (2, (0, 2)),
-            (3, (0, 4)),
-            (47, (0, 62)),
-            (48, (1, 0)),
-            (50, (1, 2)),
-        ],
-    )
-}
-
-// Which lanes some sheets of a plan have.
-fn lanes_are<R: Abort>(
-    rt: &R,
-    alloc: Global,
-    text: &str,
-    pages: u32,
-    lanes: &[(u32, (u32, u8))],
-) -> Result<(), Fail> {
-    let spec = spec_of(rt, alloc, text);
-    let plan = plan_of(rt, alloc, &spec, pages);
-    let (table, _seat) = GatherTable::new(alloc, &plan)?;
-    for (sheet, lane) in lanes {
-        assert!(rt; *sheet < plan.sheets());
-        assert!(rt; plan.slots(*sheet) <= 64);
-        assert_eq!(rt; table.lane_of(*sheet), *lane);
-    }
+    let lanes = [
+        (0, (0, 0)),
+        (2, (0, 2)),
+        (3, (0, 4)),
+        (47, (0, 62)),
+        (48, (1, 0)),
+        (50, (1, 2)),
+    ];
+    assert_that(&rt, lanes_are(rt.alloc(), text.as_str(), 100, &lanes)?);
     Ok(())
 }
 
 #[test]
 fn a_seat_finds_what_another_published_when_they_meet(rt: HostRuntime) -> Result<(), Fail> {
-    let spec = spec_of(&rt, rt.alloc(), "2:0+1");
-    let plan = plan_of(&rt, rt.alloc(), &spec, 2);
+    let spec = read_spec(rt.alloc(), "2:0+1")?;
+    let plan = Plan::new(rt.alloc(), &spec, 2)?;
     let (table, mut one) = GatherTable::new(rt.alloc(), &plan)?;
     let two = table.split(&mut one, 1);
-    assert_eq!(rt; table.publish(&mut one, 0, 5), Published::Stored);
+    assert_that(&rt, table.publish(&mut one, 0, 5) == Published::Stored);
     let (_one, mut two) = table.meet(one, two);
-    assert_eq!(rt; table.page_at(&mut two, 0), Some(5));
+    assert_that(&rt, table.page_at(&mut two, 0) == Some(5));
     Ok(())
 }
 
 // Two threads bring these slots of a plan.
-fn bring_by_two<R: Threads + Sync + Abort>(
+fn bring_by_two<R: Threads + Sync>(
     rt: &R,
     alloc: Global,
     text: &str,
@@ -676,19 +689,24 @@ fn bring_by_two<R: Threads + Sync + Abort>(
     here: [(u32, u16); 2],
     there: [(u32, u16); 2],
 ) -> Result<(u64, Answers, Answers), Fail> {
-    let spec = spec_of(rt, alloc, text);
-    let plan = plan_of(rt, alloc, &spec, pages);
+    let spec = read_spec(alloc, text)?;
+    let plan = Plan::new(alloc, &spec, pages)?;
     let (table, seat) = GatherTable::new(alloc, &plan)?;
     Ok(bring_apart::<Brand, R>(rt, &table, &plan, seat, here, there))
+}
+
+// Whether two threads were answered so, in this order or in the other.
+fn are_answers(found: (Answers, Answers), first: Answers, last: Answers) -> bool {
+    found == (first, last) || found == (last, first)
 }
 
 #[test]
 fn two_threads_complete_a_sheet_once(rt: HostRuntime) -> Result<(), Fail> {
     let (share, one, two) = bring_by_two(&rt, rt.alloc(), "2:0+1", 2, [(0, 0); 2], [(0, 1); 2])?;
-    assert_eq!(rt; share, 4_294_967_296);
+    assert_that(&rt, share == 4_294_967_296);
     let first = (Some(Reply::Fresh), Some(Reply::Repeated));
     let last = (Some(Reply::Completing), Some(Reply::Repeated));
-    assert!(rt; (one, two) == (first, last) || (one, two) == (last, first));
+    assert_that(&rt, are_answers((one, two), first, last));
     Ok(())
 }
 
@@ -697,7 +715,7 @@ fn two_threads_bring_the_same_page(rt: HostRuntime) -> Result<(), Fail> {
     let (_share, one, two) = bring_by_two(&rt, rt.alloc(), "0", 1, [(0, 0); 2], [(0, 0); 2])?;
     let first = (Some(Reply::Completing), Some(Reply::Repeated));
     let last = (Some(Reply::Repeated), Some(Reply::Repeated));
-    assert!(rt; (one, two) == (first, last) || (one, two) == (last, first));
+    assert_that(&rt, are_answers((one, two), first, last));
     Ok(())
 }
 
@@ -707,7 +725,6 @@ fn two_threads_on_one_word_do_not_disturb_each_other(rt: HostRuntime) -> Result<
     let there = [(1, 0), (1, 1)];
     let (_share, one, two) = bring_by_two(&rt, rt.alloc(), "2:0+1", 4, here, there)?;
     let completed = (Some(Reply::Fresh), Some(Reply::Completing));
-    assert_eq!(rt; one, completed);
-    assert_eq!(rt; two, completed);
+    assert_that(&rt, (one, two) == (completed, completed));
     Ok(())
 }

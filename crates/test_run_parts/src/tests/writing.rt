@@ -1,23 +1,20 @@
 //! A writer as a sink, a sink that has answered its calls, and sheets that never came.
 ghost use Rattle.std.specs.Prelude.{◌<◌};
 
-use dsc::Document;
-use lengths::a4;
-use pagespec::read_spec;
-use sheet_plan::Plan;
+use super::jobs::{Task, with_job};
 use sheet_text::Job;
 use sheet_writer::{Early, MemorySink, Progress, Rest, Sink, SinkFault, WriteSink, write_rest};
-use std::alloc::{AllocError, Global};
+use std::alloc::Global;
 use std::io::{self, ErrorKind, Write};
 use std::process::Abort;
 use std::test::Fail;
-use test_tools::{TWO_UP, document_of, two_up_sheets};
+use test_tools::{TWO_UP, assert_bytes, assert_that, document_of, two_up_sheets};
 
 #[test]
 fn a_sink_that_has_answered_its_calls_fails(rt: HostRuntime) -> Result<(), Fail> {
     let mut sink = MemorySink::new(rt.alloc(), 2, 1, 1)?;
-    assert_eq!(rt; sink.accept(b"xy"), Ok(1));
-    assert!(rt; sink.accept(b"y").is_err());
+    assert_that(&rt, sink.accept(b"xy") == Ok(1));
+    assert_that(&rt, sink.accept(b"y").is_err());
     Ok(())
 }
 
@@ -39,25 +36,33 @@ impl Write for Failing {
     }
 }
 
+/// How often a writer that fails for this cause is asked, if its sink answers that it failed.
+fn calls_of_failing(cause: ErrorKind) -> Option<usize> {
+    let mut writer = Failing { cause, calls: 0 };
+    let mut sink = WriteSink::new(&mut writer);
+    let answer = sink.accept(b"abc");
+    drop(sink);
+    if answer == Err(SinkFault {}) {
+        Some(writer.calls)
+    } else {
+        None
+    }
+}
+
 #[test]
 fn a_writer_that_fails_is_asked_once(rt: HostRuntime) {
-    for cause in [ErrorKind::StorageFull, ErrorKind::Interrupted] {
-        let mut writer = Failing { cause, calls: 0 };
-        let mut sink = WriteSink::new(&mut writer);
-        assert_eq!(rt; sink.accept(b"abc"), Err(SinkFault {}));
-        drop(sink);
-        assert_eq!(rt; writer.calls, 1);
-    }
+    assert_that(&rt, calls_of_failing(ErrorKind::StorageFull) == Some(1));
+    assert_that(&rt, calls_of_failing(ErrorKind::Interrupted) == Some(1));
 }
 
 #[test]
 fn a_writer_that_is_full_fails(rt: HostRuntime) -> Result<(), Fail> {
     let mut place = [0u8; 3];
     let mut sink = WriteSink::new(place.as_mut_slice());
-    assert_eq!(rt; sink.accept(b"abcd"), Ok(3));
-    assert_eq!(rt; sink.accept(b"d"), Err(SinkFault {}));
+    assert_that(&rt, sink.accept(b"abcd") == Ok(3));
+    assert_that(&rt, sink.accept(b"d") == Err(SinkFault {}));
     drop(sink);
-    assert_eq!(rt; place.as_slice(), b"abc".as_slice());
+    assert_bytes(&rt, place.as_slice(), b"abc");
     Ok(())
 }
 
@@ -78,22 +83,29 @@ fn write_anew(alloc: Global, job: &Job<'_, '_>, sink: &mut MemorySink) -> Result
     Ok(rest)
 }
 
-/// Four pages, two on each of two sheets, with the trailer behind them.
-fn sheets_and_trailer(alloc: Global) -> Result<String, AllocError> {
-    let sheets = two_up_sheets(alloc, 2)?;
-    format!(in alloc; "{sheets}%%Trailer\n%%EOF\n")
+/// How many sheets were made, and how many bytes are written, which are these.
+#[derive(Drop)]
+struct NeverCame<'t> {
+    wanted: &'t str,
 }
 
+impl<'t, R: Abort> Task<R, (u32, u64)> for NeverCame<'t> {
+    fn go(&self, rt: &R, alloc: Global, job: &Job<'_, '_>) -> Result<(u32, u64), Fail> {
+        let mut sink = MemorySink::new(alloc, 2_000, 2_000, 100)?;
+        let rest = write_anew(alloc, job, &mut sink)?;
+        assert_bytes(rt, sink.bytes(), self.wanted.as_bytes());
+        Ok((rest.swept, rest.progress.written))
+    }
+}
+
+/// Four pages, two on each of two sheets, with the trailer behind them.
 #[test]
 fn what_never_came_is_made_and_counted(rt: HostRuntime) -> Result<(), Fail> {
-    let spec = read_spec(rt.alloc(), TWO_UP)?;
     let text = document_of(rt.alloc(), 4)?;
-    let document = Document::read(rt.alloc(), text.as_bytes())?;
-    let plan = Plan::new(rt.alloc(), &spec, document.pages())?;
-    let job = Job::new(&plan, &document, a4(), None);
-    let mut sink = MemorySink::new(rt.alloc(), 2_000, 2_000, 100)?;
-    let rest = write_anew(rt.alloc(), &job, &mut sink)?;
-    assert_eq!(rt; sink.bytes(), sheets_and_trailer(rt.alloc())?.as_bytes());
-    assert_eq!(rt; (rest.swept, rest.progress.written), (2, 910));
+    let sheets = two_up_sheets(rt.alloc(), 2)?;
+    let wanted = format!(in rt.alloc(); "{sheets}%%Trailer\n%%EOF\n")?;
+    let task = NeverCame { wanted: &wanted };
+    let counts = with_job(&rt, rt.alloc(), &text, TWO_UP, &task)?;
+    assert_that(&rt, counts == (2, 910));
     Ok(())
 }

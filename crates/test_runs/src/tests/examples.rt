@@ -8,12 +8,13 @@ mod sinks;
 mod two_threads;
 mod wide_sheets;
 
-use super::{answered, ran, report_of, workers};
+use super::{answered, ends_with, report_of, workers, writes};
 use imposer::{Options, RunError};
 use lengths::Grains;
+use std::alloc::{AllocError, Global};
 use std::test::Fail;
 use test_tools::{
-    A4_SIDES, ONE_PAGE, TWO_PAGES, TWO_UP, UNMOVED, border, document_of, document_with,
+    A4_SIDES, ONE_PAGE, TWO_PAGES, TWO_UP, UNMOVED, assert_that, border, document_of, document_with,
     one_up_output, page_body, placed, sheet, two_up_output,
 };
 
@@ -23,44 +24,52 @@ const PAGE_WITH_A_DOCUMENT: &str =
 
 #[test]
 fn two_pages_turned_to_the_left(rt: HostRuntime) -> Result<(), Fail> {
-    let (sink, report) = ran(&rt, rt.alloc(), TWO_PAGES, TWO_UP, &workers(1, 1))?;
-    assert_eq!(rt; sink.bytes(), two_up_output(rt.alloc(), 1)?.as_bytes());
-    assert_eq!(rt; report, report_of(2, 1, 0, 503));
+    let output = two_up_output(rt.alloc(), 1)?;
+    let (case, told) = ((TWO_PAGES, TWO_UP), report_of(2, 1, 0, 503));
+    assert_that(&rt, writes(&rt, rt.alloc(), case, &workers(1, 1), &output, &told)?);
     Ok(())
 }
 
 #[test]
 fn four_pages_on_two_sheets(rt: HostRuntime) -> Result<(), Fail> {
     let document = document_of(rt.alloc(), 4)?;
-    let (sink, report) = ran(&rt, rt.alloc(), &document, TWO_UP, &workers(1, 1))?;
-    assert_eq!(rt; sink.bytes(), two_up_output(rt.alloc(), 2)?.as_bytes());
-    assert_eq!(rt; report, report_of(4, 2, 0, 950));
+    let output = two_up_output(rt.alloc(), 2)?;
+    let (case, told) = ((document.as_str(), TWO_UP), report_of(4, 2, 0, 950));
+    assert_that(&rt, writes(&rt, rt.alloc(), case, &workers(1, 1), &output, &told)?);
     Ok(())
+}
+
+/// The fifth page, the third, and the first, each on a sheet.
+fn backward(alloc: Global) -> Result<String, AllocError> {
+    let mut sheets = String::new(alloc);
+    for (number, page) in [(1, 4), (2, 2), (3, 0)] {
+        let page = placed(alloc, UNMOVED, &page_body(alloc, page)?)?;
+        sheets.push_str(&sheet(alloc, number, &page)?)?;
+    }
+    document_with(alloc, 3, &sheets)
 }
 
 #[test]
 fn every_other_page_backward(rt: HostRuntime) -> Result<(), Fail> {
-    let mut sheets = String::new(rt.alloc());
-    for (number, page) in [(1, 4), (2, 2), (3, 0)] {
-        let page = placed(rt.alloc(), UNMOVED, &page_body(rt.alloc(), page)?)?;
-        sheets.push_str(&sheet(rt.alloc(), number, &page)?)?;
-    }
-    let output = document_with(rt.alloc(), 3, &sheets)?;
     let document = document_of(rt.alloc(), 5)?;
-    let (sink, report) = ran(&rt, rt.alloc(), &document, "2:-0", &workers(1, 1))?;
-    assert_eq!(rt; sink.bytes(), output.as_bytes());
-    assert_eq!(rt; report, report_of(5, 3, 0, 707));
+    let output = backward(rt.alloc())?;
+    let (case, told) = ((document.as_str(), "2:-0"), report_of(5, 3, 0, 707));
+    assert_that(&rt, writes(&rt, rt.alloc(), case, &workers(1, 1), &output, &told)?);
     Ok(())
+}
+
+/// The first page twice on a sheet.
+fn twice(alloc: Global) -> Result<String, AllocError> {
+    let page = placed(alloc, UNMOVED, "(0) pop\nshowpage\n")?;
+    let twice = sheet(alloc, 1, &page.repeat(alloc, 2)?)?;
+    document_with(alloc, 1, &twice)
 }
 
 #[test]
 fn a_page_twice_on_a_sheet(rt: HostRuntime) -> Result<(), Fail> {
-    let page = placed(rt.alloc(), UNMOVED, "(0) pop\nshowpage\n")?;
-    let twice = sheet(rt.alloc(), 1, &page.repeat(rt.alloc(), 2)?)?;
-    let output = document_with(rt.alloc(), 1, &twice)?;
-    let (sink, report) = ran(&rt, rt.alloc(), ONE_PAGE, "0+0", &workers(1, 1))?;
-    assert_eq!(rt; sink.bytes(), output.as_bytes());
-    assert_eq!(rt; report, report_of(1, 1, 0, 469));
+    let output = twice(rt.alloc())?;
+    let (case, told) = ((ONE_PAGE, "0+0"), report_of(1, 1, 0, 469));
+    assert_that(&rt, writes(&rt, rt.alloc(), case, &workers(1, 1), &output, &told)?);
     Ok(())
 }
 
@@ -69,10 +78,8 @@ fn a_page_with_a_document_inside(rt: HostRuntime) -> Result<(), Fail> {
     let body = "%%BeginDocument: a\n%%Page: 9 9\n%%EndDocument\nx\n";
     let page = sheet(rt.alloc(), 1, &placed(rt.alloc(), UNMOVED, body)?)?;
     let output = format!(in rt.alloc(); "%!PS\n%%Pages: 1\n{page}")?;
-    let options = workers(1, 1);
-    let (sink, report) = ran(&rt, rt.alloc(), PAGE_WITH_A_DOCUMENT, "0", &options)?;
-    assert_eq!(rt; sink.bytes(), output.as_bytes());
-    assert_eq!(rt; report, report_of(1, 1, 0, 263));
+    let (case, told) = ((PAGE_WITH_A_DOCUMENT, "0"), report_of(1, 1, 0, 263));
+    assert_that(&rt, writes(&rt, rt.alloc(), case, &workers(1, 1), &output, &told)?);
     Ok(())
 }
 
@@ -84,11 +91,11 @@ fn bordered(border: i128) -> Options {
 
 #[test]
 fn a_border_is_drawn_behind_the_clip(rt: HostRuntime) -> Result<(), Fail> {
-    let output = one_up_output(rt.alloc(), &border(rt.alloc(), A4_SIDES, "1")?)?;
+    let border = border(rt.alloc(), A4_SIDES, "1")?;
+    let output = one_up_output(rt.alloc(), &border)?;
+    let (case, told) = ((ONE_PAGE, "0"), report_of(1, 1, 0, 380));
     let options = bordered(127_000_000_000);
-    let (sink, report) = ran(&rt, rt.alloc(), ONE_PAGE, "0", &options)?;
-    assert_eq!(rt; sink.bytes(), output.as_bytes());
-    assert_eq!(rt; report, report_of(1, 1, 0, 380));
+    assert_that(&rt, writes(&rt, rt.alloc(), case, &options, &output, &told)?);
     Ok(())
 }
 
@@ -96,26 +103,26 @@ fn a_border_is_drawn_behind_the_clip(rt: HostRuntime) -> Result<(), Fail> {
 fn a_border_is_wider_than_nothing(rt: HostRuntime) -> Result<(), Fail> {
     for border in [0, -1] {
         let (answer, _) = answered(&rt, rt.alloc(), ONE_PAGE, "0", &bordered(border))?;
-        assert!(rt; matches!(answer, Err(RunError::Options)));
+        assert_that(&rt, matches!(answer, Err(RunError::Options)));
     }
     Ok(())
 }
 
 #[test]
 fn one_page_is_copied(rt: HostRuntime) -> Result<(), Fail> {
-    let (sink, report) = ran(&rt, rt.alloc(), ONE_PAGE, "0", &workers(1, 1))?;
-    assert_eq!(rt; sink.bytes(), one_up_output(rt.alloc(), "")?.as_bytes());
-    assert_eq!(rt; report, report_of(1, 1, 0, 273));
+    let output = one_up_output(rt.alloc(), "")?;
+    let (case, told) = ((ONE_PAGE, "0"), report_of(1, 1, 0, 273));
+    assert_that(&rt, writes(&rt, rt.alloc(), case, &workers(1, 1), &output, &told)?);
     Ok(())
 }
 
 #[test]
 fn a_sheet_without_pages(rt: HostRuntime) -> Result<(), Fail> {
     let output = document_with(rt.alloc(), 1, &sheet(rt.alloc(), 1, "")?)?;
+    let (case, told) = ((ONE_PAGE, "2:1"), report_of(1, 1, 1, 77));
     for count in [1, 16] {
-        let (sink, report) = ran(&rt, rt.alloc(), ONE_PAGE, "2:1", &workers(count, count))?;
-        assert_eq!(rt; sink.bytes(), output.as_bytes());
-        assert_eq!(rt; report, report_of(1, 1, 1, 77));
+        let options = workers(count, count);
+        assert_that(&rt, writes(&rt, rt.alloc(), case, &options, &output, &told)?);
     }
     Ok(())
 }
@@ -125,11 +132,10 @@ fn five_pages_in_blocks_of_four(rt: HostRuntime) -> Result<(), Fail> {
     let last =
         "%%Page: 6 6\nshowpage\n%%Page: 7 7\nshowpage\n%%Page: 8 8\nshowpage\n%%Trailer\n%%EOF\n";
     let document = document_of(rt.alloc(), 5)?;
+    let (case, told) = ((document.as_str(), "4:0,1,2,3"), report_of(5, 8, 3, 1_204));
     for (preparers, imposers) in [(1, 1), (2, 3)] {
         let options = workers(preparers, imposers);
-        let (sink, report) = ran(&rt, rt.alloc(), &document, "4:0,1,2,3", &options)?;
-        assert_eq!(rt; report, report_of(5, 8, 3, 1_204));
-        assert!(rt; sink.bytes().ends_with(last.as_bytes()));
+        assert_that(&rt, ends_with(&rt, rt.alloc(), case, &options, last, &told)?);
     }
     Ok(())
 }

@@ -2,20 +2,16 @@
 //! and one that makes the sheets on its caller's thread doesn't come to them.
 ghost use Rattle.std.specs.Prelude.{None};
 
-use super::workers;
-use imposer::{Gate, Look, Open, Report, RunError, Sink, SinkFault, Step, run};
+use super::{Trial, run_into, wait_for};
+use imposer::{Gate, Look, Open, Report, RunError, Sink, SinkFault, Step};
 use std::alloc::Global;
-use std::process::Abort;
 use std::sync::Wait;
 use std::sync::atomic::AtomicUsize;
 use std::sync::atomic::Ordering::SeqCst;
 use std::test::Fail;
 use std::thread;
 use std::thread::Threads;
-use test_tools::document_of;
-
-/// How often a wait yields before it runs out.
-const YIELDS: u32 = 20_000_000;
+use test_tools::{ONE_PAGE, assert_that, document_of};
 
 /// How many pages the document has, each on a sheet of its own.
 const PAGES: u32 = 16;
@@ -46,19 +42,6 @@ struct Barrier {
     run_out: AtomicUsize,
 }
 
-impl Barrier {
-    /// Waits until so many steps were entered, or any wait ran out.
-    fn wait(&self) {
-        for _ in 0..YIELDS {
-            if self.entered.load(SeqCst) >= self.height || self.run_out.load(SeqCst) > 0 {
-                return;
-            }
-            thread::yield_now();
-        }
-        self.run_out.fetch_add(1, SeqCst);
-    }
-}
-
 /// The bit of a page or a sheet, of which there are few.
 fn bit_of(step: Step) -> usize {
     match step {
@@ -72,7 +55,7 @@ impl Gate for Barrier {
         if self.steps.has(step) {
             self.bits.fetch_or(bit_of(step), SeqCst);
             self.entered.fetch_add(1, SeqCst);
-            self.wait();
+            wait_for(&self.entered, self.height, &self.run_out);
         }
     }
 
@@ -107,9 +90,12 @@ fn run_barrier<R: Threads + Wait + Sync>(
         run_out: AtomicUsize::new(0),
     };
     let text = document_of(alloc, PAGES)?;
-    let options = workers(count, count);
-    let mut sink = Everything {};
-    let report = run(rt, alloc, text.as_bytes(), "0", &options, &gate, &mut sink)?;
+    let trial = Trial {
+        document: &text,
+        items: "0",
+        counts: (count, count),
+    };
+    let report = run_into(rt, alloc, &trial, &gate, &mut Everything {})?;
     let entered = gate.entered.load(SeqCst);
     Ok((
         report,
@@ -117,57 +103,51 @@ fn run_barrier<R: Threads + Wait + Sync>(
     ))
 }
 
-/// Four workers of each kind meet at these steps, and sixteen of each; each page or sheet was entered once.
-fn assert_meet<R: Threads + Wait + Abort + Sync>(
+/// Whether so many workers of each kind meet at these steps, and each page or sheet was entered once.
+fn meet<R: Threads + Wait + Sync>(
     rt: &R,
     alloc: Global,
     steps: Steps,
-) -> Result<(), RunError> {
-    for count in [4, 16] {
-        let (report, met) = run_barrier(rt, alloc, steps, count)?;
-        assert_eq!(rt; met, [16, 0xffff, 0], "{count}");
-        assert_eq!(rt; (report.sheets, report.swept), (16, 0), "{count}");
-    }
-    Ok(())
+    count: u32,
+) -> Result<bool, RunError> {
+    let (report, met) = run_barrier(rt, alloc, steps, count)?;
+    Ok(met == [16, 0xffff, 0] && (report.sheets, report.swept) == (16, 0))
 }
 
 #[test]
 fn as_many_preparers_run_as_were_asked_for(rt: HostRuntime) -> Result<(), Fail> {
-    Ok(assert_meet(&rt, rt.alloc(), Steps::Pages)?)
+    assert_that(&rt, meet(&rt, rt.alloc(), Steps::Pages, 4)?);
+    assert_that(&rt, meet(&rt, rt.alloc(), Steps::Pages, 16)?);
+    Ok(())
 }
 
 #[test]
 fn as_many_imposers_run_as_were_asked_for(rt: HostRuntime) -> Result<(), Fail> {
-    Ok(assert_meet(&rt, rt.alloc(), Steps::Sheets)?)
+    assert_that(&rt, meet(&rt, rt.alloc(), Steps::Sheets, 4)?);
+    assert_that(&rt, meet(&rt, rt.alloc(), Steps::Sheets, 16)?);
+    Ok(())
 }
 
 /// How many sheets of a run on one page were made at the end.
 fn swept_of_one<R: Threads + Wait + Sync>(
     rt: &R,
     alloc: Global,
-    text: &str,
     count: u32,
 ) -> Result<u32, RunError> {
-    let options = workers(count, count);
-    let mut sink = Everything {};
-    let report = run(
-        rt,
-        alloc,
-        text.as_bytes(),
-        "0",
-        &options,
-        &Open {},
-        &mut sink,
-    )?;
+    let trial = Trial {
+        document: ONE_PAGE,
+        items: "0",
+        counts: (count, count),
+    };
+    let report = run_into(rt, alloc, &trial, &Open {}, &mut Everything {})?;
     Ok(report.swept)
 }
 
 #[test]
 fn short_runs_leave_no_sheet_to_the_end(rt: HostRuntime) -> Result<(), Fail> {
-    let text = document_of(rt.alloc(), 1)?;
     for round in 0..200u32 {
-        let swept = swept_of_one(&rt, rt.alloc(), &text, 1 + round % 2)?;
-        assert_eq!(rt; swept, 0, "round {round}");
+        let swept = swept_of_one(&rt, rt.alloc(), 1 + round % 2)?;
+        assert_that(&rt, swept == 0);
     }
     Ok(())
 }
@@ -221,24 +201,13 @@ impl Late {
         }
     }
 
-    /// Waits until this happened once.
-    fn wait_for(&self, word: &AtomicUsize) {
-        for _ in 0..YIELDS {
-            if word.load(SeqCst) > 0 {
-                return;
-            }
-            thread::yield_now();
-        }
-        self.run_out.fetch_add(1, SeqCst);
-    }
-
     /// The first look waits on this side of it until what it looks for has come, and who brought it ends.
     fn wait_at(&self, side: Side) {
         if side != self.side {
             return;
         }
         self.waited.fetch_add(1, SeqCst);
-        self.wait_for(&self.came);
+        wait_for(&self.came, 1, &self.run_out);
         for _ in 0..100_000u32 {
             thread::yield_now();
         }
@@ -252,7 +221,7 @@ impl Late {
 impl Gate for Late {
     fn before(&self, step: Step) {
         if self.is_brought_by(step) {
-            self.wait_for(&self.waited);
+            wait_for(&self.waited, 1, &self.run_out);
         } else if self.look == Look::Queue {
             self.is_found();
         }
@@ -313,27 +282,27 @@ fn run_late<R: Threads + Wait + Sync>(
     side: Side,
 ) -> Result<(u32, usize, usize), RunError> {
     let gate = Late::new(look, side);
-    let text = document_of(alloc, 1)?;
-    let options = workers(1, 1);
+    let trial = Trial {
+        document: ONE_PAGE,
+        items: "0",
+        counts: (1, 1),
+    };
     let mut sink = OneSheet {
         late: &gate,
         calls: 0,
     };
-    let report = run(rt, alloc, text.as_bytes(), "0", &options, &gate, &mut sink)?;
-    Ok((
-        report.swept,
-        gate.found_by.load(SeqCst),
-        gate.run_out.load(SeqCst),
-    ))
+    let report = run_into(rt, alloc, &trial, &gate, &mut sink)?;
+    let found_by = gate.found_by.load(SeqCst);
+    Ok((report.swept, found_by, gate.run_out.load(SeqCst)))
 }
 
 #[test]
 fn what_comes_while_somebody_looks_is_found(rt: HostRuntime) -> Result<(), Fail> {
     for look in [Look::Queue, Look::Channel] {
         let found = run_late(&rt, rt.alloc(), look, Side::Before)?;
-        assert_eq!(rt; found, (0, 1, 0), "{look:?}");
+        assert_that(&rt, found == (0, 1, 0));
         let found = run_late(&rt, rt.alloc(), look, Side::After)?;
-        assert_eq!(rt; found, (0, 2, 0), "{look:?}");
+        assert_that(&rt, found == (0, 2, 0));
     }
     Ok(())
 }

@@ -1,20 +1,16 @@
 //! Pages so large that only a few sheets lie in the window of those that may be imposed: the others wait until their
 //! turn is near, unless the sheet that is written next may never come.
-ghost use Rattle.std.specs.Prelude.{None};
+ghost use Rattle.std.specs.Prelude.{◌≡◌, None};
 
-use super::{Trial, large_pages, workers};
-use imposer::{Gate, Open, Report, RunError, Sink, SinkFault, Step, run};
+use super::{Trial, large_pages, run_into, wait_for};
+use imposer::{Gate, Open, Report, RunError, Sink, SinkFault, Step};
 use std::alloc::{AllocError, Global};
-use std::process::Abort;
 use std::sync::Wait;
 use std::sync::atomic::AtomicUsize;
 use std::sync::atomic::Ordering::SeqCst;
 use std::test::Fail;
-use std::thread;
 use std::thread::Threads;
-
-/// How often a wait yields before it runs out.
-const YIELDS: u32 = 20_000_000;
+use test_tools::assert_that;
 
 /// How many pages the documents here have.
 const PAGES: usize = 6;
@@ -70,13 +66,7 @@ impl Words {
 
     /// Waits until the word is so high, or any wait ran out.
     fn wait_for(&self, word: &AtomicUsize, height: usize) {
-        for _ in 0..YIELDS {
-            if word.load(SeqCst) >= height || self.run_out.load(SeqCst) > 0 {
-                return;
-            }
-            thread::yield_now();
-        }
-        self.run_out.fetch_add(1, SeqCst);
+        wait_for(word, height, &self.run_out);
     }
 }
 
@@ -86,6 +76,18 @@ struct LimitedSink<'w> {
     words: &'w Words,
     room: usize,
     failures: u64,
+}
+
+impl<'w> LimitedSink<'w> {
+    fn new(words: &'w Words, room: usize) -> Self
+        ensures { result.failures ≡ 0 }
+    {
+        LimitedSink {
+            words,
+            room,
+            failures: 0,
+        }
+    }
 }
 
 impl<'w> Sink for LimitedSink<'w> {
@@ -141,72 +143,58 @@ impl<'w> Gate for FirstSheetLast<'w> {
     }
 }
 
-/// Runs with this gate and a sink with so much room.
-fn run_into<R: Threads + Wait + Sync, G: Gate + Sync>(
+/// Runs with the first sheet last, whose page is this one: whether each of so many sheets is imposed by a worker, and none
+/// too early.
+fn is_in_turn<R: Threads + Wait + Sync>(
     rt: &R,
     alloc: Global,
     trial: &Trial<'_>,
-    words: &Words,
-    room: usize,
-    gate: &G,
-) -> Result<Report, RunError> {
-    let mut sink = LimitedSink {
-        words,
-        room,
-        failures: 0,
-    };
-    let options = workers(trial.counts.0, trial.counts.1);
-    run(
-        rt,
-        alloc,
-        trial.document.as_bytes(),
-        trial.items,
-        &options,
-        gate,
-        &mut sink,
-    )
-}
-
-/// Runs with the first sheet last: each of so many sheets is imposed by a worker, and none too early.
-fn assert_first_last<R: Threads + Wait + Abort + Sync>(
-    rt: &R,
-    alloc: Global,
-    trial: &Trial<'_>,
+    first_page: u32,
     sheets: u32,
-) -> Result<(), RunError> {
+) -> Result<bool, RunError> {
     let words = Words::new();
-    let first_page = if trial.items == BACKWARD {
-        PAGES as u32 - 1
-    } else {
-        0
-    };
     let gate = FirstSheetLast {
         words: &words,
         first_page,
         window: (trial.counts.1 as usize).max(2),
     };
-    let report = run_into(rt, alloc, trial, &words, usize::MAX, &gate)?;
-    assert_eq!(rt; words.run_out.load(SeqCst), 0);
-    assert_eq!(rt; words.too_early.load(SeqCst), 0);
-    assert_eq!(rt; words.imposed.load(SeqCst), sheets as usize);
-    assert_eq!(rt; (report.sheets, report.swept), (sheets, 0));
-    Ok(())
+    let mut sink = LimitedSink::new(&words, usize::MAX);
+    let report = run_into(rt, alloc, trial, &gate, &mut sink)?;
+    let told = (words.run_out.load(SeqCst), words.too_early.load(SeqCst));
+    let is_imposed = words.imposed.load(SeqCst) == sheets as usize;
+    Ok(told == (0, 0) && is_imposed && (report.sheets, report.swept) == (sheets, 0))
+}
+
+/// The same with one, two and four imposers.
+fn are_in_turn<R: Threads + Wait + Sync>(
+    rt: &R,
+    alloc: Global,
+    (document, items): (&str, &str),
+    preparers: u32,
+    first_page: u32,
+    sheets: u32,
+) -> Result<bool, RunError> {
+    for imposers in [1, 2, 4] {
+        let trial = Trial {
+            document,
+            items,
+            counts: (preparers, imposers),
+        };
+        if !is_in_turn(rt, alloc, &trial, first_page, sheets)? {
+            return Ok(false);
+        }
+    }
+    Ok(true)
 }
 
 // The page of the first sheet has a preparer of its own, or it is the last one of the only preparer.
 #[test]
 fn no_sheet_is_imposed_far_before_its_turn(rt: HostRuntime) -> Result<(), Fail> {
     let document = six_pages(rt.alloc())?;
-    for imposers in [1, 2, 4] {
-        for (items, preparers) in [(FORWARD, 6), (BACKWARD, 6), (BACKWARD, 1)] {
-            let trial = Trial {
-                document: &document,
-                items,
-                counts: (preparers, imposers),
-            };
-            assert_first_last(&rt, rt.alloc(), &trial, 6)?;
-        }
-    }
+    let (forward, backward) = ((document.as_str(), FORWARD), (document.as_str(), BACKWARD));
+    assert_that(&rt, are_in_turn(&rt, rt.alloc(), forward, 6, 0, 6)?);
+    assert_that(&rt, are_in_turn(&rt, rt.alloc(), backward, 6, 5, 6)?);
+    assert_that(&rt, are_in_turn(&rt, rt.alloc(), backward, 1, 5, 6)?);
     Ok(())
 }
 
@@ -214,14 +202,8 @@ fn no_sheet_is_imposed_far_before_its_turn(rt: HostRuntime) -> Result<(), Fail> 
 #[test]
 fn a_sheet_without_a_page_waits_for_its_turn(rt: HostRuntime) -> Result<(), Fail> {
     let document = six_pages(rt.alloc())?;
-    for imposers in [1, 2, 4] {
-        let trial = Trial {
-            document: &document,
-            items: BLANK_LAST,
-            counts: (6, imposers),
-        };
-        assert_first_last(&rt, rt.alloc(), &trial, 7)?;
-    }
+    let case = (document.as_str(), BLANK_LAST);
+    assert_that(&rt, are_in_turn(&rt, rt.alloc(), case, 6, 0, 7)?);
     Ok(())
 }
 
@@ -229,27 +211,39 @@ fn a_sheet_without_a_page_waits_for_its_turn(rt: HostRuntime) -> Result<(), Fail
 #[test]
 fn text_that_stands_several_times_counts_so_often(rt: HostRuntime) -> Result<(), Fail> {
     let document = large_pages(rt.alloc(), PAGES as u32, PAGE_LEN / 36 + 1)?;
-    for imposers in [1, 2, 4] {
-        let trial = Trial {
-            document: &document,
-            items: FOUR_TIMES,
-            counts: (6, imposers),
-        };
-        assert_first_last(&rt, rt.alloc(), &trial, 6)?;
-    }
+    let case = (document.as_str(), FOUR_TIMES);
+    assert_that(&rt, are_in_turn(&rt, rt.alloc(), case, 6, 0, 6)?);
     Ok(())
 }
 
-/// The run ends with a failed write behind so many bytes, and no wait ran out.
-fn assert_stopped<R: Abort>(rt: &R, answer: Result<Report, RunError>, words: &Words, room: usize) {
-    let Err(RunError::Write { written }) = answer else {
-        panic!(rt; "another answer with room for {room} bytes");
-    };
-    assert_eq!(rt; (written, words.accepted.load(SeqCst)), (room as u64, room));
-    assert_eq!(rt;
-        (words.refused.load(SeqCst), words.run_out.load(SeqCst)),
-        (1, 0)
-    );
+/// Whether the run ends with a failed write behind so many bytes, and no wait ran out.
+fn is_stopped(answer: &Result<Report, RunError>, words: &Words, room: usize) -> bool {
+    let told = (words.refused.load(SeqCst), words.run_out.load(SeqCst));
+    let accepted = words.accepted.load(SeqCst);
+    match answer {
+        Err(RunError::Write { written }) => {
+            *written == room as u64 && accepted == room && told == (1, 0)
+        }
+        _ => false,
+    }
+}
+
+/// Whether runs into sinks with room for so many bytes end so.
+fn are_stopped<R: Threads + Wait + Sync>(
+    rt: &R,
+    alloc: Global,
+    trial: &Trial<'_>,
+    rooms: &[usize],
+) -> bool {
+    for room in rooms {
+        let words = Words::new();
+        let mut sink = LimitedSink::new(&words, *room);
+        let answer = run_into(rt, alloc, trial, &Open {}, &mut sink);
+        if !is_stopped(&answer, &words, *room) {
+            return false;
+        }
+    }
+    true
 }
 
 #[test]
@@ -262,11 +256,8 @@ fn no_turn_is_waited_for_behind_a_failed_write(rt: HostRuntime) -> Result<(), Fa
                 items,
                 counts,
             };
-            for room in [0, 500_000, 1_500_000] {
-                let words = Words::new();
-                let answer = run_into(&rt, rt.alloc(), &trial, &words, room, &Open {});
-                assert_stopped(&rt, answer, &words, room);
-            }
+            let rooms = [0, 500_000, 1_500_000];
+            assert_that(&rt, are_stopped(&rt, rt.alloc(), &trial, &rooms));
         }
     }
     Ok(())
@@ -311,23 +302,35 @@ impl<'w> Gate for FailureFirst<'w> {
 }
 
 // The only preparer delivers the first sheet's page first, so an imposer takes that sheet first.
+fn is_stopped_under_way<R: Threads + Wait + Sync>(
+    rt: &R,
+    alloc: Global,
+    document: &str,
+    imposers: u32,
+    waits: Waits,
+) -> bool {
+    let words = Words::new();
+    let trial = Trial {
+        document,
+        items: FORWARD,
+        counts: (1, imposers),
+    };
+    let gate = FailureFirst {
+        words: &words,
+        waits,
+    };
+    let mut sink = LimitedSink::new(&words, 100_000);
+    let answer = run_into(rt, alloc, &trial, &gate, &mut sink);
+    is_stopped(&answer, &words, 100_000)
+}
+
 #[test]
 fn sheets_are_under_way_as_the_sink_fails(rt: HostRuntime) -> Result<(), Fail> {
     let document = six_pages(rt.alloc())?;
     for waits in [Waits::BeforeSheet, Waits::BehindSheet] {
         for imposers in [1, 2, 4] {
-            let words = Words::new();
-            let trial = Trial {
-                document: &document,
-                items: FORWARD,
-                counts: (1, imposers),
-            };
-            let gate = FailureFirst {
-                words: &words,
-                waits,
-            };
-            let answer = run_into(&rt, rt.alloc(), &trial, &words, 100_000, &gate);
-            assert_stopped(&rt, answer, &words, 100_000);
+            let is_stopped = is_stopped_under_way(&rt, rt.alloc(), &document, imposers, waits);
+            assert_that(&rt, is_stopped);
         }
     }
     Ok(())

@@ -1,10 +1,10 @@
 //! Documents, their texts, and prepared pages.
 use dsc::{Document, DscError, prepare};
 use handover::Prepared;
-use std::alloc::Global;
+use std::alloc::{AllocError, Global};
 use std::process::Abort;
 use std::test::Fail;
-use test_tools::{MOST_GROWTHS, has_refused, refuse};
+use test_tools::{Refused, assert_that, has_refused, refuse, refuse_each};
 
 /// A page with another document in it. Lines end in CR.
 const EMBEDDED: &str =
@@ -20,91 +20,138 @@ const DATA: &str = "%%Page: 1 1\r%%BeginData: 12 Binary Bytes\r%%Page: 1 1\r%%En
 const PAGE_WITH_SETUP: &str =
     "%%Page: 1 1\n%%+ x\n%%PageBoundingBox: 0 0 1 1\n%%BeginPageSetup\nsave\n%%EndPageSetup\nx";
 
+/// A document whose preamble and trailer have comments that are left out.
+const WITH_PAPERS: &str =
+    "%!PS\n%%DocumentMedia: a 1 2 3 () ()\n%%+ b 1 2 3 () ()\n/x 1 def\n%%Page: 1 1\n%%Trailer\n%%Pages: 1\n%%EOF\n";
+
 fn read_document<R: Abort>(rt: &R, alloc: Global, number: u32) -> bool {
     refuse(alloc, number);
     let answer = Document::read(alloc, EMBEDDED.as_bytes());
     let is_refused = has_refused(alloc);
-    match answer {
-        Ok(document) => assert_eq!(rt; (is_refused, document.pages()), (false, 1)),
-        Err(error) => assert!(rt; is_refused && matches!(&error, DscError::NoMemory)),
-    }
+    let is_right = match answer {
+        Ok(document) => !is_refused && document.pages() == 1,
+        Err(error) => is_refused && matches!(&error, DscError::NoMemory),
+    };
+    assert_that(rt, is_right);
     is_refused
 }
 
-/// The preamble and the trailer; the same calls with memory give what they give.
-fn filter_ends<R: Abort>(rt: &R, alloc: Global, number: u32) -> Result<bool, Fail> {
-    let text =
-        "%!PS\n%%DocumentMedia: a 1 2 3 () ()\n%%+ b 1 2 3 () ()\n/x 1 def\n%%Page: 1 1\n%%Trailer\n%%Pages: 1\n\
-        %%EOF\n";
-    let document = Document::read(alloc, text.as_bytes())?;
+/// The preamble; the same call with memory gives what it gives.
+fn filter_preamble<R: Abort>(
+    rt: &R,
+    alloc: Global,
+    number: u32,
+    document: &Document<'_>,
+) -> Result<bool, AllocError> {
     refuse(alloc, number);
     let preamble = document.preamble_text(2);
-    let mut is_refused = has_refused(alloc);
-    assert_eq!(rt; preamble.is_err(), is_refused);
-    refuse(alloc, number);
-    let trailer = document.trailer_text();
-    let is_trailer_refused = has_refused(alloc);
-    assert_eq!(rt; trailer.is_err(), is_trailer_refused);
-    is_refused = is_refused || is_trailer_refused;
+    let is_refused = has_refused(alloc);
+    assert_that(rt, preamble.is_err() == is_refused);
     let preamble = document.preamble_text(2)?;
-    assert_eq!(rt;
-        preamble.as_slice(),
-        b"%!PS\n%%Pages: 2\n/x 1 def\n".as_slice()
-    );
-    let trailer = document.trailer_text()?;
-    assert_eq!(rt; trailer.as_slice(), b"%%Trailer\n%%EOF\n".as_slice());
+    let wanted = b"%!PS\n%%Pages: 2\n/x 1 def\n".as_slice();
+    assert_that(rt, preamble.as_slice() == wanted);
     Ok(is_refused)
 }
 
-/// A prepared copy of a page's body, and a prepared page.
+/// The same of the trailer.
+fn filter_trailer<R: Abort>(
+    rt: &R,
+    alloc: Global,
+    number: u32,
+    document: &Document<'_>,
+) -> Result<bool, AllocError> {
+    refuse(alloc, number);
+    let trailer = document.trailer_text();
+    let is_refused = has_refused(alloc);
+    assert_that(rt, trailer.is_err() == is_refused);
+    let trailer = document.trailer_text()?;
+    assert_that(rt, trailer.as_slice() == b"%%Trailer\n%%EOF\n".as_slice());
+    Ok(is_refused)
+}
+
+fn filter_ends<R: Abort>(rt: &R, alloc: Global, number: u32) -> Result<bool, Fail> {
+    let document = Document::read(alloc, WITH_PAPERS.as_bytes())?;
+    let is_refused = filter_preamble(rt, alloc, number, &document)?;
+    let is_trailer_refused = filter_trailer(rt, alloc, number, &document)?;
+    Ok(is_refused || is_trailer_refused)
+}
+
+/// A prepared copy of a page's body; the same call with memory gives it.
+fn copy_body<R: Abort>(
+    rt: &R,
+    alloc: Global,
+    number: u32,
+    raw: &[u8],
+    body: &[u8],
+) -> Result<bool, Fail> {
+    refuse(alloc, number);
+    let copy = prepare(alloc, raw);
+    let is_refused = has_refused(alloc);
+    let is_right = match copy {
+        Ok(copy) => !is_refused && copy.as_slice() == body,
+        Err(error) => is_refused && matches!(&error, DscError::NoMemory),
+    };
+    assert_that(rt, is_right);
+    assert_that(rt, prepare(alloc, raw)?.as_slice() == body);
+    Ok(is_refused)
+}
+
+/// A prepared page, likewise.
 fn prepare_page<R: Abort>(
     rt: &R,
     alloc: Global,
     number: u32,
-    raw: &str,
-    body: &str,
+    raw: &[u8],
+    body: &[u8],
 ) -> Result<bool, Fail> {
     refuse(alloc, number);
-    let copy = prepare(alloc, raw.as_bytes());
-    let mut is_refused = has_refused(alloc);
-    match copy {
-        Ok(copy) => assert!(rt; !is_refused && copy.as_slice() == body.as_bytes()),
-        Err(error) => assert!(rt; is_refused && matches!(&error, DscError::NoMemory)),
-    }
-    refuse(alloc, number);
-    let page = Prepared::new(alloc, 0, raw.as_bytes());
-    let is_page_refused = has_refused(alloc);
-    match page {
-        Ok(page) => assert!(rt; !is_page_refused && page.body() == body.as_bytes()),
-        Err(error) => assert!(rt; is_page_refused && matches!(&error, DscError::NoMemory)),
-    }
-    is_refused = is_refused || is_page_refused;
-    assert_eq!(rt; prepare(alloc, raw.as_bytes())?.as_slice(), body.as_bytes());
-    assert_eq!(rt;
-        Prepared::new(alloc, 0, raw.as_bytes())?.body(),
-        body.as_bytes()
-    );
+    let page = Prepared::new(alloc, 0, raw);
+    let is_refused = has_refused(alloc);
+    let is_right = match page {
+        Ok(page) => !is_refused && page.body() == body,
+        Err(error) => is_refused && matches!(&error, DscError::NoMemory),
+    };
+    assert_that(rt, is_right);
+    assert_that(rt, Prepared::new(alloc, 0, raw)?.body() == body);
     Ok(is_refused)
+}
+
+/// What is called.
+#[derive(Clone, Copy)]
+enum Call<'t> {
+    Read,
+    Ends,
+    /// A page with this text, and its body.
+    Page(&'t str, &'t str),
+}
+
+impl<'t, R: Abort> Refused<R> for Call<'t> {
+    fn refuse(&self, rt: &R, alloc: Global, number: u32) -> Result<bool, Fail> {
+        match self {
+            Call::Read => Ok(read_document(rt, alloc, number)),
+            Call::Ends => filter_ends(rt, alloc, number),
+            Call::Page(raw, body) => {
+                let (raw, body) = (raw.as_bytes(), body.as_bytes());
+                let is_refused = copy_body(rt, alloc, number, raw, body)?;
+                let is_page_refused = prepare_page(rt, alloc, number, raw, body)?;
+                Ok(is_refused || is_page_refused)
+            }
+        }
+    }
 }
 
 #[test]
 fn documents_and_bodies(rt: HostRuntime) -> Result<(), Fail> {
-    let mut calls = [true; 5];
     let (_, page) = EMBEDDED.split_at(5);
     let (_, block) = DATA.split_at(12);
-    for number in 1..MOST_GROWTHS {
-        for (call, goes_on) in calls.iter_mut().enumerate() {
-            if *goes_on {
-                *goes_on = match call {
-                    0 => read_document(&rt, rt.alloc(), number),
-                    1 => filter_ends(&rt, rt.alloc(), number)?,
-                    2 => prepare_page(&rt, rt.alloc(), number, page, BODY)?,
-                    3 => prepare_page(&rt, rt.alloc(), number, DATA, block)?,
-                    _ => prepare_page(&rt, rt.alloc(), number, PAGE_WITH_SETUP, "save\nx\n")?,
-                };
-            }
-        }
+    for call in [
+        Call::Read,
+        Call::Ends,
+        Call::Page(page, BODY),
+        Call::Page(DATA, block),
+        Call::Page(PAGE_WITH_SETUP, "save\nx\n"),
+    ] {
+        assert_that(&rt, refuse_each(&rt, rt.alloc(), &call)?);
     }
-    assert_eq!(rt; calls, [false; 5]);
     Ok(())
 }

@@ -1,13 +1,16 @@
 //! Tables, queues and shelves that are made, and a page that is put on a shelf.
+ghost use Rattle.std.specs.Prelude.{IfOk};
+ghost use Rattle.handover.specs.Shelves.{IsOn};
+
 use gather_table::{GatherTable, PlainTable};
-use handover::{Prepared, PutError, Ready, Shelf};
+use handover::{Prepared, PutError, Ready, Receipt, Shelf};
 use pagespec::read_spec;
 use sheet_plan::Plan;
-use std::alloc::Global;
+use std::alloc::{AllocError, Global};
 use std::process::Abort;
 use std::sync::Wait;
 use std::test::Fail;
-use test_tools::{BOOKLET, MOST_GROWTHS, has_refused, refuse, same_items};
+use test_tools::{BOOKLET, Refused, assert_that, has_refused, refuse, refuse_each, same_items};
 
 /// Both tables of a plan; of a sheet of 65 slots too.
 fn make_tables<R: Abort>(rt: &R, alloc: Global, number: u32, items: &str) -> Result<bool, Fail> {
@@ -16,11 +19,11 @@ fn make_tables<R: Abort>(rt: &R, alloc: Global, number: u32, items: &str) -> Res
     refuse(alloc, number);
     let plain = PlainTable::new(alloc, &plan);
     let is_plain_refused = has_refused(alloc);
-    assert_eq!(rt; plain.is_err(), is_plain_refused);
+    assert_that(rt, plain.is_err() == is_plain_refused);
     refuse(alloc, number);
     let table = GatherTable::new(alloc, &plan);
     let is_refused = has_refused(alloc);
-    assert_eq!(rt; table.is_err(), is_refused);
+    assert_that(rt, table.is_err() == is_refused);
     Ok(is_refused || is_plain_refused)
 }
 
@@ -29,39 +32,77 @@ fn make_others<R: Abort>(rt: &R, alloc: Global, number: u32) -> bool {
     refuse(alloc, number);
     let queue = Ready::new(alloc, 10);
     let is_queue_refused = has_refused(alloc);
-    assert_eq!(rt; queue.is_err(), is_queue_refused);
+    assert_that(rt, queue.is_err() == is_queue_refused);
     refuse(alloc, number);
     let shelf = Shelf::new(alloc);
     let is_shelf_refused = has_refused(alloc);
-    assert_eq!(rt; shelf.is_err(), is_shelf_refused);
+    assert_that(rt, shelf.is_err() == is_shelf_refused);
     is_shelf_refused || is_queue_refused
 }
 
+/// Puts a page on a shelf: its index.
+fn put_page<'d, R: Wait>(rt: &R, alloc: Global, shelf: &Shelf<'d>, page: u32) -> Result<u32, Fail> {
+    let prepared = Prepared::new(alloc, page, b"%%Page: 1 1\n")?;
+    match shelf.put(rt, prepared) {
+        Ok(receipt) => Ok(receipt.index()),
+        Err(_) => Err(AllocError)?,
+    }
+}
+
 /// Puts so many pages on a shelf, numbered from 0: their indices.
-fn put_pages<R: Abort + Wait>(
+fn put_pages<R: Wait>(
     rt: &R,
     alloc: Global,
-    shelf: &Shelf<'static>,
+    shelf: &Shelf<'_>,
     pages: u32,
 ) -> Result<Vec<u32>, Fail> {
     let mut indices = Vec::new(alloc);
     for page in 0..pages {
-        let prepared = Prepared::new(alloc, page, b"%%Page: 1 1\n")?;
-        let Ok(receipt) = shelf.put(rt, prepared) else {
-            panic!(rt; "page {page} is refused");
-        };
-        indices.push(receipt.index())?;
+        indices.push(put_page(rt, alloc, shelf, page)?)?;
     }
     Ok(indices)
 }
 
-/// The shelf shows these pages.
-fn assert_shown<R: Abort>(rt: &R, shelf: &Shelf<'static>, indices: &[u32]) {
+/// Whether the shelf shows these pages.
+fn are_shown(shelf: &Shelf<'_>, indices: &[u32]) -> bool {
     for (page, index) in indices.iter().enumerate() {
-        let Some(shown) = shelf.at(*index) else {
-            panic!(rt; "page {page} isn't shown");
+        let is_shown = match shelf.at(*index) {
+            Some(shown) => shown.page() as usize == page,
+            None => false,
         };
-        assert_eq!(rt; shown.page() as usize, page);
+        if !is_shown {
+            return false;
+        }
+    }
+    true
+}
+
+/// Puts this page, if memory is refused again with memory: its receipt, and whether memory was refused.
+fn put_twice<'d, R: Abort + Wait>(
+    rt: &R,
+    alloc: Global,
+    number: u32,
+    shelf: &Shelf<'d>,
+    prepared: Prepared<'d>,
+) -> Result<(Receipt<'d>, bool), AllocError>
+    ensures { IfOk result (λ put. IsOn shelf.now put.0) }
+{
+    refuse(alloc, number);
+    let answer = shelf.put(rt, prepared);
+    let is_refused = has_refused(alloc);
+    match answer {
+        Ok(receipt) => {
+            assert_that(rt, !is_refused);
+            Ok((receipt, false))
+        }
+        Err(PutError::NoMemory(prepared)) => {
+            assert_that(rt, is_refused && prepared.page() == 77);
+            match shelf.put(rt, prepared) {
+                Ok(receipt) => Ok((receipt, true)),
+                Err(_) => Err(AllocError),
+            }
+        }
+        Err(PutError::ShelfFull(_)) => Err(AllocError),
     }
 }
 
@@ -70,37 +111,20 @@ fn put_again<R: Abort + Wait>(
     rt: &R,
     alloc: Global,
     number: u32,
-    shelf: &Shelf<'static>,
+    shelf: &Shelf<'_>,
 ) -> Result<bool, Fail> {
     let prepared = Prepared::new(alloc, 77, b"%%Page: 4 4\nx\n")?;
-    refuse(alloc, number);
-    let answer = shelf.put(rt, prepared);
-    let is_refused = has_refused(alloc);
-    let receipt = match answer {
-        Ok(receipt) => {
-            assert!(rt; !is_refused);
-            receipt
-        }
-        Err(PutError::NoMemory(prepared)) => {
-            assert!(rt; is_refused && prepared.page() == 77);
-            let Ok(receipt) = shelf.put(rt, prepared) else {
-                panic!(rt; "refused twice");
-            };
-            receipt
-        }
-        Err(PutError::ShelfFull(_)) => panic!(rt; "the shelf is full"),
-    };
+    let (receipt, is_refused) = put_twice(rt, alloc, number, shelf, prepared)?;
     let page = shelf.read(&receipt);
-    assert_eq!(rt; page.page(), 77);
-    assert_eq!(rt; page.body(), b"x\n".as_slice());
-    assert!(rt; shelf.at(receipt.index()).is_some());
+    assert_that(rt, page.page() == 77 && page.body() == b"x\n".as_slice());
+    assert_that(rt, shelf.at(receipt.index()).is_some());
     Ok(is_refused)
 }
 
 /// Puts the first page on a shelf.
 fn put_first<R: Abort + Wait>(rt: &R, alloc: Global, number: u32) -> Result<bool, Fail> {
     let shelf = Shelf::new(alloc)?;
-    assert!(rt; shelf.at(0).is_none());
+    assert_that(rt, shelf.at(0).is_none());
     put_again(rt, alloc, number, &shelf)
 }
 
@@ -113,30 +137,45 @@ fn put_behind<R: Abort + Wait>(rt: &R, alloc: Global, number: u32) -> Result<boo
     refuse(alloc, number);
     let answer = shelf.put(rt, prepared);
     let is_refused = has_refused(alloc);
-    assert!(rt; answer.is_ok());
+    assert_that(rt, answer.is_ok());
     put_pages(rt, alloc, &shelf, 3)?;
-    assert_eq!(rt; put_again(rt, alloc, number, &shelf)?, is_refused);
-    assert_shown(rt, &shelf, indices.as_slice());
+    assert_that(rt, put_again(rt, alloc, number, &shelf)? == is_refused);
+    assert_that(rt, are_shown(&shelf, indices.as_slice()));
     Ok(is_refused)
+}
+
+/// What is called.
+#[derive(Clone, Copy)]
+enum Call<'t> {
+    /// Both tables of this specification.
+    Tables(&'t str),
+    QueueAndShelf,
+    FirstPage,
+    PageBehind,
+}
+
+impl<'t, R: Abort + Wait> Refused<R> for Call<'t> {
+    fn refuse(&self, rt: &R, alloc: Global, number: u32) -> Result<bool, Fail> {
+        match self {
+            Call::Tables(items) => make_tables(rt, alloc, number, items),
+            Call::QueueAndShelf => Ok(make_others(rt, alloc, number)),
+            Call::FirstPage => put_first(rt, alloc, number),
+            Call::PageBehind => put_behind(rt, alloc, number),
+        }
+    }
 }
 
 #[test]
 fn tables_queues_and_shelves(rt: HostRuntime) -> Result<(), Fail> {
     let wide = same_items(rt.alloc(), "0", 65)?;
-    let mut calls = [true; 5];
-    for number in 1..MOST_GROWTHS {
-        for (call, goes_on) in calls.iter_mut().enumerate() {
-            if *goes_on {
-                *goes_on = match call {
-                    0 => make_tables(&rt, rt.alloc(), number, BOOKLET)?,
-                    1 => make_tables(&rt, rt.alloc(), number, &wide)?,
-                    2 => make_others(&rt, rt.alloc(), number),
-                    3 => put_first(&rt, rt.alloc(), number)?,
-                    _ => put_behind(&rt, rt.alloc(), number)?,
-                };
-            }
-        }
+    for call in [
+        Call::Tables(BOOKLET),
+        Call::Tables(&wide),
+        Call::QueueAndShelf,
+        Call::FirstPage,
+        Call::PageBehind,
+    ] {
+        assert_that(&rt, refuse_each(&rt, rt.alloc(), &call)?);
     }
-    assert_eq!(rt; calls, [false; 5]);
     Ok(())
 }

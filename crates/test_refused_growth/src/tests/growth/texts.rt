@@ -1,12 +1,14 @@
 //! Specifications, plans, and texts that are appended to a vector.
 use lengths::{Grains, Number, Paper, a4, print_number, print_points, print_scale};
-use pagespec::{Item, SpecError, read_spec, write_spec};
+use pagespec::{Item, Spec, SpecError, read_spec, write_spec};
 use placement::{closing_text, matrix_of, matrix_text, opening_text};
 use sheet_plan::{Plan, PlanError};
 use std::alloc::{AllocError, Global};
 use std::process::Abort;
 use std::test::Fail;
-use test_tools::{A4_SIDES, BOOKLET, MOST_GROWTHS, border, has_refused, opening, refuse};
+use test_tools::{
+    A4_SIDES, BOOKLET, Refused, assert_that, border, has_refused, opening, refuse, refuse_each,
+};
 
 /// Reads the specification; whether a growth was refused in the call.
 fn read_booklet<R: Abort>(rt: &R, alloc: Global, number: u32) -> Result<bool, Fail> {
@@ -15,14 +17,10 @@ fn read_booklet<R: Abort>(rt: &R, alloc: Global, number: u32) -> Result<bool, Fa
     let is_refused = has_refused(alloc);
     match answer {
         Ok(spec) => {
-            assert!(rt; !is_refused);
-            let text = write_spec(alloc, &spec)?;
-            assert_eq!(rt; text.as_str(), BOOKLET);
+            assert_that(rt, !is_refused);
+            assert_that(rt, write_spec(alloc, &spec)?.as_str() == BOOKLET);
         }
-        Err(error) => {
-            assert!(rt; is_refused);
-            assert_eq!(rt; error, SpecError::NoMemory);
-        }
+        Err(error) => assert_that(rt, is_refused && error == SpecError::NoMemory),
     }
     Ok(is_refused)
 }
@@ -32,11 +30,20 @@ fn write_booklet<R: Abort>(rt: &R, alloc: Global, number: u32) -> Result<bool, F
     refuse(alloc, number);
     let answer = write_spec(alloc, &spec);
     let is_refused = has_refused(alloc);
-    assert_eq!(rt; answer.is_err(), is_refused);
-    if let Ok(text) = answer {
-        assert_eq!(rt; text.as_str(), BOOKLET);
-    }
+    let is_right = match answer {
+        Ok(text) => !is_refused && text.as_str() == BOOKLET,
+        Err(_) => is_refused,
+    };
+    assert_that(rt, is_right);
     Ok(is_refused)
+}
+
+/// Whether a plan has so many sheets, or is refused memory if a growth was refused.
+fn is_planned(answer: Result<Plan<'_>, PlanError>, sheets: u32, is_refused: bool) -> bool {
+    match answer {
+        Ok(plan) => !is_refused && plan.sheets() == sheets,
+        Err(error) => is_refused && error == PlanError::NoMemory,
+    }
 }
 
 /// Plans so many pages; wanted are so many sheets.
@@ -52,10 +59,7 @@ fn plan_pages<R: Abort>(
     refuse(alloc, number);
     let answer = Plan::new(alloc, &spec, pages);
     let is_refused = has_refused(alloc);
-    match answer {
-        Ok(plan) => assert_eq!(rt; (is_refused, plan.sheets()), (false, sheets)),
-        Err(error) => assert_eq!(rt; (is_refused, error), (true, PlanError::NoMemory)),
-    }
+    assert_that(rt, is_planned(answer, sheets, is_refused));
     Ok(is_refused)
 }
 
@@ -65,30 +69,42 @@ fn plan_signatures<R: Abort>(rt: &R, alloc: Global, number: u32) -> Result<bool,
     refuse(alloc, number);
     let answer = Plan::with_signatures(alloc, &spec, 8, 8);
     let is_refused = has_refused(alloc);
-    match answer {
-        Ok(plan) => assert_eq!(rt; (is_refused, plan.sheets()), (false, 8)),
-        Err(error) => assert_eq!(rt; (is_refused, error), (true, PlanError::NoMemory)),
-    }
+    assert_that(rt, is_planned(answer, 8, is_refused));
     Ok(is_refused)
+}
+
+/// What is called.
+#[derive(Clone, Copy)]
+enum Call {
+    Read,
+    Write,
+    /// Five pages by this specification, on so many sheets.
+    Pages(&'static str, u32),
+    Signatures,
+}
+
+impl<R: Abort> Refused<R> for Call {
+    fn refuse(&self, rt: &R, alloc: Global, number: u32) -> Result<bool, Fail> {
+        match self {
+            Call::Read => read_booklet(rt, alloc, number),
+            Call::Write => write_booklet(rt, alloc, number),
+            Call::Pages(items, sheets) => plan_pages(rt, alloc, number, items, 5, *sheets),
+            Call::Signatures => plan_signatures(rt, alloc, number),
+        }
+    }
 }
 
 #[test]
 fn specifications_and_plans(rt: HostRuntime) -> Result<(), Fail> {
-    let mut calls = [true; 5];
-    for number in 1..MOST_GROWTHS {
-        for (call, goes_on) in calls.iter_mut().enumerate() {
-            if *goes_on {
-                *goes_on = match call {
-                    0 => read_booklet(&rt, rt.alloc(), number)?,
-                    1 => write_booklet(&rt, rt.alloc(), number)?,
-                    2 => plan_pages(&rt, rt.alloc(), number, BOOKLET, 5, 4)?,
-                    3 => plan_pages(&rt, rt.alloc(), number, "4:0,1,2,3", 5, 8)?,
-                    _ => plan_signatures(&rt, rt.alloc(), number)?,
-                };
-            }
-        }
+    for call in [
+        Call::Read,
+        Call::Write,
+        Call::Pages(BOOKLET, 4),
+        Call::Pages("4:0,1,2,3", 8),
+        Call::Signatures,
+    ] {
+        assert_that(&rt, refuse_each(&rt, rt.alloc(), &call)?);
     }
-    assert_eq!(rt; calls, [false; 5]);
     Ok(())
 }
 
@@ -96,7 +112,7 @@ fn specifications_and_plans(rt: HostRuntime) -> Result<(), Fail> {
 const MOVED: &str = "1 0 0 1 297.5 -72";
 
 /// What is appended.
-#[derive(Clone, Copy, Debug)]
+#[derive(Clone, Copy)]
 enum Text {
     Points,
     Scale,
@@ -140,40 +156,45 @@ impl Text {
     }
 }
 
-/// Appends the text to a vector of one byte that has no room; if a growth is refused, the vector is as it was.
-fn append_to_one<R: Abort>(
-    rt: &R,
-    alloc: Global,
-    number: u32,
+/// The text of this item is appended to a vector of one byte that has no room; if a growth is refused, the vector is as it
+/// was.
+#[derive(Drop)]
+struct Appended<'t> {
     text: Text,
-    wanted: &str,
-    item: &Item,
-) -> Result<bool, Fail> {
-    let paper = a4();
-    let mut out = Vec::with_capacity(alloc, 1)?;
-    out.push(b'x')?;
-    refuse(alloc, number);
-    let answer = text.append(item, &paper, &mut out);
-    let is_refused = has_refused(alloc);
-    assert_eq!(rt; answer.is_err(), is_refused, "{text:?}");
-    let Some((first, added)) = out.as_slice().split_first() else {
-        panic!(rt; "{text:?}: the vector is empty");
-    };
-    assert_eq!(rt; *first, b'x', "{text:?}");
-    let wanted = if is_refused { "" } else { wanted };
-    assert_eq!(rt; added, wanted.as_bytes(), "{text:?}");
-    Ok(is_refused)
+    wanted: &'t str,
+    item: &'t Item,
+}
+
+impl<'t, R: Abort> Refused<R> for Appended<'t> {
+    fn refuse(&self, rt: &R, alloc: Global, number: u32) -> Result<bool, Fail> {
+        let mut out = Vec::with_capacity(alloc, 1)?;
+        out.push(b'x')?;
+        refuse(alloc, number);
+        let answer = self.text.append(self.item, &a4(), &mut out);
+        let is_refused = has_refused(alloc);
+        assert_that(rt, answer.is_err() == is_refused);
+        let wanted = if is_refused { "" } else { self.wanted };
+        let is_right = match out.as_slice().split_first() {
+            Some((first, added)) => *first == b'x' && added == wanted.as_bytes(),
+            None => false,
+        };
+        assert_that(rt, is_right);
+        Ok(is_refused)
+    }
+}
+
+/// The item of a specification of one.
+fn only_item(spec: &Spec) -> Option<&Item> {
+    match spec.groups() {
+        [group] => group.as_slice().first(),
+        _ => None,
+    }
 }
 
 #[test]
 fn appended_texts(rt: HostRuntime) -> Result<(), Fail> {
     let spec = read_spec(rt.alloc(), "0(.5w,-1in)")?;
-    let [group] = spec.groups() else {
-        panic!(rt; "one group");
-    };
-    let [item] = group.as_slice() else {
-        panic!(rt; "one item");
-    };
+    let item = only_item(&spec).ok_or(AllocError)?;
     for text in [
         Text::Points,
         Text::Scale,
@@ -184,11 +205,12 @@ fn appended_texts(rt: HostRuntime) -> Result<(), Fail> {
         Text::Closing,
     ] {
         let wanted = text.wanted(rt.alloc())?;
-        let mut goes_on = true;
-        for number in 1..MOST_GROWTHS {
-            goes_on = goes_on && append_to_one(&rt, rt.alloc(), number, text, &wanted, item)?;
-        }
-        assert!(rt; !goes_on, "{text:?}");
+        let call = Appended {
+            text,
+            wanted: &wanted,
+            item,
+        };
+        assert_that(&rt, refuse_each(&rt, rt.alloc(), &call)?);
     }
     Ok(())
 }

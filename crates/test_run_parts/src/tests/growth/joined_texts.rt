@@ -5,17 +5,19 @@ use sheet_writer::{Early, FinishedSheets};
 use std::alloc::{AllocError, Global};
 use std::process::Abort;
 use std::test::Fail;
-use test_tools::{MOST_GROWTHS, has_refused, refuse};
+use test_tools::{MOST_GROWTHS, Refused, assert_that, has_refused, refuse, refuse_each};
 
-/// The bytes of one of the texts.
-fn text_at<R: Abort>(
-    rt: &R,
-    alloc: Global,
-    texts: &Texts<'_>,
-    nth: usize,
-) -> Result<Vec<u8>, AllocError> {
-    assert!(rt; nth < texts.len());
-    bytes_of(alloc, texts.joined(nth, 1).text)
+/// Whether one of the texts has these bytes.
+fn is_text(alloc: Global, texts: &Texts<'_>, nth: usize, bytes: &[u8]) -> Result<bool, AllocError> {
+    if nth >= texts.len() {
+        return Ok(false);
+    }
+    Ok(bytes_of(alloc, texts.joined(nth, 1).text)?.as_slice() == bytes)
+}
+
+/// Whether a text has these bytes.
+fn has_bytes(alloc: Global, text: &Rope<'_>, bytes: &[u8]) -> Result<bool, AllocError> {
+    Ok(text.to_vec(alloc)?.as_slice() == bytes)
 }
 
 /// Adds a text. If a growth is refused nothing is added, and the text stays; then it is added with memory.
@@ -31,17 +33,15 @@ fn push_again<'r, R: Abort>(
     refuse(alloc, number);
     let answer = texts.push(text);
     let is_refused = has_refused(alloc);
-    assert_eq!(rt; answer.is_err(), is_refused);
+    assert_that(rt, answer.is_err() == is_refused);
     if is_refused {
-        assert_eq!(rt; texts.len(), count);
-        assert!(rt; text.to_vec(alloc)?.as_slice() == bytes.as_slice());
+        assert_that(rt, texts.len() == count);
+        assert_that(rt, has_bytes(alloc, text, bytes.as_slice())?);
         texts.push(text)?;
     }
-    assert_eq!(rt;
-        (texts.len(), text.pieces().len()),
-        (count.saturating_add(1), Some(0))
-    );
-    assert!(rt; text_at(rt, alloc, texts, count)?.as_slice() == bytes.as_slice());
+    assert_that(rt, texts.len() == count.saturating_add(1));
+    assert_that(rt, text.pieces().len() == Some(0));
+    assert_that(rt, is_text(alloc, texts, count, bytes.as_slice())?);
     Ok(is_refused)
 }
 
@@ -67,7 +67,7 @@ fn push_two<R: Abort>(
     let is_refused = push_again(rt, alloc, number, &mut texts, &mut text)?;
     let mut text = around(alloc, slice)?;
     let is_refused_too = push_again(rt, alloc, number, &mut texts, &mut text)?;
-    assert!(rt; text_at(rt, alloc, &texts, 0)?.as_slice() == b"first".as_slice());
+    assert_that(rt, is_text(alloc, &texts, 0, b"first")?);
     Ok(is_refused || is_refused_too)
 }
 
@@ -85,17 +85,15 @@ fn push_sheet<R: Abort>(
     refuse(alloc, number);
     let answer = finished.push(sheet, &mut text);
     let is_refused = has_refused(alloc);
-    assert_eq!(rt; answer.is_err(), is_refused);
+    assert_that(rt, answer.is_err() == is_refused);
     if is_refused {
-        assert_eq!(rt;
-            (finished.sheets.len(), finished.texts.len()),
-            (count, count)
-        );
-        assert_eq!(rt; text.pieces().len(), Some(4));
+        assert_that(rt, finished.sheets.len() == count);
+        assert_that(rt, finished.texts.len() == count);
+        assert_that(rt, text.pieces().len() == Some(4));
         finished.push(sheet, &mut text)?;
     }
-    assert_eq!(rt; finished.sheets.last().copied(), Some(sheet));
-    assert!(rt; text_at(rt, alloc, &finished.texts, count)?.as_slice() == b"text".as_slice());
+    assert_that(rt, finished.sheets.last().copied() == Some(sheet));
+    assert_that(rt, is_text(alloc, &finished.texts, count, b"text")?);
     Ok(is_refused)
 }
 
@@ -107,18 +105,17 @@ fn push_sheets<R: Abort>(rt: &R, alloc: Global, number: u32) -> Result<bool, All
         let is_sheet_refused = push_sheet(rt, alloc, number, &mut finished, sheet)?;
         is_refused = is_refused || is_sheet_refused;
     }
-    assert_eq!(rt; finished.sheets.as_slice(), [0, 1, 2, 3, 4].as_slice());
+    assert_that(rt, finished.sheets.as_slice() == [0, 1, 2, 3, 4].as_slice());
     Ok(is_refused)
 }
 
 /// Adds a sheet in memory that others had: no growth is asked for.
-fn push_anew<R: Abort>(rt: &R, alloc: Global) -> Result<(), AllocError> {
+fn push_anew<R: Abort>(rt: &R, alloc: Global) -> Result<bool, AllocError> {
     let mut finished = FinishedSheets::new(alloc);
     push_sheet(rt, alloc, MOST_GROWTHS, &mut finished, 0)?;
     finished.clear();
-    assert_eq!(rt; (finished.sheets.len(), finished.texts.len()), (0, 0));
-    assert!(rt; !push_sheet(rt, alloc, 1, &mut finished, 1)?);
-    Ok(())
+    assert_that(rt, (finished.sheets.len(), finished.texts.len()) == (0, 0));
+    push_sheet(rt, alloc, 1, &mut finished, 1)
 }
 
 /// Makes places.
@@ -126,26 +123,34 @@ fn make_places<R: Abort>(rt: &R, alloc: Global, number: u32) -> bool {
     refuse(alloc, number);
     let answer = Early::new(alloc, 10);
     let is_refused = has_refused(alloc);
-    assert_eq!(rt; answer.is_err(), is_refused);
+    assert_that(rt, answer.is_err() == is_refused);
     is_refused
+}
+
+/// What is called.
+#[derive(Clone, Copy)]
+enum Call<'s> {
+    TwoTexts(&'s [u8]),
+    Sheets,
+    Places,
+}
+
+impl<'s, R: Abort> Refused<R> for Call<'s> {
+    fn refuse(&self, rt: &R, alloc: Global, number: u32) -> Result<bool, Fail> {
+        match self {
+            Call::TwoTexts(slice) => Ok(push_two(rt, alloc, number, slice)?),
+            Call::Sheets => Ok(push_sheets(rt, alloc, number)?),
+            Call::Places => Ok(make_places(rt, alloc, number)),
+        }
+    }
 }
 
 #[test]
 fn texts_and_sheets(rt: HostRuntime) -> Result<(), Fail> {
     let slice = [b'x'; 4_096];
-    let mut calls = [true; 3];
-    for number in 1..MOST_GROWTHS {
-        for (call, goes_on) in calls.iter_mut().enumerate() {
-            if *goes_on {
-                *goes_on = match call {
-                    0 => push_two(&rt, rt.alloc(), number, &slice)?,
-                    1 => push_sheets(&rt, rt.alloc(), number)?,
-                    _ => make_places(&rt, rt.alloc(), number),
-                };
-            }
-        }
+    for call in [Call::TwoTexts(&slice), Call::Sheets, Call::Places] {
+        assert_that(&rt, refuse_each(&rt, rt.alloc(), &call)?);
     }
-    assert_eq!(rt; calls, [false; 3]);
-    push_anew(&rt, rt.alloc())?;
+    assert_that(&rt, !push_anew(&rt, rt.alloc())?);
     Ok(())
 }

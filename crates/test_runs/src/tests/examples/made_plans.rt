@@ -8,11 +8,10 @@ use lengths::{Number, Paper, paper_by_name};
 use pagespec::{Item, Measure, Turn};
 use sheet_plan::{MadeSheets, MadeSlot, Plan};
 use std::alloc::{AllocError, Global};
-use std::process::Abort;
 use std::sync::Wait;
 use std::test::Fail;
 use std::thread::Threads;
-use test_tools::{A4_SIDES, TWO_PAGES, UNMOVED, page_body, placed_on, sheet};
+use test_tools::{A4_SIDES, TWO_PAGES, UNMOVED, assert_bytes, assert_that, page_body, placed_on, sheet};
 
 /// The second page on A4 and the first on A5, each on a sheet, and a line at each of the three places.
 fn dressed_output(alloc: Global) -> Result<String, AllocError> {
@@ -72,7 +71,7 @@ fn lines(alloc: Global) -> Result<Dress, Fail> {
 }
 
 /// Runs over the two pages.
-fn run_dressed<R: Threads + Wait + Abort + Sync, S: Sink>(
+fn run_dressed<R: Threads + Wait + Sync, S: Sink>(
     rt: &R,
     alloc: Global,
     sheets: &MadeSheets,
@@ -84,7 +83,7 @@ fn run_dressed<R: Threads + Wait + Abort + Sync, S: Sink>(
     let document = Document::read(alloc, TWO_PAGES.as_bytes())?;
     let plan = Plan::of_sheets(alloc, document.pages(), sheets)?;
     if dress.len() != sheets.len() {
-        panic!(rt; "{} sheets have lines", dress.len());
+        return Err(AllocError)?;
     }
     let job = Job::made(&plan, &document, sheets, None, dress);
     let workers = Workers {
@@ -94,16 +93,22 @@ fn run_dressed<R: Threads + Wait + Abort + Sync, S: Sink>(
     Ok(run_plan(rt, alloc, &job, workers, &Open {}, sink)?)
 }
 
+/// Runs over them, with lines: what is written, and what is told.
+fn run_two<R: Threads + Wait + Sync>(rt: &R, alloc: Global) -> Result<(MemorySink, Report), Fail> {
+    let a4 = paper_by_name("a4").ok_or(AllocError)?;
+    let a5 = paper_by_name("a5").ok_or(AllocError)?;
+    let sheets = two_sheets(alloc, a4, a5)?;
+    let dress = lines(alloc)?;
+    let mut sink = MemorySink::new(alloc, 1_000, 1_000, 100)?;
+    let report = run_dressed(rt, alloc, &sheets, &dress, &mut sink)?;
+    Ok((sink, report))
+}
+
 #[test]
 fn sheets_that_were_made(rt: HostRuntime) -> Result<(), Fail> {
-    let a4 = paper_by_name("a4").expect(&rt, "a4 is a paper");
-    let a5 = paper_by_name("a5").expect(&rt, "a5 is a paper");
-    let sheets = two_sheets(rt.alloc(), a4, a5)?;
-    let dress = lines(rt.alloc())?;
-    let mut sink = MemorySink::new(rt.alloc(), 1_000, 1_000, 100)?;
-    let report = run_dressed(&rt, rt.alloc(), &sheets, &dress, &mut sink)?;
+    let (sink, report) = run_two(&rt, rt.alloc())?;
     let wanted = dressed_output(rt.alloc())?;
-    assert_eq!(rt; sink.bytes(), wanted.as_bytes());
-    assert_eq!(rt; (report.pages, report.sheets, report.born), (2, 2, 0));
+    assert_bytes(&rt, sink.bytes(), wanted.as_bytes());
+    assert_that(&rt, (report.pages, report.sheets, report.born) == (2, 2, 0));
     Ok(())
 }

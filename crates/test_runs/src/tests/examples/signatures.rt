@@ -1,8 +1,8 @@
 //! Runs in signatures.
-use crate::tests::{ran, report_of, workers};
-use imposer::{MemorySink, Open, Options, RunError, run};
+use crate::tests::{answered, ends_with, report_of, workers};
+use imposer::{Options, RunError};
 use std::test::Fail;
-use test_tools::{ONE_PAGE, document_of};
+use test_tools::{ONE_PAGE, assert_that, document_of};
 
 fn in_signatures(sides: u32) -> Options {
     Options {
@@ -15,10 +15,9 @@ fn in_signatures(sides: u32) -> Options {
 #[test]
 fn five_pages_on_two_leaves(rt: HostRuntime) -> Result<(), Fail> {
     let document = document_of(rt.alloc(), 5)?;
-    let (sink, report) = ran(&rt, rt.alloc(), &document, "0", &in_signatures(4))?;
-    assert_eq!(rt; report, report_of(5, 8, 3, 1_204));
     let last = "%%Page: 7 7\nshowpage\n%%Page: 8 8\nshowpage\n%%Trailer\n%%EOF\n";
-    assert!(rt; sink.bytes().ends_with(last.as_bytes()));
+    let (case, told) = ((document.as_str(), "0"), report_of(5, 8, 3, 1_204));
+    assert_that(&rt, ends_with(&rt, rt.alloc(), case, &in_signatures(4), last, &told)?);
     Ok(())
 }
 
@@ -33,18 +32,9 @@ fn numbers_of_sides_that_no_signature_has(rt: HostRuntime) -> Result<(), Fail> {
         (6, "0", "no PostScript"),
     ];
     for (sides, spec, document) in cases {
-        let mut sink = MemorySink::new(rt.alloc(), 1_000, 1_000, 100)?;
-        let answer = run(
-            &rt,
-            rt.alloc(),
-            document.as_bytes(),
-            spec,
-            &in_signatures(sides),
-            &Open {},
-            &mut sink,
-        );
-        assert!(rt; matches!(answer, Err(RunError::Options)), "{sides}");
-        assert!(rt; sink.bytes().is_empty());
+        let options = in_signatures(sides);
+        let (answer, written) = answered(&rt, rt.alloc(), document, spec, &options)?;
+        assert_that(&rt, matches!(answer, Err(RunError::Options)) && written == 0);
     }
     Ok(())
 }

@@ -1,33 +1,55 @@
 //! Sinks that fail, and one that takes a byte a call, beside one worker of each kind and beside several.
 ghost use Rattle.std.specs.Prelude.{◌<◌};
 
-use crate::tests::workers;
-use imposer::{MemorySink, Open, Report, RunError, run};
-use std::alloc::Global;
-use std::process::Abort;
+use crate::tests::{Trial, run_into};
+use imposer::{MemorySink, Open, Report, RunError};
+use std::alloc::{AllocError, Global};
 use std::sync::Wait;
 use std::test::Fail;
 use std::thread::Threads;
-use test_tools::{ONE_PAGE, one_up_output};
+use test_tools::{ONE_PAGE, assert_that, one_up_output};
 
 /// The numbers of preparers and of imposers.
 const COUNTS: [(u32, u32); 2] = [(1, 1), (2, 3)];
 
-/// Copies one page into a sink, which must have the first bytes of this sheet then. How many it has, and the answer.
-fn copy_page<R: Threads + Wait + Abort + Sync>(
+/// Copies one page into a sink: how many bytes it has, if they are the first ones of this output, and the answer.
+fn copy_page<R: Threads + Wait + Sync>(
     rt: &R,
     alloc: Global,
     counts: (u32, u32),
     output: &str,
     mut sink: MemorySink,
-) -> (usize, Result<Report, RunError>)
+) -> (Option<usize>, Result<Report, RunError>)
     requires fresh { sink.failures < 10 }
 {
-    let options = workers(counts.0, counts.1);
-    let input = ONE_PAGE.as_bytes();
-    let answer = run(rt, alloc, input, "0", &options, &Open {}, &mut sink);
-    assert!(rt; output.as_bytes().starts_with(sink.bytes()));
-    (sink.bytes().len(), answer)
+    let trial = Trial {
+        document: ONE_PAGE,
+        items: "0",
+        counts,
+    };
+    let answer = run_into(rt, alloc, &trial, &Open {}, &mut sink);
+    if output.as_bytes().starts_with(sink.bytes()) {
+        (Some(sink.bytes().len()), answer)
+    } else {
+        (None, answer)
+    }
+}
+
+/// Whether a copy into a sink with so much room fails when the sink is full, and tells so.
+fn fills_up<R: Threads + Wait + Sync>(
+    rt: &R,
+    alloc: Global,
+    counts: (u32, u32),
+    output: &str,
+    room: usize,
+) -> Result<bool, AllocError> {
+    let sink = MemorySink::new(alloc, room, 1_000, 1_000)?;
+    match copy_page(rt, alloc, counts, output, sink) {
+        (taken, Err(RunError::Write { written })) => {
+            Ok(taken == Some(room) && written == room as u64)
+        }
+        _ => Ok(false),
+    }
 }
 
 #[test]
@@ -35,24 +57,29 @@ fn a_sink_that_fails_has_the_first_bytes(rt: HostRuntime) -> Result<(), Fail> {
     let output = one_up_output(rt.alloc(), "")?;
     for counts in COUNTS {
         for room in 0..273usize {
-            let sink = MemorySink::new(rt.alloc(), room, 1_000, 1_000)?;
-            let (taken, answer) = copy_page(&rt, rt.alloc(), counts, &output, sink);
-            let Err(RunError::Write { written }) = answer else {
-                panic!(rt; "room for {room} bytes is enough");
-            };
-            assert_eq!(rt; (taken, written), (room, room as u64));
+            assert_that(&rt, fills_up(&rt, rt.alloc(), counts, &output, room)?);
         }
     }
     Ok(())
+}
+
+/// Whether a sink that takes a byte a call has all bytes.
+fn takes_all<R: Threads + Wait + Sync>(
+    rt: &R,
+    alloc: Global,
+    counts: (u32, u32),
+    output: &str,
+) -> Result<bool, RunError> {
+    let sink = MemorySink::new(alloc, 273, 1, 273)?;
+    let (taken, answer) = copy_page(rt, alloc, counts, output, sink);
+    Ok(taken == Some(273) && answer?.bytes == 273)
 }
 
 #[test]
 fn a_sink_may_take_one_byte_a_call(rt: HostRuntime) -> Result<(), Fail> {
     let output = one_up_output(rt.alloc(), "")?;
     for counts in COUNTS {
-        let sink = MemorySink::new(rt.alloc(), 273, 1, 273)?;
-        let (taken, answer) = copy_page(&rt, rt.alloc(), counts, &output, sink);
-        assert_eq!(rt; (taken, answer?.bytes), (273, 273));
+        assert_that(&rt, takes_all(&rt, rt.alloc(), counts, &output)?);
     }
     Ok(())
 }

@@ -1,29 +1,30 @@
 //! Gates at which threads wait for each other: a run on one thread would never come past them.
 ghost use Rattle.std.specs.Prelude.{◌<◌, None};
 
-use crate::tests::workers;
-use imposer::{Gate, Look, MemorySink, Report, RunError, Sink, SinkFault, Step, run};
+use crate::tests::{Trial, run_into, wait_for};
+use imposer::{Gate, Look, MemorySink, Report, RunError, Sink, SinkFault, Step};
 use std::alloc::Global;
 use std::sync::Wait;
 use std::sync::atomic::AtomicUsize;
 use std::sync::atomic::Ordering::SeqCst;
 use std::test::Fail;
-use std::thread;
 use std::thread::Threads;
-use test_tools::TWO_PAGES;
+use test_tools::{TWO_PAGES, assert_that};
 
-/// How often a wait yields before it runs out.
-const YIELDS: u32 = 20_000_000;
-
-/// Waits until the word is so high. Counts a wait that ran out.
-fn wait_until(word: &AtomicUsize, height: usize, run_out: &AtomicUsize) {
-    for _ in 0..YIELDS {
-        if word.load(SeqCst) >= height {
-            return;
-        }
-        thread::yield_now();
-    }
-    run_out.fetch_add(1, SeqCst);
+/// Two pages on two sheets, with this gate and by so many workers.
+fn run_gated<R: Threads + Wait + Sync, G: Gate + Sync>(
+    rt: &R,
+    alloc: Global,
+    gate: &G,
+    counts: (u32, u32),
+) -> Result<Report, RunError> {
+    let trial = Trial {
+        document: TWO_PAGES,
+        items: "0",
+        counts,
+    };
+    let mut sink = MemorySink::new(alloc, 1_000, 1_000, 100)?;
+    run_into(rt, alloc, &trial, gate, &mut sink)
 }
 
 /// Which two steps meet.
@@ -56,52 +57,49 @@ impl Gate for Meeting {
     fn before(&self, step: Step) {
         if self.pair.has(step) {
             self.entered.fetch_add(1, SeqCst);
-            wait_until(&self.entered, 2, &self.run_out);
+            wait_for(&self.entered, 2, &self.run_out);
         }
     }
 
     fn after(&self, _step: Step) {}
 }
 
-/// Two pages on two sheets, if these steps meet: how many of them were entered, and how many waits ran out.
+/// Two pages on two sheets, if these steps meet: how many of them were entered, how many waits ran out, and how many sheets
+/// were made at the end.
 fn run_meeting<R: Threads + Wait + Sync>(
     rt: &R,
     alloc: Global,
     pair: Pair,
-    preparers: u32,
-    imposers: u32,
-) -> Result<(Report, usize, usize), RunError> {
+    counts: (u32, u32),
+) -> Result<(usize, usize, u32), RunError> {
     let gate = Meeting {
         pair,
         entered: AtomicUsize::new(0),
         run_out: AtomicUsize::new(0),
     };
-    let mut sink = MemorySink::new(alloc, 1_000, 1_000, 100)?;
-    let options = workers(preparers, imposers);
-    let input = TWO_PAGES.as_bytes();
-    let report = run(rt, alloc, input, "0", &options, &gate, &mut sink)?;
-    Ok((report, gate.entered.load(SeqCst), gate.run_out.load(SeqCst)))
+    let report = run_gated(rt, alloc, &gate, counts)?;
+    let entered = gate.entered.load(SeqCst);
+    Ok((entered, gate.run_out.load(SeqCst), report.swept))
 }
 
 #[test]
 fn a_page_is_delivered_while_a_sheet_is_imposed(rt: HostRuntime) -> Result<(), Fail> {
-    let pair = Pair::LastPageAndFirstSheet;
-    let (report, entered, run_out) = run_meeting(&rt, rt.alloc(), pair, 1, 1)?;
-    assert_eq!(rt; (entered, run_out, report.swept), (2, 0, 0));
+    let met = run_meeting(&rt, rt.alloc(), Pair::LastPageAndFirstSheet, (1, 1))?;
+    assert_that(&rt, met == (2, 0, 0));
     Ok(())
 }
 
 #[test]
 fn two_preparers_deliver_beside_each_other(rt: HostRuntime) -> Result<(), Fail> {
-    let (report, entered, run_out) = run_meeting(&rt, rt.alloc(), Pair::Pages, 2, 1)?;
-    assert_eq!(rt; (entered, run_out, report.swept), (2, 0, 0));
+    let met = run_meeting(&rt, rt.alloc(), Pair::Pages, (2, 1))?;
+    assert_that(&rt, met == (2, 0, 0));
     Ok(())
 }
 
 #[test]
 fn two_imposers_impose_beside_each_other(rt: HostRuntime) -> Result<(), Fail> {
-    let (report, entered, run_out) = run_meeting(&rt, rt.alloc(), Pair::Sheets, 1, 2)?;
-    assert_eq!(rt; (entered, run_out, report.swept), (2, 0, 0));
+    let met = run_meeting(&rt, rt.alloc(), Pair::Sheets, (1, 2))?;
+    assert_that(&rt, met == (2, 0, 0));
     Ok(())
 }
 
@@ -133,36 +131,36 @@ const FIRST_SHEET_END: usize = 257;
 impl<'w> Gate for Written<'w> {
     fn before(&self, step: Step) {
         if step == Step::Deliver(1) {
-            wait_until(self.accepted, FIRST_SHEET_END, &self.run_out);
+            wait_for(self.accepted, FIRST_SHEET_END, &self.run_out);
         }
     }
 
     fn after(&self, _step: Step) {}
 }
 
-/// Two pages on two sheets, the second page behind the first sheet: how many waits ran out.
-fn run_written<R: Threads + Wait + Sync>(
-    rt: &R,
-    alloc: Global,
-) -> Result<(Report, usize), RunError> {
+/// Two pages on two sheets, the second page behind the first sheet: how many waits ran out, and how many sheets were made
+/// at the end.
+fn run_written<R: Threads + Wait + Sync>(rt: &R, alloc: Global) -> Result<(usize, u32), RunError> {
     let accepted = AtomicUsize::new(0);
     let gate = Written {
         accepted: &accepted,
         run_out: AtomicUsize::new(0),
     };
+    let trial = Trial {
+        document: TWO_PAGES,
+        items: "0",
+        counts: (1, 1),
+    };
     let mut sink = CountingSink {
         accepted: &accepted,
     };
-    let options = workers(1, 1);
-    let input = TWO_PAGES.as_bytes();
-    let report = run(rt, alloc, input, "0", &options, &gate, &mut sink)?;
-    Ok((report, gate.run_out.load(SeqCst)))
+    let report = run_into(rt, alloc, &trial, &gate, &mut sink)?;
+    Ok((gate.run_out.load(SeqCst), report.swept))
 }
 
 #[test]
 fn a_sheet_is_written_before_the_next_page_is_delivered(rt: HostRuntime) -> Result<(), Fail> {
-    let (report, run_out) = run_written(&rt, rt.alloc())?;
-    assert_eq!(rt; (run_out, report.swept), (0, 0));
+    assert_that(&rt, run_written(&rt, rt.alloc())? == (0, 0));
     Ok(())
 }
 
@@ -201,17 +199,13 @@ fn run_told<R: Threads + Wait + Sync>(rt: &R, alloc: Global) -> Result<(usize, u
         before: AtomicUsize::new(0),
         after: AtomicUsize::new(0),
     };
-    let mut sink = MemorySink::new(alloc, 1_000, 1_000, 100)?;
-    let options = workers(2, 2);
-    let input = TWO_PAGES.as_bytes();
-    run(rt, alloc, input, "0", &options, &gate, &mut sink)?;
+    run_gated(rt, alloc, &gate, (2, 2))?;
     Ok((gate.before.load(SeqCst), gate.after.load(SeqCst)))
 }
 
 #[test]
 fn a_gate_is_told_once_before_each_step_and_once_after_it(rt: HostRuntime) -> Result<(), Fail> {
-    let told = run_told(&rt, rt.alloc())?;
-    assert_eq!(rt; told, (0x101_0101, 0x101_0101));
+    assert_that(&rt, run_told(&rt, rt.alloc())? == (0x101_0101, 0x101_0101));
     Ok(())
 }
 
@@ -258,10 +252,7 @@ fn run_looks<R: Threads + Wait + Sync>(
         before: [AtomicUsize::new(0), AtomicUsize::new(0)],
         after: [AtomicUsize::new(0), AtomicUsize::new(0)],
     };
-    let mut sink = MemorySink::new(alloc, 1_000, 1_000, 100)?;
-    let options = workers(2, 2);
-    let input = TWO_PAGES.as_bytes();
-    run(rt, alloc, input, "0", &options, &gate, &mut sink)?;
+    run_gated(rt, alloc, &gate, (2, 2))?;
     let Looks { before, after } = gate;
     Ok((
         [before[0].load(SeqCst), before[1].load(SeqCst)],
@@ -274,7 +265,7 @@ fn run_looks<R: Threads + Wait + Sync>(
 #[test]
 fn a_gate_is_told_of_each_look_before_it_and_after_it(rt: HostRuntime) -> Result<(), Fail> {
     let (before, after) = run_looks(&rt, rt.alloc())?;
-    assert_eq!(rt; before, after);
-    assert!(rt; before[0] >= 4 && before[1] >= 2);
+    assert_that(&rt, before == after);
+    assert_that(&rt, before[0] >= 4 && before[1] >= 2);
     Ok(())
 }

@@ -1,15 +1,15 @@
 //! Whole runs and gatherings, over a sink that was made before.
 ghost use Rattle.std.specs.Prelude.{◌<◌};
 
-use crate::tests::{Trial, gather_pairs, large_pages, workers};
-use imposer::{Gate, MemorySink, Open, RunError, Step, Workers, run};
+use crate::tests::{Trial, gather_pairs, large_pages, run_into};
+use imposer::{Gate, MemorySink, Open, RunError, Step, Workers};
 use std::alloc::{AllocError, Global};
 use std::process::Abort;
 use std::sync::Wait;
 use std::test::Fail;
 use std::thread;
 use std::thread::Threads;
-use test_tools::{BOOKLET, MOST_GROWTHS, TWO_UP, document_of, has_refused, refuse};
+use test_tools::{BOOKLET, MOST_GROWTHS, TWO_UP, assert_that, document_of, has_refused, refuse};
 
 /// More bytes than a run here writes.
 const ROOM: usize = 2_000_000;
@@ -30,41 +30,74 @@ impl Gate for Late {
     fn after(&self, _step: Step) {}
 }
 
-/// Runs with the growth of this number refused: the sink, how many bytes the run says that were written, None if it
-/// finished, and whether a growth was refused.
-fn run_refused<R: Threads + Wait + Abort + Sync, G: Gate + Sync>(
+/// What came of a run or a gathering: how many bytes it says that were written, None if it finished, and whether a growth
+/// was refused.
+#[derive(Clone, Copy, PartialEq, Eq)]
+struct Ended {
+    written: Option<u64>,
+    is_refused: bool,
+}
+
+/// Runs with the growth of this number refused: what the sink has, and what came of it.
+fn run_refused<R: Threads + Wait + Sync, G: Gate + Sync>(
     rt: &R,
     alloc: Global,
     number: u32,
     trial: &Trial<'_>,
     gate: &G,
-) -> Result<(MemorySink, Option<u64>, bool), AllocError> {
+) -> Result<(MemorySink, Ended), AllocError> {
     let mut sink = MemorySink::new(alloc, ROOM, ROOM, 1_000)?;
-    let input = trial.document.as_bytes();
-    let options = workers(trial.counts.0, trial.counts.1);
     refuse(alloc, number);
-    let answer = run(rt, alloc, input, trial.items, &options, gate, &mut sink);
+    let answer = run_into(rt, alloc, trial, gate, &mut sink);
     let is_refused = has_refused(alloc);
-    match answer {
-        Ok(_) => Ok((sink, None, is_refused)),
-        Err(RunError::NoMemory { written }) => Ok((sink, Some(written), is_refused)),
-        Err(_) => panic!(rt; "another refusal"),
-    }
+    let written = match answer {
+        Ok(_) => None,
+        Err(RunError::NoMemory { written }) => Some(written),
+        Err(_) => return Err(AllocError),
+    };
+    let ended = Ended {
+        written,
+        is_refused,
+    };
+    Ok((sink, ended))
 }
 
-/// Compares what a sink has: all of the output after a run that finished, else as many of its first bytes as were told.
-fn assert_written<R: Abort>(rt: &R, output: &[u8], sink: &MemorySink, written: Option<u64>) {
+/// Whether a sink has all of the output, after a run that finished, else as many of its first bytes as were told.
+fn is_written(output: &[u8], sink: &MemorySink, written: Option<u64>) -> bool {
     let wanted = written.unwrap_or(output.len() as u64);
-    assert_eq!(rt; sink.bytes().len() as u64, wanted);
-    assert!(rt; output.starts_with(sink.bytes()));
+    sink.bytes().len() as u64 == wanted && output.starts_with(sink.bytes())
 }
 
 /// Whether a run in which a growth was refused, or none was, may end so. A run finishes if it was refused the room for
 /// the number of a sheet that it would hold.
-fn is_right(holds: bool, written: Option<u64>, is_refused: bool) -> bool {
-    match written {
-        Some(_) => is_refused,
-        None => holds || !is_refused,
+fn is_right(holds: bool, ended: Ended) -> bool {
+    match ended.written {
+        Some(_) => ended.is_refused,
+        None => holds || !ended.is_refused,
+    }
+}
+
+/// Runs with the growth of this number refused: whether one was.
+fn refuse_one<R: Threads + Wait + Abort + Sync, G: Gate + Sync>(
+    rt: &R,
+    alloc: Global,
+    number: u32,
+    trial: &Trial<'_>,
+    gate: &G,
+    (output, holds): (&[u8], bool),
+) -> Result<bool, AllocError> {
+    let (sink, ended) = run_refused(rt, alloc, number, trial, gate)?;
+    assert_that(rt, is_written(output, &sink, ended.written));
+    assert_that(rt, is_right(holds, ended));
+    Ok(ended.is_refused)
+}
+
+/// How many growths behind one another weren't refused, with one more, which was or wasn't.
+fn unrefused_behind(unrefused: u32, is_refused: bool) -> u32 {
+    if is_refused {
+        0
+    } else {
+        unrefused.saturating_add(1)
     }
 }
 
@@ -77,22 +110,17 @@ fn refuse_each<R: Threads + Wait + Abort + Sync, G: Gate + Sync>(
     gate: &G,
     holds: bool,
 ) -> Result<(), AllocError> {
-    let (output, _, is_refused) = run_refused(rt, alloc, MOST_GROWTHS, trial, gate)?;
-    assert!(rt; !is_refused);
+    let (output, ended) = run_refused(rt, alloc, MOST_GROWTHS, trial, gate)?;
+    assert_that(rt, !ended.is_refused);
+    let wanted = (output.bytes(), holds);
     let mut unrefused = 0u32;
     for number in 1..MOST_GROWTHS {
         if unrefused < 4 {
-            let (sink, written, is_refused) = run_refused(rt, alloc, number, trial, gate)?;
-            assert_written(rt, output.bytes(), &sink, written);
-            assert!(rt; is_right(holds, written, is_refused), "growth {number}");
-            unrefused = if is_refused {
-                0
-            } else {
-                unrefused.saturating_add(1)
-            };
+            let is_refused = refuse_one(rt, alloc, number, trial, gate, wanted)?;
+            unrefused = unrefused_behind(unrefused, is_refused);
         }
     }
-    assert_eq!(rt; unrefused, 4, "{}", trial.items);
+    assert_that(rt, unrefused == 4);
     Ok(())
 }
 
@@ -182,29 +210,31 @@ fn runs_whose_sheets_go_together(rt: HostRuntime) -> Result<(), Fail> {
     Ok(())
 }
 
-/// Gathers the pages of a document: how many bytes the gathering says that it wrote, None if all went well; whether the
-/// tokens came back; and whether a growth was refused.
+/// Gathers the pages of a document with the growth of this number refused: whether one was. What the sink has are the
+/// first bytes of this output, and the tokens come back if all went well.
 fn gather_refused<R: Threads + Wait + Abort + Sync>(
     rt: &R,
     alloc: Global,
     number: u32,
     text: &str,
-    sink: &mut MemorySink,
-) -> Result<(Option<u64>, bool, bool), Fail>
-    requires countable { sink.old.failures < 10 }
-{
+    output: &[u8],
+) -> Result<bool, Fail> {
+    let mut sink = MemorySink::new(alloc, ROOM, ROOM, 1_000)?;
     let workers = Workers {
         preparers: 2,
         imposers: 3,
     };
-    let gathering = gather_pairs(rt, alloc, text, workers, Some(number), sink)?;
+    let gathering = gather_pairs(rt, alloc, text, workers, Some(number), &mut sink)?;
     let is_refused = has_refused(alloc);
-    let has_tokens = gathering.shares.is_some();
-    match gathering.outcome {
-        Ok(_) => Ok((None, has_tokens, is_refused)),
-        Err(RunError::NoMemory { written }) => Ok((Some(written), has_tokens, is_refused)),
-        Err(_) => panic!(rt; "another refusal"),
-    }
+    let written = match gathering.outcome {
+        Ok(_) => None,
+        Err(RunError::NoMemory { written }) => Some(written),
+        Err(_) => return Err(AllocError)?,
+    };
+    assert_that(rt, is_written(output, &sink, written));
+    assert_that(rt, written.is_some() == is_refused);
+    assert_that(rt, gathering.shares.is_some() == !is_refused);
+    Ok(is_refused)
 }
 
 #[test]
@@ -215,27 +245,14 @@ fn gatherings(rt: HostRuntime) -> Result<(), Fail> {
         items: TWO_UP,
         counts: (1, 1),
     };
-    let (output, _, _) = run_refused(&rt, rt.alloc(), MOST_GROWTHS, &trial, &Open {})?;
+    let (output, _) = run_refused(&rt, rt.alloc(), MOST_GROWTHS, &trial, &Open {})?;
     let mut unrefused = 0u32;
     for number in 1..MOST_GROWTHS {
         if unrefused < 4 {
-            let mut sink = MemorySink::new(rt.alloc(), ROOM, ROOM, 1_000)?;
-            let (written, has_tokens, is_refused) = gather_refused(
-                &rt,
-                rt.alloc(),
-                number,
-                &text,
-                &mut sink,
-            )?;
-            assert_written(&rt, output.bytes(), &sink, written);
-            assert_eq!(rt; (written.is_some(), has_tokens), (is_refused, !is_refused));
-            unrefused = if is_refused {
-                0
-            } else {
-                unrefused.saturating_add(1)
-            };
+            let is_refused = gather_refused(&rt, rt.alloc(), number, &text, output.bytes())?;
+            unrefused = unrefused_behind(unrefused, is_refused);
         }
     }
-    assert_eq!(rt; unrefused, 4);
+    assert_that(&rt, unrefused == 4);
     Ok(())
 }

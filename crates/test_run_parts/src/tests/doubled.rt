@@ -1,21 +1,15 @@
 //! Each page of a document is delivered more than once, by one caller and by several at once: each sheet is completed
 //! once.
-use super::callers::{Caller, assert_imposed, caller_of, two_others};
-use dsc::Document;
-use gather_table::{Closing, GatherTable, Published, Reply};
-use handover::{Ready, Shelf};
-use lengths::a4;
-use pagespec::read_spec;
+use super::callers::{Caller, Task, is_imposed, two_others, with_caller};
+use gather_table::{Closing, Published, Reply};
 use run_steps::Delivered;
-use sheet_plan::Plan;
-use sheet_text::Job;
 use std::alloc::{AllocError, Global};
 use std::process::Abort;
 use std::sync::Wait;
 use std::test::Fail;
 use std::thread;
 use std::thread::Threads;
-use test_tools::document_of;
+use test_tools::{assert_that, document_of};
 
 /// What a caller was told of a page that stands in one slot.
 #[derive(Clone, Copy, Debug)]
@@ -228,79 +222,81 @@ fn count_completed(all: &[Told]) -> u32 {
     count
 }
 
-/// Each page was stored once and marked once, and each sheet of so many slots was completed once.
-fn assert_each_once<R: Abort>(
-    rt: &R,
+/// Whether each page was stored once and marked once, and each sheet of so many slots was completed once.
+fn is_each_once(
     alloc: Global,
     all: &[Vec<Told>],
     pages: usize,
     slots: usize,
-) -> Result<(), AllocError> {
+) -> Result<bool, AllocError> {
     let mut completed = 0u32;
     for page in 0..pages {
         let told = told_of_page(alloc, all, page)?;
-        assert!(rt; is_stored_once(&told), "page {page}");
-        assert_eq!(rt; count_marked(&told), 1, "page {page}");
+        if !is_stored_once(&told) || count_marked(&told) != 1 {
+            return Ok(false);
+        }
         completed = completed.saturating_add(count_completed(&told));
         if page % slots.max(1) == slots.saturating_sub(1) {
-            assert_eq!(rt; completed, 1, "the sheet of page {page}");
+            if completed != 1 {
+                return Ok(false);
+            }
             completed = 0;
         }
     }
-    Ok(())
+    Ok(true)
 }
 
-/// The queue gives each sheet once, each has its text, and then the queue gives none.
-fn assert_queue<R: Wait + Abort>(
+/// Whether these are the numbers from 0 on, each once.
+fn are_all(sheets: &[u32]) -> bool {
+    for (place, sheet) in sheets.iter().enumerate() {
+        if *sheet as usize != place {
+            return false;
+        }
+    }
+    true
+}
+
+/// Whether the queue gives each sheet once, each has its text, and then the queue gives none.
+fn gives_each_sheet<R: Wait>(
     rt: &R,
     alloc: Global,
     caller: &mut Caller<'_, '_, '_, '_>,
-) -> Result<(), AllocError> {
+) -> Result<bool, AllocError> {
     let mut taken = Vec::new(alloc);
     for _ in 0..caller.job.sheets() {
         let Some(sheet) = caller.take(rt) else {
-            panic!(rt; "a sheet is missing");
+            return Ok(false);
         };
-        assert_imposed(rt, alloc, caller, sheet)?;
+        if !is_imposed(alloc, caller, sheet)? {
+            return Ok(false);
+        }
         taken.push(sheet)?;
     }
-    assert_eq!(rt; caller.take(rt), None);
     taken.sort()?;
-    for (place, sheet) in taken.iter().enumerate() {
-        assert_eq!(rt; *sheet as usize, place);
+    Ok(caller.take(rt).is_none() && are_all(taken.as_slice()))
+}
+
+/// Each page is delivered more than once, on so many sheets of so many slots.
+#[derive(Drop)]
+struct Doubled {
+    sheets: u32,
+    slots: u32,
+    callers: Callers,
+}
+
+impl<R: Threads + Wait + Sync + Abort> Task<R, ()> for Doubled {
+    fn go(&self, rt: &R, alloc: Global, caller: Caller<'_, '_, '_, '_>) -> Result<(), Fail> {
+        let mut caller = caller;
+        let pages = self.sheets.saturating_mul(self.slots);
+        assert_that(rt, caller.job.document().pages() == pages);
+        assert_that(rt, caller.job.sheets() == self.sheets);
+        let all = deliver_by(rt, alloc, &mut caller, self.callers)?;
+        assert_that(rt, all.len() > 1);
+        let (pages, slots) = (pages as usize, self.slots as usize);
+        assert_that(rt, is_each_once(alloc, all.as_slice(), pages, slots)?);
+        assert_that(rt, gives_each_sheet(rt, alloc, &mut caller)?);
+        Ok(())
     }
-    Ok(())
-}
-
-/// Delivers each page of the caller's job more than once, on sheets of so many slots.
-fn deliver_and_look<R: Threads + Wait + Sync + Abort>(
-    rt: &R,
-    alloc: Global,
-    caller: Caller<'_, '_, '_, '_>,
-    slots: usize,
-    callers: Callers,
-) -> Result<(), AllocError> {
-    let mut caller = caller;
-    let pages = caller.job.document().pages() as usize;
-    let all = deliver_by(rt, alloc, &mut caller, callers)?;
-    assert!(rt; all.len() > 1);
-    assert_each_once(rt, alloc, all.as_slice(), pages, slots)?;
-    assert_queue(rt, alloc, &mut caller)
-}
-
-/// The same of a job, with room in the queue for each sheet once.
-fn deliver_job<R: Threads + Wait + Sync + Abort>(
-    rt: &R,
-    alloc: Global,
-    job: &Job<'_, '_>,
-    slots: usize,
-    callers: Callers,
-) -> Result<(), AllocError> {
-    let (table, seat) = GatherTable::new(alloc, job.plan())?;
-    let shelf = Shelf::new(alloc)?;
-    let (ready, pass) = Ready::new(alloc, job.sheets().max(1))?;
-    let caller = caller_of(job, &table, &shelf, &ready, seat, pass);
-    deliver_and_look(rt, alloc, caller, slots, callers)
 }
 
 /// So many pages a sheet, each in one slot.
@@ -313,42 +309,38 @@ fn pages_per_sheet(alloc: Global, slots: u32) -> Result<String, AllocError> {
     Ok(text)
 }
 
-/// The same of a document of so many pages.
+/// The same of a document of so many pages, with room in the queue for each sheet once.
 fn deliver_document<R: Threads + Wait + Sync + Abort>(
     rt: &R,
     alloc: Global,
-    pages: u32,
+    sheets: u32,
     slots: u32,
     callers: Callers,
 ) -> Result<(), Fail> {
-    let text = document_of(alloc, pages)?;
+    let text = document_of(alloc, sheets.saturating_mul(slots))?;
     let items = pages_per_sheet(alloc, slots)?;
-    let spec = read_spec(alloc, &items)?;
-    let document = Document::read(alloc, text.as_bytes())?;
-    let plan = Plan::new(alloc, &spec, document.pages())?;
-    let sheets = pages / slots.max(1);
-    assert_eq!(rt; (document.pages(), plan.sheets()), (pages, sheets));
-    let job = Job::new(&plan, &document, a4(), None);
-    Ok(deliver_job(rt, alloc, &job, slots as usize, callers)?)
+    let task = Doubled {
+        sheets,
+        slots,
+        callers,
+    };
+    with_caller(rt, alloc, &text, &items, sheets, &task)
 }
 
 #[test]
 fn one_caller_delivers_each_page_twice(rt: HostRuntime) -> Result<(), Fail> {
-    deliver_document(&rt, rt.alloc(), 20, 2, Callers::One)?;
-    deliver_document(&rt, rt.alloc(), 130, 65, Callers::One)?;
-    Ok(())
+    deliver_document(&rt, rt.alloc(), 10, 2, Callers::One)?;
+    deliver_document(&rt, rt.alloc(), 2, 65, Callers::One)
 }
 
 #[test]
 fn two_threads_deliver_each_page_at_once(rt: HostRuntime) -> Result<(), Fail> {
-    deliver_document(&rt, rt.alloc(), 20, 2, Callers::Two)?;
-    deliver_document(&rt, rt.alloc(), 130, 65, Callers::Two)?;
-    Ok(())
+    deliver_document(&rt, rt.alloc(), 10, 2, Callers::Two)?;
+    deliver_document(&rt, rt.alloc(), 2, 65, Callers::Two)
 }
 
 #[test]
 fn four_threads_deliver_each_page_at_once(rt: HostRuntime) -> Result<(), Fail> {
-    deliver_document(&rt, rt.alloc(), 20, 2, Callers::Four)?;
-    deliver_document(&rt, rt.alloc(), 130, 65, Callers::Four)?;
-    Ok(())
+    deliver_document(&rt, rt.alloc(), 10, 2, Callers::Four)?;
+    deliver_document(&rt, rt.alloc(), 2, 65, Callers::Four)
 }

@@ -4,18 +4,14 @@ ghost use Rattle.rules.specs.Sheets.{layout};
 ghost use Rattle.gather_table.specs.Shared.{IsSeatOf};
 ghost use Rattle.handover.specs.Passes.{IsPassOf};
 
-use dsc::Document;
+use super::jobs;
 use gather_table::{GatherTable, Seat};
 use handover::{Pass, Prepared, Ready, Shelf};
-use lengths::a4;
-use pagespec::read_spec;
 use run_steps::{
     Answers, DeliverError, Delivered, Delivery, ImposeError, Imposed, deliver, impose, is_complete,
 };
-use sheet_plan::Plan;
 use sheet_text::{Job, sheet_text};
 use std::alloc::{AllocError, Global};
-use std::process::Abort;
 use std::sync::Wait;
 use std::test::Fail;
 
@@ -38,6 +34,23 @@ pub(super) trait Task<R, A> {
     fn go(&self, rt: &R, alloc: Global, caller: Caller<'_, '_, '_, '_>) -> Result<A, Fail>;
 }
 
+/// A task with a caller of a job, with room for so many sheets in the queue.
+#[derive(Drop)]
+struct WithCaller<'t, T> {
+    room: u32,
+    task: &'t T,
+}
+
+impl<'t, A, R, T: Task<R, A>> jobs::Task<R, A> for WithCaller<'t, T> {
+    fn go(&self, rt: &R, alloc: Global, job: &Job<'_, '_>) -> Result<A, Fail> {
+        let (table, seat) = GatherTable::new(alloc, job.plan())?;
+        let shelf = Shelf::new(alloc)?;
+        let (ready, pass) = Ready::new(alloc, self.room.max(1))?;
+        let caller = caller_of(job, &table, &shelf, &ready, seat, pass);
+        self.task.go(rt, alloc, caller)
+    }
+}
+
 /// Does the task with a caller that gathers this document by this specification, with room for so many sheets in the
 /// queue.
 pub(super) fn with_caller<A, R, T: Task<R, A>>(
@@ -48,35 +61,11 @@ pub(super) fn with_caller<A, R, T: Task<R, A>>(
     room: u32,
     task: &T,
 ) -> Result<A, Fail> {
-    let spec = read_spec(alloc, items)?;
-    let document = Document::read(alloc, text.as_bytes())?;
-    let plan = Plan::new(alloc, &spec, document.pages())?;
-    with_job(
-        rt,
-        alloc,
-        &Job::new(&plan, &document, a4(), None),
-        room,
-        task,
-    )
-}
-
-/// The same for this job.
-fn with_job<A, R, T: Task<R, A>>(
-    rt: &R,
-    alloc: Global,
-    job: &Job<'_, '_>,
-    room: u32,
-    task: &T,
-) -> Result<A, Fail> {
-    let (table, seat) = GatherTable::new(alloc, job.plan())?;
-    let shelf = Shelf::new(alloc)?;
-    let (ready, pass) = Ready::new(alloc, room.max(1))?;
-    let caller = caller_of(job, &table, &shelf, &ready, seat, pass);
-    task.go(rt, alloc, caller)
+    jobs::with_job(rt, alloc, text, items, &WithCaller { room, task })
 }
 
 /// A caller with this seat and this pass.
-pub(super) fn caller_of<'s, 'j, 't, 'd>(
+fn caller_of<'s, 'j, 't, 'd>(
     job: &'s Job<'j, 'd>,
     table: &'s GatherTable<'t>,
     shelf: &'s Shelf<'d>,
@@ -235,22 +224,22 @@ pub(super) fn two_others<'s, 'j, 't, 'd>(
     Ok((one, other))
 }
 
-/// Imposes a sheet, which must be complete and have its text.
-pub(super) fn assert_imposed<R: Abort>(
-    rt: &R,
+/// Imposes a sheet: whether it is complete and has its text.
+pub(super) fn is_imposed(
     alloc: Global,
     caller: &mut Caller<'_, '_, '_, '_>,
     sheet: u32,
-) -> Result<(), AllocError> {
+) -> Result<bool, AllocError> {
     let job = caller.job;
-    assert!(rt; sheet < job.sheets());
+    if sheet >= job.sheets() {
+        return Ok(false);
+    }
     let Some(another) = caller.another() else {
         return Err(AllocError);
     };
     let Some(Ok(imposed)) = another.impose(alloc, sheet) else {
-        panic!(rt; "sheet {sheet} isn't imposed");
+        return Ok(false);
     };
     let text = sheet_text(alloc, job, sheet)?;
-    assert!(rt; imposed.text.as_slice() == text.as_slice());
-    Ok(())
+    Ok(imposed.text.as_slice() == text.as_slice())
 }

@@ -4,7 +4,7 @@ use Rattle.rules.specs.Sheets.{Layout}
 use Rattle.gather_table.specs.Table.{IsMarkable, slots}
 use Rattle.gather_table.specs.History.{after_history}
 use Rattle.gather_table.proofs.Calls.{published_may_be_marked}
-use Rattle.test_calls.proofs.tests.examples.impositions.bring_first.Goals as goal
+use Rattle.test_run_parts.proofs.tests.examples.impositions.bring_first.Goals as goal
 
 pub mark-marked-requires-clause-slot : goal.mark-marked-requires-clause-slot
 mark-marked-requires-clause-slot c =

@@ -1,5 +1,0 @@
-//! Callers, and what they deliver and impose.
-mod callers;
-mod doubled;
-mod examples;
-mod growth;

@@ -1,0 +1,173 @@
+//! Pages are delivered to a sheet of over 64 slots, by one thread and by two.
+use crate::tests::callers::{Caller, Task, is_imposed, two_others, with_caller};
+use gather_table::{Closing, Published, Reply};
+use std::alloc::{AllocError, Global};
+use std::process::Abort;
+use std::sync::Wait;
+use std::test::Fail;
+use std::thread;
+use std::thread::Threads;
+use test_tools::{ONE_PAGE, assert_that, same_items};
+
+/// Of 65 slots: whether the first 63 fill nothing, the last of the first group fills it, and the one of the second group
+/// that.
+fn are_filling(replies: &[Reply]) -> bool {
+    for (slot, reply) in replies.iter().enumerate() {
+        let wanted = match slot {
+            63 => Reply::Fills(0),
+            64 => Reply::Fills(1),
+            _ => Reply::Fresh,
+        };
+        if *reply != wanted {
+            return false;
+        }
+    }
+    replies.len() == 65
+}
+
+/// Delivers the first page, which fills both groups of the sheet: its index.
+fn deliver_filling<R: Wait + Abort>(
+    rt: &R,
+    alloc: Global,
+    caller: &mut Caller<'_, '_, '_, '_>,
+) -> Result<u32, AllocError> {
+    let delivered = caller.deliver_page(rt, alloc, 0)?;
+    assert_that(rt, delivered.published == Published::Stored);
+    assert_that(rt, are_filling(delivered.replies.as_slice()));
+    let closings = [Closing::Closed, Closing::Completing];
+    assert_that(rt, delivered.closings.as_slice() == closings.as_slice());
+    assert_that(rt, delivered.handed_back.is_empty());
+    Ok(delivered.receipt.index())
+}
+
+/// Delivers it again: it keeps its index, each mark finds its slot marked, and nothing is closed.
+fn deliver_repeating<R: Wait + Abort>(
+    rt: &R,
+    alloc: Global,
+    caller: &mut Caller<'_, '_, '_, '_>,
+    index: u32,
+) -> Result<(), AllocError> {
+    let delivered = caller.deliver_page(rt, alloc, 0)?;
+    assert_that(rt, delivered.published == Published::Held(index));
+    let repeated = count_of(delivered.replies.as_slice(), Reply::Repeated);
+    assert_that(rt, repeated == delivered.replies.len());
+    assert_that(rt, delivered.closings.is_empty());
+    Ok(())
+}
+
+/// A page that fills both groups of a sheet is delivered, and delivered again, and the sheet imposed.
+#[derive(Drop)]
+struct CompleteByClosing {}
+
+impl<R: Wait + Abort> Task<R, ()> for CompleteByClosing {
+    fn go(&self, rt: &R, alloc: Global, caller: Caller<'_, '_, '_, '_>) -> Result<(), Fail> {
+        let mut caller = caller;
+        assert_that(rt, caller.look(0) == Some(3));
+        let index = deliver_filling(rt, alloc, &mut caller)?;
+        assert_that(rt, caller.take(rt) == Some(0));
+        deliver_repeating(rt, alloc, &mut caller, index)?;
+        assert_that(rt, caller.take(rt).is_none());
+        assert_that(rt, is_imposed(alloc, &mut caller, 0)?);
+        Ok(())
+    }
+}
+
+#[test]
+fn the_last_closing_completes_a_sheet(rt: HostRuntime) -> Result<(), Fail> {
+    let items = same_items(rt.alloc(), "0", 65)?;
+    with_caller(&rt, rt.alloc(), ONE_PAGE, &items, 1, &CompleteByClosing {})
+}
+
+/// What a thread was answered when it delivered the first page.
+type Answers = Result<(Vec<Reply>, Vec<Closing>), AllocError>;
+
+/// Delivers the first page by a caller of the thread's own.
+fn deliver_first<R: Wait>(rt: &R, alloc: Global, caller: Caller<'_, '_, '_, '_>) -> Answers {
+    let mut caller = caller;
+    let delivered = caller.deliver_page(rt, alloc, 0)?;
+    Ok((delivered.replies, delivered.closings))
+}
+
+/// Two threads deliver the first page at once. The caller that is left looks at the queue afterwards.
+fn deliver_in_two_threads<R: Threads + Wait + Sync>(
+    rt: &R,
+    alloc: Global,
+    caller: &mut Caller<'_, '_, '_, '_>,
+) -> Result<(Answers, Answers), AllocError> {
+    let (one, other) = two_others(caller)?;
+    Ok(thread::join(
+        rt,
+        move || deliver_first(rt, alloc, one),
+        move || deliver_first(rt, alloc, other),
+    ))
+}
+
+/// How many of the marks were answered so.
+fn count_of(replies: &[Reply], reply: Reply) -> usize {
+    let mut count = 0usize;
+    for answer in replies {
+        if *answer == reply {
+            count = count.saturating_add(1);
+        }
+    }
+    count
+}
+
+/// Whether of both threads' marks each group was filled by one, and each slot was new to one.
+fn are_filled_once(one: &[Reply], other: &[Reply]) -> bool {
+    for (reply, times) in [
+        (Reply::Fills(0), 1),
+        (Reply::Fills(1), 1),
+        (Reply::Fresh, 63),
+        (Reply::Repeated, 65),
+    ] {
+        if count_of(one, reply).saturating_add(count_of(other, reply)) != times {
+            return false;
+        }
+    }
+    true
+}
+
+/// How many of the closings completed the sheet.
+fn count_completing(closings: &[Closing]) -> usize {
+    let mut count = 0usize;
+    for closing in closings {
+        if *closing == Closing::Completing {
+            count = count.saturating_add(1);
+        }
+    }
+    count
+}
+
+/// Whether of both threads' closings one completed the sheet, and the other one didn't.
+fn is_completed_once(one: &[Closing], other: &[Closing]) -> bool {
+    let completing = count_completing(one).saturating_add(count_completing(other));
+    completing == 1 && one.len().saturating_add(other.len()) == 2
+}
+
+/// Two threads deliver a page that fills both groups of a sheet.
+#[derive(Drop)]
+struct CompleteByTwo {}
+
+impl<R: Threads + Wait + Sync + Abort> Task<R, ()> for CompleteByTwo {
+    fn go(&self, rt: &R, alloc: Global, caller: Caller<'_, '_, '_, '_>) -> Result<(), Fail> {
+        let mut caller = caller;
+        let (one, other) = deliver_in_two_threads(rt, alloc, &mut caller)?;
+        let (one, closed) = one?;
+        let (other, also_closed) = other?;
+        assert_that(rt, are_filled_once(one.as_slice(), other.as_slice()));
+        assert_that(
+            rt,
+            is_completed_once(closed.as_slice(), also_closed.as_slice()),
+        );
+        assert_that(rt, caller.take(rt) == Some(0));
+        assert_that(rt, caller.take(rt).is_none());
+        Ok(())
+    }
+}
+
+#[test]
+fn two_threads_complete_a_wide_sheet_once(rt: HostRuntime) -> Result<(), Fail> {
+    let items = same_items(rt.alloc(), "0", 65)?;
+    with_caller(&rt, rt.alloc(), ONE_PAGE, &items, 1, &CompleteByTwo {})
+}
