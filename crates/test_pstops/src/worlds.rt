@@ -2,10 +2,9 @@
 use pstops_cli::pstops;
 use std::alloc::{AllocError, Global};
 use std::sync::Wait;
-use std::sync::atomic::AtomicU32;
 use std::thread::Threads;
 use test_cases::{Case, CaseFile, Found, FoundFile};
-use test_world::{InMemory, Takes, Written};
+use test_world::{Folder, GivenFile, Takes, Written};
 
 /// Room for every output.
 const AMPLE: Takes = Takes::Bytes(1_000_000);
@@ -21,12 +20,10 @@ pub(crate) fn ran<R: Threads + Wait + Sync>(
     let Some(takes) = takes_of(case) else {
         return Ok(None);
     };
-    let inputs = inputs_of(alloc, file, case)?;
-    let opened = AtomicU32::new(0);
-    let world = InMemory {
+    let files = files_of(alloc, file, case)?;
+    let world = Folder {
         alloc,
-        opened: &opened,
-        inputs: inputs.as_slice(),
+        files: files.as_slice(),
         takes,
     };
     let ended = pstops(rt, alloc, words, world);
@@ -43,16 +40,19 @@ pub(crate) fn ran<R: Threads + Wait + Sync>(
 }
 
 /// The files that can be read.
-fn inputs_of<'a>(
+fn files_of<'a>(
     alloc: Global,
     file: &'a CaseFile,
     case: &'a Case,
-) -> Result<Vec<(&'a str, &'a [u8])>, AllocError> {
-    let mut inputs = Vec::new(alloc);
+) -> Result<Vec<GivenFile<'a>>, AllocError> {
+    let mut files = Vec::new(alloc);
     for input in case.inputs.iter() {
-        inputs.push((input.name.as_str(), file.text_of(input)))?;
+        files.push(GivenFile {
+            name: input.name.as_str(),
+            bytes: file.text_of(input),
+        })?;
     }
-    Ok(inputs)
+    Ok(files)
 }
 
 /// What the outputs take: every byte, unless a setting says otherwise.

@@ -1,5 +1,5 @@
-//! Trials of the command line: calls in which each growth is refused, readers that fail, and long names. There is no
-//! code here but tests.
+//! Calls of pstops' command that no case file can make: readers and outputs that fail, long names, growth that is
+//! refused. There is no code here but tests.
 #![tactic(auto)]
 
 #[cfg(test)]
