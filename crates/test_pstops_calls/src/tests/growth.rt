@@ -159,7 +159,11 @@ fn run_refused<R: Threads + Wait + Abort + Sync>(
         assert!(rt; output.starts_with(sink.bytes()));
     } else {
         assert!(rt; status == 0);
-        assert_same(rt, line.as_slice(), b"pstops: pages 1, sheets 1, bytes 273\n");
+        assert_same(
+            rt,
+            line.as_slice(),
+            b"pstops: pages 1, sheets 1, bytes 273\n",
+        );
         assert_same(rt, sink.bytes(), output);
     }
     Ok(is_refused)

@@ -37,7 +37,11 @@ fn specifications_past_a_limit(rt: HostRuntime) {
     let error = RunError::Spec(SpecError::TooLong);
     assert_refused(&rt, error, "pstops: specification: too long\n");
     let error = RunError::Spec(SpecError::TooManySlots(4));
-    assert_refused(&rt, error, "pstops: specification: group 4: too many items\n");
+    assert_refused(
+        &rt,
+        error,
+        "pstops: specification: group 4: too many items\n",
+    );
     let error = RunError::Spec(SpecError::TooManyGroups);
     assert_refused(&rt, error, "pstops: specification: too many groups\n");
 }

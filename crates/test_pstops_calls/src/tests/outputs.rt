@@ -83,7 +83,14 @@ fn assert_status<R: Threads + Wait + Abort + Sync>(
     status: u8,
 ) -> Result<(), AllocError> {
     let opened = AtomicU32::new(0);
-    let end = ended(rt, alloc, &["0", "in.ps", "out.ps"], ONE_PAGE, takes, &opened)?;
+    let end = ended(
+        rt,
+        alloc,
+        &["0", "in.ps", "out.ps"],
+        ONE_PAGE,
+        takes,
+        &opened,
+    )?;
     assert!(rt; end.output.is_some() == (status == 0));
     assert!(rt; tell(&mut Closed {}, end.line.as_slice(), end.status) == status);
     Ok(())
