@@ -16,8 +16,8 @@ pub fn answer_of_document(
         ["cut", sheets, name] => cut(alloc, number(sheets)?, text_of(documents, name)?)?,
         ["pages", name] => counted(alloc, text_of(documents, name)?)?,
         ["prepare", name] => bodies(alloc, text_of(documents, name)?)?,
-        ["pages_of_every_prefix", name] => every_prefix(alloc, text_of(documents, name)?)?,
-        ["pages_with_each_byte", name, byte] => {
+        ["pages_of_prefixes", name] => every_prefix(alloc, text_of(documents, name)?)?,
+        ["pages_with_byte", name, byte] => {
             every_change(alloc, text_of(documents, name)?, byte)?
         }
         ["refusals"] => refusals(alloc)?,

@@ -21,14 +21,7 @@ use row_commands::answer_of_rows;
 use std::alloc::Global;
 use test_cases::{Case, Document, Found, Tally, load};
 
-const FILES: [&str; 6] = [
-    "cuts.cases",
-    "documents.cases",
-    "guards.cases",
-    "papers.cases",
-    "rows.cases",
-    "sheets.cases",
-];
+const FILES: [&str; 3] = ["cuts.cases", "rows.cases", "sheets.cases"];
 
 fn main(rt: HostRuntime) -> anyhow::Result<()> {
     call_laws();
