@@ -95,13 +95,13 @@ fn reads(rt: HostRuntime) -> Result<(), Fail> {
         two \"%!PS\\n%%Pages: 1\\n\\n(a) pop\\n\"\n\
         cut \"a\\rA\\\\b\\n\"\n\
         many \"page 1 0page 2 1\"\n\
-        17 [\"call\", \"a b\", \"cd\", \"\", \"x\\n\", \"-o\"] 2\n\
+        19 [\"call\", \"a b\", \"cd\", \"\", \"x\\n\", \"-o\"] 2\n\
         input in.ps 6\n\
         input - 0\n\
         pieces 1 2\n\
-        35 [\"call\", \"a\"] 0\n\
+        38 [\"call\", \"a\"] 0\n\
         pieces none\n\
-        bad 34 odd\n";
+        bad 37 odd\n";
     assert_text(&rt, lines.as_str(), wanted);
     Ok(())
 }
