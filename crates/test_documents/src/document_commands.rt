@@ -17,14 +17,10 @@ pub fn answer_of_document(
         ["pages", name] => counted(alloc, text_of(documents, name)?)?,
         ["prepare", name] => bodies(alloc, text_of(documents, name)?)?,
         ["pages_of_prefixes", name] => every_prefix(alloc, text_of(documents, name)?)?,
-        ["pages_with_byte", name, byte] => {
-            every_change(alloc, text_of(documents, name)?, byte)?
-        }
+        ["pages_with_byte", name, byte] => { every_change(alloc, text_of(documents, name)?, byte)? }
         ["refusals"] => refusals(alloc)?,
         ["guard", name] => guard(alloc, text_of(documents, name)?, None)?,
-        ["guard", name, sheet] => {
-            guard(alloc, text_of(documents, name)?, Some(&paper(sheet)?))?
-        }
+        ["guard", name, sheet] => { guard(alloc, text_of(documents, name)?, Some(&paper(sheet)?))? }
         _ => return Ok(None),
     };
     Ok(Some(text))

@@ -21,7 +21,14 @@ use row_commands::answer_of_rows;
 use std::alloc::Global;
 use test_cases::{Case, Document, Found, Tally, load};
 
-const FILES: [&str; 3] = ["cuts.cases", "rows.cases", "sheets.cases"];
+const FILES: [&str; 6] = [
+    "cuts.cases",
+    "documents.cases",
+    "guards.cases",
+    "papers.cases",
+    "rows.cases",
+    "sheets.cases",
+];
 
 fn main(rt: HostRuntime) -> anyhow::Result<()> {
     call_laws();
@@ -57,11 +64,7 @@ fn found(alloc: Global, case: &Case, documents: &[Document]) -> anyhow::Result<F
 }
 
 /// What the library answers that the command names.
-fn answer(
-    alloc: Global,
-    words: &[&str],
-    documents: &[Document],
-) -> anyhow::Result<Option<String>> {
+fn answer(alloc: Global, words: &[&str], documents: &[Document]) -> anyhow::Result<Option<String>> {
     if let Some(text) = answer_of_document(alloc, words, documents)? {
         return Ok(Some(text));
     }

@@ -27,12 +27,7 @@ pub fn chosen(alloc: Global, pages: u32, words: &[&str]) -> anyhow::Result<Strin
 }
 
 /// The row of a choice, in signatures if there are to be some.
-pub fn imposed(
-    alloc: Global,
-    pages: u32,
-    signing: &str,
-    words: &[&str],
-) -> anyhow::Result<String> {
+pub fn imposed(alloc: Global, pages: u32, signing: &str, words: &[&str]) -> anyhow::Result<String> {
     if pages >= TOO_MANY {
         return Ok(String::from_str(alloc, "too many pages\n")?);
     }
@@ -97,7 +92,9 @@ pub fn entries(alloc: Global, text: &str) -> anyhow::Result<Vec<Option<u32>>> {
             continue;
         }
         let (page, times) = word.split_once('*').unwrap_or((word, "1"));
-        let page = number(page)?.checked_sub(1).context("pages are counted from 1")?;
+        let page = number(page)?
+            .checked_sub(1)
+            .context("pages are counted from 1")?;
         for _ in 0..number(times)? {
             row.push(Some(page))?;
         }
@@ -106,10 +103,7 @@ pub fn entries(alloc: Global, text: &str) -> anyhow::Result<Vec<Option<u32>>> {
 }
 
 /// A row, or why there is none.
-fn told(
-    alloc: Global,
-    answer: Result<Vec<Option<u32>>, RowError>,
-) -> Result<String, AllocError> {
+fn told(alloc: Global, answer: Result<Vec<Option<u32>>, RowError>) -> Result<String, AllocError> {
     match answer {
         Ok(row) => row_text(alloc, row.as_slice()),
         Err(error) => format!(in alloc; "{error}\n"),

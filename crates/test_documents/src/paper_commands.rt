@@ -1,5 +1,7 @@
 //! Commands that find papers.
-use crate::papers::{as_one_with, cutting, home_papers, instead_of, told, trailing_box, value_of_title};
+use crate::papers::{
+    as_one_with, cutting, home_papers, instead_of, told, trailing_box, value_of_title,
+};
 use crate::words::{paper, papers, text_of};
 use std::alloc::Global;
 use test_cases::Document;

@@ -31,11 +31,7 @@ pub fn told(alloc: Global, text: &[u8]) -> Result<String, AllocError> {
 }
 
 /// The paper of each page, for a home of letter.
-pub fn home_papers(
-    alloc: Global,
-    text: &[u8],
-    asked: Option<Paper>,
-) -> anyhow::Result<String> {
+pub fn home_papers(alloc: Global, text: &[u8], asked: Option<Paper>) -> anyhow::Result<String> {
     let document = Document::read(alloc, text)?;
     let papers = own_papers(alloc, &document, asked, &paper("letter")?)?;
     Ok(paper_lines(alloc, papers.as_slice())?)
@@ -67,7 +63,10 @@ pub fn cutting(alloc: Global, paper: &Paper, own: &[Paper]) -> Result<String, Al
     };
     let (first, last) = (cut.first.saturating_add(1), cut.last.saturating_add(1));
     let text = paper_text(alloc, &cut.paper)?;
-    format!(in alloc; "first {first}, last {last}, pages {}, paper {text}\n", cut.pages)
+    format!(in alloc;
+        "first {first}, last {last}, pages {}, paper {text}\n",
+        cut.pages
+    )
 }
 
 /// The first page's paper, if no page has this one.

@@ -13,12 +13,7 @@ use std::alloc::{AllocError, Global};
 const MANY: u32 = 20;
 
 /// Each entry of a row on a sheet of its own.
-pub fn on_their_own(
-    alloc: Global,
-    blank: &str,
-    papers: &str,
-    row: &str,
-) -> anyhow::Result<String> {
+pub fn on_their_own(alloc: Global, blank: &str, papers: &str, row: &str) -> anyhow::Result<String> {
     let (pages, papers) = papers_of(alloc, papers)?;
     let row = row_of(alloc, pages, row)?;
     let made = select(alloc, row.as_slice(), &papers, &paper(blank)?)?;
@@ -26,12 +21,7 @@ pub fn on_their_own(
 }
 
 /// The entries of a row in cells: `pairs`, or `fours`.
-pub fn in_cells(
-    alloc: Global,
-    cells: &str,
-    papers: &str,
-    row: &str,
-) -> anyhow::Result<String> {
+pub fn in_cells(alloc: Global, cells: &str, papers: &str, row: &str) -> anyhow::Result<String> {
     let cells = match cells {
         "pairs" => pairs(alloc)?,
         _ => Cells::new(alloc, &paper("a4")?, 4, 2),

@@ -6,7 +6,9 @@ use test_cases::Document;
 
 /// The text of the document of this name.
 pub fn text_of<'d>(documents: &'d [Document], name: &str) -> anyhow::Result<&'d [u8]> {
-    let named = documents.iter().find(|document| document.name.as_str() == name);
+    let named = documents
+        .iter()
+        .find(|document| document.name.as_str() == name);
     Ok(named.context("no such document")?.bytes.as_slice())
 }
 

@@ -135,7 +135,9 @@ fn rows_and_sheets(rt: HostRuntime) -> Result<(), Fail> {
     let other = paper_by_name("a3").expect(&rt, "a3 is a paper");
     for place in 0..6 {
         let mut number = 1;
-        while number < MOST_GROWTHS && goes_on(&rt, call(rt.alloc(), place, number, (&one, &other))?) {
+        while number < MOST_GROWTHS
+            && goes_on(&rt, call(rt.alloc(), place, number, (&one, &other))?)
+        {
             number += 1;
         }
         assert!(rt; number < MOST_GROWTHS);
