@@ -117,25 +117,13 @@ fn push_repeated(
     times: u32,
 ) -> Result<bool, AllocError> {
     for time in 0..times {
+        let from_0 = format!(in alloc; "{time}")?;
+        let from_1 = format!(in alloc; "{}", time.saturating_add(1))?;
         for line in lines.iter() {
-            push_numbered(alloc, bytes, line, time)?;
+            let numbered = line.replace(alloc, "{0}", from_0.as_str())?;
+            let numbered = numbered.as_str().replace(alloc, "{}", from_1.as_str())?;
+            push_line(bytes, numbered.as_str())?;
         }
     }
     Ok(true)
-}
-
-fn push_numbered(
-    alloc: Global,
-    bytes: &mut Vec<u8>,
-    line: &str,
-    time: u32,
-) -> Result<(), AllocError> {
-    if !line.contains('{') {
-        return push_line(bytes, line);
-    }
-    let from_0 = format!(in alloc; "{time}")?;
-    let from_1 = format!(in alloc; "{}", time.saturating_add(1))?;
-    let numbered = line.replace(alloc, "{0}", from_0.as_str())?;
-    let numbered = numbered.as_str().replace(alloc, "{}", from_1.as_str())?;
-    push_line(bytes, numbered.as_str())
 }

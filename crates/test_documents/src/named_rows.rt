@@ -10,8 +10,8 @@ use std::alloc::{AllocError, Global};
 /// More entries than a row may have.
 const TOO_MANY: u32 = 1_000_001;
 
-/// More entries than are written out.
-const LONG: usize = 20;
+/// The most entries that are written out.
+const FEW: usize = 20;
 
 /// The row that a text names.
 pub fn named(alloc: Global, pages: u32, text: &str) -> Result<String, AllocError> {
@@ -112,7 +112,7 @@ fn told(alloc: Global, answer: Result<Vec<Option<u32>>, RowError>) -> Result<Str
 
 /// A row as it is read; of a long one three entries at each end, and how many there are.
 fn row_text(alloc: Global, row: &[Option<u32>]) -> Result<String, AllocError> {
-    if row.len() <= LONG {
+    if row.len() <= FEW {
         return format!(in alloc; "{}\n", entries_text(alloc, row)?);
     }
     let (first, _) = row.split_at(3);

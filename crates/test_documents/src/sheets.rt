@@ -9,8 +9,8 @@ use rows::all_pages;
 use sheet_plan::MadeSheets;
 use std::alloc::{AllocError, Global};
 
-/// More sheets than are written out, and more entries than a row may have.
-const MANY: u32 = 20;
+/// The most sheets that are written out.
+const FEW: usize = 20;
 
 /// Each entry of a row on a sheet of its own.
 pub fn on_their_own(alloc: Global, blank: &str, papers: &str, row: &str) -> anyhow::Result<String> {
@@ -117,13 +117,13 @@ fn sheets_text(alloc: Global, made: &MadeSheets) -> Result<String, AllocError> {
     let sheets = made.len();
     let mut lines = String::new(alloc);
     for sheet in 0..sheets {
-        if sheets <= 20 || sheet < 2 || sheets - sheet <= 2 {
+        if sheets <= FEW || sheet < 2 || sheets - sheet <= 2 {
             lines.push_str(sheet_text(alloc, made, sheet)?.as_str())?;
         } else if sheet == 2 {
             lines.push_str("..\n")?;
         }
     }
-    if sheets > 20 {
+    if sheets > FEW {
         lines.push_str(format!(in alloc; "sheets {sheets}\n")?.as_str())?;
     }
     Ok(lines)
