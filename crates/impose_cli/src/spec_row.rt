@@ -8,15 +8,13 @@ ghost use Rattle.impose_cli.specs.Endings.{Ends};
 ghost use Rattle.impose_cli.specs.SpecRows.{EndsSpecTask, ImposesSpecTask, IsSpecRow, IsSpecRowTask, LaysSpecRow};
 ghost use Rattle.impose_cli.specs.SpecRows.{RefusesSpecRow, RefusesSpecRowTask};
 
-use crate::fault::Fault;
 use crate::laying::may_be_sewn;
-use crate::request::{Layout, Request};
 use crate::roomy_text::RoomyText;
 use crate::row_task::{asked_fault_of, is_drawn};
-use crate::task::{
-    Finished, PaperOrigin, WORKERS, pages_of, paper_of_pages, paper_of_sheets, text_to_impose,
-};
+use crate::task::{WORKERS, pages_of, paper_of_pages, paper_of_sheets, text_to_impose};
 use dsc::Document;
+use impose_said::{Fault, Finished, PaperOrigin};
+use impose_words::{Layout, Request};
 use imposer::{Open, Report, RunError, Sink};
 use lengths::Paper;
 use pagespec::{Spec, read_spec};
