@@ -183,7 +183,7 @@ fn input_of<W: World>(alloc: Global, name: Option<&str>, world: &W) -> Result<Ro
     ensures refused { IfErr result IsReading }
 {
     match world.open(name) {
-        Ok(input) => read_from(alloc, KeepingReader::new(input)),
+        Ok(input) => read_from(alloc, input),
         Err(error) if error.kind() == ErrorKind::OutOfMemory => Err(Fault::no_memory()),
         Err(error) => Err(Fault::Read(Some(error))),
     }
