@@ -13,10 +13,10 @@ pub struct Block<'a> {
 /// The blocks of a text. Lines that begin with `#` are none.
 pub fn blocks(alloc: Global, text: &str) -> Result<Vec<Block<'_>>, AllocError> {
     let mut blocks = Vec::new(alloc);
-    let mut empty_lines = 0;
+    let mut empty_lines: usize = 0;
     for (index, line) in text.split('\n').enumerate() {
         if line.is_empty() {
-            empty_lines += 1;
+            empty_lines = empty_lines.saturating_add(1);
         } else if let Some(rest) = line.strip_prefix("  ") {
             add_line(alloc, &mut blocks, index, rest, empty_lines)?;
             empty_lines = 0;

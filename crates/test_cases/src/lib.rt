@@ -17,3 +17,4 @@ pub use case_file::{
 pub use compared::{Difference, differences};
 pub use reading::read_case_file;
 pub use tally::{Found, FoundFile, Tally, load};
+pub use words::words_of;

@@ -1,4 +1,6 @@
 //! Words as they are typed, and escapes.
+ghost use Rattle.std.specs.Prelude.{◌≤◌};
+
 use std::alloc::{AllocError, Global};
 
 /// The words of a command: spaces separate them, single quotes hold them together, and `$'..'` has escapes.
@@ -121,7 +123,9 @@ fn push_escape(bytes: &mut Vec<u8>, part: &str) -> Result<(), AllocError> {
 }
 
 /// The value of a digit of a hexadecimal number; 0 of anything else.
-fn digit(byte: u8) -> u8 {
+fn digit(byte: u8) -> u8
+    ensures { result ≤ 15 }
+{
     match byte {
         b'0'..=b'9' => byte - b'0',
         b'a'..=b'f' => byte - b'a' + 10,
