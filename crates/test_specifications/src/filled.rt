@@ -155,7 +155,10 @@ fn posters(out: &mut Answer, words: &[String]) -> Option<()> {
 
 /// Where the first page of each sheet is moved, in 10^-9 of a point.
 fn offsets(out: &mut Answer, made: &MadeSheets) {
-    for sheet in 0..made.len() as u32 {
+    let Ok(sheets) = u32::try_from(made.len()) else {
+        return out.text("too many\n");
+    };
+    for sheet in 0..sheets {
         if made.slots(sheet) == 0 {
             out.text("no slots\n");
         } else {

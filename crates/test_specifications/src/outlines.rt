@@ -12,44 +12,57 @@ use std::fmt::{Debug, Display};
 
 pub fn run(out: &mut Answer, words: &[String]) -> Option<()> {
     match word(words, 0)? {
-        "nup" => {
-            let made = nup(
-                out.alloc,
-                count(words, 1)?,
-                &paper(words, 2)?,
-                &paper(words, 3)?,
-            );
-            tell(out, made);
+        "nup" => pages_on_sheets(out, words),
+        "booklet" => leaves(out, words),
+        "arrange" => cells_of_a4(out, words),
+        "bind" => leaves_of_a4(out, words),
+        "select" => selected(out, words),
+        "no_memory_for_a_layout" => {
+            out.line(LayoutError::NoMemory);
+            Some(())
         }
-        "booklet" => {
-            let is_long = word(words, 1)? == "long";
-            let made = booklet(out.alloc, &paper(words, 2)?, &paper(words, 3)?, is_long);
-            tell(out, made);
-        }
-        "arrange" => {
-            let made = arrange(out.alloc, &on_a4(), &arrangement(words)?);
-            tell(out, made);
-        }
-        "bind" => {
-            let made = bind(out.alloc, &on_a4(), &binding(words)?);
-            tell(out, made);
-        }
-        "select" => {
-            let made = selection(out.alloc, word(words, 1)?, which(words)?, count(words, 3)?);
-            tell(out, made);
-        }
-        "no_memory_for_a_layout" => out.line(LayoutError::NoMemory),
-        _ => return None,
+        _ => None,
     }
-    Some(())
+}
+
+fn pages_on_sheets(out: &mut Answer, words: &[String]) -> Option<()> {
+    let (page, sheet) = (paper(words, 2)?, paper(words, 3)?);
+    let made = nup(out.alloc, count(words, 1)?, &page, &sheet);
+    tell(out, made)
+}
+
+fn leaves(out: &mut Answer, words: &[String]) -> Option<()> {
+    let (page, sheet) = (paper(words, 2)?, paper(words, 3)?);
+    let made = booklet(out.alloc, &page, &sheet, word(words, 1)? == "long");
+    tell(out, made)
+}
+
+fn cells_of_a4(out: &mut Answer, words: &[String]) -> Option<()> {
+    match arrangement(words) {
+        Some(asked) => tell(out, arrange(out.alloc, &on_a4(), &asked)),
+        None => None,
+    }
+}
+
+fn leaves_of_a4(out: &mut Answer, words: &[String]) -> Option<()> {
+    match binding(words) {
+        Some(asked) => tell(out, bind(out.alloc, &on_a4(), &asked)),
+        None => None,
+    }
+}
+
+fn selected(out: &mut Answer, words: &[String]) -> Option<()> {
+    let made = selection(out.alloc, word(words, 1)?, which(words)?, count(words, 3)?);
+    tell(out, made)
 }
 
 /// A specification, or why there is none.
-fn tell<E: Debug + Display + Drop>(out: &mut Answer, made: Result<Spec, E>) {
+fn tell<E: Debug + Display + Drop>(out: &mut Answer, made: Result<Spec, E>) -> Option<()> {
     match made {
         Ok(spec) => written(out, &spec),
         Err(error) => out.refusal(error),
     }
+    Some(())
 }
 
 fn on_a4() -> Papers {
