@@ -1,5 +1,6 @@
 //! Worked examples, each public call once, and threads beside each other.
 mod ended_tables;
+mod found;
 mod groups;
 mod growth;
 mod joined_texts;
