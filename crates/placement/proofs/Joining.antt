@@ -1,5 +1,5 @@
 -- Texts that were appended part by part, as wholes.
-use Rattle.std.proofs.Common.{◌≡◌, ℕ, List, [], ◌∷◌, ◌+◌, ◌≤◌, ◌++◌, ℤ, ◌∙◌, ap, refl, subst, length, append_assoc}
+use Rattle.std.proofs.Common.{◌≡◌, ℕ, List, [], ◌∷◌, ◌+◌, ◌≤◌, ◌++◌, ℤ, ◌∙◌, ap, refl, length, append_assoc}
 use Rattle.std.specs.Prelude.{codes}
 use Rattle.rules.specs.Numbers.{points_text}
 use Rattle.rules.specs.Papers.{Paper}

@@ -1,7 +1,7 @@
 -- What is added up for a coordinate fits in 128 bits.
 use Rattle.std.proofs.Common.{arith, ℕ, ◌+◌, ◌*◌, ◌^◌, ◌≤◌, FitsSigned, ℤ, pos, nat_abs, ◌+ℤ◌, ◌*ℤ◌}
-use Rattle.std.proofs.Common.{◌≡◌, ◌∙◌, sym, subst, to_z, of_z, w64, w32}
-use Rattle.std.proofs.lemmas.Int.{ints, to_z-of_z, unsigned_abs-mul}
+use Rattle.std.proofs.Common.{sym, subst, w64, w32}
+use Rattle.std.proofs.lemmas.Int.{ints, unsigned_abs-mul}
 use Rattle.std.proofs.lemmas.Nat.{mul-le}
 use mir.Syntax.{w128}
 

@@ -1,4 +1,4 @@
-use Rattle.std.proofs.Common.{◌∙◌, FitsSigned, ◌*ℤ◌, sym}
+use Rattle.std.proofs.Common.{FitsSigned, ◌*ℤ◌}
 use Rattle.std.proofs.lemmas.Int.{to_z-of_z}
 use mir.Syntax.{w32, w64, w128}
 use Rattle.placement.proofs.Sizes.{they_multiply}
