@@ -341,7 +341,7 @@ fn impose_task<R: Threads + Wait + Sync, S: Sink>(
         marks: request.marks,
         workers: WORKERS,
     };
-    match impose_row(rt, alloc, &job, &Open {}, sink) {
+    match impose_row(rt, alloc, &job, &Open, sink) {
         Ok(report) => Ok(report),
         Err(error) => Err(asked_fault_of(error, pages)),
     }

@@ -152,7 +152,7 @@ fn impose_spec_task<R: Threads + Wait + Sync, S: Sink>(
         border: request.border,
         workers: WORKERS,
     };
-    match impose_spec_row(rt, alloc, &job, &Open {}, sink) {
+    match impose_spec_row(rt, alloc, &job, &Open, sink) {
         Ok(report) => Ok(report),
         Err(error) => Err(asked_fault_of(error, pages)),
     }

@@ -390,7 +390,7 @@ fn run_task<R: Threads + Wait + Sync, S: Sink>(
         task.text.as_slice(),
         task.spec.as_str(),
         &task.options,
-        &Open {},
+        &Open,
         sink,
     )
 }

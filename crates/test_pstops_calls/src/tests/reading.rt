@@ -100,7 +100,7 @@ impl Source for Broken {
     fn fill(&mut self, buffer: &mut [u8]) -> Result<usize, SourceFault> {
         if self.left == 0 {
             self.failures += 1;
-            return Err(SourceFault {});
+            return Err(SourceFault);
         }
         self.left -= 1;
         buffer[0] = b'%';
