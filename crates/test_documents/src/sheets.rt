@@ -67,8 +67,10 @@ fn papers_of(alloc: Global, text: &str) -> anyhow::Result<(u32, PagePapers)> {
 
 fn in_turn(alloc: Global, pages: u32, turns: &[Paper]) -> Result<PaperList, AllocError> {
     let mut list = PaperList::new(alloc);
-    for paper in turns.iter().cycle().take(pages as usize) {
-        list.push(paper)?;
+    for page in 0..pages {
+        if let Some(paper) = turns.get(page as usize % turns.len().max(1)) {
+            list.push(paper)?;
+        }
     }
     Ok(list)
 }

@@ -9,6 +9,7 @@ use std::test::Fail;
 use test_tools::{MOST_GROWTHS, has_refused, refuse};
 
 /// A call in which a growth was to be refused: whether one was, and whether the call answered rightly.
+#[derive(Drop)]
 struct Seen {
     is_refused: bool,
     is_right: bool,
