@@ -1,4 +1,3 @@
 pub mod Chain
 pub mod Numerals
-pub mod RunStatuses
 pub mod Examples

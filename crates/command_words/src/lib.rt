@@ -1,13 +1,11 @@
-//! What both commands have in common: how a value is taken out of what clap finds among the words, what the width of a
-//! border stands for, and the exit status of a run that failed.
+//! What both commands have in common: how a value is taken out of what clap finds among the words, and what the width of a
+//! border stands for.
 #![tactic(auto)]
 
 mod borders;
 mod files;
 mod matches;
-mod statuses;
 
 pub use borders::border_named;
 pub use files::name_of;
 pub use matches::{is_set, number_of, owned, text_of};
-pub use statuses::run_status;

@@ -178,3 +178,27 @@ medium_before_names = refl
 no_known_name : document_paper (codes "%!\n%%DocumentPaperSizes: other\n%%BoundingBox: 0 0 1 2\n") ≡ Some (points 1 2, BoundingBox)
 unfolding number_at papers
 no_known_name = refl
+
+-- A box says how the paper lies that is named.
+
+on_its_side : document_paper (codes "%!\n%%BoundingBox: 0 0 842 595\n%%DocumentPaperSizes: a4\n") ≡ Some (points 842 595, DocumentPaperSizes)
+unfolding number_at papers
+on_its_side = refl
+
+-- to 15 points, of each side
+nearly_on_its_side : document_paper (codes "%!\n%%BoundingBox: 0 0 857 580\n%%DocumentPaperSizes: a4\n") ≡ Some (points 842 595, DocumentPaperSizes)
+unfolding number_at papers
+nearly_on_its_side = refl
+
+too_wide_to_lie_so : document_paper (codes "%!\n%%BoundingBox: 0 0 858 595\n%%DocumentPaperSizes: a4\n") ≡ Some (points 595 842, DocumentPaperSizes)
+unfolding number_at papers
+too_wide_to_lie_so = refl
+
+too_low_to_lie_so : document_paper (codes "%!\n%%BoundingBox: 0 0 842 579\n%%DocumentPaperSizes: a4\n") ≡ Some (points 595 842, DocumentPaperSizes)
+unfolding number_at papers
+too_low_to_lie_so = refl
+
+-- a box that begins elsewhere doesn't
+beside_the_corner : document_paper (codes "%!\n%%BoundingBox: 1 0 842 595\n%%DocumentPaperSizes: a4\n") ≡ Some (points 595 842, DocumentPaperSizes)
+unfolding number_at papers
+beside_the_corner = refl

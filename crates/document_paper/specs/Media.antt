@@ -1,6 +1,6 @@
 -- The paper that a document is made for, as its comments tell it (DSC 3.0, %%DocumentMedia and %%BoundingBox, and
 -- (atend); DSC 2.1, %%DocumentPaperSizes).
-use Rattle.std.specs.Prelude.{ℕ, zero, suc, ℤ, pos, Bool, false, if◌then◌else◌, option_map, option_and_then}
+use Rattle.std.specs.Prelude.{ℕ, zero, suc, ◌*◌, ℤ, pos, ◌-ℤ◌, nat_abs, nat_le, Bool, false, ◌&&◌, if◌then◌else◌, option_map, option_and_then}
 use Rattle.std.specs.Prelude.{List, [], ◌∷◌, length, take, drop, map, filter, codes, Option, Some, None}
 use Rattle.std.specs.Ordering.{int_eq}
 use Rattle.std.specs.Str.{bytes_eq}
@@ -12,7 +12,7 @@ use Rattle.dsc.specs.Header.{header_len}
 use Rattle.dsc.specs.Units.{units_of}
 use Rattle.lengths.specs.Lengths.{a4}
 use Rattle.lengths.specs.Reading.{is_empty, number_at}
-use Rattle.paper_names.specs.Names.{paper_named}
+use Rattle.paper_names.specs.Names.{paper_named, turned}
 use Rattle.document_paper.specs.declared.media.Comment.{Comment}
 use Rattle.document_paper.specs.declared.media.Comment.TheVariants.{DocumentMedia, DocumentPaperSizes, BoundingBox}
 
@@ -94,11 +94,27 @@ abbrev pub first_named : List (List ℕ) → Option Paper
 first_named [] = None
 first_named (name ∷ more) = else_take (paper_named name) (first_named more)
 
+-- by so much, 15 points, programs' sizes of one paper may differ
+abbrev pub nearness : ℕ
+nearness = 15 * 127_000_000_000
+
+abbrev pub are_near : (a b : ℤ) → Bool
+are_near a b = nat_le (nat_abs (a -ℤ b)) nearness
+
+-- a paper lies as a box does: on its side, if the box has the paper's sides exchanged
+abbrev pub lying_as : (box : Option Paper) → Paper → Paper
+lying_as None paper = paper
+lying_as (Some box) paper =
+    if are_near box.width paper.height && are_near box.height paper.width then turned paper else paper
+
+-- the box that the header tells, if it begins at 0 0
+abbrev pub box_told : (lines trailer : List (List ℕ)) → Option Paper
+box_told lines trailer = option_and_then (box_of trailer) (comment_fields (codes "%%BoundingBox") lines)
+
 -- the document's own paper, and which comment tells it: the first of these that does
 abbrev pub or_box : (lines trailer : List (List ℕ)) → Option Paper → Option (Paper × Comment)
-or_box lines trailer (Some paper) = Some (paper, DocumentPaperSizes)
-or_box lines trailer None = option_map (λ paper. (paper, BoundingBox))
-    (option_and_then (box_of trailer) (comment_fields (codes "%%BoundingBox") lines))
+or_box lines trailer (Some paper) = Some (lying_as (box_told lines trailer) paper, DocumentPaperSizes)
+or_box lines trailer None = option_map (λ paper. (paper, BoundingBox)) (box_told lines trailer)
 
 abbrev pub or_named : (lines trailer : List (List ℕ)) → Option Paper → Option (Paper × Comment)
 or_named lines trailer (Some paper) = Some (paper, DocumentMedia)

@@ -1,5 +1,6 @@
 //! The paper that a document is made for, as its comments tell it.
-ghost use Rattle.std.specs.Prelude.{◌≡◌, ◌++◌, ◌∷◌, [], option_and_then, option_map, codes, None};
+ghost use Rattle.std.specs.Prelude.{◌≡◌, ◌++◌, ◌∷◌, [], ◌&&◌, IsTrue, option_and_then, option_map, codes, None};
+ghost use Rattle.rules.specs.Papers.{is_side};
 ghost use Rattle.rules.specs.Bytes.{colon};
 ghost use Rattle.dsc.specs.Fields.{fields_in};
 ghost use Rattle.dsc.specs.Units.{units_of};
@@ -9,6 +10,9 @@ use crate::fields::{is_zero, points_of};
 use dsc::{comment_value, first_content, header_len, line_end_after, next_field, trailer_box};
 use lengths::{Grains, Paper};
 use paper_names::paper_by_name;
+
+/// By so much, 15 points, programs' sizes of one paper may differ.
+const NEARNESS: u128 = 15 * 127_000_000_000;
 
 /// The comment that tells the paper.
 #[derive(Clone, Copy, Debug, PartialEq, Eq)]
@@ -22,7 +26,7 @@ pub enum Comment {
 }
 
 /// The paper of a document, by the width and height of its first `%%DocumentMedia:`, else by the first known name in its
-/// `%%DocumentPaperSizes:`, else by a `%%BoundingBox:` that begins at 0 0, among its header comments (DSC 3.0, 5.2). A box
+/// `%%DocumentPaperSizes:` (on its side, if the box told has its sides exchanged, to 15 points), else by a `%%BoundingBox:` that begins at 0 0, among its header comments (DSC 3.0, 5.2). A box
 /// that is `(atend)` is the first `%%BoundingBox:` of the trailer; a text with a faulty data block has no trailer.
 pub fn document_paper(text: &[u8]) -> Option<(Paper, Comment)>
     ensures { result ≡ meaning.document_paper text.now }
@@ -38,10 +42,37 @@ pub fn document_paper(text: &[u8]) -> Option<(Paper, Comment)>
 fn named_or_boxed(header: &[u8], text: &[u8]) -> Option<(Paper, Comment)>
     ensures { result ≡ meaning.or_named (meaning.contents header.now) (meaning.trailer_lines (units_of text.now)) None }
 {
+    let told = box_in(header, text);
     match named_in(header) {
-        Some(paper) => Some((paper, Comment::DocumentPaperSizes)),
-        None => Some((box_in(header, text)?, Comment::BoundingBox)),
+        Some(paper) => Some((lying_as(told, paper), Comment::DocumentPaperSizes)),
+        None => Some((told?, Comment::BoundingBox)),
     }
+}
+
+/// The paper as this box lies: on its side, if the box has its sides exchanged.
+fn lying_as(told: Option<Paper>, paper: Paper) -> Paper
+    ensures { result ≡ meaning.lying_as told paper }
+{
+    match told {
+        Some(told) if is_turned(&told, &paper) => paper.turned(),
+        _ => paper,
+    }
+}
+
+/// Whether one has the sides of the other exchanged.
+fn is_turned(told: &Paper, paper: &Paper) -> bool
+    ensures { result ≡ (meaning.are_near told.now.width paper.now.height && meaning.are_near told.now.height paper.now.width) }
+{
+    are_near(told.width(), paper.height()) && are_near(told.height(), paper.width())
+}
+
+/// Whether two sides count as one, since programs round them differently.
+fn are_near(one: Grains, other: Grains) -> bool
+    requires one { IsTrue (is_side one) }
+    requires other { IsTrue (is_side other) }
+    ensures { result ≡ meaning.are_near one other }
+{
+    (one.get() - other.get()).unsigned_abs() <= NEARNESS
 }
 
 /// The paper of the first known name in the first list of names among the comments.

@@ -19,6 +19,7 @@ use crate::lines::{content_end, line_end_after};
 use crate::page_lines::page_lines;
 use crate::scan::scan;
 use std::alloc::{AllocError, Global};
+use std::fmt;
 use std::marker::Model;
 
 /// The most bytes that a document may have.
@@ -213,5 +214,13 @@ fn next_or(starts: &[u32], p: usize, stop: usize) -> usize
     match starts.get(p + 1) {
         Some(next) => *next as usize,
         None => stop,
+    }
+}
+
+impl fmt::Debug for Document<'_> {
+    fn fmt<W: fmt::Write>(&self, f: &mut fmt::Formatter<W>) -> fmt::Result {
+        f.debug_struct("Document")
+            .field("pages", &self.pages())
+            .finish_non_exhaustive()
     }
 }

@@ -3,6 +3,7 @@ ghost use Rattle.std.specs.Prelude.{◌≡◌};
 ghost use Rattle.gather_table.specs.Shared.{IsSeat};
 
 use crate::rule::View;
+use std::fmt;
 use std::marker::Model;
 
 /// A caller's token for one table. It stands for a legal history that the caller has seen, its front, and for the
@@ -33,5 +34,13 @@ impl Seat {
         ensures seat { IsSeat self.now }
     {
         self.share
+    }
+}
+
+impl fmt::Debug for Seat {
+    fn fmt<W: fmt::Write>(&self, f: &mut fmt::Formatter<W>) -> fmt::Result {
+        f.debug_struct("Seat")
+            .field("share", &self.share)
+            .finish_non_exhaustive()
     }
 }

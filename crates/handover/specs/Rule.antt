@@ -73,11 +73,15 @@ pub record IsKept (items : List ℕ) (views : List Sight) (capacity : ℕ) (log 
 abbrev pub Kept : List ℕ → List Sight → Type 0
 Kept items views = (capacity : ℕ) × (log : List Move) × IsKept items views capacity log
 
+-- this is the capacity of the queue that the passes are of, as each pass with a share knows it: its key
+abbrev pub IsCapacityOf : List Sight → ℕ → Type 0
+IsCapacityOf views capacity = (id : ℕ) (v : Sight) → get_elem? views id ≡ some v → 0 < v.seat.share → v.seat.key ≡ capacity
+
 -- all passes of a queue at one moment, whether they ever met or not: their moves stand in one history, whose content is
--- what the queue holds, and no move is an own move of two of them; and the puts that they may still make by right fit in
--- beside that content. So it is between any two steps of a queue with this rule
+-- what the queue holds, and no move is an own move of two of them; and that content, with the puts that they may still
+-- make by right, is at most the queue's capacity. So it is between any two steps of a queue with this rule
 abbrev pub PassesStandTogether : (rule : List ℕ → List Sight → Type 0) → Type 0
 PassesStandTogether rule = (items : List ℕ) (views : List Sight) → rule items views
-    → (capacity : ℕ) × (log : List Move) × (content log ≡ items)
+    → (capacity : ℕ) × (log : List Move) × IsCapacityOf views capacity × (content log ≡ items)
     × StandTogether IsQueueHistory capacity log (seats_of views)
     × (total room_of views + length items ≤ capacity)

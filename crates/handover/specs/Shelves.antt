@@ -1,5 +1,5 @@
 -- The shelf, and the tokens of its entries.
-use Rattle.std.specs.Prelude.{◌≡◌, ℕ, ◌<◌, List}
+use Rattle.std.specs.Prelude.{◌≡◌, ◌<◌, List}
 use Rattle.boxcar.specs.Table.{Shows, Shelves, Where}
 use Rattle.rules.specs.Parts.{NestedUnit, pages}
 use Rattle.handover.specs.Pages.{PreparedPage}
@@ -8,16 +8,10 @@ use Rattle.handover.specs.Entries.{IsNamed}
 use Rattle.handover.specs.declared.receipts.PutError.{PutError}
 use Rattle.handover.specs.declared.receipts.PutError.TheVariants.{NoMemory, ShelfFull}
 
--- the token was given for an entry of this shelf
+-- the token was given for an entry of this shelf: so it is of one that a call handed out. As plain data there is one for
+-- each index and page, so no clause says that there is some token
 abbrev pub IsOn : Shelves → Where PreparedPage → Type 0
 IsOn shelf token = Shows shelf token
-
--- this page was put on the shelf at this index
-pub record LiesAt (shelf : Shelves) (index : ℕ) (page : PreparedPage) : Type 0 where
-  pub token : Where PreparedPage
-  pub on : IsOn shelf token
-  pub at : token.index ≡ index
-  pub is : token.value ≡ page
 
 -- what a put that gives no receipt leaves: the page comes back, or it is on the shelf at an index of more than 32 bits
 abbrev pub GivesNoReceipt : Shelves → PreparedPage → PutError → Type 0

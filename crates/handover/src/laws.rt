@@ -51,7 +51,8 @@ pub fn room_is_used_up()
 {}
 
 /// The moves of all passes of a queue, whether they ever met or not, stand in one history at every moment, whose content is
-/// what the queue holds: no move is that of two passes. The puts that they may still make by right fit in beside it.
+/// what the queue holds: no move is that of two passes. That content, with the puts that they may still make by right, is
+/// at most the queue's capacity, which is the one that each pass with a share knows.
 pub fn passes_stand_together()
     ensures { PassesStandTogether ⟦<OneHistory as Protocol<u32, View>>⟧.holds }
 {}

@@ -17,3 +17,4 @@ pub use crate::prepared::Prepared;
 pub use crate::ready::{Full, Ready};
 pub use crate::receipts::{Overflow, PutError, Receipt};
 pub use crate::shelf::{Shelf, Shelved};
+pub use std::alloc::AllocError as NoMemory;

@@ -3,6 +3,7 @@ ghost use Rattle.std.specs.Prelude.{◌≡◌};
 ghost use Rattle.handover.specs.Passes.{IsPass, puts_in};
 
 use crate::rule::View;
+use std::fmt;
 use std::marker::Model;
 
 /// How many shares there are of a queue.
@@ -47,5 +48,13 @@ impl Pass {
             Some(puts) => puts,
             None => 0,
         }
+    }
+}
+
+impl fmt::Debug for Pass {
+    fn fmt<W: fmt::Write>(&self, f: &mut fmt::Formatter<W>) -> fmt::Result {
+        f.debug_struct("Pass")
+            .field("share", &self.share)
+            .finish_non_exhaustive()
     }
 }

@@ -9,6 +9,7 @@ ghost use Rattle.dsc.specs.declared.errors.DscError.TheVariants.{NoMemory};
 
 use dsc::{Body, Document, DscError};
 use std::alloc::{AllocError, Global};
+use std::fmt;
 use std::marker::Model;
 
 /// A page of a document with its prepared body: what is kept of its bytes when it is placed on a sheet (the page
@@ -134,5 +135,13 @@ impl<'d> Prepared<'d> {
             Kept::Rest { raw, start, .. } => &raw[*start as usize..],
             Kept::Boxed(whole) => whole.body.as_slice(),
         }
+    }
+}
+
+impl fmt::Debug for Prepared<'_> {
+    fn fmt<W: fmt::Write>(&self, f: &mut fmt::Formatter<W>) -> fmt::Result {
+        f.debug_struct("Prepared")
+            .field("page", &self.page())
+            .finish_non_exhaustive()
     }
 }

@@ -5,6 +5,7 @@ use crate::entry::{Entry, ToldTruly};
 use crate::prepared::Prepared;
 use boxcar::Pushed;
 use std::alloc::Global;
+use std::fmt;
 use std::marker::Model;
 
 /// The token of an entry of a shelf: which page was put, and at which index.
@@ -65,10 +66,26 @@ impl<'d> Overflow<'d> {
 }
 
 /// Why a put gives no receipt.
-#[derive(Drop)]
+#[derive(Debug, Drop)]
 pub enum PutError<'d> {
     /// A growth was refused. The shelf is as it was, and the page comes back.
     NoMemory(Prepared<'d>),
     /// The page is on the shelf, at an index past those that a receipt can name.
     ShelfFull(Overflow<'d>),
+}
+
+impl fmt::Debug for Receipt<'_> {
+    fn fmt<W: fmt::Write>(&self, f: &mut fmt::Formatter<W>) -> fmt::Result {
+        f.debug_struct("Receipt")
+            .field("index", &self.index())
+            .finish_non_exhaustive()
+    }
+}
+
+impl fmt::Debug for Overflow<'_> {
+    fn fmt<W: fmt::Write>(&self, f: &mut fmt::Formatter<W>) -> fmt::Result {
+        f.debug_struct("Overflow")
+            .field("index", &self.index())
+            .finish_non_exhaustive()
+    }
 }

@@ -1,7 +1,7 @@
 //! The shelf of prepared pages.
 ghost use Rattle.std.specs.Prelude.{◌≡◌, IfOk, IfErr, IfSome, IsTrue};
 ghost use Rattle.handover.specs.Pages.{IsPrepared};
-ghost use Rattle.handover.specs.Shelves.{IsOn, LiesAt, GivesNoReceipt, IsShelfOf, IsOwn};
+ghost use Rattle.handover.specs.Shelves.{IsOn, GivesNoReceipt, IsShelfOf, IsOwn};
 
 use crate::entry::{Entry, ItsPages, ToldTruly};
 use crate::prepared::Prepared;
@@ -27,10 +27,11 @@ impl<'d> Model for Shelf<'d> {
     ghost view = { λ s. s.list };
 }
 
-/// A page on a shelf, and whether it was put as one of the document that the shelf is of.
+/// A page on a shelf, the receipt of its entry, and whether it was put as one of the document that the shelf is of.
 #[derive(Drop)]
 pub struct Shelved<'a, 'd> {
     pub page: &'a Prepared<'d>,
+    pub receipt: Receipt<'d>,
     pub is_own: bool,
 }
 
@@ -94,19 +95,20 @@ impl<'d> Shelf<'d> {
         &self.list.value(&receipt.token).page
     }
 
-    /// The page that was put at an index, if the shelf shows one.
+    /// The page that was put at an index, if the shelf shows one. `find` gives its receipt too, by which a clause tells that
+    /// it is this page.
     pub fn at(&self, index: u32) -> Option<&Prepared<'d>>
-        ensures shown { IfSome result (λ page. LiesAt self.now index page.now) }
         ensures prepared { IfSome result (λ page. IsPrepared page.now) }
     {
         let found = self.find(index)?;
         Some(found.page)
     }
 
-    /// The page that was put at an index, if the shelf shows one, and whether it is one of the document that the shelf
-    /// is of, by what it was put as.
+    /// The page that was put at an index, if the shelf shows one, with the receipt of its entry, and whether it is one of
+    /// the document that the shelf is of, by what it was put as.
     pub fn find(&self, index: u32) -> Option<Shelved<'_, 'd>>
-        ensures shown { IfSome result (λ found. LiesAt self.now index found.page.now) }
+        ensures shown { IfSome result (λ found. IsOn self.now found.receipt × (found.receipt.index ≡ index)
+            × (found.receipt.value ≡ found.page.now)) }
         ensures prepared { IfSome result (λ found. IsPrepared found.page.now) }
         ensures own { IfSome result (λ found. IsTrue found.is_own → IsOwn self.now found.page.now) }
     {
@@ -117,7 +119,19 @@ impl<'d> Shelf<'d> {
         page.body();
         Some(Shelved {
             page,
+            receipt: Receipt { token },
             is_own: entry.is_own,
         })
+    }
+
+    /// An index has one page: two receipts of this shelf that have it are of the same page, whoever got them. It does
+    /// nothing.
+    pub fn agree(&self, one: &Receipt<'d>, two: &Receipt<'d>)
+        requires one { IsOn self.now one.now }
+        requires two { IsOn self.now two.now }
+        requires same { one.now.index ≡ two.now.index }
+        ensures page { one.now.value ≡ two.now.value }
+    {
+        self.list.agrees(&one.token, &two.token);
     }
 }

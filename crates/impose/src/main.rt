@@ -1,12 +1,13 @@
 //! The program: it reads a document and writes its pages on sheets, as its command line says.
 #![tactic(auto)]
 
-use impose_cli::{CommandFault, Fault, fault_status, impose, text_said};
+use impose_cli::{CommandFault, Ended, Fault, fault_status, impose, text_said};
+use std::alloc::Global;
 use std::env;
 use std::env::Env;
 use std::io::ErrorKind;
 use std::process::ExitCode;
-use world::{Host, tell};
+use world::{Host, World, tell};
 
 fn main(rt: HostRuntime) -> ExitCode {
     let words = match words(&rt) {
@@ -29,13 +30,15 @@ fn main(rt: HostRuntime) -> ExitCode {
         };
         return stop(&rt, fault);
     }
-    let text = text_said(
-        rt.alloc(),
-        &ended.outcome,
-        ended.request.as_ref(),
-        words.as_slice(),
-    );
-    ExitCode::from(tell(&mut rt.stderr(), text.as_str().as_bytes(), ended.status()))
+    let (text, status) = said(rt.alloc(), ended, words.as_slice());
+    ExitCode::from(tell(&mut rt.stderr(), text.as_str().as_bytes(), status))
+}
+
+/// What is said of how the program ended, and its status. It takes the end by value, so the output is closed before
+/// anything is said: if standard error was closed, the output has its number.
+fn said<W: World>(alloc: Global, ended: Ended<W>, words: &[String]) -> (String, u8) {
+    let text = text_said(alloc, &ended.outcome, ended.request.as_ref(), words);
+    (text, ended.status())
 }
 
 /// The words, of which the first is the program's name.

@@ -1,5 +1,3 @@
-pub mod Commands
-pub mod Found
 pub mod Placing
 pub mod Noted
 pub mod Counted
@@ -11,4 +9,3 @@ pub mod Again
 pub mod Examples
 pub mod Programs
 pub mod Ranges
-pub mod FourLines

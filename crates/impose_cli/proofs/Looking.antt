@@ -2,9 +2,9 @@
 use Rattle.std.proofs.Common.{inr, subst, sym, List, ℕ}
 use Rattle.impose_cli.specs.Looks.{RefusesRowLook, RefusesTaskLook, TellsRow, TellsTask}
 use Rattle.impose_cli.specs.RowTasks.{ArePapersOf, IsRowTask}
-use Rattle.impose_cli.specs.declared.fault.Fault.{Fault}
+use Rattle.impose_said.specs.declared.fault.Fault.{Fault}
 use Rattle.impose_cli.specs.declared.look.Look.{Look}
-use Rattle.impose_cli.specs.declared.request.Request.{Request}
+use Rattle.impose_words.specs.declared.request.Request.{Request}
 use Rattle.impose_cli.specs.declared.row_task.RowTask.{RowTask}
 use Rattle.impose_cli.proofs.Rows.{is_row_job}
 

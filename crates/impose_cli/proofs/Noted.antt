@@ -4,8 +4,8 @@ use Rattle.rules.specs.Papers.{Paper}
 use Rattle.layouts.specs.Refusals.{why_not_arranged}
 use Rattle.layouts.specs.declared.error.ArrangementError.{ArrangementError}
 use Rattle.layouts.specs.declared.error.ArrangementError.TheVariants.{CellsOutOfRange}
-use Rattle.impose_cli.specs.Spacings.{notes_in}
-use Rattle.impose_cli.specs.declared.request.Spacing.{Spacing}
+use Rattle.impose_words.specs.Spacings.{notes_in}
+use Rattle.impose_words.specs.declared.request.Spacing.{Spacing}
 
 some_reason : (e : ArrangementError) → Some e ≡ None → ⊥
 some_reason e h = cc

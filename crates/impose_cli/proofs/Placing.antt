@@ -6,14 +6,14 @@ use Rattle.layouts.specs.Refusals.{IsFault, first_of, is_length, why_not_bound}
 use Rattle.layouts.specs.declared.arrangement.Binding.{Binding}
 use Rattle.layouts.specs.declared.error.ArrangementError.{ArrangementError}
 use Rattle.layouts.specs.declared.error.ArrangementError.TheVariants.{CellsOutOfRange, SideTooLong, LengthOutOfRange, NothingLeftOfPage, FoldOnLongEdge, NoRoom, ScaleOutOfRange, ScaleTooLarge, CreepOverFold, NoMemory}
-use Rattle.impose_cli.specs.Faults.{of_layout, without_memory}
+use Rattle.impose_said.specs.Faults.{of_layout, without_memory}
 use Rattle.rows.specs.declared.sewing.Signing.{Signing}
 use Rattle.impose_cli.specs.Refusals.{RefusesLayout}
-use Rattle.impose_cli.specs.Spacings.{binding_in}
-use Rattle.impose_cli.specs.declared.request.Layout.TheVariants as layout
-use Rattle.impose_cli.specs.declared.request.Spacing.{Spacing}
-use Rattle.impose_cli.specs.declared.fault.Fault.{Fault}
-use Rattle.impose_cli.specs.declared.fault.Fault.TheVariants as fault
+use Rattle.impose_words.specs.Spacings.{binding_in}
+use Rattle.impose_words.specs.declared.request.Layout.TheVariants as layout
+use Rattle.impose_words.specs.declared.request.Spacing.{Spacing}
+use Rattle.impose_said.specs.declared.fault.Fault.{Fault}
+use Rattle.impose_said.specs.declared.fault.Fault.TheVariants as fault
 
 unless : (found : Option ArrangementError) (e : ArrangementError) → (e ≡ NoMemory → ⊥) → IsFault found e → found ≡ Some e
 unless found e other h = elim h [ inl bad ↦ absurd (other bad) | inr is ↦ is ]

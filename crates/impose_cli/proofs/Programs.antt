@@ -14,23 +14,23 @@ use Rattle.impose_cli.specs.RowTasks.{FinishesRow}
 use Rattle.impose_cli.specs.SpecRows.{FinishesSpecRow}
 use Rattle.input.specs.Input.{IsFirst, most_bytes}
 use Rattle.impose_cli.specs.Looks.{MayBeMade, TellsRow}
-use Rattle.impose_cli.specs.Products.{lays_rows}
+use Rattle.impose_words.specs.Products.{lays_rows}
 use Rattle.impose_cli.specs.Programs.{CarriesOut, Gives, IsReading, IsSaidOf, Makes, Prints, RunsInto, Shows, Writes}
 use Rattle.impose_cli.specs.RowTasks.{LaysRows}
 use Rattle.rules.specs.Papers.{Paper}
-use Rattle.impose_cli.specs.Words.{Entered, MakesBy, Reads}
+use Rattle.impose_words.specs.Words.{Entered, MakesBy, Reads}
 use Rattle.impose_cli.specs.Unread.{MayBeRead, RefusesRequest}
 use Rattle.impose_cli.specs.Tasks.{FinishesSpec, IsTask}
-use Rattle.impose_cli.specs.declared.fault.Fault.{Fault}
-use Rattle.impose_cli.specs.declared.program.Done.{Done}
-use Rattle.impose_cli.specs.declared.program.Done.TheVariants as done
+use Rattle.impose_said.specs.declared.fault.Fault.{Fault}
+use Rattle.impose_said.specs.declared.finished.Done.{Done}
+use Rattle.impose_said.specs.declared.finished.Done.TheVariants as done
 use Rattle.impose_cli.specs.declared.look.Look.{Look}
-use Rattle.impose_cli.specs.declared.request.Layout.{Layout}
-use Rattle.impose_cli.specs.declared.request.Layout.TheVariants as layout
-use Rattle.impose_cli.specs.declared.request.Product.{Product}
-use Rattle.impose_cli.specs.declared.request.Product.TheVariants as product
-use Rattle.impose_cli.specs.declared.request.Request.{Request}
-use Rattle.impose_cli.specs.declared.task.Finished.{Finished}
+use Rattle.impose_words.specs.declared.request.Layout.{Layout}
+use Rattle.impose_words.specs.declared.request.Layout.TheVariants as layout
+use Rattle.impose_words.specs.declared.request.Product.{Product}
+use Rattle.impose_words.specs.declared.request.Product.TheVariants as product
+use Rattle.impose_words.specs.declared.request.Request.{Request}
+use Rattle.impose_said.specs.declared.finished.Finished.{Finished}
 use Rattle.impose_cli.specs.declared.task.Task.{Task}
 
 -- what an output that is created late tells: nothing that is known if it is bare, and another thing before it is there

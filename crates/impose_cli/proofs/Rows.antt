@@ -19,19 +19,19 @@ use Rattle.own_papers.specs.declared.cuts.Cut.{Cut}
 use Rattle.paper_names.specs.Names.{paper_named}
 use Rattle.imposer.specs.declared.outcome.RunError.TheVariants as run
 use Rattle.sheet_text.specs.Jobs.{is_border}
-use Rattle.impose_cli.specs.Faults.{without_memory}
+use Rattle.impose_said.specs.Faults.{without_memory}
 use Rattle.dsc.specs.PagesBehind.{pages_behind}
-use Rattle.impose_cli.specs.declared.task.PaperOrigin.{PaperOrigin}
+use Rattle.impose_said.specs.declared.finished.PaperOrigin.{PaperOrigin}
 use Rattle.impose_cli.specs.Tasks.{HasBehind, HasPages, IsSpec}
-use Rattle.impose_cli.specs.declared.fault.Fault.TheVariants as fault
+use Rattle.impose_said.specs.declared.fault.Fault.TheVariants as fault
 use Rattle.impose_cli.specs.Refusals.{RefusesDocument, RefusesLaying, RefusesRowTask, RefusesSides}
 use Rattle.impose_cli.specs.RowTasks.{ArePapersOf, cut_in, papers_in, row_paper, sheet_paper_in, text_for, FinishesRow, ImposesTask, IsJobOf, IsRowJob, IsRowPaper, IsRowTask, LaysRows}
-use Rattle.impose_cli.specs.declared.fault.Fault.{Fault}
-use Rattle.impose_cli.specs.declared.request.Layout.{Layout}
-use Rattle.impose_cli.specs.declared.request.Layout.TheVariants as layout
-use Rattle.impose_cli.specs.declared.request.Request.{Request}
+use Rattle.impose_said.specs.declared.fault.Fault.{Fault}
+use Rattle.impose_words.specs.declared.request.Layout.{Layout}
+use Rattle.impose_words.specs.declared.request.Layout.TheVariants as layout
+use Rattle.impose_words.specs.declared.request.Request.{Request}
 use Rattle.impose_cli.specs.declared.row_task.RowTask.{RowTask}
-use Rattle.impose_cli.specs.declared.task.Finished.{Finished}
+use Rattle.impose_said.specs.declared.finished.Finished.{Finished}
 use Rattle.impose_cli.proofs.Ending.{stays}
 
 pub is_row_job : (r : Request) (input : List ℕ) (t : RowTask) (job : RowJob) → IsRowTask r input t → IsJobOf r t job → IsRowJob r input t.page_paper job

@@ -7,10 +7,10 @@ use Rattle.imposer.specs.declared.outcome.Report.{Report}
 use Rattle.impose_cli.specs.Endings.{Ends, FailsAs}
 use Rattle.impose_cli.specs.SpecRows.{EndsSpecRow, EndsSpecTask, FinishesSpecRow, ImposesSpecTask, IsSpecRow, IsSpecRowTask, LaysSpecRow, RefusesSpecRowTask}
 use Rattle.impose_cli.specs.Tasks.{taken_text}
-use Rattle.impose_cli.specs.declared.fault.Fault.{Fault}
-use Rattle.impose_cli.specs.declared.request.Layout.{Layout}
-use Rattle.impose_cli.specs.declared.request.Layout.TheVariants as layout
-use Rattle.impose_cli.specs.declared.request.Request.{Request}
+use Rattle.impose_said.specs.declared.fault.Fault.{Fault}
+use Rattle.impose_words.specs.declared.request.Layout.{Layout}
+use Rattle.impose_words.specs.declared.request.Layout.TheVariants as layout
+use Rattle.impose_words.specs.declared.request.Request.{Request}
 use Rattle.impose_cli.specs.declared.spec_row.SpecRowTask.{SpecRowTask}
 use Rattle.impose_cli.proofs.Ending.{stays}
 

@@ -6,7 +6,8 @@ use Rattle.imposer.specs.declared.outcome.RunError.{RunError}
 use Rattle.row_runs.specs.Runs.{FailedWith, RefusesRun, WroteWith, page_count}
 use Rattle.row_runs.specs.declared.error.AskedError.{AskedError}
 use Rattle.row_runs.specs.declared.run.RowJob.{RowJob}
-use Rattle.impose_cli.specs.Faults.{of_asked, without_memory}
+use Rattle.impose_said.specs.Faults.{without_memory}
+use Rattle.impose_cli.specs.Faults.{of_asked}
 use Rattle.impose_cli.specs.Tasks.{FinishesSpec, IsTask, asked_by}
 use Rattle.impose_cli.specs.RowTasks.{FinishesRow, IsJobOf, IsRowTask}
 use Rattle.impose_cli.specs.SpecRows.{EndsSpecRow, FinishesSpecRow}
@@ -14,13 +15,13 @@ use Rattle.impose_cli.specs.Refusals.{IsRefusedFor, RefusesRowTask, RefusesTask}
 use Rattle.dsc.specs.declared.errors.DscError.{DscError}
 use Rattle.imposer.specs.Outcomes.{of_document as of_read}
 use Rattle.impose_cli.specs.declared.row_task.RowTask.{RowTask}
-use Rattle.impose_cli.specs.declared.request.Layout.{Layout}
-use Rattle.impose_cli.specs.declared.request.Layout.TheVariants as layout
-use Rattle.impose_cli.specs.declared.request.Request.{Request}
-use Rattle.impose_cli.specs.declared.fault.Fault.{Fault}
-use Rattle.impose_cli.specs.declared.fault.Fault.TheVariants as fault
+use Rattle.impose_words.specs.declared.request.Layout.{Layout}
+use Rattle.impose_words.specs.declared.request.Layout.TheVariants as layout
+use Rattle.impose_words.specs.declared.request.Request.{Request}
+use Rattle.impose_said.specs.declared.fault.Fault.{Fault}
+use Rattle.impose_said.specs.declared.fault.Fault.TheVariants as fault
 use Rattle.impose_cli.specs.declared.task.Task.{Task}
-use Rattle.impose_cli.specs.declared.task.Finished.{Finished}
+use Rattle.impose_said.specs.declared.finished.Finished.{Finished}
 
 -- the fault was found before the run: it is why there is no task. Nothing was written, and no write failed
 pub record EndsBeforeRun (r : Request) (input : List ℕ) (old new : SinkView) (f : Fault) : Type 0 where

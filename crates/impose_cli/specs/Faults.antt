@@ -1,25 +1,16 @@
--- What an error of a part makes of a request, before anything was written.
+-- What a document's error makes of a request, before anything was written, and what an error of its run does.
 use Rattle.std.specs.Prelude.{ℕ, ◌==◌, Bool, if◌then◌else◌, List, [], ◌∷◌, length, codes, nat_eq}
 use Rattle.std.specs.List.{starts_with}
 use Rattle.dsc.specs.declared.errors.DscError.{DscError}
 use Rattle.dsc.specs.declared.errors.DscError.TheVariants.{NotPostScript, TooLong}
-use Rattle.layouts.specs.declared.error.ArrangementError.{ArrangementError}
-use Rattle.layouts.specs.declared.error.ArrangementError.TheVariants as layout
 use Rattle.rows.specs.declared.error.RowError.{RowError}
 use Rattle.rows.specs.declared.error.RowError.TheVariants as row
 use Rattle.row_runs.specs.declared.error.AskedError.{AskedError}
 use Rattle.row_runs.specs.declared.error.AskedError.TheVariants as asked
-use Rattle.imposer.specs.Outcomes.{no_memory, of_document as of_read}
+use Rattle.imposer.specs.Outcomes.{of_document as of_read}
 use Rattle.imposer.specs.declared.outcome.RunError.TheVariants as run
-use Rattle.impose_cli.specs.declared.fault.Fault.{Fault}
-use Rattle.impose_cli.specs.declared.fault.Fault.TheVariants as fault
-
-abbrev pub without_memory : Fault
-without_memory = fault.Run no_memory
-
-abbrev pub of_layout : ArrangementError → Fault
-of_layout layout.NoMemory = without_memory
-of_layout other = fault.Layout other
+use Rattle.impose_said.specs.declared.fault.Fault.{Fault}
+use Rattle.impose_said.specs.declared.fault.Fault.TheVariants as fault
 
 -- of a row of pages of a document that has so many
 abbrev pub of_row : (pages : ℕ) → RowError → Fault

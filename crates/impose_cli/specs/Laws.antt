@@ -15,8 +15,8 @@ use Rattle.marks.specs.Drawn.{marked}
 use Rattle.row_runs.specs.Runs.{strokes_on}
 use Rattle.impose_cli.specs.Tasks.{FinishesSpec, frame_used}
 use Rattle.impose_cli.specs.Endings.{Finishes}
-use Rattle.impose_cli.specs.declared.request.Request.{Request}
-use Rattle.impose_cli.specs.declared.task.Finished.{Finished}
+use Rattle.impose_words.specs.declared.request.Request.{Request}
+use Rattle.impose_said.specs.declared.finished.Finished.{Finished}
 
 -- The text, written of a document with these sheets, is a document again: it is accepted, and its preamble and trailer
 -- are the texts that were written. Its pages are the sheets if the document's last page leaves no embedded document

@@ -10,15 +10,15 @@ use Rattle.impose_cli.specs.Endings.{RefusesText}
 use Rattle.impose_cli.specs.Faults.{of_asked}
 use Rattle.impose_cli.specs.Refusals.{RefusesRowTask}
 use Rattle.impose_cli.specs.RowTasks.{ArePapersOf, IsJobOf, IsRowJob, IsRowPaper, IsRowTask, LaysRows}
-use Rattle.impose_cli.specs.declared.fault.Fault.{Fault}
+use Rattle.impose_said.specs.declared.fault.Fault.{Fault}
 use Rattle.impose_cli.specs.declared.look.Look.{Look}
 use Rattle.impose_cli.specs.declared.look.Look.TheVariants.{Plan, Picture}
-use Rattle.impose_cli.specs.declared.request.Layout.{Layout}
-use Rattle.impose_cli.specs.declared.request.Product.{Product}
-use Rattle.impose_cli.specs.declared.request.Product.TheVariants as product
-use Rattle.impose_cli.specs.declared.request.Request.{Request}
+use Rattle.impose_words.specs.declared.request.Layout.{Layout}
+use Rattle.impose_words.specs.declared.request.Product.{Product}
+use Rattle.impose_words.specs.declared.request.Product.TheVariants as product
+use Rattle.impose_words.specs.declared.request.Request.{Request}
 use Rattle.impose_cli.specs.declared.row_task.RowTask.{RowTask}
-use Rattle.impose_cli.specs.declared.task.PaperOrigin.{PaperOrigin}
+use Rattle.impose_said.specs.declared.finished.PaperOrigin.{PaperOrigin}
 
 -- a plan or a picture is asked for of a layout that lays rows
 abbrev pub MayBeMade : Product → Layout → Type 0

@@ -10,23 +10,23 @@ use Rattle.input.specs.Input.{IsFirst, most_bytes}
 use Rattle.rules.specs.Papers.{Paper}
 use Rattle.paper_names.specs.Home.{home_paper}
 use Rattle.impose_cli.specs.Endings.{Ends, Finishes}
-use Rattle.impose_cli.specs.Faults.{without_memory}
+use Rattle.impose_said.specs.Faults.{without_memory}
 use Rattle.impose_cli.specs.Looks.{RefusesRowLook, TellsRow}
 use Rattle.impose_cli.specs.Refusals.{RefusesTask}
-use Rattle.impose_cli.specs.Statuses.{fault_status}
+use Rattle.impose_said.specs.Statuses.{fault_status}
 use Rattle.impose_cli.specs.Tasks.{IsTask}
 use Rattle.impose_cli.specs.Unread.{MayBeRead, RefusesRequest}
-use Rattle.impose_cli.specs.Words.{Entered, Reads, Refuses}
-use Rattle.impose_cli.specs.declared.fault.Fault.{Fault}
-use Rattle.impose_cli.specs.declared.fault.Fault.TheVariants as fault
-use Rattle.impose_cli.specs.declared.program.Done.{Done}
-use Rattle.impose_cli.specs.declared.program.Done.TheVariants as done
+use Rattle.impose_words.specs.Words.{Entered, Reads, Refuses}
+use Rattle.impose_said.specs.declared.fault.Fault.{Fault}
+use Rattle.impose_said.specs.declared.fault.Fault.TheVariants as fault
+use Rattle.impose_said.specs.declared.finished.Done.{Done}
+use Rattle.impose_said.specs.declared.finished.Done.TheVariants as done
 use Rattle.impose_cli.specs.declared.look.Look.{Look}
 use Rattle.impose_cli.specs.declared.look.Look.TheVariants as look
-use Rattle.impose_cli.specs.declared.request.Product.{Product}
-use Rattle.impose_cli.specs.declared.request.Product.TheVariants as product
-use Rattle.impose_cli.specs.declared.request.Request.{Request}
-use Rattle.impose_cli.specs.declared.task.Finished.{Finished}
+use Rattle.impose_words.specs.declared.request.Product.{Product}
+use Rattle.impose_words.specs.declared.request.Product.TheVariants as product
+use Rattle.impose_words.specs.declared.request.Request.{Request}
+use Rattle.impose_said.specs.declared.finished.Finished.{Finished}
 use Rattle.impose_cli.specs.declared.task.Task.{Task}
 
 -- the exit status: 0 if something was done

@@ -6,18 +6,19 @@ use Rattle.rows.specs.Sewing.{MayBeSewn}
 use Rattle.imposer.specs.declared.outcome.RunError.TheVariants as run
 use Rattle.dsc.specs.declared.errors.DscError.{DscError}
 use Rattle.dsc.specs.Faults as dsc
-use Rattle.impose_cli.specs.Faults.{of_document, without_memory}
-use Rattle.impose_cli.specs.Choices.{is_said}
+use Rattle.impose_said.specs.Faults.{without_memory}
+use Rattle.impose_cli.specs.Faults.{of_document}
+use Rattle.impose_words.specs.Choices.{is_said}
 use Rattle.sheet_text.specs.Jobs.{is_border}
 use Rattle.impose_cli.specs.RowTasks.{IsRowPaper, sheet_paper_in, why_not_laid}
 use Rattle.impose_cli.specs.Tasks.{HasPages, page_paper_found, sheet_paper_found}
-use Rattle.impose_cli.specs.declared.request.Spacing.{Spacing}
-use Rattle.impose_cli.specs.declared.request.Layout.{Layout}
-use Rattle.impose_cli.specs.declared.request.Layout.TheVariants as layout
-use Rattle.impose_cli.specs.declared.request.Request.{Request}
-use Rattle.impose_cli.specs.declared.fault.Fault.{Fault}
-use Rattle.impose_cli.specs.declared.fault.Fault.TheVariants as fault
-use Rattle.impose_cli.specs.declared.task.PaperOrigin.{PaperOrigin}
+use Rattle.impose_words.specs.declared.request.Spacing.{Spacing}
+use Rattle.impose_words.specs.declared.request.Layout.{Layout}
+use Rattle.impose_words.specs.declared.request.Layout.TheVariants as layout
+use Rattle.impose_words.specs.declared.request.Request.{Request}
+use Rattle.impose_said.specs.declared.fault.Fault.{Fault}
+use Rattle.impose_said.specs.declared.fault.Fault.TheVariants as fault
+use Rattle.impose_said.specs.declared.finished.PaperOrigin.{PaperOrigin}
 
 -- ---- the document
 

@@ -9,7 +9,7 @@ use Rattle.row_sheets.specs.RowSheets.{selected_sheet}
 use Rattle.rows.specs.Choices.{choice_of}
 use Rattle.rows.specs.Sewing.{MayBeSewn, signing_of}
 use Rattle.layouts.specs.Fitted.{binding_setting_of, setting_of}
-use Rattle.layouts.specs.Grids.{count_of, rounded_down}
+use Rattle.layouts.specs.Grids.{count_of, rounded_down, rounded_up}
 use Rattle.layouts.specs.Refusals.{first_of, is_length, why_not_arranged, why_not_bound}
 use Rattle.layouts.specs.declared.setting.Setting.{Setting}
 use Rattle.layouts.specs.declared.error.ArrangementError.TheVariants as why
@@ -25,19 +25,20 @@ use Rattle.imposer.specs.declared.outcome.Report.{Report}
 use Rattle.row_runs.specs.declared.asked.Laying.{Laying}
 use Rattle.row_runs.specs.declared.asked.Laying.TheVariants as laying
 use Rattle.row_runs.specs.declared.run.RowJob.{RowJob}
-use Rattle.impose_cli.specs.Choices.{choice_in}
+use Rattle.impose_words.specs.Choices.{choice_in}
 use Rattle.arranged_sheets.specs.Posters.{why_no_poster}
-use Rattle.impose_cli.specs.Spacings.{arrangement_in, binding_in, notes_in, poster_in}
-use Rattle.impose_cli.specs.declared.request.Spacing.{Spacing}
+use Rattle.arranged_sheets.specs.declared.poster.Poster.{Poster}
+use Rattle.impose_words.specs.Spacings.{arrangement_in, binding_in, notes_in}
+use Rattle.impose_words.specs.declared.request.Spacing.{Spacing}
 use Rattle.impose_cli.specs.Tasks.{HasBehind, page_paper_found, sheet_paper_found, taken_text}
-use Rattle.impose_cli.specs.declared.fault.Fault.{Fault}
-use Rattle.impose_cli.specs.declared.fault.Fault.TheVariants as fault
-use Rattle.impose_cli.specs.declared.request.Layout.{Layout}
-use Rattle.impose_cli.specs.declared.request.Layout.TheVariants as layout
-use Rattle.impose_cli.specs.declared.request.Request.{Request}
-use Rattle.impose_cli.specs.declared.task.Finished.{Finished}
-use Rattle.impose_cli.specs.declared.task.PaperOrigin.{PaperOrigin}
-use Rattle.impose_cli.specs.declared.task.PaperOrigin.TheVariants.{FirstPage}
+use Rattle.impose_said.specs.declared.fault.Fault.{Fault}
+use Rattle.impose_said.specs.declared.fault.Fault.TheVariants as fault
+use Rattle.impose_words.specs.declared.request.Layout.{Layout}
+use Rattle.impose_words.specs.declared.request.Layout.TheVariants as layout
+use Rattle.impose_words.specs.declared.request.Request.{Request}
+use Rattle.impose_said.specs.declared.finished.Finished.{Finished}
+use Rattle.impose_said.specs.declared.finished.PaperOrigin.{PaperOrigin}
+use Rattle.impose_said.specs.declared.finished.PaperOrigin.TheVariants.{FirstPage}
 use Rattle.impose_cli.specs.declared.row_task.RowTask.{RowTask}
 
 -- how a layout is sewn
@@ -61,6 +62,16 @@ sheet_paper_in other named page_paper = sheet_paper_found named page_paper
 abbrev pub stacked : (duplex : Bool) → Setting → (cells : ℕ) → Laying
 stacked false t cells = laying.Stack t cells
 stacked true t cells = laying.Leaves t
+
+-- so many columns and rows of sheets of a paper: of margin and overlap none is lost
+abbrev pub poster_in : Spacing → (columns rows : ℕ) → (sheet : Paper) → Poster
+poster_in s columns rows sheet = record {
+  sheet = sheet;
+  columns = columns;
+  rows = rows;
+  edge = rounded_up s.margin;
+  overlap = rounded_up s.overlap;
+}
 
 -- how a layout lays a row of pages of a paper on sheets, if it does
 abbrev pub laying_in : Layout → Spacing → (page_paper sheet_paper : Paper) → Option Laying

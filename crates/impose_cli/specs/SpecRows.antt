@@ -13,20 +13,21 @@ use Rattle.row_runs.specs.BySpec.{ImposesBySpec, RefusesBySpec, WroteBySpec, pag
 use Rattle.row_runs.specs.Runs.{FailedWith}
 use Rattle.row_runs.specs.declared.by_spec.SpecJob.{SpecJob}
 use Rattle.row_runs.specs.declared.error.AskedError.{AskedError}
-use Rattle.impose_cli.specs.Choices.{choice_in}
-use Rattle.impose_cli.specs.Faults.{of_asked, without_memory}
+use Rattle.impose_words.specs.Choices.{choice_in}
+use Rattle.impose_said.specs.Faults.{without_memory}
+use Rattle.impose_cli.specs.Faults.{of_asked}
 use Rattle.dsc.specs.declared.errors.DscError.{DscError}
 use Rattle.imposer.specs.Outcomes.{of_document as of_read}
 use Rattle.impose_cli.specs.Refusals.{IsRefusedFor, RefusesDocument}
 use Rattle.impose_cli.specs.Tasks.{HasBehind, HasPages, page_paper_found, sheet_paper_found, taken_text}
 use Rattle.impose_cli.specs.Unread.{RefusesSpecification}
-use Rattle.impose_cli.specs.declared.fault.Fault.{Fault}
-use Rattle.impose_cli.specs.declared.fault.Fault.TheVariants as fault
-use Rattle.impose_cli.specs.declared.request.Layout.{Layout}
-use Rattle.impose_cli.specs.declared.request.Layout.TheVariants as layout
-use Rattle.impose_cli.specs.declared.request.Request.{Request}
+use Rattle.impose_said.specs.declared.fault.Fault.{Fault}
+use Rattle.impose_said.specs.declared.fault.Fault.TheVariants as fault
+use Rattle.impose_words.specs.declared.request.Layout.{Layout}
+use Rattle.impose_words.specs.declared.request.Layout.TheVariants as layout
+use Rattle.impose_words.specs.declared.request.Request.{Request}
 use Rattle.impose_cli.specs.declared.spec_row.SpecRowTask.{SpecRowTask}
-use Rattle.impose_cli.specs.declared.task.Finished.{Finished}
+use Rattle.impose_said.specs.declared.finished.Finished.{Finished}
 
 -- the layout is this text of a specification, on a row that is sewn so
 abbrev pub IsSpecRow : Layout → (text : List ℕ) → (how : Option Signing) → Type 0

@@ -19,16 +19,16 @@ use Rattle.imposer.specs.Runs.{Reports}
 use Rattle.imposer.specs.Runs as runs
 use Rattle.document_paper.specs.Media.{document_paper}
 use Rattle.document_paper.specs.declared.media.Comment.{Comment}
-use Rattle.impose_cli.specs.declared.task.PaperOrigin.{PaperOrigin}
-use Rattle.impose_cli.specs.declared.task.PaperOrigin.TheVariants.{Named, ByComment, AtHome}
-use Rattle.impose_cli.specs.Choices.{is_said}
-use Rattle.impose_cli.specs.Spacings.{arrangement_in, binding_in}
-use Rattle.impose_cli.specs.declared.request.Spacing.{Spacing}
-use Rattle.impose_cli.specs.declared.request.Layout.{Layout}
-use Rattle.impose_cli.specs.declared.request.Layout.TheVariants as layout
-use Rattle.impose_cli.specs.declared.request.Request.{Request}
+use Rattle.impose_said.specs.declared.finished.PaperOrigin.{PaperOrigin}
+use Rattle.impose_said.specs.declared.finished.PaperOrigin.TheVariants.{Named, ByComment, AtHome}
+use Rattle.impose_words.specs.Choices.{is_said}
+use Rattle.impose_words.specs.Spacings.{arrangement_in, binding_in}
+use Rattle.impose_words.specs.declared.request.Spacing.{Spacing}
+use Rattle.impose_words.specs.declared.request.Layout.{Layout}
+use Rattle.impose_words.specs.declared.request.Layout.TheVariants as layout
+use Rattle.impose_words.specs.declared.request.Request.{Request}
 use Rattle.impose_cli.specs.declared.task.Task.{Task}
-use Rattle.impose_cli.specs.declared.task.Finished.{Finished}
+use Rattle.impose_said.specs.declared.finished.Finished.{Finished}
 
 -- the paper of the pages: the one that is named, else the document's own, else the one at home
 abbrev pub own_or_home : (home : Paper) → Option (Paper × Comment) → Paper × PaperOrigin

@@ -10,13 +10,13 @@ use Rattle.pagespec.specs.declared.error.SpecError.{SpecError}
 use Rattle.imposer.specs.Outcomes.{of_spec}
 use Rattle.impose_cli.specs.RowTasks.{sheet_paper_in, why_not_laid}
 use Rattle.impose_cli.specs.Refusals.{RefusesLaying}
-use Rattle.impose_cli.specs.declared.request.Spacing.{Spacing}
-use Rattle.impose_cli.specs.declared.request.Layout.{Layout}
-use Rattle.impose_cli.specs.declared.request.Layout.TheVariants as layout
-use Rattle.impose_cli.specs.declared.request.PageChoice.{PageChoice}
-use Rattle.impose_cli.specs.declared.request.Request.{Request}
-use Rattle.impose_cli.specs.declared.fault.Fault.{Fault}
-use Rattle.impose_cli.specs.declared.fault.Fault.TheVariants as fault
+use Rattle.impose_words.specs.declared.request.Spacing.{Spacing}
+use Rattle.impose_words.specs.declared.request.Layout.{Layout}
+use Rattle.impose_words.specs.declared.request.Layout.TheVariants as layout
+use Rattle.impose_words.specs.declared.request.PageChoice.{PageChoice}
+use Rattle.impose_words.specs.declared.request.Request.{Request}
+use Rattle.impose_said.specs.declared.fault.Fault.{Fault}
+use Rattle.impose_said.specs.declared.fault.Fault.TheVariants as fault
 
 -- the text is that of a specification
 abbrev pub IsSpecification : (text : List ℕ) → Type 0

@@ -7,13 +7,13 @@ ghost use Rattle.layouts.specs.Refusals.{is_length as may_be_length};
 ghost use Rattle.rows.specs.Sewing.{MayBeSewn, signing_of};
 ghost use Rattle.row_runs.specs.Sheets.{MayBeLaid};
 ghost use Rattle.impose_cli.specs.Refusals.{RefusesLaying, RefusesSides};
-ghost use Rattle.impose_cli.specs.Spacings.{arrangement_in};
+ghost use Rattle.impose_words.specs.Spacings.{arrangement_in};
 ghost use Rattle.impose_cli.specs.RowTasks.{laying_in, sheet_paper_in, signing_in, why_not_laid};
-ghost use Rattle.impose_cli.specs.declared.request.Layout.TheVariants as layout;
+ghost use Rattle.impose_words.specs.declared.request.Layout.TheVariants as layout;
 
-use crate::fault::Fault;
-use crate::request::{Layout, Spacing};
 use arranged_sheets::{Poster, check_poster};
+use impose_said::Fault;
+use impose_words::{Layout, Spacing};
 use imposer::RunError;
 use layouts::{ArrangementError, Cells, Papers, Setting};
 use lengths::{Grains, Paper};

@@ -6,12 +6,12 @@ ghost use Rattle.row_runs.specs.Sheets.{MayBeAsked, MayBeLaid};
 ghost use Rattle.impose_cli.specs.Looks.{RefusesRowLook, RefusesTaskLook, Tells, TellsRow, TellsTask};
 ghost use Rattle.impose_cli.specs.RowTasks.{LaysRows};
 
-use crate::fault::Fault;
-use crate::request::Request;
 use crate::roomy_text::RoomyText;
 use crate::row_task::{RowTask, asked_fault_of, row_task};
 use crate::task::WORKERS;
 use dsc::Document;
+use impose_said::Fault;
+use impose_words::Request;
 use imposer::RunError;
 use row_runs::{Asked, AskedError, RowJob, row_plan, row_preview};
 use std::alloc::Global;

@@ -1,6 +1,6 @@
 //! The specification of a task as it is printed, with the line of pstops that does the same.
-use crate::request::Request;
 use crate::task::Task;
+use impose_words::Request;
 use imposer::Options;
 use lengths::{Grains, Number, print_number};
 use std::alloc::{AllocError, Global};

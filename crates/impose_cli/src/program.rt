@@ -6,20 +6,18 @@ ghost use Rattle.impose_cli.specs.Looks.{MayBeMade};
 ghost use Rattle.impose_cli.specs.Programs.{CarriesOut, EndsProgram, IsFailedWrite, IsHome, IsReading, IsSaidAs, Makes};
 ghost use Rattle.impose_cli.specs.Programs.{Prints, RunsInto, Shows, Writes, status_of};
 ghost use Rattle.impose_cli.specs.RowTasks.{LaysRows};
-ghost use Rattle.impose_cli.specs.declared.fault.Fault.TheVariants as faults;
+ghost use Rattle.impose_said.specs.declared.fault.Fault.TheVariants as faults;
 
-use crate::command::read_command;
-use crate::fault::Fault;
 use crate::keeping_reader::KeepingReader;
 use crate::look::{Look, look_text};
-use crate::messages::fault_status;
 use crate::printed::printed_task;
-use crate::request::{Product, Request};
 use crate::roomy_text::RoomyText;
 use crate::row_task::run_request;
-use crate::task::{Finished, task_for};
+use crate::task::task_for;
 use crate::unread::check_request;
 use command_words::name_of;
+use impose_said::{Done, Fault, fault_status};
+use impose_words::{Product, Request, read_command};
 use imposer::RunError;
 use input::{ReadFault, ReadSource, read_input_behind};
 use lengths::Paper;
@@ -30,17 +28,6 @@ use std::io::{ErrorKind, Read, Write};
 use std::sync::Wait;
 use std::thread::Threads;
 use world::{Late, World, abandon, created_late, write_out};
-
-/// What was done.
-#[derive(Clone, Copy, Debug, PartialEq, Eq)]
-pub enum Done {
-    /// The pages were imposed.
-    Imposed(Finished),
-    /// The specification was printed.
-    Printed,
-    /// The plan or the picture of the sheets was written.
-    Shown,
-}
 
 /// How the program ended.
 #[derive(Drop)]
@@ -196,7 +183,7 @@ fn input_of<W: World>(alloc: Global, name: Option<&str>, world: &W) -> Result<Ro
     ensures refused { IfErr result IsReading }
 {
     match world.open(name) {
-        Ok(input) => read_from(alloc, KeepingReader::new(input)),
+        Ok(input) => read_from(alloc, input),
         Err(error) if error.kind() == ErrorKind::OutOfMemory => Err(Fault::no_memory()),
         Err(error) => Err(Fault::Read(Some(error))),
     }

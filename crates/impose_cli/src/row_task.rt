@@ -6,10 +6,11 @@ ghost use Rattle.row_runs.specs.Sheets.{MayBeLaid};
 ghost use Rattle.sheet_text.specs.Jobs.{is_border};
 ghost use Rattle.sheet_writer.specs.Sinks.{IsCountable};
 ghost use Rattle.impose_cli.specs.Endings.{Ends, EndsTask, Finishes};
-ghost use Rattle.impose_cli.specs.Faults.{of_asked as asked_fault, of_row as row_fault, without_memory};
+ghost use Rattle.impose_said.specs.Faults.{without_memory};
+ghost use Rattle.impose_cli.specs.Faults.{of_asked as asked_fault, of_row as row_fault};
 ghost use Rattle.rules.specs.Run.{most_pages};
 ghost use Rattle.made_sheets.specs.Choice.{imposed_row as row_of};
-ghost use Rattle.impose_cli.specs.Choices.{choice_in};
+ghost use Rattle.impose_words.specs.Choices.{choice_in};
 ghost use Rattle.impose_cli.specs.RowTasks.{guarded_in, first_paper as first_paper_of};
 ghost use Rattle.impose_cli.specs.RowTasks.{ArePapersOf, ImposesTask, IsRowPaper, IsRowTask, LaysRows};
 ghost use Rattle.impose_cli.specs.RowTasks.{cut_in, paper_for, papers_in as papers_found, row_paper};
@@ -17,15 +18,13 @@ ghost use Rattle.impose_cli.specs.Refusals.{RefusesDocument, RefusesRowTask};
 ghost use Rattle.impose_cli.specs.Tasks.{HasBehind, HasPages, page_paper_found};
 ghost use Rattle.dsc.specs.PagesBehind.{pages_behind};
 
-use crate::fault::Fault;
 use crate::laying::{laying_for, papers_for, signing_for};
-use crate::request::{Layout, PageChoice, Request};
 use crate::roomy_text::RoomyText;
 use crate::spec_row::run_spec_row;
-use crate::task::{
-    Finished, PaperOrigin, WORKERS, of_document, paper_of_pages, run_spec, text_to_impose,
-};
+use crate::task::{WORKERS, of_document, paper_of_pages, run_spec, text_to_impose};
 use dsc::Document;
+use impose_said::{Fault, Finished, PaperOrigin};
+use impose_words::{Layout, PageChoice, Request};
 use imposer::{Open, Report, RunError, Sink};
 use lengths::{Grains, Paper};
 use own_papers::{Cut, as_one, cut_by, first_instead_of, own_papers};
@@ -342,7 +341,7 @@ fn impose_task<R: Threads + Wait + Sync, S: Sink>(
         marks: request.marks,
         workers: WORKERS,
     };
-    match impose_row(rt, alloc, &job, &Open {}, sink) {
+    match impose_row(rt, alloc, &job, &Open, sink) {
         Ok(report) => Ok(report),
         Err(error) => Err(asked_fault_of(error, pages)),
     }

@@ -8,15 +8,13 @@ ghost use Rattle.impose_cli.specs.Endings.{Ends};
 ghost use Rattle.impose_cli.specs.SpecRows.{EndsSpecTask, ImposesSpecTask, IsSpecRow, IsSpecRowTask, LaysSpecRow};
 ghost use Rattle.impose_cli.specs.SpecRows.{RefusesSpecRow, RefusesSpecRowTask};
 
-use crate::fault::Fault;
 use crate::laying::may_be_sewn;
-use crate::request::{Layout, Request};
 use crate::roomy_text::RoomyText;
 use crate::row_task::{asked_fault_of, is_drawn};
-use crate::task::{
-    Finished, PaperOrigin, WORKERS, pages_of, paper_of_pages, paper_of_sheets, text_to_impose,
-};
+use crate::task::{WORKERS, pages_of, paper_of_pages, paper_of_sheets, text_to_impose};
 use dsc::Document;
+use impose_said::{Fault, Finished, PaperOrigin};
+use impose_words::{Layout, Request};
 use imposer::{Open, Report, RunError, Sink};
 use lengths::Paper;
 use pagespec::{Spec, read_spec};
@@ -154,7 +152,7 @@ fn impose_spec_task<R: Threads + Wait + Sync, S: Sink>(
         border: request.border,
         workers: WORKERS,
     };
-    match impose_spec_row(rt, alloc, &job, &Open {}, sink) {
+    match impose_spec_row(rt, alloc, &job, &Open, sink) {
         Ok(report) => Ok(report),
         Err(error) => Err(asked_fault_of(error, pages)),
     }

@@ -11,45 +11,32 @@ ghost use Rattle.layouts.specs.Refusals.{why_not_bound};
 ghost use Rattle.layouts.specs.declared.error.ArrangementError.{ArrangementError};
 ghost use Rattle.sheet_writer.specs.Sinks.{IsCountable};
 ghost use Rattle.imposer.specs.Runs.{Accepted, FailedIn, HasWritten, IsRefusal, Reports, frame_of};
-ghost use Rattle.impose_cli.specs.Faults.{of_document as document_fault, of_other_input, without_memory};
+ghost use Rattle.impose_said.specs.Faults.{without_memory};
+ghost use Rattle.impose_cli.specs.Faults.{of_document as document_fault, of_other_input};
 ghost use Rattle.impose_cli.specs.Tasks.{HasBehind, HasPages, IsPlaced, IsTask, IsWritten, asked_by, page_paper_found};
 ghost use Rattle.impose_cli.specs.Tasks.{IsSpec, sheet_paper_found, taken_text};
 ghost use Rattle.impose_cli.specs.Refusals.{RefusesDocument, RefusesLayout, RefusesTask};
-ghost use Rattle.impose_cli.specs.Choices.{is_said as says};
+ghost use Rattle.impose_words.specs.Choices.{is_said as says};
 ghost use Rattle.impose_cli.specs.Endings.{EndsBySpec};
 ghost use Rattle.impose_cli.specs.Unread.{IsPossible, IsSpecification, RefusesSpecification, RefusesUnread};
-ghost use Rattle.impose_cli.specs.declared.request.Layout.TheVariants as layout;
-ghost use Rattle.impose_cli.specs.declared.fault.Fault.TheVariants as faults;
+ghost use Rattle.impose_words.specs.declared.request.Layout.TheVariants as layout;
+ghost use Rattle.impose_said.specs.declared.fault.Fault.TheVariants as faults;
 
-use crate::fault::Fault;
 use crate::laying::{laying_for, papers_for};
-use crate::request::{Layout, PageChoice, Request, Spacing};
 use crate::roomy_text::RoomyText;
-use document_paper::{Comment, document_paper};
+use document_paper::document_paper;
 use dsc::{Document, DscError};
+use impose_said::{Fault, Finished, PaperOrigin};
+use impose_words::{Layout, PageChoice, Request, Spacing};
 use imposer::{Open, Options, Report, RunError, Sink, Workers, run};
 use layouts::{Binding, Cells, Papers, arrange, bind};
 use lengths::Paper;
 use marks::Marks;
-use own_papers::Cut;
 use pagespec::{Spec, read_spec, write_spec};
 use rows::{Signing, auto_sides};
 use std::alloc::{AllocError, Global};
 use std::sync::Wait;
 use std::thread::Threads;
-
-/// Where the paper of the pages was found.
-#[derive(Clone, Copy, Debug, PartialEq, Eq)]
-pub enum PaperOrigin {
-    /// It was named on the command line.
-    Named,
-    /// This comment of the document's header tells it.
-    ByComment(Comment),
-    /// Nothing tells it, and so it is the paper at home.
-    AtHome,
-    /// It is the first page's own, as no page has the document's.
-    FirstPage,
-}
 
 /// What is imposed, and how.
 #[derive(Debug, Drop)]
@@ -62,20 +49,6 @@ pub struct Task {
     /// Where the paper of the pages was found.
     pub origin: PaperOrigin,
     /// How many pages stand behind the document's trailer.
-    pub behind: usize,
-}
-
-/// How a request was carried out.
-#[derive(Clone, Copy, Debug, PartialEq, Eq)]
-pub struct Finished {
-    pub report: Report,
-    /// The paper of the pages.
-    pub page_paper: Paper,
-    /// Where the paper of the pages was found.
-    pub origin: PaperOrigin,
-    /// The pages that the paper cuts which was named for them. By a specification none are told.
-    pub cut: Option<Cut>,
-    /// How many pages stand behind the document's trailer, which aren't imposed.
     pub behind: usize,
 }
 
@@ -417,7 +390,7 @@ fn run_task<R: Threads + Wait + Sync, S: Sink>(
         task.text.as_slice(),
         task.spec.as_str(),
         &task.options,
-        &Open {},
+        &Open,
         sink,
     )
 }

@@ -2,9 +2,9 @@
 ghost use Rattle.std.specs.Prelude.{IfErr, OnOk};
 ghost use Rattle.impose_cli.specs.Unread.{AreRanges, MayBeRead, RefusesRanges, RefusesRequest};
 
-use crate::fault::Fault;
-use crate::request::{PageChoice, Request};
 use crate::task::check_layout;
+use impose_said::Fault;
+use impose_words::{PageChoice, Request};
 use rows::{RowError, read_row};
 use std::alloc::Global;
 

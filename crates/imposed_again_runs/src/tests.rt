@@ -40,7 +40,7 @@ fn each_run_has_the_sheets_of_the_last_one_as_its_pages(rt: HostRuntime) -> Resu
         EIGHT_PAGES.as_bytes(),
         pair,
         &options,
-        &Open {},
+        &Open,
         &mut first,
     )?;
     assert_eq!(rt; (report.pages, report.sheets), (8, 4));
@@ -52,7 +52,7 @@ fn each_run_has_the_sheets_of_the_last_one_as_its_pages(rt: HostRuntime) -> Resu
         first.bytes(),
         pair,
         &options,
-        &Open {},
+        &Open,
         &mut second,
     )?;
     assert_eq!(rt; (report.pages, report.sheets), (4, 2));
@@ -64,7 +64,7 @@ fn each_run_has_the_sheets_of_the_last_one_as_its_pages(rt: HostRuntime) -> Resu
         second.bytes(),
         "1:-0,0",
         &options,
-        &Open {},
+        &Open,
         &mut third,
     )?;
     assert_eq!(rt; (report.pages, report.sheets), (2, 4));
@@ -82,7 +82,7 @@ fn an_open_page_hides_the_sheet_behind_it(rt: HostRuntime) -> Result<(), Fail> {
         OPEN_PAGE.as_bytes(),
         "0,0",
         &options,
-        &Open {},
+        &Open,
         &mut sink,
     )?;
     assert_eq!(rt; (report.pages, report.sheets), (1, 2));

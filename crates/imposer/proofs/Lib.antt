@@ -3,6 +3,7 @@ pub mod Made
 pub mod Refusals
 pub mod Held
 pub mod ByRight
+mod RoomForAll
 pub mod OwnPages
 pub mod TextBytes
 pub mod Texts

@@ -34,7 +34,7 @@ pub trait Gate {
 
 /// The gate that does nothing.
 #[derive(Clone, Copy, Debug)]
-pub struct Open {}
+pub struct Open;
 
 impl Gate for Open {
     fn before(&self, _step: Step) {}

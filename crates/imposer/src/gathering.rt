@@ -48,7 +48,7 @@ use std::thread::Threads;
 use workers::{Crew, Supplies, gather_by};
 
 /// What a run is when all its workers have ended.
-#[derive(Drop)]
+#[derive(Debug, Drop)]
 pub struct Gathered<'d> {
     /// What the run answers; out of memory and a failed write are its only errors.
     pub outcome: Result<Report, RunError>,
@@ -63,7 +63,8 @@ pub struct Gathered<'d> {
 ///
 /// The table is one of the job's plan, seat and pass have seen nothing yet, and the queue has room for every sheet.
 /// Each worker has a seat and a pass of its own, which are joined when it ends. If the pass has room by right for all puts
-/// that the preparers may make, each of them gets what it needs of it, and the queue refuses none.
+/// that the preparers may make, each of them gets what it needs of it, and the queue refuses none. A pass by right with less
+/// room has puts refused, even if the queue has room; those sheets are made at the end.
 pub fn gather<'j, 'd, R: Threads + Wait + Sync, G: Gate + Sync, S: Sink>(
     rt: &R,
     alloc: Global,
@@ -169,6 +170,28 @@ pub(crate) fn gather_on<'d, R: Threads + Wait + Sync, G: Gate + Sync, S: Sink>(
         imposing: Turns::new(page_len),
     };
     gather_as::<Brand, R, G, S>(rt, &shared, tokens, workers, sink)
+}
+
+/// `gather_on` for a run: its pass has room for all puts, so every complete sheet was put on the queue exactly once.
+pub(crate) fn gather_run<'d, R: Threads + Wait + Sync, G: Gate + Sync, S: Sink>(
+    rt: &R,
+    floor: &Floor<'_, '_, '_, 'd, G>,
+    tokens: Tokens,
+    workers: Workers,
+    sink: &mut S,
+) -> Gathered<'d>
+    requires seat { IsFreshSeat floor.now.table.now tokens.seat }
+    requires pass { IsFreshPass floor.now.ready.now tokens.pass }
+    requires room { HasRoomForAll floor.now.table.now.layout workers.preparers tokens.pass }
+    requires workers { AreWorkers workers }
+    requires countable { IsCountable (S.seen sink.old) }
+    ensures outcome { Answers floor.now.job.now (S.seen sink.old) (S.seen sink.new) result.outcome }
+    ensures tokens { MatchResult result.outcome (λ _. IsSomeAnd result.tokens (λ t. ⊤)) (λ e.
+        HandsBackTokens e result.tokens) }
+    ensures put { IfSome result.tokens (λ t. IsHandedOn t.1.front
+        × AreAllPut floor.now.table.now.layout t.0.front t.1.front) }
+{
+    gather_on(rt, floor, tokens, workers, sink)
 }
 
 /// `gather`, with the texts of the channel's rule chosen.

@@ -27,3 +27,4 @@ pub use run_steps::{DeliverError, Delivered, ImposeError, Imposed, deliver, impo
 pub use runs::{run, run_plan};
 pub use sheet_text::{Dress, Job, Lines, SheetLines, sheet_text};
 pub use sheet_writer::{MemorySink, Sink, SinkFault, WriteSink};
+pub use std::alloc::AllocError as NoMemory;

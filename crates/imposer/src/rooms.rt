@@ -1,14 +1,17 @@
-//! How many puts there are at most, so that the queue has room for all of them.
-ghost use Rattle.std.specs.Prelude.{◌≡◌, ◌+◌, ◌<◌, ◌≤◌, ◌%◌, ◌==◌, if◌then◌else◌, length, min};
+//! How many puts there are at most, and a queue that has room for all of them.
+ghost use Rattle.std.specs.Prelude.{◌≡◌, ◌+◌, ◌<◌, ◌≤◌, ◌%◌, ◌==◌, if◌then◌else◌, length, min, IfOk};
 ghost use Rattle.rules.specs.Sheets.{layout};
 ghost use Rattle.sheet_plan.specs.Places.{places_of};
 ghost use Rattle.handover.specs.Passes.{puts_in};
 ghost use Rattle.run_steps.specs.Duty.{most_puts, most_puts_in_all};
+ghost use Rattle.imposer.specs.Rooms.{HasRoomForAll};
+ghost use Rattle.imposer.specs.Gathering.{IsFreshPass};
 
 use crate::gate::Gate;
 use crate::shared::Shared;
-use handover::Pass;
+use handover::{Pass, Ready};
 use sheet_plan::Plan;
+use std::alloc::{AllocError, Global};
 
 impl<'s, 'r, 'j, 'd, G: Gate> Shared<'s, 'r, 'j, 'd, G> {
     /// How much of the pass's room preparer `number` of `count` gets: what it needs, as far as there is so much.
@@ -62,4 +65,20 @@ pub(crate) fn most_puts_in_all(plan: &Plan<'_>, count: u32) -> u64
         puts += u64::from(most_puts(plan, number, count));
     }
     puts + plan.born_complete().len() as u64
+}
+
+/// A queue for the sheets of this plan, and its pass: so many preparers may put every sheet, and none is refused.
+pub(crate) fn ready_for(
+    alloc: Global,
+    plan: &Plan<'_>,
+    preparers: u32,
+) -> Result<(Ready, Pass), AllocError>
+    requires preparers { (0 < preparers) × (preparers ≤ 16) }
+    ensures room { IfOk result (λ made. HasRoomForAll (layout plan.now) preparers made.1) }
+    ensures sheets { IfOk result (λ made. length plan.now.sheets ≤ made.0.capacity) }
+    ensures pass { IfOk result (λ made. IsFreshPass made.0 made.1) }
+{
+    let sheets = plan.sheets();
+    let puts = most_puts_in_all(plan, preparers) as u32;
+    Ready::by_right(alloc, puts.max(sheets).max(1))
 }

@@ -15,15 +15,15 @@ ghost use Rattle.imposer.specs.Runs.{Request, request, frame_of, Accepted, IsRef
 ghost use Rattle.imposer.specs.Runs.{IsUnwritten, IsGiven, AnswersRequest};
 
 use crate::gate::Gate;
-use crate::gathering::gather_on;
+use crate::gathering::gather_run;
 use crate::options::{Options, Workers, are_valid};
 use crate::outcome::{Report, RunError};
-use crate::rooms::most_puts_in_all;
+use crate::rooms::ready_for;
 use crate::shared::Floor;
 use crate::tokens::Tokens;
 use dsc::Document;
 use gather_table::GatherTable;
-use handover::{Ready, Shelf};
+use handover::Shelf;
 use pagespec::{Spec, read_spec};
 use sheet_plan::{Plan, PlanError};
 use sheet_text::Job;
@@ -95,9 +95,7 @@ pub fn run_plan<R: Threads + Wait + Sync, G: Gate + Sync, S: Sink>(
     ensures steady { OnOk result ((S.seen sink.new).failures ≡ (S.seen sink.old).failures) }
     ensures failed { IfErr result (λ e. FailedIn e (S.seen sink.old) (S.seen sink.new)) }
 {
-    // Room for all puts, so that none is refused.
-    let room = most_puts_in_all(job.plan(), workers.preparers).min(u64::from(u32::MAX)) as u32;
-    let Ok((ready, pass)) = Ready::by_right(alloc, room.max(job.sheets()).max(1)) else {
+    let Ok((ready, pass)) = ready_for(alloc, job.plan(), workers.preparers) else {
         return Err(RunError::NoMemory { written: 0 });
     };
     let Ok((table, seat)) = GatherTable::new(alloc, job.plan()) else {
@@ -116,7 +114,7 @@ pub fn run_plan<R: Threads + Wait + Sync, G: Gate + Sync, S: Sink>(
         ready: &ready,
     };
     keep_blocks(alloc);
-    let gathered = gather_on(rt, &floor, Tokens { seat, pass }, workers, sink);
+    let gathered = gather_run(rt, &floor, Tokens { seat, pass }, workers, sink);
     gathered.outcome
 }
 

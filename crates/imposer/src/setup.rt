@@ -45,11 +45,11 @@ impl<'r, T: Texts> Setup<'r, T> {
         let trailer = job.document().trailer_text()?;
         let room = job.sheets().min(window).max(1);
         let early = Early::new(alloc, room)?;
+        let spent = ArrayQueue::new(alloc, room as usize)?;
         let (sender, receiver, mut receiving) = bounded_with::<_, _, SheetRule<T>, Global>(
             alloc,
             room as usize,
         )?;
-        let spent = ArrayQueue::new(alloc, room as usize)?;
         let sending = sender.another::<SheetRule<T>>(&mut receiving);
         let desk = Desk {
             header,

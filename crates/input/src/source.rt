@@ -6,7 +6,7 @@ use std::io::Read;
 
 /// A source failed and gave nothing.
 #[derive(Clone, Copy, Debug, PartialEq, Eq)]
-pub struct SourceFault {}
+pub struct SourceFault;
 
 /// What bytes are read from.
 pub trait Source {
@@ -55,7 +55,7 @@ impl<T: Read> Source for ReadSource<T> {
             Ok(count) => Ok(count),
             Err(_) => {
                 self.failures += 1;
-                Err(SourceFault {})
+                Err(SourceFault)
             }
         }
     }

@@ -20,4 +20,5 @@ pub use number::Number;
 pub use paper::Paper;
 pub use print::{print_number, print_points, print_scale};
 pub use read::{NumberError, read_digits, read_number};
+pub use std::alloc::AllocError as NoMemory;
 pub use unit::{Unit, unit_by_name};

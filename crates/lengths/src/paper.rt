@@ -64,6 +64,16 @@ impl Paper {
         self.width
     }
 
+    /// The paper on its side: width and height are exchanged.
+    pub fn turned(&self) -> Paper
+        ensures { result ≡ record { width = self.now.height; height = self.now.width } }
+    {
+        Paper {
+            width: self.height,
+            height: self.width,
+        }
+    }
+
     /// The height, in grains.
     pub fn height(&self) -> Grains
         ensures value { result ≡ self.now.height }

@@ -6,7 +6,7 @@ use Rattle.rules.specs.Parts.{NestedUnit, bytes_of, pages}
 use Rattle.dsc.specs.Header.{header_len}
 use Rattle.dsc.specs.Units.{units_of}
 use Rattle.paper_names.specs.Names.{paper_named}
-use Rattle.document_paper.specs.Media.{box_of, comment_fields, contents, document_paper, header, media_paper, or_box, or_named, trailer_lines}
+use Rattle.document_paper.specs.Media.{box_told, comment_fields, contents, document_paper, header, lying_as, media_paper, or_box, or_named, trailer_lines}
 use Rattle.document_paper.specs.Media as of_document
 use Rattle.document_paper.specs.declared.media.Comment.{Comment}
 use Rattle.document_paper.specs.declared.media.Comment.TheVariants.{BoundingBox}
@@ -33,17 +33,17 @@ boxed (Some paper) = refl
 boxed None = refl
 
 named_or_boxed : (lines trailer : List (List ℕ)) (n : Option Paper)
-    → paper_told (or_box lines trailer n) ≡ else_take n (option_and_then (box_of trailer) (comment_fields (codes "%%BoundingBox") lines))
+    → paper_told (or_box lines trailer n) ≡ else_take (option_map (lying_as (box_told lines trailer)) n) (box_told lines trailer)
 named_or_boxed lines trailer (Some paper) = refl
-named_or_boxed lines trailer None = boxed (option_and_then (box_of trailer) (comment_fields (codes "%%BoundingBox") lines))
+named_or_boxed lines trailer None = boxed (box_told lines trailer)
 
 by_media : (lines trailer : List (List ℕ)) (m : Option Paper)
     → paper_told (or_named lines trailer m)
-    ≡ else_take m (else_take (option_and_then (first_named paper_named) (comment_fields (codes "%%DocumentPaperSizes") lines)) (option_and_then (box_of trailer) (comment_fields (codes "%%BoundingBox") lines)))
+    ≡ else_take m (else_take (option_map (lying_as (box_told lines trailer)) (option_and_then (first_named paper_named) (comment_fields (codes "%%DocumentPaperSizes") lines))) (box_told lines trailer))
 by_media lines trailer (Some paper) = refl
 by_media lines trailer None =
     named_or_boxed lines trailer (option_and_then of_document.first_named (comment_fields (codes "%%DocumentPaperSizes") lines))
-    ∙ ap (λ n. else_take n (option_and_then (box_of trailer) (comment_fields (codes "%%BoundingBox") lines))) (same_names (comment_fields (codes "%%DocumentPaperSizes") lines))
+    ∙ ap (λ n. else_take (option_map (lying_as (box_told lines trailer)) n) (box_told lines trailer)) (same_names (comment_fields (codes "%%DocumentPaperSizes") lines))
 
 pub document_tells : (text : List ℕ) → option_map (λ p. p.0) (document_paper text) ≡ told_by_document paper_named (header text) (trailer_lines (units_of text))
 document_tells text = by_media (header text) (trailer_lines (units_of text)) (option_and_then media_paper (comment_fields (codes "%%DocumentMedia") (header text)))

@@ -1,5 +1,5 @@
 -- A paper that was told is found.
-use Rattle.std.specs.Prelude.{codes, decimal, filter, flat_map, replicate, nat_lt, nat_le, not, ℤ, pos, Option, Some, None, option_and_then, if◌then◌else◌, ◌&&◌}
+use Rattle.std.specs.Prelude.{codes, decimal, filter, flat_map, replicate, nat_lt, nat_le, not, ℤ, pos, Option, Some, None, option_and_then, option_map, if◌then◌else◌, ◌&&◌}
 use Rattle.std.specs.List.{All, AllPass, slice_split}
 use Rattle.std.specs.Char.{is_ascii_digit}
 use Rattle.std.proofs.Common.{arith, ◌≡◌, ◌≢◌, ℕ, zero, suc, ◌+◌, ◌-◌, ◌*◌, ◌/◌, ◌%◌, ◌^◌, ◌<◌, ◌≤◌, List, [], ◌∷◌, ◌++◌, Bool, true, false, cond, true≢false, refl, sym, ap, subst, ◌∙◌, length, drop, append_assoc, append-nil}
@@ -18,7 +18,7 @@ use Rattle.lengths.proofs.Numbers.{number_read}
 use Rattle.seams.specs.Seams.{no_ends}
 use Rattle.seams.proofs.LinesMeet.{go_line, stop_line}
 use Rattle.seams.proofs.Plainly.{no_ends_append, no_ends_decimal}
-use Rattle.document_paper.specs.Media.{box_of, comment_fields, media_paper, paper_of, points_at, points_of}
+use Rattle.document_paper.specs.Media.{box_told, lying_as, comment_fields, media_paper, paper_of, points_at, points_of}
 use Rattle.made_sheets.specs.Made.{Blank, MadeSheet, MadeSlot, Placed}
 use Rattle.made_sheets.specs.MadeOutput.{made_sheet_text, made_slot_text}
 use Rattle.page_papers.specs.Comments.{else_take, first_named, head_of, media, page_head, told_by_document, told_by_page}
@@ -235,7 +235,7 @@ found named home first count more trailer border texts s sheet w h sw fw sh fh e
     let paper : Paper = of_parts w h in
     let hs : List (List ℕ) = first ∷ count ∷ ((telling_of (paper ∷ [])).header ++ more) in
     let others : Option Paper =
-    else_take (option_and_then (first_named named) (comment_fields (codes "%%DocumentPaperSizes") hs)) (option_and_then (box_of trailer) (comment_fields (codes "%%BoundingBox") hs)) in
+    else_take (option_map (lying_as (box_told hs trailer)) (option_and_then (first_named named) (comment_fields (codes "%%DocumentPaperSizes") hs))) (box_told hs trailer) in
     ap (λ head. or_this (told_by_page (media hs) head) (or_this (told_by_document named hs trailer) home)) (silent border texts s sheet paper)
     ∙ ap (λ o. or_this (else_take (option_and_then media_paper o) others) home) (told w h first count more e f)
     ∙ ap (λ o. or_this (else_take o others) home) (medium_read w h sw fw sh fh)

@@ -2,13 +2,13 @@
 -- %%PageMedia and %%PageBoundingBox of Page Requirement and General Page Comments; %%DocumentPaperSizes is of DSC 2.1.
 -- Which of them count, and in which order, is this project's own rules.
 use Rattle.std.specs.Prelude.{ℕ, zero, suc, Bool, not, ◌&&◌, ◌||◌, nat_eq, nat_lt, if◌then◌else◌, List, [], ◌∷◌, ◌++◌}
-use Rattle.std.specs.Prelude.{length, drop, filter, codes, Option, Some, None, option_and_then}
+use Rattle.std.specs.Prelude.{length, drop, filter, codes, Option, Some, None, option_and_then, option_map}
 use Rattle.std.specs.List.{starts_with, slice_split}
 use Rattle.std.specs.Str.{bytes_eq}
 use Rattle.rules.specs.Papers.{Paper}
 use Rattle.rules.specs.Units.{content_of, line_len, key, has_key, is_comment, is_blank, fields}
 use Rattle.dsc.specs.Header.{is_header}
-use Rattle.document_paper.specs.Media.{comment_fields, media_paper, box_paper, box_of}
+use Rattle.document_paper.specs.Media.{comment_fields, media_paper, box_paper, box_told, lying_as}
 
 -- the first of two, if there is one, and else the second
 abbrev pub else_take : Option Paper → Option Paper → Option Paper
@@ -85,10 +85,10 @@ abbrev pub first_named : (named : List ℕ → Option Paper) → List (List ℕ)
 first_named named [] = None
 first_named named (name ∷ more) = else_take (named name) (first_named named more)
 
--- the document's paper: its first medium's; else the first of its papers' names that is known; else its box, if it
--- begins at 0 0
+-- the document's paper: its first medium's; else the first of its papers' names that is known, on its side if the box
+-- has its sides exchanged; else the box, if it begins at 0 0
 abbrev pub told_by_document : (named : List ℕ → Option Paper) → (header trailer : List (List ℕ)) → Option Paper
 told_by_document named header trailer =
     else_take (option_and_then media_paper (comment_fields (codes "%%DocumentMedia") header))
-    (else_take (option_and_then (first_named named) (comment_fields (codes "%%DocumentPaperSizes") header))
-    (option_and_then (box_of trailer) (comment_fields (codes "%%BoundingBox") header)))
+    (else_take (option_map (lying_as (box_told header trailer)) (option_and_then (first_named named) (comment_fields (codes "%%DocumentPaperSizes") header)))
+    (box_told header trailer))

@@ -18,4 +18,5 @@ pub use error::SpecError;
 pub use item::{Item, Measure, Turn};
 pub use read::read_spec;
 pub use spec::Spec;
+pub use std::alloc::AllocError as NoMemory;
 pub use write::write_spec;

@@ -9,7 +9,7 @@ use std::marker::Model;
 
 /// A specification that every check passed: the modulo, and for each sheet of a block the items on it. A contract sees
 /// it as what its text comes to. Its type keeps that some text is taken that comes to it.
-#[derive(Drop)]
+#[derive(Debug, Drop)]
 pub struct Spec {
     modulo: u32,
     groups: Vec<Vec<Item>>,

@@ -20,10 +20,13 @@ millimetres width height = record {
   height = pos 127_000_000_000 *ℤ rounded (pos (height * 360)) 127;
 }
 
--- the A and B sizes have the sides of ISO 216
-iso : map paper_named (codes "a0" ∷ codes "a1" ∷ codes "a2" ∷ codes "a3" ∷ codes "a4" ∷ codes "a5" ∷ codes "a6" ∷ codes "b4" ∷ codes "b5" ∷ codes "b6" ∷ [])
+-- the A and B sizes have the sides of ISO 216, the C sizes and dl those of ISO 269
+iso : map paper_named (codes "a0" ∷ codes "a1" ∷ codes "a2" ∷ codes "a3" ∷ codes "a4" ∷ codes "a5" ∷ codes "a6" ∷ codes "b4" ∷ codes "b5" ∷ codes "b6"
+    ∷ codes "b0" ∷ codes "b1" ∷ codes "b2" ∷ codes "b3" ∷ codes "c4" ∷ codes "c5" ∷ codes "c6" ∷ codes "dl" ∷ [])
     ≡ map Some (millimetres 841 1_189 ∷ millimetres 594 841 ∷ millimetres 420 594 ∷ millimetres 297 420 ∷ millimetres 210 297
-    ∷ millimetres 148 210 ∷ millimetres 105 148 ∷ millimetres 250 353 ∷ millimetres 176 250 ∷ millimetres 125 176 ∷ [])
+    ∷ millimetres 148 210 ∷ millimetres 105 148 ∷ millimetres 250 353 ∷ millimetres 176 250 ∷ millimetres 125 176
+    ∷ millimetres 1_000 1_414 ∷ millimetres 707 1_000 ∷ millimetres 500 707 ∷ millimetres 353 500 ∷ millimetres 229 324 ∷ millimetres 162 229
+    ∷ millimetres 114 162 ∷ millimetres 110 220 ∷ [])
 unfolding papers
 iso = refl
 
@@ -40,7 +43,7 @@ unknown : map paper_named ([] ∷ codes "a" ∷ codes "-landscape" ∷ codes "a4
 unfolding papers
 unknown = refl
 
-all_listed : length (listed papers) ≡ 114
+all_listed : length (listed papers) ≡ 146
 unfolding papers
 all_listed = refl
 

@@ -1,6 +1,6 @@
 -- The table of papers: a name that a row has, and the first of two tables.
 use Rattle.std.proofs.Common.{arith, ◌≡◌, ◌<◌, ℕ, zero, suc, List, [], ◌∷◌, ◌++◌, Bool, true, false, refl, sym, ap, subst, ◌∙◌, length, drop, get_or, IsTrue, true≢false}
-use Rattle.std.specs.Prelude.{map, ◌&&◌, ◌↔◌, if◌then◌else◌, Option, Some, None}
+use Rattle.std.specs.Prelude.{map, nat_lt, ◌&&◌, ◌↔◌, if◌then◌else◌, Option, Some, None}
 use Rattle.std.specs.List.{list_all}
 use Rattle.std.specs.Char.{to_ascii_lowercase}
 use Rattle.std.specs.Str.{bytes_eq}
@@ -38,6 +38,30 @@ this_row name row rows lower same test e =
     let known : map to_ascii_lowercase row.0.now ≡ row.0.now = (bytes_eq-Decides _ _).0 lower in
     let is : bytes_eq (map small name) row.0.now ≡ true = compared name row.0.now same test known ∙ e in
     ap (λ b. if b then Some (entry row).paper else paper_among (map entry rows) name) is
+
+-- sides that a paper may have
+abbrev pub sides_fit : Row → Bool
+sides_fit row = (nat_lt 0 row.1 && nat_lt row.1 7_200_000) && (nat_lt 0 row.2 && nat_lt row.2 7_200_000)
+
+fit_at : (rows : List Row) (i : ℕ) (d : Row) → list_all sides_fit rows ≡ true → i < length rows → sides_fit (get_or rows i d) ≡ true
+fit_at [] i d all h = absurd (omega arith)
+fit_at (row ∷ rows) zero d all h = (both _ _ all).0
+fit_at (row ∷ rows) (suc i) d all h = fit_at rows i d (both _ _ all).1 (omega arith)
+
+is_below : (a b : ℕ) → nat_lt a b ≡ true → a < b
+is_below a b e = grind (arith, nat_tests)
+
+within : (side most : ℕ) → (nat_lt 0 side && nat_lt side most) ≡ true → (0 < side) × (side < most)
+within side most e = (is_below 0 side (both _ _ e).0, is_below side most (both _ _ e).1)
+
+-- so they are at this place: what is looked up from it on says which rows are meant
+pub width_fits : (rows : List Row) (i : ℕ) (d : Row) (name : List ℕ) (paper : Option Paper) → paper_among (map entry (drop i rows)) name ≡ paper
+    → list_all sides_fit rows ≡ true → i < length rows → (0 < (get_or rows i d).1) × ((get_or rows i d).1 < 7_200_000)
+width_fits rows i d name paper is all h = within (get_or rows i d).1 7_200_000 (both _ _ (fit_at rows i d all h)).0
+
+pub height_fits : (rows : List Row) (i : ℕ) (d : Row) (name : List ℕ) (paper : Option Paper) → paper_among (map entry (drop i rows)) name ≡ paper
+    → list_all sides_fit rows ≡ true → i < length rows → (0 < (get_or rows i d).2) × ((get_or rows i d).2 < 7_200_000)
+height_fits rows i d name paper is all h = within (get_or rows i d).2 7_200_000 (both _ _ (fit_at rows i d all h)).1
 
 -- the row at this place has the name
 pub found_here : (rows : List Row) (i : ℕ) (d : Row) (name : List ℕ) → list_all is_lowercase rows ≡ true → i < length rows

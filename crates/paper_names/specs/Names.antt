@@ -1,4 +1,4 @@
--- Papers by their names. The A and B sizes are those of ISO 216, in whole points; the others are those of the Media
+-- Papers by their names. The A and B sizes are those of ISO 216, the C sizes and dl those of ISO 269, in whole points; the others are those of the Media
 -- option's keywords in Adobe's PostScript Printer Description specification 4.3, Appendix B (folio as in pstops(1) of
 -- psutils). A name with `-landscape` behind it is this project's own rule.
 use Rattle.std.specs.Prelude.{ℕ, List, [], ◌∷◌, ◌++◌, map, codes, Option}
@@ -14,9 +14,17 @@ papers =
     ∷ record { name = codes "a4"; paper = points 595 842 }
     ∷ record { name = codes "a5"; paper = points 420 595 }
     ∷ record { name = codes "a6"; paper = points 298 420 }
+    ∷ record { name = codes "b0"; paper = points 2_835 4_008 }
+    ∷ record { name = codes "b1"; paper = points 2_004 2_835 }
+    ∷ record { name = codes "b2"; paper = points 1_417 2_004 }
+    ∷ record { name = codes "b3"; paper = points 1_001 1_417 }
     ∷ record { name = codes "b4"; paper = points 709 1_001 }
     ∷ record { name = codes "b5"; paper = points 499 709 }
     ∷ record { name = codes "b6"; paper = points 354 499 }
+    ∷ record { name = codes "c4"; paper = points 649 918 }
+    ∷ record { name = codes "c5"; paper = points 459 649 }
+    ∷ record { name = codes "c6"; paper = points 323 459 }
+    ∷ record { name = codes "dl"; paper = points 312 624 }
     ∷ record { name = codes "letter"; paper = points 612 792 }
     ∷ record { name = codes "legal"; paper = points 612 1_008 }
     ∷ record { name = codes "tabloid"; paper = points 792 1_224 }

@@ -6,7 +6,7 @@ ghost use Rattle.paper_names.specs.Names.{landscape, listed, paper_named, papers
 use lengths::{Grains, Paper};
 
 /// The names, with width and height in points.
-const PAPERS: [(&str, u32, u32); 19] = [
+const PAPERS: [(&str, u32, u32); 27] = [
     ("a0", 2384, 3370),
     ("a1", 1684, 2384),
     ("a2", 1191, 1684),
@@ -14,9 +14,17 @@ const PAPERS: [(&str, u32, u32); 19] = [
     ("a4", 595, 842),
     ("a5", 420, 595),
     ("a6", 298, 420),
+    ("b0", 2835, 4008),
+    ("b1", 2004, 2835),
+    ("b2", 1417, 2004),
+    ("b3", 1001, 1417),
     ("b4", 709, 1001),
     ("b5", 499, 709),
     ("b6", 354, 499),
+    ("c4", 649, 918),
+    ("c5", 459, 649),
+    ("c6", 323, 459),
+    ("dl", 312, 624),
     ("letter", 612, 792),
     ("legal", 612, 1008),
     ("tabloid", 792, 1224),
@@ -50,7 +58,8 @@ pub fn paper_by_name(name: &[u8]) -> Option<Paper>
 pub fn name_list() -> &'static str
     ensures { result.now ≡ listed papers }
 {
-    "a0, a1, a2, a3, a4, a5, a6, b4, b5, b6, letter, legal, tabloid, ledger, statement, executive, folio, quarto, 10x14"
+    "a0, a1, a2, a3, a4, a5, a6, b0, b1, b2, b3, b4, b5, b6, c4, c5, c6, dl, letter, legal, tabloid, ledger, statement, \
+    executive, folio, quarto, 10x14"
 }
 
 /// The paper of the table with this name.

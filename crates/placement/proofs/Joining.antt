@@ -1,10 +1,11 @@
 -- Texts that were appended part by part, as wholes.
-use Rattle.std.proofs.Common.{◌≡◌, ℕ, List, [], ◌∷◌, ◌++◌, ℤ, ◌∙◌, ap, append_assoc}
+use Rattle.std.proofs.Common.{◌≡◌, ℕ, List, [], ◌∷◌, ◌+◌, ◌≤◌, ◌++◌, ℤ, ◌∙◌, ap, refl, length, append_assoc}
 use Rattle.std.specs.Prelude.{codes}
 use Rattle.rules.specs.Numbers.{points_text}
 use Rattle.rules.specs.Papers.{Paper}
 use Rattle.rules.specs.Placement.{spaced}
 use Rattle.rules.specs.Output.{edge_text}
+use Rattle.placement.proofs.Keeping.{fit_three, fit_four, fit_five}
 
 pub scales_joined :
     (o a b c d v1 v2 v3 : List ℕ) → v1 ≡ o ++ (codes "[" ++ a) → v2 ≡ v1 ++ (codes " " ++ b) → v3 ≡ v2 ++ (codes " " ++ c)
@@ -36,6 +37,22 @@ path_joined paper width height w h o v1 v2 v3 v4 e1 e2 e3 e4 =
     (e3 ∙ ap (λ y. v2 ++ (codes " " ++ points_text y)) h)
     (e4 ∙ ap (λ y. v3 ++ (codes " lineto 0 " ++ points_text y)) h)
 
+pub path_fits :
+    (paper : Paper) (width height : ℤ) → width ≡ paper.width → height ≡ paper.height
+    → (length (codes "newpath 0 0 moveto " ++ points_text width) ≤ length (edge_text paper))
+    × (length (codes "newpath 0 0 moveto " ++ points_text width) + length (codes " 0 lineto " ++ points_text width) ≤ length (edge_text paper))
+    × ((length (codes "newpath 0 0 moveto " ++ points_text width) + length (codes " 0 lineto " ++ points_text width))
+    + length (codes " " ++ points_text height) ≤ length (edge_text paper))
+    × (((length (codes "newpath 0 0 moveto " ++ points_text width) + length (codes " 0 lineto " ++ points_text width))
+    + length (codes " " ++ points_text height)) + length (codes " lineto 0 " ++ points_text height) ≤ length (edge_text paper))
+path_fits paper width height w h =
+    let one = codes "newpath 0 0 moveto " ++ points_text width in
+    let two = codes " 0 lineto " ++ points_text width in
+    let three = codes " " ++ points_text height in
+    let four = codes " lineto 0 " ++ points_text height in
+    fit_five (edge_text paper) one two three four (codes " lineto closepath")
+    (path_joined paper width height w h [] one (one ++ two) ((one ++ two) ++ three) (((one ++ two) ++ three) ++ four) refl refl refl refl)
+
 pub border_joined :
     (o width edge v1 v2 v3 : List ℕ) → v1 ≡ o ++ (codes "gsave " ++ width) → v2 ≡ v1 ++ codes " setlinewidth " → v3 ≡ v2 ++ edge
     → v3 ++ codes " stroke grestore\n" ≡ o ++ ((codes "gsave " ++ width ++ codes " setlinewidth " ++ edge ++ codes " stroke grestore") ++ 10 ∷ [])
@@ -51,3 +68,41 @@ pub opening_joined :
     (o placing edge border v1 v2 v3 : List ℕ) → v1 ≡ o ++ placing → v2 ≡ v1 ++ edge → v3 ≡ v2 ++ codes " clip newpath\n"
     → v3 ++ border ≡ o ++ (placing ++ ((edge ++ codes " clip newpath") ++ 10 ∷ []) ++ border)
 opening_joined o placing edge border v1 v2 v3 e1 e2 e3 = rw (e3, e2, e1) (simp append_assoc)
+
+-- ---- the parts of a text, but for the last, are no longer than it
+pub matrix_fits :
+    (a b c d x y : List ℕ) → let all : List ℕ = codes "[" ++ spaced (a ∷ b ∷ c ∷ d ∷ x ∷ y ∷ []) ++ codes "]" in
+    let scales : List ℕ = codes "[" ++ a ++ codes " " ++ b ++ codes " " ++ c ++ codes " " ++ d in
+    (length scales ≤ length all) × (length scales + length (codes " " ++ x) ≤ length all)
+    × ((length scales + length (codes " " ++ x)) + length (codes " " ++ y) ≤ length all)
+matrix_fits a b c d x y =
+    let scales : List ℕ = codes "[" ++ a ++ codes " " ++ b ++ codes " " ++ c ++ codes " " ++ d in
+    fit_four _ scales (codes " " ++ x) (codes " " ++ y) (codes "]")
+    (matrix_joined [] a b c d x y scales (scales ++ (codes " " ++ x)) ((scales ++ (codes " " ++ x)) ++ (codes " " ++ y)) refl refl refl)
+
+pub border_fits :
+    (width edge : List ℕ)
+    → let all : List ℕ = (codes "gsave " ++ width ++ codes " setlinewidth " ++ edge ++ codes " stroke grestore") ++ 10 ∷ [] in
+    (length (codes "gsave " ++ width) ≤ length all) × (length (codes "gsave " ++ width) + length (codes " setlinewidth ") ≤ length all)
+    × ((length (codes "gsave " ++ width) + length (codes " setlinewidth ")) + length edge ≤ length all)
+border_fits width edge =
+    let one : List ℕ = codes "gsave " ++ width in
+    let two : List ℕ = codes " setlinewidth " in
+    fit_four _ one two edge (codes " stroke grestore\n") (border_joined [] width edge one (one ++ two) ((one ++ two) ++ edge) refl refl refl)
+
+pub placing_fits :
+    (matrix placed : List ℕ) → matrix ≡ placed → let first : List ℕ = codes "userdict /ImposeSave save put\nuserdict /showpage {} put\n" in
+    let all : List ℕ =
+    (codes "userdict /ImposeSave save put" ++ 10 ∷ []) ++ (codes "userdict /showpage {} put" ++ 10 ∷ []) ++ ((placed ++ codes " concat") ++ 10 ∷ []) in
+    (length first ≤ length all) × (length first + length matrix ≤ length all)
+placing_fits matrix placed is =
+    let first : List ℕ = codes "userdict /ImposeSave save put\nuserdict /showpage {} put\n" in
+    rw is (fit_three _ first placed (codes " concat\n") (placing_joined [] placed first (first ++ placed) refl refl))
+
+pub opening_fits :
+    (placing edge border : List ℕ) → let all : List ℕ = placing ++ ((edge ++ codes " clip newpath") ++ 10 ∷ []) ++ border in
+    (length placing ≤ length all) × (length placing + length edge ≤ length all)
+    × ((length placing + length edge) + length (codes " clip newpath\n") ≤ length all)
+opening_fits placing edge border =
+    let clip : List ℕ = codes " clip newpath\n" in
+    fit_four _ placing edge clip border (opening_joined [] placing edge border placing (placing ++ edge) ((placing ++ edge) ++ clip) refl refl refl)

@@ -3,3 +3,4 @@ pub mod Keeping
 pub mod Near
 pub mod Putting
 pub mod Rows
+mod Sizes

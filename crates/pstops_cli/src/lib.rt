@@ -13,3 +13,4 @@ pub use input::{MOST_BYTES, ReadFault, ReadSource, Source, SourceFault, read_inp
 pub use messages::{Fault, fault_line};
 pub use program::{Ended, pstops};
 pub use request_runs::run_request;
+pub use std::alloc::AllocError as NoMemory;

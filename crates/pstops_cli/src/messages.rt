@@ -7,11 +7,11 @@ ghost use Rattle.pstops_cli.specs.Messages.{report_text as text_of_report};
 ghost use Rattle.pstops_cli.specs.Messages.{run_text as text_of_run, said, spec_text as text_of_spec};
 
 use crate::command::CommandFault;
-use command_words::run_status;
 use dsc::DscError;
 use imposer::{Report, RunError};
 use input::ReadFault;
 use pagespec::SpecError;
+use run_statuses::run_status;
 use sheet_plan::PlanError;
 use std::alloc::{AllocError, Global};
 

@@ -43,7 +43,7 @@ pub fn run_request<R: Threads + Wait + Sync, S: Sink>(
         input,
         request.spec.as_str(),
         &request.options,
-        &Open {},
+        &Open,
         sink,
     );
     match ending_of(alloc, request.quiet, ended) {

@@ -17,7 +17,7 @@ use std::alloc::{AllocError, Global};
 use std::sync::Wait;
 
 /// What a delivery did.
-#[derive(Drop)]
+#[derive(Debug, Drop)]
 pub struct Delivered<'d> {
     /// By which the page is read from the shelf.
     pub receipt: Receipt<'d>,
@@ -32,7 +32,7 @@ pub struct Delivered<'d> {
 }
 
 /// Why a page was not delivered. Table and queue are as they were, and so are seat and pass.
-#[derive(Drop)]
+#[derive(Debug, Drop)]
 pub enum DeliverError<'d> {
     /// A growth was refused. The shelf is as it was too, and the page comes back.
     NoMemory(Prepared<'d>),

@@ -1,12 +1,12 @@
 //! A sheet is made of the pages that are shelved.
-ghost use Rattle.std.specs.Prelude.{◌≡◌, ℕ, ◌+◌, ◌-◌, ◌<◌, ◌≤◌, ◌++◌, ◌∷◌, [], IfOk, OnOk, OnErr, MatchResult, length};
+ghost use Rattle.std.specs.Prelude.{◌≡◌, ◌↔◌, ℕ, ◌+◌, ◌-◌, ◌<◌, ◌≤◌, ◌++◌, ◌∷◌, [], IfOk, OnOk, OnErr, MatchResult, length};
 ghost use Rattle.std.specs.Prelude.{IsTrue, Some, slice_get, slice_index_or, true};
 ghost use Rattle.rules.specs.Parts.{pages};
 ghost use Rattle.rules.specs.Sheets.{layout};
 ghost use Rattle.made_sheets.specs.Made.{MadeSlot};
 ghost use Rattle.made_sheets.specs.MadeOutput.{made_slot_text};
 ghost use Rattle.sheet_plan.specs.Plans.{pages_on};
-ghost use Rattle.gather_table.specs.History.{PageAt, IsComplete};
+ghost use Rattle.gather_table.specs.History.{Look, PageAt, IsComplete};
 ghost use Rattle.gather_table.specs.Shared.{IsSeatOf, Made};
 ghost use Rattle.handover.specs.Pages.{IsPrepared};
 ghost use Rattle.handover.specs.Shelves.{IsShelfOf, IsOwn};
@@ -21,14 +21,14 @@ use std::alloc::Global;
 use thiserror::Error;
 
 /// An imposed sheet, counted from 0, with its text.
-#[derive(Drop)]
+#[derive(Debug, PartialEq, Eq, Drop)]
 pub struct Imposed {
     pub sheet: u32,
     pub text: Vec<u8>,
 }
 
 /// Why a sheet wasn't imposed.
-#[derive(Debug, Drop, Error)]
+#[derive(Clone, Copy, Debug, PartialEq, Eq, Error)]
 pub enum ImposeError {
     #[error("out of memory")]
     NoMemory,
@@ -228,11 +228,13 @@ impl<'s, 'r, 'j, 't, 'd> Imposition<'s, 'r, 'j, 't, 'd> {
     }
 }
 
-/// Whether a look shows the sheet complete: no slot of it is missing, or, if it is wide, no group of it is open.
+/// Looks once, and tells whether that shows the sheet complete: no slot of it is missing, or, if it is wide, no group of it
+/// is open.
 pub fn is_complete(seat: &mut Seat, table: &GatherTable<'_>, sheet: u32) -> bool
     requires seat { IsSeatOf table.now seat.old }
     requires sheet { sheet < length table.now.layout.sheets }
     ensures seat { IsSeatOf table.now seat.new }
+    ensures looked { (missing : ℕ) × Made seat.old (Look sheet missing) seat.new × (IsTrue result ↔ missing ≡ 0) }
     ensures reads { OnlyReads seat.old seat.new }
     ensures complete { result ≡ true → IsComplete table.now.layout seat.new.front sheet }
 {

@@ -26,6 +26,7 @@ use crate::placed::placed_pages;
 use crate::row::Row;
 use pagespec::{Item, Spec};
 use std::alloc::{AllocError, Global};
+use std::fmt;
 use std::marker::Model;
 
 /// Which page stands in which slot of which sheet, and by which item; and the other way round, where each page stands.
@@ -224,4 +225,13 @@ fn listed(alloc: Global, expansion: &Expansion) -> Result<(PageIndex, Vec<u32>),
     let index = PageIndex::new(alloc, expansion.pages(), &placed)?;
     let blank_sheets = blank_sheets_in(alloc, expansion)?;
     Ok((index, blank_sheets))
+}
+
+impl fmt::Debug for Plan<'_> {
+    fn fmt<W: fmt::Write>(&self, f: &mut fmt::Formatter<W>) -> fmt::Result {
+        f.debug_struct("Plan")
+            .field("pages", &self.pages())
+            .field("sheets", &self.sheets())
+            .finish_non_exhaustive()
+    }
 }

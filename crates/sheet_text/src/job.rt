@@ -1,12 +1,14 @@
 //! What is to be imposed.
-ghost use Rattle.std.specs.Prelude.{◌≡◌, ◌<◌, length, IsTrue, IfSome, Some, slice_get};
+ghost use Rattle.std.specs.Prelude.{◌≡◌, ℕ, ◌<◌, [], length, IsTrue, IfSome, Option, Some, slice_get, slice_index_or};
 ghost use Rattle.rules.specs.Parts.{pages};
+ghost use Rattle.rules.specs.Specification.{Spec};
+ghost use Rattle.rules.specs.Output.{output, sheet_text};
 ghost use Rattle.made_sheets.specs.Dress.{lines_text};
 ghost use Rattle.made_sheets.specs.Dressed.{dressed_output};
 ghost use Rattle.sheet_plan.specs.OfSheets.{made_plan, placed_of};
-ghost use Rattle.sheet_plan.specs.Plans.{pages_on, IsSound};
+ghost use Rattle.sheet_plan.specs.Plans.{pages_on, planned_in, IsSound};
 ghost use Rattle.sheet_text.specs.Dressings.{dressed_by};
-ghost use Rattle.sheet_text.specs.Jobs.{JobView, AreOfPlan, of_frame, is_border, output_of, sheet_of, slots_of};
+ghost use Rattle.sheet_text.specs.Jobs.{JobView, AreOfPlan, of_frame, is_border, output_of, text_of, sheet_of, slots_of};
 
 use crate::dress::Dress;
 use crate::papers::Papers;
@@ -58,7 +60,15 @@ impl<'j, 'd> Job<'j, 'd> {
     ) -> Self
         requires same_pages { plan.now.pages ≡ length (pages document.now) }
         requires border { IsTrue (is_border border) }
-        ensures { result ≡ of_frame plan.now document.now (record { paper = paper; border = border }) }
+        ensures value { result ≡ of_frame plan.now document.now (record { paper = paper; border = border }) }
+
+        // If the plan is that of a specification, in signatures or not, the output is the specification's.
+        ensures output { (sides : Option ℕ) (spec : Spec) → plan.now ≡ planned_in sides spec (length (pages document.now))
+            → output_of result ≡ output (record { paper = paper; border = border }) sides spec document.now }
+
+        // Each sheet has the text of the plan's sheet with its number.
+        ensures texts { (s : ℕ) → text_of result s ≡ sheet_text (record { paper = paper; border = border })
+            (pages document.now) s (slice_index_or plan.now.sheets s []) }
     {
         Job {
             plan,

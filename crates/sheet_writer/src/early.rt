@@ -204,12 +204,15 @@ impl<'r> Early<'r> {
         finished.joined(sheet, nth, most)
     }
 
-    /// The sheets that are all written when this one is, if there are such.
+    /// The sheets that are all written when this one is, if there are such. Their place is free then.
     pub fn take_written(&mut self, sheet: u32) -> Option<FinishedSheets<'r>>
         ensures early { (job : JobView) → AreEarly job self.old.groups.items → AreEarly job self.new.groups.items }
         ensures places { self.new.places ≡ self.old.places }
         ensures taken { IfSome result (λ m. in_place self.old sheet ≡ Some (Some m)) }
         ensures last { IfSome result (λ m. last_of m.sheets.items ≡ sheet) }
+        ensures some { (m : FinishedSheets) → in_place self.old sheet ≡ Some (Some m) → last_of m.sheets.items ≡ sheet
+            → result ≡ Some m }
+        ensures freed { IfSome result (λ m. in_place self.new sheet ≡ Some None) }
         ensures others { (k : ℕ) → k ≢ place_of self.old sheet
             → slice_get self.new.groups.items k ≡ slice_get self.old.groups.items k }
         ensures none { IsNone result → self.new ≡ self.old }

@@ -12,7 +12,7 @@ use std::marker::Model;
 
 /// A sink refused a call and took nothing.
 #[derive(Clone, Copy, Debug, PartialEq, Eq)]
-pub struct SinkFault {}
+pub struct SinkFault;
 
 /// Takes bytes in order, as many of a call's as it likes.
 pub trait Sink {
@@ -114,7 +114,7 @@ impl<T: io::Write> Sink for WriteSink<T> {
             Ok(count) if count > 0 => Ok(count),
             _ => {
                 self.failures += 1;
-                Err(SinkFault {})
+                Err(SinkFault)
             }
         }
     }
@@ -195,7 +195,7 @@ impl Sink for MemorySink {
             .min(self.room - self.bytes.len());
         if count == 0 || self.calls == 0 {
             self.failures += 1;
-            return Err(SinkFault {});
+            return Err(SinkFault);
         }
         match self.bytes.extend_from_slice(&bytes[..count]) {
             Ok(()) => {

@@ -1,6 +1,6 @@
 //! Writes the output of a job: each sheet when its turn has come, and at the end what is left.
-ghost use Rattle.std.specs.Prelude.{◌≡◌, ◌≢◌, ℕ, ◌+◌, ◌-◌, ◌<◌, ◌≤◌, None, Some, IfOk, IfErr, OnOk, length};
-ghost use Rattle.std.specs.Prelude.{if◌then◌else◌};
+ghost use Rattle.std.specs.Prelude.{◌≡◌, ◌≢◌, ℕ, ◌+◌, ◌-◌, ◌<◌, ◌≤◌, ◌⊎◌, None, Some, IfOk, IfErr, OnOk, length};
+ghost use Rattle.std.specs.Prelude.{if◌then◌else◌, false};
 ghost use Rattle.sheet_text.specs.Jobs.{text_of};
 ghost use Rattle.rules.specs.Filters.{trailer_text};
 ghost use Rattle.sheet_writer.specs.declared.writing.Halt.TheVariants.{Failed};
@@ -127,6 +127,9 @@ pub fn write_early<'r, S: Sink, B: Spent<'r>>(
     requires going { progress.halted ≡ None }
     requires early { AreEarly job.now early.old.groups.items }
     ensures goes_on { GoesOn job.now (S.seen sink.old) (S.seen sink.new) progress result }
+    // It goes on until all sheets are written, or the next one hasn't come.
+    ensures far { result.halted ≡ None
+        → (length job.now.plan.sheets ≤ result.next) ⊎ (has_come early.new result.next ≡ false) }
     ensures early { AreEarly job.now early.new.groups.items }
     ensures steady { result.halted ≡ None → (S.seen sink.new).failures ≡ (S.seen sink.old).failures }
 {

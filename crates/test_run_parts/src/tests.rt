@@ -3,6 +3,7 @@ mod callers;
 mod doubled;
 mod ended_tables;
 mod examples;
+mod found;
 mod groups;
 mod growth;
 mod jobs;

@@ -92,7 +92,7 @@ fn ran<R: Threads + Wait + Sync>(
 ) -> Result<(MemorySink, Report), RunError> {
     let mut sink = MemorySink::new(alloc, 100_000, 100_000, 1_000)?;
     let input = document.as_bytes();
-    let report = run(rt, alloc, input, items, options, &Open {}, &mut sink)?;
+    let report = run(rt, alloc, input, items, options, &Open, &mut sink)?;
     Ok((sink, report))
 }
 
@@ -132,7 +132,7 @@ fn answered<R: Threads + Wait + Sync>(
 ) -> Result<(Result<Report, RunError>, usize), AllocError> {
     let mut sink = MemorySink::new(alloc, 1_000, 1_000, 100)?;
     let input = document.as_bytes();
-    let answer = run(rt, alloc, input, items, options, &Open {}, &mut sink);
+    let answer = run(rt, alloc, input, items, options, &Open, &mut sink);
     Ok((answer, sink.bytes().len()))
 }
 
@@ -210,17 +210,7 @@ fn gather_job<R: Threads + Wait + Sync>(
         unshelved,
         tokens,
     } = gather(
-        rt,
-        alloc,
-        job,
-        &table,
-        seat,
-        &shelf,
-        &ready,
-        pass,
-        workers,
-        &Open {},
-        sink,
+        rt, alloc, job, &table, seat, &shelf, &ready, pass, workers, &Open, sink,
     );
     Ok(Gathering {
         outcome,

@@ -1,5 +1,5 @@
 //! A world of files that lies in memory, and tells what is written.
-ghost use Rattle.std.specs.Prelude.{option_map, string_bytes, true};
+ghost use Rattle.std.specs.Prelude.{◌≡◌, IfOk, [], option_map, string_bytes, true};
 ghost use Rattle.world.specs.Outputs.{told_if};
 
 use std::alloc::Global;
@@ -73,24 +73,41 @@ impl<'a> World for InMemory<'a> {
     }
 
     fn create(self, name: Option<&str>) -> Result<Written, Refused<InMemory<'a>>> {
-        if matches!(self.takes, Takes::Nothing) {
-            let cause = io::Error::from(ErrorKind::PermissionDenied);
-            return Err(Refused { world: self, cause });
+        match Written::new(self.alloc, name, self.takes) {
+            Ok(output) => Ok(output),
+            Err(cause) => Err(Refused { world: self, cause }),
+        }
+    }
+}
+
+impl<'a> Given<'a> {
+    /// A file with these bytes.
+    pub fn new(bytes: &'a [u8]) -> Given<'a> {
+        Given { rest: bytes }
+    }
+}
+
+impl Written {
+    /// An output of that name, with nothing in it; or why none can be created.
+    pub fn new(alloc: Global, name: Option<&str>, takes: Takes) -> io::Result<Written>
+        ensures empty { IfOk result (λ output. output.bytes.items ≡ []) }
+        ensures named { IfOk result (λ output.
+            option_map string_bytes output.name ≡ option_map (λ n. n.now) name.entry) }
+    {
+        if matches!(takes, Takes::Nothing) {
+            return Err(io::Error::from(ErrorKind::PermissionDenied));
         }
         let name = match name {
             None => None,
-            Some(name) => match String::from_str(self.alloc, name) {
+            Some(name) => match String::from_str(alloc, name) {
                 Ok(name) => Some(name),
-                Err(_) => {
-                    let cause = io::Error::from(ErrorKind::OutOfMemory);
-                    return Err(Refused { world: self, cause });
-                }
+                Err(_) => return Err(io::Error::from(ErrorKind::OutOfMemory)),
             },
         };
         Ok(Written {
             name,
-            bytes: Vec::new(self.alloc),
-            takes: self.takes,
+            bytes: Vec::new(alloc),
+            takes,
         })
     }
 }

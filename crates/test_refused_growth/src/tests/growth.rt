@@ -4,5 +4,6 @@
 //! Run as they are, these trials find that nothing is refused, and compare each call's answer once.
 //! `checks/refused-calls` runs them beside a library that refuses.
 mod documents;
+mod named_rows;
 mod tables;
 mod texts;

@@ -42,7 +42,7 @@ fn calls_of_failing(cause: ErrorKind) -> Option<usize> {
     let mut sink = WriteSink::new(&mut writer);
     let answer = sink.accept(b"abc");
     drop(sink);
-    if answer == Err(SinkFault {}) {
+    if answer == Err(SinkFault) {
         Some(writer.calls)
     } else {
         None
@@ -60,7 +60,7 @@ fn a_writer_that_is_full_fails(rt: HostRuntime) -> Result<(), Fail> {
     let mut place = [0u8; 3];
     let mut sink = WriteSink::new(place.as_mut_slice());
     assert_that(&rt, sink.accept(b"abcd") == Ok(3));
-    assert_that(&rt, sink.accept(b"d") == Err(SinkFault {}));
+    assert_that(&rt, sink.accept(b"d") == Err(SinkFault));
     drop(sink);
     assert_bytes(&rt, place.as_slice(), b"abc");
     Ok(())

@@ -14,8 +14,8 @@ use lengths::Grains;
 use std::alloc::{AllocError, Global};
 use std::test::Fail;
 use test_tools::{
-    A4_SIDES, ONE_PAGE, TWO_PAGES, TWO_UP, UNMOVED, assert_that, border, document_of, document_with,
-    one_up_output, page_body, placed, sheet, two_up_output,
+    A4_SIDES, ONE_PAGE, TWO_PAGES, TWO_UP, UNMOVED, assert_that, border, document_of,
+    document_with, one_up_output, page_body, placed, sheet, two_up_output,
 };
 
 /// A page with a document inside it, whose page line begins no page.
@@ -26,7 +26,10 @@ const PAGE_WITH_A_DOCUMENT: &str =
 fn two_pages_turned_to_the_left(rt: HostRuntime) -> Result<(), Fail> {
     let output = two_up_output(rt.alloc(), 1)?;
     let (case, told) = ((TWO_PAGES, TWO_UP), report_of(2, 1, 0, 503));
-    assert_that(&rt, writes(&rt, rt.alloc(), case, &workers(1, 1), &output, &told)?);
+    assert_that(
+        &rt,
+        writes(&rt, rt.alloc(), case, &workers(1, 1), &output, &told)?,
+    );
     Ok(())
 }
 
@@ -35,7 +38,10 @@ fn four_pages_on_two_sheets(rt: HostRuntime) -> Result<(), Fail> {
     let document = document_of(rt.alloc(), 4)?;
     let output = two_up_output(rt.alloc(), 2)?;
     let (case, told) = ((document.as_str(), TWO_UP), report_of(4, 2, 0, 950));
-    assert_that(&rt, writes(&rt, rt.alloc(), case, &workers(1, 1), &output, &told)?);
+    assert_that(
+        &rt,
+        writes(&rt, rt.alloc(), case, &workers(1, 1), &output, &told)?,
+    );
     Ok(())
 }
 
@@ -54,7 +60,10 @@ fn every_other_page_backward(rt: HostRuntime) -> Result<(), Fail> {
     let document = document_of(rt.alloc(), 5)?;
     let output = backward(rt.alloc())?;
     let (case, told) = ((document.as_str(), "2:-0"), report_of(5, 3, 0, 707));
-    assert_that(&rt, writes(&rt, rt.alloc(), case, &workers(1, 1), &output, &told)?);
+    assert_that(
+        &rt,
+        writes(&rt, rt.alloc(), case, &workers(1, 1), &output, &told)?,
+    );
     Ok(())
 }
 
@@ -69,7 +78,10 @@ fn twice(alloc: Global) -> Result<String, AllocError> {
 fn a_page_twice_on_a_sheet(rt: HostRuntime) -> Result<(), Fail> {
     let output = twice(rt.alloc())?;
     let (case, told) = ((ONE_PAGE, "0+0"), report_of(1, 1, 0, 469));
-    assert_that(&rt, writes(&rt, rt.alloc(), case, &workers(1, 1), &output, &told)?);
+    assert_that(
+        &rt,
+        writes(&rt, rt.alloc(), case, &workers(1, 1), &output, &told)?,
+    );
     Ok(())
 }
 
@@ -79,7 +91,10 @@ fn a_page_with_a_document_inside(rt: HostRuntime) -> Result<(), Fail> {
     let page = sheet(rt.alloc(), 1, &placed(rt.alloc(), UNMOVED, body)?)?;
     let output = format!(in rt.alloc(); "%!PS\n%%Pages: 1\n{page}")?;
     let (case, told) = ((PAGE_WITH_A_DOCUMENT, "0"), report_of(1, 1, 0, 263));
-    assert_that(&rt, writes(&rt, rt.alloc(), case, &workers(1, 1), &output, &told)?);
+    assert_that(
+        &rt,
+        writes(&rt, rt.alloc(), case, &workers(1, 1), &output, &told)?,
+    );
     Ok(())
 }
 
@@ -95,7 +110,10 @@ fn a_border_is_drawn_behind_the_clip(rt: HostRuntime) -> Result<(), Fail> {
     let output = one_up_output(rt.alloc(), &border)?;
     let (case, told) = ((ONE_PAGE, "0"), report_of(1, 1, 0, 380));
     let options = bordered(127_000_000_000);
-    assert_that(&rt, writes(&rt, rt.alloc(), case, &options, &output, &told)?);
+    assert_that(
+        &rt,
+        writes(&rt, rt.alloc(), case, &options, &output, &told)?,
+    );
     Ok(())
 }
 
@@ -112,7 +130,10 @@ fn a_border_is_wider_than_nothing(rt: HostRuntime) -> Result<(), Fail> {
 fn one_page_is_copied(rt: HostRuntime) -> Result<(), Fail> {
     let output = one_up_output(rt.alloc(), "")?;
     let (case, told) = ((ONE_PAGE, "0"), report_of(1, 1, 0, 273));
-    assert_that(&rt, writes(&rt, rt.alloc(), case, &workers(1, 1), &output, &told)?);
+    assert_that(
+        &rt,
+        writes(&rt, rt.alloc(), case, &workers(1, 1), &output, &told)?,
+    );
     Ok(())
 }
 
@@ -122,7 +143,10 @@ fn a_sheet_without_pages(rt: HostRuntime) -> Result<(), Fail> {
     let (case, told) = ((ONE_PAGE, "2:1"), report_of(1, 1, 1, 77));
     for count in [1, 16] {
         let options = workers(count, count);
-        assert_that(&rt, writes(&rt, rt.alloc(), case, &options, &output, &told)?);
+        assert_that(
+            &rt,
+            writes(&rt, rt.alloc(), case, &options, &output, &told)?,
+        );
     }
     Ok(())
 }
@@ -135,7 +159,10 @@ fn five_pages_in_blocks_of_four(rt: HostRuntime) -> Result<(), Fail> {
     let (case, told) = ((document.as_str(), "4:0,1,2,3"), report_of(5, 8, 3, 1_204));
     for (preparers, imposers) in [(1, 1), (2, 3)] {
         let options = workers(preparers, imposers);
-        assert_that(&rt, ends_with(&rt, rt.alloc(), case, &options, last, &told)?);
+        assert_that(
+            &rt,
+            ends_with(&rt, rt.alloc(), case, &options, last, &told)?,
+        );
     }
     Ok(())
 }

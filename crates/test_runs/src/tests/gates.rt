@@ -139,7 +139,7 @@ fn swept_of_one<R: Threads + Wait + Sync>(
         items: "0",
         counts: (count, count),
     };
-    let report = run_into(rt, alloc, &trial, &Open {}, &mut Everything {})?;
+    let report = run_into(rt, alloc, &trial, &Open, &mut Everything {})?;
     Ok(report.swept)
 }
 

@@ -31,7 +31,7 @@ fn impose_pair<R: Threads + Wait + Sync, S: Sink>(
         items: TWO_UP,
         counts,
     };
-    run_into(rt, alloc, &trial, &Open {}, sink)
+    run_into(rt, alloc, &trial, &Open, sink)
 }
 
 /// With a sink that takes seven bytes a call and fails behind so many calls: how many bytes it has. None if they aren't the
@@ -99,7 +99,7 @@ impl Sink for Failing {
         self.calls = self.calls.saturating_add(1);
         if self.calls >= self.first {
             self.failures += 1;
-            return Err(SinkFault {});
+            return Err(SinkFault);
         }
         Ok(bytes.len().min(PER_CALL))
     }

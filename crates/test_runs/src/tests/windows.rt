@@ -98,7 +98,7 @@ impl<'w> Sink for LimitedSink<'w> {
         if taken == 0 {
             self.failures += 1;
             self.words.refused.fetch_add(1, SeqCst);
-            return Err(SinkFault {});
+            return Err(SinkFault);
         }
         self.room -= taken;
         self.words.accepted.fetch_add(taken, SeqCst);
@@ -238,7 +238,7 @@ fn are_stopped<R: Threads + Wait + Sync>(
     for room in rooms {
         let words = Words::new();
         let mut sink = LimitedSink::new(&words, *room);
-        let answer = run_into(rt, alloc, trial, &Open {}, &mut sink);
+        let answer = run_into(rt, alloc, trial, &Open, &mut sink);
         if !is_stopped(&answer, &words, *room) {
             return false;
         }

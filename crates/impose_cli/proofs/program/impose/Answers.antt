@@ -1,7 +1,7 @@
 use Rattle.std.proofs.Common.{map, ap, subst, sym}
 use Rattle.std.specs.Prelude.{string_bytes}
 use Rattle.impose_cli.specs.Programs.{IsHome}
-use Rattle.impose_cli.proofs.Found.{entered_at_home}
+use Rattle.impose_words.proofs.Found.{entered_at_home}
 use Rattle.impose_cli.proofs.Programs.{may_be_made_at_home}
 use Rattle.impose_cli.proofs.program.impose.Goals as goal
 

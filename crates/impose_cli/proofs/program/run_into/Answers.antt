@@ -1,7 +1,7 @@
 use Rattle.std.proofs.Common.{◌∙◌, [], Ok, Err, ap, is_some, option_and_then, option_map, subst, sym}
 use Rattle.world.specs.Outputs.{is_bare, told_if}
 use Rattle.impose_cli.specs.Programs.{IsSaidAs, IsSaidOf, RunsInto}
-use Rattle.impose_cli.specs.declared.program.Done.TheVariants as done
+use Rattle.impose_said.specs.declared.finished.Done.TheVariants as done
 use Rattle.impose_cli.proofs.Programs.{broke_off, imposed}
 use Rattle.impose_cli.proofs.program.run_into.Goals as goal
 

@@ -1,7 +1,7 @@
 use Rattle.std.proofs.Common.{◌≡◌, ◌∙◌, ap, refl, inl, inr, false, length, None, rules}
 use Rattle.made_sheets.specs.Choice.{imposed_row}
 use Rattle.sheet_text.specs.Jobs.{is_border}
-use Rattle.impose_cli.specs.Choices.{choice_in}
+use Rattle.impose_words.specs.Choices.{choice_in}
 use Rattle.impose_cli.specs.Tasks.{taken_text}
 use Rattle.impose_cli.specs.RowTasks.{IsRowPaper, first_paper, guarded_in}
 use Rattle.impose_cli.proofs.Rows.{refused_after, refused_found}

@@ -1,5 +1,5 @@
 use Rattle.std.proofs.Common.{ap, refl, inl, inr}
-use Rattle.impose_cli.specs.declared.fault.Fault.TheVariants as fault
+use Rattle.impose_said.specs.declared.fault.Fault.TheVariants as fault
 use Rattle.impose_cli.specs.Refusals.{IsRefusedFor}
 use Rattle.impose_cli.proofs.Ending.{stays}
 use Rattle.impose_cli.proofs.spec_row.impose_spec_task.Goals as goal

@@ -4,11 +4,11 @@ use Rattle.std.proofs.lemmas.Result.{IfOk-weaker}
 use Rattle.layouts.specs.Grids.{arranged}
 use Rattle.layouts.specs.Laws.{IsArranged}
 use Rattle.layouts.specs.Refusals.{IsFault, why_not_arranged}
-use Rattle.impose_cli.specs.Spacings.{arrangement_in}
-use Rattle.impose_cli.specs.Faults.{of_layout}
+use Rattle.impose_words.specs.Spacings.{arrangement_in}
+use Rattle.impose_said.specs.Faults.{of_layout}
 use Rattle.impose_cli.specs.Tasks.{IsWritten}
 use Rattle.impose_cli.specs.Refusals.{RefusesLayout}
-use Rattle.impose_cli.specs.declared.request.Layout.TheVariants as layout
+use Rattle.impose_words.specs.declared.request.Layout.TheVariants as layout
 use Rattle.impose_cli.proofs.Placing.{ok_both, refuses_laid, refuses_layout}
 use Rattle.impose_cli.proofs.task.nup_placing.Goals as goal
 

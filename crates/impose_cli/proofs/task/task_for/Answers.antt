@@ -1,11 +1,11 @@
 use Rattle.std.proofs.Common.{◌≡◌, false, refl, subst, inl, inr, rules}
 use Rattle.rules.specs.Papers.{Paper}
 use Rattle.std.specs.Prelude.{◌⊎◌}
-use Rattle.impose_cli.specs.Choices.{is_said}
-use Rattle.impose_cli.specs.Faults.{without_memory}
+use Rattle.impose_words.specs.Choices.{is_said}
+use Rattle.impose_said.specs.Faults.{without_memory}
 use Rattle.impose_cli.specs.Tasks.{page_paper_found, sheet_paper_found}
 use Rattle.impose_cli.specs.Refusals.{RefusesLayout}
-use Rattle.impose_cli.specs.declared.task.PaperOrigin.{PaperOrigin}
+use Rattle.impose_said.specs.declared.finished.PaperOrigin.{PaperOrigin}
 use Rattle.impose_cli.proofs.task.task_for.Goals as goal
 
 pub returns-clause-is_task : goal.returns-clause-is_task

@@ -26,5 +26,5 @@ run_plan-requires-clause-workers g c κs within = c.requires.options.0
 
 pub returns : goal.returns
 returns g c = λ r is.
-    job_answers r c.args.options.now c.args.given.now c.in-Ok.plan _ c.new-job.result (g.S.Sink.seen c.args.sink.now) (g.S.Sink.seen c.run_plan.new.sink) c.run_plan.result is c.pages.ensures.count c.in-Ok.ensures.planned c.in-Ok.ensures.accepted c.new-job.ensures
+    job_answers r c.args.options.now c.args.given.now c.in-Ok.plan _ c.new-job.result (g.S.Sink.seen c.args.sink.now) (g.S.Sink.seen c.run_plan.new.sink) c.run_plan.result is c.pages.ensures.count c.in-Ok.ensures.planned c.in-Ok.ensures.accepted c.new-job.ensures.value
     (job_clauses c.new-job.result (g.S.Sink.seen c.args.sink.now) (g.S.Sink.seen c.run_plan.new.sink) c.run_plan.result c.run_plan.ensures.finished c.run_plan.ensures.written c.run_plan.ensures.steady c.run_plan.ensures.failed)

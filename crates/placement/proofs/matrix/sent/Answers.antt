@@ -1,6 +1,7 @@
-use Rattle.std.proofs.Common.{arith, FitsSigned, pos, ◌+ℤ◌, ◌*ℤ◌}
+use Rattle.std.proofs.Common.{arith, sym, subst, ◌^◌, ◌≤◌, nat_abs, FitsSigned, pos, ◌+ℤ◌, ◌*ℤ◌}
 use Rattle.std.proofs.lemmas.Int.{ints, to_z-of_z}
 use mir.Syntax.{w128}
+use Rattle.placement.proofs.Sizes.{they_fit}
 use Rattle.placement.proofs.matrix.sent.Goals as goal
 
 pub overflow_mul-result : goal.overflow_mul-result
@@ -13,10 +14,11 @@ pub returns : goal.returns
 returns c =
     let x = c.ranges.x in
     let y = c.ranges.y in
-    let shift : FitsSigned w128 c.get.result = omega (arith, ints) in
-    let first : FitsSigned w128 c.times.result = omega (arith, ints) in
-    let second : FitsSigned w128 c.times-2.result = omega (arith, ints) in
-    let sum : FitsSigned w128 (c.times.result +ℤ c.times-2.result) = omega (arith, ints) in
-    let grains : FitsSigned w128 (pos 127 *ℤ (c.times.result +ℤ c.times-2.result)) = omega (arith, ints) in
-    let whole : FitsSigned w128 (c.get.result +ℤ pos 127 *ℤ (c.times.result +ℤ c.times-2.result)) = omega (arith, ints) in
+    let fit = they_fit c.get.result c.times.result c.times-2.result (subst (λ z. nat_abs z ≤ 10 ^ 23) (sym c.get.ensures.value) c.get.ensures.in_range) c.times.ensures.in_range c.times-2.ensures.in_range in
+    let shift : FitsSigned w128 c.get.result = fit.shift in
+    let first : FitsSigned w128 c.times.result = fit.first in
+    let second : FitsSigned w128 c.times-2.result = fit.second in
+    let sum : FitsSigned w128 (c.times.result +ℤ c.times-2.result) = fit.sum in
+    let grains : FitsSigned w128 (pos 127 *ℤ (c.times.result +ℤ c.times-2.result)) = fit.grains in
+    let whole : FitsSigned w128 (c.get.result +ℤ pos 127 *ℤ (c.times.result +ℤ c.times-2.result)) = fit.whole in
     simp to_z-of_z (rw (c.get.ensures.value, c.times.ensures.value, c.times-2.ensures.value) (simp to_z-of_z))

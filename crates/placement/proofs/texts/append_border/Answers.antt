@@ -1,9 +1,9 @@
 use Rattle.std.proofs.lemmas.Result.{IfOk-equal}
 use Rattle.rules.specs.Numbers.{points_text}
 use Rattle.rules.specs.Output.{edge_text}
-use Rattle.placement.proofs.Joining.{border_joined}
+use Rattle.placement.proofs.Joining.{border_joined, border_fits}
 use Rattle.std.proofs.lemmas.Result.{on_err_weaker}
-use Rattle.placement.proofs.Keeping.{keeps_more, full_behind}
+use Rattle.placement.proofs.Keeping.{keeps_more, full_behind, grown, grown_more, on_err, full_first, full_later}
 use Rattle.placement.proofs.texts.append_border.Goals as goal
 
 pub returns-clause-appended : goal.returns-clause-appended
@@ -20,3 +20,23 @@ returns-clause-full c =
     (keeps_more _ _ _ c.in_ok-append_points.ensures.kept (keeps_more _ _ _ c.in_ok-append_text.ensures.kept c.in_ok-append_edge.ensures.kept))
     (border_joined c.args.out.now.items (points_text c.in-Some.width) (edge_text c.args.paper.now) _ _ _ c.in_ok-append_points.ensures.appended c.in_ok-append_text.ensures.appended c.in_ok-append_edge.ensures.appended))
     c.append_text-2.ensures.full)
+
+pub returns-clause-kept : goal.returns-clause-kept
+returns-clause-kept c =
+    keeps_more _ _ _ c.in_ok-append_points.ensures.kept (keeps_more _ _ _ c.in_ok-append_text.ensures.kept
+    (keeps_more _ _ _ c.in_ok-append_edge.ensures.kept c.append_text-2.ensures.kept))
+
+pub returns-in_err-append_points-clause-full : goal.returns-in_err-append_points-clause-full
+returns-in_err-append_points-clause-full c =
+    let fits = border_fits (points_text c.in-Some.width) (edge_text c.args.paper.now) in
+    rw c.in-Some.is (on_err _ (full_first c.args.out.now _ _ c.in_err-append_points.ensures.full fits.0))
+
+pub returns-in_err-append_text-clause-full : goal.returns-in_err-append_text-clause-full
+returns-in_err-append_text-clause-full c =
+    let fits = border_fits (points_text c.in-Some.width) (edge_text c.args.paper.now) in
+    rw c.in-Some.is (on_err _ (full_later c.args.out.now _ _ _ _ (grown _ _ _ c.in_ok-append_points.ensures.kept c.in_ok-append_points.ensures.appended) c.in_err-append_text.ensures.full fits.1))
+
+pub returns-in_err-append_edge-clause-full : goal.returns-in_err-append_edge-clause-full
+returns-in_err-append_edge-clause-full c =
+    let fits = border_fits (points_text c.in-Some.width) (edge_text c.args.paper.now) in
+    rw c.in-Some.is (on_err _ (full_later c.args.out.now _ _ _ _ (grown_more _ _ _ _ _ (grown _ _ _ c.in_ok-append_points.ensures.kept c.in_ok-append_points.ensures.appended) c.in_ok-append_text.ensures.kept c.in_ok-append_text.ensures.appended) c.in_err-append_edge.ensures.full fits.2))

@@ -1,10 +1,11 @@
-use Rattle.std.proofs.Common.{ap, ◌∙◌, ◌++◌}
+use Rattle.std.proofs.Common.{refl, ap, ◌∙◌, ◌++◌}
 use Rattle.std.proofs.lemmas.Result.{IfOk-equal}
 use Rattle.rules.specs.Placement.{matrix_of, matrix_text}
 use Rattle.pagespec.specs.Items.{item_of}
-use Rattle.placement.proofs.Joining.{placing_joined}
+use Rattle.placement.specs.Matrices.{numbers_of}
+use Rattle.placement.proofs.Joining.{placing_joined, placing_fits}
 use Rattle.std.proofs.lemmas.Result.{on_err_weaker}
-use Rattle.placement.proofs.Keeping.{keeps_more, full_behind}
+use Rattle.placement.proofs.Keeping.{keeps_more, full_behind, grown, grown_more, on_err, full_first, full_later}
 use Rattle.placement.proofs.texts.append_placing.Goals as goal
 
 pub returns-clause-appended : goal.returns-clause-appended
@@ -23,3 +24,19 @@ returns-clause-full c =
     (placing_joined c.args.out.now.items placed _ _ c.in_ok-append_text.ensures.appended
     (c.in_ok-append_matrix.ensures.appended ∙ ap (λ m. c.append_text.new.out.items ++ matrix_text m) c.matrix_of.ensures.numbers)))
     c.append_text-2.ensures.full
+
+pub returns-clause-kept : goal.returns-clause-kept
+returns-clause-kept c =
+    keeps_more _ _ _ c.in_ok-append_text.ensures.kept (keeps_more _ _ _ c.in_ok-append_matrix.ensures.kept c.append_text-2.ensures.kept)
+
+pub returns-in_err-append_text-clause-full : goal.returns-in_err-append_text-clause-full
+returns-in_err-append_text-clause-full c =
+    let placed = matrix_text (matrix_of c.args.paper.now (item_of c.args.item.now)) in
+    let fits = placing_fits placed placed refl in
+    on_err _ (full_first c.args.out.now _ _ c.in_err-append_text.ensures.full fits.0)
+
+pub returns-in_err-append_matrix-clause-full : goal.returns-in_err-append_matrix-clause-full
+returns-in_err-append_matrix-clause-full c =
+    let placed = matrix_text (matrix_of c.args.paper.now (item_of c.args.item.now)) in
+    let fits = placing_fits (matrix_text (numbers_of c.matrix_of.result)) placed (ap (λ m. matrix_text m) c.matrix_of.ensures.numbers) in
+    on_err _ (full_later c.args.out.now _ _ _ _ (grown _ _ _ c.in_ok-append_text.ensures.kept c.in_ok-append_text.ensures.appended) c.in_err-append_matrix.ensures.full fits.1)

@@ -21,3 +21,8 @@ returns-clause-full c =
     (scales_joined c.args.out.now.items (scale_text m.a) (scale_text m.b) (scale_text m.c) (scale_text m.d) _ _ _
     c.in_ok-append_scale.ensures.appended c.in_ok-append_scale-2.ensures.appended c.in_ok-append_scale-3.ensures.appended))
     c.append_scale-4.ensures.full
+
+pub returns-clause-kept : goal.returns-clause-kept
+returns-clause-kept c =
+    keeps_more _ _ _ c.in_ok-append_scale.ensures.kept (keeps_more _ _ _ c.in_ok-append_scale-2.ensures.kept
+    (keeps_more _ _ _ c.in_ok-append_scale-3.ensures.kept c.append_scale-4.ensures.kept))

@@ -12,3 +12,6 @@ pub returns-clause-complete : goal.returns-clause-complete
 returns-clause-complete c = λ is.
     let zero_is : c.look.result ≡ 0 = grind arith in
     seen_complete c.args.table.now _ _ c.args.sheet c.look.result c.requires.seat c.look.ensures zero_is
+
+pub returns-clause-looked : goal.returns-clause-looked
+returns-clause-looked c = (c.look.result, c.look.ensures, ((λ is. grind arith), (λ zero_is. grind arith)))

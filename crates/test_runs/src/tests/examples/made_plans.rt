@@ -11,7 +11,9 @@ use std::alloc::{AllocError, Global};
 use std::sync::Wait;
 use std::test::Fail;
 use std::thread::Threads;
-use test_tools::{A4_SIDES, TWO_PAGES, UNMOVED, assert_bytes, assert_that, page_body, placed_on, sheet};
+use test_tools::{
+    A4_SIDES, TWO_PAGES, UNMOVED, assert_bytes, assert_that, page_body, placed_on, sheet,
+};
 
 /// The second page on A4 and the first on A5, each on a sheet, and a line at each of the three places.
 fn dressed_output(alloc: Global) -> Result<String, AllocError> {
@@ -90,7 +92,7 @@ fn run_dressed<R: Threads + Wait + Sync, S: Sink>(
         preparers: 1,
         imposers: 1,
     };
-    Ok(run_plan(rt, alloc, &job, workers, &Open {}, sink)?)
+    Ok(run_plan(rt, alloc, &job, workers, &Open, sink)?)
 }
 
 /// Runs over them, with lines: what is written, and what is told.

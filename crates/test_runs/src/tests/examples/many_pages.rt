@@ -17,7 +17,10 @@ fn no_byte_depends_on_the_workers(rt: HostRuntime) -> Result<(), Fail> {
     let told = report_of(200, 100, 0, sheets.len() as u64);
     for (preparers, imposers) in [(1, 1), (2, 3), (16, 16)] {
         let options = workers(preparers, imposers);
-        assert_that(&rt, writes(&rt, rt.alloc(), case, &options, &sheets, &told)?);
+        assert_that(
+            &rt,
+            writes(&rt, rt.alloc(), case, &options, &sheets, &told)?,
+        );
     }
     Ok(())
 }

@@ -39,7 +39,10 @@ fn workers_are_checked_first(rt: HostRuntime) -> Result<(), Fail> {
 #[test]
 fn the_specification_is_read_before_the_input(rt: HostRuntime) -> Result<(), Fail> {
     let error = refusal_of(&rt, rt.alloc(), "", "x", (1, 1))?;
-    assert_that(&rt, matches!(error, Some(RunError::Spec(SpecError::Syntax(0)))));
+    assert_that(
+        &rt,
+        matches!(error, Some(RunError::Spec(SpecError::Syntax(0)))),
+    );
     Ok(())
 }
 

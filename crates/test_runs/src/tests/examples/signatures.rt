@@ -17,7 +17,10 @@ fn five_pages_on_two_leaves(rt: HostRuntime) -> Result<(), Fail> {
     let document = document_of(rt.alloc(), 5)?;
     let last = "%%Page: 7 7\nshowpage\n%%Page: 8 8\nshowpage\n%%Trailer\n%%EOF\n";
     let (case, told) = ((document.as_str(), "0"), report_of(5, 8, 3, 1_204));
-    assert_that(&rt, ends_with(&rt, rt.alloc(), case, &in_signatures(4), last, &told)?);
+    assert_that(
+        &rt,
+        ends_with(&rt, rt.alloc(), case, &in_signatures(4), last, &told)?,
+    );
     Ok(())
 }
 
@@ -34,7 +37,10 @@ fn numbers_of_sides_that_no_signature_has(rt: HostRuntime) -> Result<(), Fail> {
     for (sides, spec, document) in cases {
         let options = in_signatures(sides);
         let (answer, written) = answered(&rt, rt.alloc(), document, spec, &options)?;
-        assert_that(&rt, matches!(answer, Err(RunError::Options)) && written == 0);
+        assert_that(
+            &rt,
+            matches!(answer, Err(RunError::Options)) && written == 0,
+        );
     }
     Ok(())
 }

@@ -27,7 +27,7 @@ fn copy_page<R: Threads + Wait + Sync>(
         items: "0",
         counts,
     };
-    let answer = run_into(rt, alloc, &trial, &Open {}, &mut sink);
+    let answer = run_into(rt, alloc, &trial, &Open, &mut sink);
     if output.as_bytes().starts_with(sink.bytes()) {
         (Some(sink.bytes().len()), answer)
     } else {

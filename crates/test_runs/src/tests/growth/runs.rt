@@ -137,7 +137,7 @@ fn runs_by_few(rt: HostRuntime) -> Result<(), Fail> {
             items,
             counts,
         };
-        refuse_each(&rt, rt.alloc(), &trial, &Open {}, false)?;
+        refuse_each(&rt, rt.alloc(), &trial, &Open, false)?;
     }
     Ok(())
 }
@@ -150,7 +150,7 @@ fn runs_by_many(rt: HostRuntime) -> Result<(), Fail> {
         items: TWO_UP,
         counts: (16, 16),
     };
-    refuse_each(&rt, rt.alloc(), &trial, &Open {}, false)?;
+    refuse_each(&rt, rt.alloc(), &trial, &Open, false)?;
     Ok(())
 }
 
@@ -164,7 +164,7 @@ fn runs_whose_sheets_wait_for_their_turn(rt: HostRuntime) -> Result<(), Fail> {
             items: "0",
             counts,
         };
-        refuse_each(&rt, rt.alloc(), &trial, &Open {}, true)?;
+        refuse_each(&rt, rt.alloc(), &trial, &Open, true)?;
     }
     Ok(())
 }
@@ -182,7 +182,7 @@ fn refuse_first_last<R: Threads + Wait + Abort + Sync>(
         items: "-0",
         counts: (1, 1),
     };
-    refuse_each(rt, alloc, &backward, &Open {}, true)?;
+    refuse_each(rt, alloc, &backward, &Open, true)?;
     for counts in late {
         let forward = Trial {
             document,
@@ -245,7 +245,7 @@ fn gatherings(rt: HostRuntime) -> Result<(), Fail> {
         items: TWO_UP,
         counts: (1, 1),
     };
-    let (output, _) = run_refused(&rt, rt.alloc(), MOST_GROWTHS, &trial, &Open {})?;
+    let (output, _) = run_refused(&rt, rt.alloc(), MOST_GROWTHS, &trial, &Open)?;
     let mut unrefused = 0u32;
     for number in 1..MOST_GROWTHS {
         if unrefused < 4 {

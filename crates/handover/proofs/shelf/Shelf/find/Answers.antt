@@ -1,12 +1,10 @@
 use Rattle.std.proofs.Common.{rules, sym, ap}
-use Rattle.handover.specs.Entries.{of_page}
 use Rattle.handover.specs.declared.entry.Entry.{Entry}
 use Rattle.handover.proofs.shelf.Shelf.find.Goals as goal
 
 pub returns-clause-shown : goal.returns-clause-shown
-returns-clause-shown c = record {
-  token = of_page c.in_ok-token.token;
-  on = search rules;
-  at = c.in_ok-token.ensures.1;
-  is = ap (λ (entry : Entry). entry.page) (sym (c.in_ok-entry.ensures.found (sym c.in_ok-token.ensures.1)));
-}
+returns-clause-shown c = (
+  search rules,
+  c.in_ok-token.ensures.1,
+  ap (λ (entry : Entry). entry.page) (sym (c.in_ok-entry.ensures.found (sym c.in_ok-token.ensures.1))),
+)

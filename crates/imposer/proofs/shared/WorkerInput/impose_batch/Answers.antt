@@ -1,5 +1,6 @@
 use Rattle.std.proofs.Common.{rules, sym, subst}
-use Rattle.imposer.specs.Tokens.{OnlyImposes}
+use Rattle.sheet_writer.specs.Writing.{HaveTexts}
+use Rattle.imposer.specs.Tokens.{AreTokens, OnlyImposes}
 use Rattle.imposer.proofs.Held.{imposes_both}
 use Rattle.imposer.proofs.Texts.{have_none}
 use Rattle.imposer.proofs.shared.WorkerInput.impose_batch.Goals as goal
@@ -24,4 +25,17 @@ returns-clause-imposes g c = elim c.loop-test.branch [
   | else-loop-test w ↦ subst (OnlyImposes c.args.tokens.now) (sym w.tokens-is) c.loop.invariant.imposes
   | then-loop-test+in_ok-impose_more+then-not-branch w ↦
       subst (OnlyImposes c.args.tokens.now) (sym w.tokens-is) (imposes_both _ _ _ c.loop.invariant.imposes w.impose_more.ensures.imposes)
+]
+
+pub returns-clause-tokens : goal.returns-clause-tokens
+returns-clause-tokens g c = elim c.loop-test.branch [
+  | else-loop-test w ↦ subst (AreTokens c.args.self.now.shared.now.table.now c.args.self.now.shared.now.ready.now 1) (sym w.tokens-is) c.loop.invariant.tokens
+  | then-loop-test+in_ok-impose_more+then-not-branch w ↦
+      subst (AreTokens c.args.self.now.shared.now.table.now c.args.self.now.shared.now.ready.now 1) (sym w.tokens-is) w.impose_more.ensures.tokens
+]
+
+pub returns-clause-texts : goal.returns-clause-texts
+returns-clause-texts g c = elim c.loop-test.branch [
+  | else-loop-test w ↦ subst (HaveTexts g.T.Texts.text) (sym w.batch-is) c.loop.invariant.texts
+  | then-loop-test+in_ok-impose_more+then-not-branch w ↦ subst (HaveTexts g.T.Texts.text) (sym w.batch-is) w.in_ok-impose_more.ensures.texts
 ]

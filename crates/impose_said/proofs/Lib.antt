@@ -1,0 +1,2 @@
+pub mod FourLines
+pub mod Examples

@@ -1,0 +1,145 @@
+-- What is said on standard error of how the program ended: which lines, in which order, and what is in those of a finished run. What
+-- a fault's message is no word here says, nor what is said of words that the command doesn't take.
+use Rattle.std.specs.Prelude.{⊤, ◌≡◌, ◌==◌, ◌⊎◌, ◌++◌, if◌then◌else◌, ℕ, List, [], Bool, true, false, Option, Some, None, Result, Ok, Err}
+use Rattle.std.specs.Prelude.{codes, decimal, nat_eq, ◌||◌, option_map, string_bytes}
+use Rattle.std.specs.List.{ends_with}
+use Rattle.std.specs.IoError.{error_kind}
+use Rattle.std.specs.declared.io.ErrorKind.{ErrorKind}
+use Rattle.std.specs.declared.io.ErrorKind.TheVariants.{BrokenPipe}
+use Rattle.clap.specs.Words.{kind_of}
+use Rattle.clap.specs.declared.error.Error.{Error as WordsError}
+use Rattle.rules.specs.Bytes.{line}
+use Rattle.document_paper.specs.declared.media.Comment.TheVariants as comment
+use Rattle.own_papers.specs.declared.cuts.Cut.{Cut}
+use Rattle.imposer.specs.declared.outcome.Report.{Report}
+use Rattle.impose_said.specs.Statuses.{words_status}
+use Rattle.impose_words.specs.declared.fault.CommandFault.TheVariants as command
+use Rattle.impose_said.specs.declared.fault.Fault.{Fault}
+use Rattle.impose_said.specs.declared.fault.Fault.TheVariants as fault
+use Rattle.impose_said.specs.declared.finished.Done.{Done}
+use Rattle.impose_said.specs.declared.finished.Done.TheVariants as done
+use Rattle.impose_words.specs.declared.request.Request.{Request}
+use Rattle.impose_said.specs.declared.finished.Finished.{Finished}
+use Rattle.impose_said.specs.declared.finished.PaperOrigin.{PaperOrigin}
+use Rattle.impose_said.specs.declared.finished.PaperOrigin.TheVariants as origin
+
+-- ---- messages of a finished run
+
+-- where the paper of the pages was found
+abbrev pub origin_text : PaperOrigin → List ℕ
+origin_text origin.Named = codes "as named"
+origin_text (origin.ByComment comment.DocumentMedia) = codes "by its %%DocumentMedia"
+origin_text (origin.ByComment comment.DocumentPaperSizes) = codes "by its %%DocumentPaperSizes"
+origin_text (origin.ByComment comment.BoundingBox) = codes "by its %%BoundingBox"
+origin_text origin.AtHome = codes "the usual one here, as the document names none"
+origin_text origin.FirstPage = codes "that of page 1, as no page has the document's"
+
+-- how many pages, sheets and bytes there are; behind the pages there may be blanks, and leaves behind the sheets
+abbrev pub HasCounts : Report → (text : List ℕ) → Type 0
+HasCounts report text = (blanks leaves : List ℕ) × (text ≡ codes "pages " ++ (decimal report.pages ++ (blanks
+    ++ (codes ", sheets " ++ (decimal report.sheets ++ (leaves ++ (codes ", bytes " ++ decimal report.bytes)))))))
+
+-- the report: the counts, and the size of the pages' paper with where it was found
+abbrev pub IsReport : Finished → (message : Option (List ℕ)) → Type 0
+IsReport finished message = (counts size : List ℕ) × HasCounts finished.report counts
+    × (message ≡ Some (counts ++ (codes "; pages of " ++ (size ++ (codes " pt, " ++ origin_text finished.origin)))))
+
+-- of pages that the paper cuts which is named for them, if there are some: which pages, and both sizes
+abbrev pub IsOfCut : Option Cut → (message : Option (List ℕ)) → Type 0
+IsOfCut None message = message ≡ None
+IsOfCut (Some cut) message = (pages own named : List ℕ)
+    × (message ≡ Some (codes "--paper cuts " ++ (pages ++ (codes ": " ++ (own ++ (codes " on " ++ named))))))
+
+-- of pages behind the document's trailer, if there are some
+abbrev pub behind_text : (pages : ℕ) → Option (List ℕ)
+behind_text pages = if pages == 0 then None
+    else (if pages == 1 then Some (codes "1 page stands behind %%Trailer or %%EOF and is not imposed")
+    else Some (decimal pages ++ codes " pages stand behind %%Trailer or %%EOF and are not imposed"))
+
+-- a file is named as a PDF
+abbrev pub is_pdf_name : (name : List ℕ) → Bool
+is_pdf_name name = ends_with nat_eq name (codes ".pdf") || ends_with nat_eq name (codes ".PDF")
+
+-- that a file named as a PDF isn't one, with what makes one of this name as it is shown
+abbrev pub IsNoteIf : (noted : Bool) → (message : Option (List ℕ)) → Type 0
+IsNoteIf false message = message ≡ None
+IsNoteIf true message = (shown : List ℕ) × (message ≡ Some (shown
+    ++ (codes " holds PostScript, not a PDF; for a PDF use: impose .. | ps2pdf -dAutoRotatePages=/None - " ++ shown)))
+
+-- that the output isn't a PDF, if it is named as one
+abbrev pub IsNote : (outfile : Option (List ℕ)) → (message : Option (List ℕ)) → Type 0
+IsNote None message = message ≡ None
+IsNote (Some name) message = IsNoteIf (is_pdf_name name) message
+
+-- ---- lines
+
+-- a line of the program
+abbrev pub said : (message : List ℕ) → List ℕ
+said message = line (codes "impose: " ++ message)
+
+-- the line of a message, if there is one; without memory for it there is nothing
+abbrev pub IsLineOf : (message : Option (List ℕ)) → (text : List ℕ) → Type 0
+IsLineOf None text = text ≡ []
+IsLineOf (Some message) text = (text ≡ []) ⊎ (text ≡ said message)
+
+-- the line of a message of which this holds, if there is one, and memory for it
+abbrev pub MaySay : (Option (List ℕ) → Type 0) → (text : List ℕ) → Type 0
+MaySay Holds text = (text ≡ []) ⊎ ((message : List ℕ) × Holds (Some message) × (text ≡ said message))
+
+-- the line of this message, if there is one, stands behind what was said before
+abbrev pub AddsLine : (message : Option (List ℕ)) → (before after : List ℕ) → Type 0
+AddsLine message before after = (text : List ℕ) × IsLineOf message text × (after ≡ before ++ text)
+
+-- ---- all of it
+
+-- Of a finished run four lines are said, in this order: the report, then that pages are cut, that pages stand behind the
+-- trailer, and that the output is no PDF.
+pub record SaysLines (finished : Finished) (r : Request) (text : List ℕ) : Type 0 where
+  pub report : List ℕ
+  pub cut : List ℕ
+  pub behind : List ℕ
+  pub note : List ℕ
+  pub reports : MaySay (IsReport finished) report
+  pub cuts : MaySay (IsOfCut finished.cut) cut
+  pub tells_behind : MaySay (λ message. message ≡ behind_text finished.behind) behind
+  pub notes : MaySay (IsNote (option_map string_bytes r.outfile)) note
+  pub in_order : text ≡ report ++ (cut ++ (behind ++ note))
+
+-- a quiet request says nothing
+abbrev pub SaysUnless : (quiet : Bool) → Finished → Request → (text : List ℕ) → Type 0
+SaysUnless true finished r text = text ≡ []
+SaysUnless false finished r text = SaysLines finished r text
+
+abbrev pub SaysRun : Finished → Request → (text : List ℕ) → Type 0
+SaysRun finished r text = SaysUnless r.is_quiet finished r text
+
+-- of words that ask for help or for the version nothing is said
+abbrev pub SaysWords : WordsError → (text : List ℕ) → Type 0
+SaysWords error text = words_status (kind_of error) ≡ 0 → text ≡ []
+
+-- the pipe into which the output goes was closed
+abbrev pub is_pipe : ErrorKind → Bool
+is_pipe BrokenPipe = true
+is_pipe _ = false
+
+abbrev pub is_broken_pipe : Fault → Bool
+is_broken_pipe (fault.Write written (Some cause)) = is_pipe (error_kind cause)
+is_broken_pipe other = false
+
+-- a line with some message, or nothing
+abbrev pub SaysOneUnless : (silent : Bool) → (text : List ℕ) → Type 0
+SaysOneUnless true text = text ≡ []
+SaysOneUnless false text = MaySay (λ message. ⊤) text
+
+-- What is said of a fault is one message; nothing, if whoever reads the output has closed it.
+abbrev pub SaysFault : Fault → (text : List ℕ) → Type 0
+SaysFault (fault.Command (command.Words error)) text = SaysWords error text
+SaysFault other text = SaysOneUnless (is_broken_pipe other) text
+
+-- what is said of how the program ended; of what was made in place of sheets nothing is
+abbrev pub Says : Result Done Fault → Option Request → (text : List ℕ) → Type 0
+Says (Ok (done.Imposed finished)) (Some r) text = SaysRun finished r text
+Says (Ok (done.Imposed finished)) None text = text ≡ []
+Says (Ok done.Printed) r text = text ≡ []
+Says (Ok done.Shown) r text = text ≡ []
+Says (Err f) r text = SaysFault f text

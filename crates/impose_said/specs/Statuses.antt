@@ -1,0 +1,62 @@
+-- The exit statuses: 1 if what was asked for is refused, 2 if the words or the options are, 3 if memory, reading or
+-- writing failed, and 0 after a call for help or for the version.
+use Rattle.std.specs.Prelude.{ℕ}
+use Rattle.clap.specs.Words.{kind_of}
+use Rattle.clap.specs.declared.error.kind.ErrorKind.{ErrorKind}
+use Rattle.clap.specs.declared.error.kind.ErrorKind.TheVariants.{DisplayHelp, DisplayVersion}
+use Rattle.layouts.specs.declared.error.ArrangementError.{ArrangementError}
+use Rattle.layouts.specs.declared.error.ArrangementError.TheVariants as layout
+use Rattle.arranged_sheets.specs.declared.poster.PosterError.{PosterError}
+use Rattle.arranged_sheets.specs.declared.poster.PosterError.TheVariants as poster
+use Rattle.rows.specs.declared.error.RowError.{RowError}
+use Rattle.rows.specs.declared.error.RowError.TheVariants as row
+use Rattle.sheet_plan.specs.declared.error.MadeError.{MadeError}
+use Rattle.sheet_plan.specs.declared.error.MadeError.TheVariants as made
+use Rattle.run_statuses.specs.Statuses.{run_status}
+use Rattle.impose_words.specs.declared.fault.CommandFault.{CommandFault}
+use Rattle.impose_words.specs.declared.fault.CommandFault.TheVariants as command
+use Rattle.impose_said.specs.declared.fault.Fault.{Fault}
+use Rattle.impose_said.specs.declared.fault.Fault.TheVariants as fault
+
+abbrev pub words_status : ErrorKind → ℕ
+words_status DisplayHelp = 0
+words_status DisplayVersion = 0
+words_status other = 2
+
+abbrev pub command_status : CommandFault → ℕ
+command_status command.NoMemory = 3
+command_status (command.Words error) = words_status (kind_of error)
+command_status other = 2
+
+abbrev pub layout_status : ArrangementError → ℕ
+layout_status layout.NoMemory = 3
+layout_status other = 1
+
+abbrev pub poster_status : PosterError → ℕ
+poster_status poster.NoMemory = 3
+poster_status other = 1
+
+abbrev pub row_status : RowError → ℕ
+row_status row.NoMemory = 3
+row_status other = 1
+
+abbrev pub sheets_status : MadeError → ℕ
+sheets_status made.NoMemory = 3
+sheets_status other = 1
+
+abbrev pub fault_status : Fault → ℕ
+fault_status (fault.Command f) = command_status f
+fault_status (fault.Layout e) = layout_status e
+fault_status (fault.Poster e) = poster_status e
+fault_status (fault.Row e) = row_status e
+fault_status (fault.NoSuchPage place pages) = 1
+fault_status (fault.Sheets e) = sheets_status e
+fault_status fault.NoSpecification = 1
+fault_status (fault.Read cause) = 3
+fault_status (fault.Run e) = run_status e
+fault_status fault.NoInput = 1
+fault_status fault.Pdf = 1
+fault_status fault.Compressed = 1
+fault_status fault.JobLanguage = 1
+fault_status fault.TooLong = 1
+fault_status (fault.Write written cause) = 3

@@ -1,0 +1,87 @@
+//! Why nothing, or not all, was imposed.
+use arranged_sheets::PosterError;
+use impose_words::CommandFault;
+use imposer::RunError;
+use layouts::ArrangementError;
+use rows::RowError;
+use sheet_plan::MadeError;
+use std::alloc::AllocError;
+use std::io;
+
+/// Why nothing, or not all, was imposed.
+#[derive(Debug, Drop)]
+pub enum Fault {
+    /// The command line is refused.
+    Command(CommandFault),
+    /// There is no such layout.
+    Layout(ArrangementError),
+    /// There is no such poster.
+    Poster(PosterError),
+    /// There is no such row of pages.
+    Row(RowError),
+    /// The document has only so many pages, and not all of the range at this place of the text.
+    NoSuchPage {
+        place: usize,
+        pages: u32,
+    },
+    /// The sheets of the row can't be planned.
+    Sheets(MadeError),
+    /// No specification says what is asked for.
+    NoSpecification,
+    /// The input couldn't be opened or read, and why, if the system said it.
+    Read(Option<io::Error>),
+    /// The run is refused or failed, but for a failed write.
+    Run(RunError),
+    /// The input is empty.
+    NoInput,
+    /// The input is a PDF.
+    Pdf,
+    /// The input is compressed, by gzip.
+    Compressed,
+    /// The input begins with a printer's job language.
+    JobLanguage,
+    /// The input is longer than a document may be.
+    TooLong,
+    /// The output couldn't be created, or not be written behind so many bytes, and why, if the system said it.
+    Write {
+        written: u64,
+        cause: Option<io::Error>,
+    },
+}
+
+impl Fault {
+    ghost use Rattle.std.specs.Prelude.{◌≡◌};
+    ghost use Rattle.impose_said.specs.Faults.{without_memory};
+
+    /// Memory was refused before anything was written.
+    pub fn no_memory() -> Fault
+        ensures { result ≡ without_memory }
+    {
+        Fault::Run(RunError::NoMemory { written: 0 })
+    }
+}
+
+impl From<AllocError> for Fault {
+    ghost use Rattle.std.specs.Prelude.{◌≡◌};
+    ghost use Rattle.impose_said.specs.Faults.{without_memory};
+
+    ghost from_gives = { λ _ fault. fault ≡ without_memory };
+
+    fn from(_error: AllocError) -> Fault {
+        Fault::no_memory()
+    }
+}
+
+impl From<ArrangementError> for Fault {
+    ghost use Rattle.std.specs.Prelude.{◌≡◌};
+    ghost use Rattle.impose_said.specs.Faults.{of_layout};
+
+    ghost from_gives = { λ error fault. fault ≡ of_layout error };
+
+    fn from(error: ArrangementError) -> Fault {
+        match error {
+            ArrangementError::NoMemory => Fault::no_memory(),
+            error => Fault::Layout(error),
+        }
+    }
+}

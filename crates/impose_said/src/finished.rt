@@ -1,0 +1,43 @@
+//! What was done.
+use document_paper::Comment;
+use imposer::Report;
+use lengths::Paper;
+use own_papers::Cut;
+
+/// Where the paper of the pages was found.
+#[derive(Clone, Copy, Debug, PartialEq, Eq)]
+pub enum PaperOrigin {
+    /// It was named on the command line.
+    Named,
+    /// This comment of the document's header tells it.
+    ByComment(Comment),
+    /// Nothing tells it, and so it is the paper at home.
+    AtHome,
+    /// It is the first page's own, as no page has the document's.
+    FirstPage,
+}
+
+/// How a request was carried out.
+#[derive(Clone, Copy, Debug, PartialEq, Eq)]
+pub struct Finished {
+    pub report: Report,
+    /// The paper of the pages.
+    pub page_paper: Paper,
+    /// Where the paper of the pages was found.
+    pub origin: PaperOrigin,
+    /// The pages that the paper cuts which was named for them. By a specification none are told.
+    pub cut: Option<Cut>,
+    /// How many pages stand behind the document's trailer, which aren't imposed.
+    pub behind: usize,
+}
+
+/// What was done.
+#[derive(Clone, Copy, Debug, PartialEq, Eq)]
+pub enum Done {
+    /// The pages were imposed.
+    Imposed(Finished),
+    /// The specification was printed.
+    Printed,
+    /// The plan or the picture of the sheets was written.
+    Shown,
+}

@@ -1,0 +1,18 @@
+//! What impose says of how it ended, and with which exit status.
+#![tactic(auto)]
+
+mod caret;
+mod fault;
+mod finished;
+mod messages;
+mod mistakes;
+mod reports;
+mod said;
+mod shown;
+
+pub use fault::Fault;
+pub use finished::{Done, Finished, PaperOrigin};
+pub use messages::{command_text, fault_status, fault_text};
+pub use mistakes::words_text;
+pub use reports::{behind_text, cut_text, note_text, report_text};
+pub use said::text_said;

@@ -1,0 +1,708 @@
+//! What is said of a fault, and with which exit status the program ends.
+ghost use Rattle.std.specs.Prelude.{◌≡◌};
+ghost use Rattle.impose_said.specs.Statuses.{fault_status as status_of_fault, words_status as status_of_words};
+
+use crate::caret::{caret_below, group_place, item_place, large_place};
+use crate::fault::Fault;
+use crate::mistakes::looks_like_file;
+use crate::shown::shown_word;
+use arranged_sheets::PosterError;
+use clap::error::ErrorKind;
+use command_words::name_of;
+use dsc::DscError;
+use impose_words::{
+    CellOption, CommandFault, GridCommand, Layout, LengthOption, PageChoice, PaperOption, Product,
+    ProductOption, Request, number_in,
+};
+use imposer::RunError;
+use layouts::ArrangementError;
+use pagespec::SpecError;
+use paper_names::{PaperError, name_list, read_paper};
+use rows::RowError;
+use run_statuses::run_status;
+use sheet_plan::{MadeError, PlanError};
+use std::alloc::{AllocError, Global};
+use std::io;
+
+/// The exit status of a fault: 1 if the specification, the layout, the document or the plan is refused, 2 if the
+/// command line or an option is, 3 if memory, reading or writing failed, and 0 after a call for help or for the
+/// version.
+pub fn fault_status(fault: &Fault) -> u8
+    ensures { result ≡ status_of_fault fault.now }
+{
+    match fault {
+        Fault::Command(CommandFault::NoMemory) => 3,
+        Fault::Command(CommandFault::Words(error)) => words_status(error.kind()),
+        Fault::Command(_) => 2,
+        Fault::Layout(ArrangementError::NoMemory) | Fault::Poster(PosterError::NoMemory) => 3,
+        Fault::Row(RowError::NoMemory) | Fault::Sheets(MadeError::NoMemory) => 3,
+        Fault::Layout(_) | Fault::Poster(_) | Fault::Row(_) | Fault::Sheets(_) => 1,
+        Fault::NoSuchPage { .. } | Fault::NoSpecification | Fault::NoInput => 1,
+        Fault::Pdf | Fault::Compressed | Fault::JobLanguage | Fault::TooLong => 1,
+        Fault::Read(_) | Fault::Write { .. } => 3,
+        Fault::Run(error) => run_status(error),
+    }
+}
+
+fn words_status(kind: ErrorKind) -> u8
+    ensures { result ≡ status_of_words kind }
+{
+    match kind {
+        ErrorKind::DisplayHelp | ErrorKind::DisplayVersion => 0,
+        _ => 2,
+    }
+}
+
+/// What is said of a fault, without a line end behind it. The request is there once the command line is taken.
+pub fn fault_text(
+    alloc: Global,
+    fault: &Fault,
+    request: Option<&Request>,
+) -> Result<String, AllocError> {
+    match fault {
+        Fault::Command(fault) => command_text(alloc, fault),
+        Fault::Layout(error) => String::from_str(alloc, layout_text(error, request)),
+        Fault::Poster(error) => String::from_str(alloc, poster_message(error)),
+        Fault::Row(error) => row_text(alloc, error, request),
+        Fault::Sheets(error) => String::from_str(alloc, sheets_message(error)),
+        Fault::NoSpecification => String::from_str(
+            alloc,
+            "--print-spec: no specification says a selection, cards, a stack, notes or a poster, nor --pages, --odd, --even, \
+            --reverse, --creep or --marks; leave it out",
+        ),
+        Fault::NoSuchPage { place, pages } => {
+            let message = format!(in alloc;
+                "page ranges: the document has pages 1 to {pages} only"
+            )?;
+            shown(alloc, message, ranges_of(request), *place)
+        }
+        Fault::Read(cause) => {
+            let name = input_name(alloc, request)?;
+            let name = name.as_str();
+            with_cause(alloc, format!(in alloc; "cannot read {name}")?, cause)
+        }
+        Fault::Run(error) => run_text(alloc, error, request),
+        Fault::NoInput | Fault::Pdf | Fault::Compressed | Fault::JobLanguage | Fault::TooLong =>
+            unread_text(alloc, fault, request),
+        Fault::Write { written, cause } => {
+            let text = written_text(alloc, *written, request)?;
+            with_cause(alloc, text, cause)
+        }
+    }
+}
+
+/// What is said of an input that isn't read as a document.
+fn unread_text(
+    alloc: Global,
+    fault: &Fault,
+    request: Option<&Request>,
+) -> Result<String, AllocError> {
+    let name = input_name(alloc, request)?;
+    let name = name.as_str();
+    match fault {
+        Fault::NoInput => format!(in alloc;
+            "{name} is empty; name a file with a PostScript document, or pipe one in"
+        ),
+        Fault::Pdf => format!(in alloc;
+            "{name} is a PDF, not PostScript; use: pdftops in.pdf - | impose .. -"
+        ),
+        Fault::Compressed => format!(in alloc;
+            "{name} is compressed, not PostScript; use: zcat in.ps.gz | impose .. -"
+        ),
+        Fault::JobLanguage => format!(in alloc;
+            "{name} begins with a printer's job language, not with %!; cut that off: \
+            sed -n '/^%!/,$p' in.ps | impose .. -"
+        ),
+        _ => format!(in alloc; "{name} is longer than 1,073,741,824 bytes; split it first"),
+    }
+}
+
+fn input_name(alloc: Global, request: Option<&Request>) -> Result<String, AllocError> {
+    match request {
+        Some(
+            Request {
+                infile: Some(name),
+                ..
+            },
+        ) => file_name(alloc, name.as_str()),
+        _ => String::from_str(alloc, "standard input"),
+    }
+}
+
+/// What is written to.
+fn output_name(alloc: Global, request: Option<&Request>) -> Result<String, AllocError> {
+    match written_file(request) {
+        Some(name) => file_name(alloc, name),
+        None => String::from_str(alloc, "standard output"),
+    }
+}
+
+/// The file that is written, if it isn't standard output.
+fn written_file(request: Option<&Request>) -> Option<&str> {
+    let request = request?;
+    let file = match &request.product {
+        Product::Sheets => &request.outfile,
+        Product::Specification | Product::Plan => return None,
+        Product::Picture(file) => file,
+    };
+    name_of(file)
+}
+
+/// The name of a file as it is shown.
+fn file_name(alloc: Global, name: &str) -> Result<String, AllocError> {
+    if name.is_empty() {
+        String::from_str(
+            alloc,
+            "'' (a file without a name; - is standard input or output)",
+        )
+    } else {
+        shown_word(alloc, name)
+    }
+}
+
+/// A failed write behind so many bytes.
+fn written_text(
+    alloc: Global,
+    written: u64,
+    request: Option<&Request>,
+) -> Result<String, AllocError> {
+    let name = output_name(alloc, request)?;
+    let name = name.as_str();
+    if written == 0 {
+        format!(in alloc; "cannot write {name}")
+    } else {
+        format!(in alloc; "cannot write {name} after {written} bytes")
+    }
+}
+
+fn with_cause(
+    alloc: Global,
+    text: String,
+    cause: &Option<io::Error>,
+) -> Result<String, AllocError> {
+    let text = text.as_str();
+    match cause {
+        Some(cause) => format!(in alloc; "{text}: {cause}"),
+        None => String::from_str(alloc, text),
+    }
+}
+
+/// What is said of a command line that is refused; nothing of words that the command doesn't take, which `words_text` tells.
+pub fn command_text(alloc: Global, fault: &CommandFault) -> Result<String, AllocError> {
+    match fault {
+        CommandFault::Words(_) => Ok(String::new(alloc)),
+        CommandFault::NoText => String::from_str(
+            alloc,
+            "the command line is no UTF-8 text: rename the file",
+        ),
+        CommandFault::Lacking => String::from_str(alloc, "bad command line: see impose --help"),
+        CommandFault::UnknownPaper(option, text) => paper_text(alloc, *option, text.as_str()),
+        CommandFault::BadBorder(text) => border_text(alloc, text.as_str()),
+        CommandFault::BadLength(option, text) => {
+            let option = length_option(*option);
+            let text = shown_word(alloc, text.as_str())?;
+            let text = text.as_str();
+            format!(in alloc; "bad length '{text}' after {option}: give it as 5mm, .2in or 14pt")
+        }
+        CommandFault::BadCells(command, text) => cells_text(alloc, *command, text.as_str()),
+        CommandFault::BadValue(option, text) => value_text(alloc, *option, text.as_str()),
+        CommandFault::BadSignature(text) => signature_text(alloc, text.as_str()),
+        CommandFault::OddAndEven => {
+            String::from_str(
+                alloc,
+                "--odd and --even leave no page together: give one of them",
+            )
+        }
+        CommandFault::OptionAsOutfile(text) => outfile_text(alloc, text.as_str()),
+        CommandFault::TwoProducts(one, other) => {
+            let one = product_option(*one);
+            let other = product_option(*other);
+            format!(in alloc; "{one} and {other} ask for two things: give one of them")
+        }
+        CommandFault::BadPicture(text) => picture_text(alloc, text.as_str()),
+        CommandFault::NoMemory => String::from_str(alloc, "out of memory"),
+    }
+}
+
+/// What is said of a text that names no width of a border.
+fn border_text(alloc: Global, text: &str) -> Result<String, AllocError> {
+    let text = shown_word(alloc, text)?;
+    let text = text.as_str();
+    format!(in alloc; "bad width '{text}' after --border: give a length as 1pt, .5mm or .02in")
+}
+
+/// What is said of an option in the place of a file.
+fn outfile_text(alloc: Global, text: &str) -> Result<String, AllocError> {
+    let text = shown_word(alloc, text)?;
+    let text = text.as_str();
+    format!(in alloc;
+        "OUTFILE '{text}' begins with a minus, as options do: options stand before --, and a file of this name \
+        is written ./{text}"
+    )
+}
+
+/// What is said of a file that isn't named as a picture.
+fn picture_text(alloc: Global, text: &str) -> Result<String, AllocError> {
+    let text = shown_word(alloc, text)?;
+    let text = text.as_str();
+    format!(in alloc;
+        "bad file '{text}' after --preview: it is an SVG, so name it as sheets.svg, or - for standard output"
+    )
+}
+
+/// What is said of a text that names no signature.
+fn signature_text(alloc: Global, text: &str) -> Result<String, AllocError> {
+    match number_in(text) {
+        Some(sides) if 4 < sides && sides < 1_000_000 => {
+            let below = sides - sides % 4;
+            let above = below + 4;
+            format!(in alloc;
+                "a signature of {sides} sides can't be folded: take a multiple of four, as {below} or {above}, or auto"
+            )
+        }
+        _ => {
+            let shown = shown_word(alloc, text)?;
+            let shown = shown.as_str();
+            format!(in alloc;
+                "bad signature '{shown}' after --signature: give a multiple of four, as 16, up to 1000000, or auto"
+            )
+        }
+    }
+}
+
+/// What is said of a text behind a command that names no cells.
+fn cells_text(alloc: Global, command: GridCommand, text: &str) -> Result<String, AllocError> {
+    let (command, example) = match command {
+        GridCommand::NUp => ("nup", "impose nup 2 in.ps out.ps"),
+        GridCommand::Cards => ("cards", "impose cards 8 in.ps out.ps"),
+        GridCommand::Stack => ("stack", "impose stack 2 in.ps out.ps"),
+        GridCommand::Notes => return noted_text(alloc, text),
+        GridCommand::Poster => return tiles_text(alloc, text),
+    };
+    let shown = shown_word(alloc, text)?;
+    let shown = shown.as_str();
+    if looks_like_file(text) {
+        format!(in alloc;
+            "the number of pages is missing before '{shown}': it stands behind {command}, as in: {example}"
+        )
+    } else if text.contains("x") {
+        format!(in alloc;
+            "bad grid '{shown}' behind {command}: give columns and rows as 2x4, at most 1024 cells in all"
+        )
+    } else {
+        format!(in alloc;
+            "bad number of pages '{shown}' behind {command}: give one from 1 to 1024, or columns and rows as 2x4"
+        )
+    }
+}
+
+/// What is said of a text behind `notes` that names no number of pages.
+fn noted_text(alloc: Global, text: &str) -> Result<String, AllocError> {
+    let shown = shown_word(alloc, text)?;
+    let shown = shown.as_str();
+    if looks_like_file(text) {
+        format!(in alloc;
+            "the number of pages is missing before '{shown}': it stands behind notes, as in: impose notes 3 in.ps out.ps"
+        )
+    } else {
+        format!(in alloc;
+            "bad number of pages '{shown}' behind notes: give one from 1 to 512, as 3"
+        )
+    }
+}
+
+/// What is said of a text behind `poster` that names no columns and rows.
+fn tiles_text(alloc: Global, text: &str) -> Result<String, AllocError> {
+    let shown = shown_word(alloc, text)?;
+    let shown = shown.as_str();
+    if looks_like_file(text) {
+        format!(in alloc;
+            "columns and rows of sheets are missing before '{shown}': they stand behind poster, as in: \
+            impose poster 2x2 in.ps out.ps"
+        )
+    } else {
+        format!(in alloc;
+            "bad grid '{shown}' behind poster: give columns and rows of sheets as 2x3, at most 1024 in all"
+        )
+    }
+}
+
+/// What is said of a text that is no value of the option.
+fn value_text(alloc: Global, option: CellOption, text: &str) -> Result<String, AllocError> {
+    let text = shown_word(alloc, text)?;
+    let text = text.as_str();
+    match option {
+        CellOption::Order => format!(in alloc;
+            "unknown order '{text}' after --order: give right-down, down-right, left-down or down-left"
+        ),
+        CellOption::Turned => format!(in alloc;
+            "unknown side '{text}' after --turned: give left or right"
+        ),
+        CellOption::Scale => format!(in alloc;
+            "bad scale '{text}' after --scale: give a number as 0.7"
+        ),
+        CellOption::BookletMarks => format!(in alloc;
+            "unknown marks '{text}' after --marks: give fold, cut or fold,cut"
+        ),
+        CellOption::CutMarks => if text.contains("fold") {
+            format!(in alloc;
+                "only a booklet is folded, so --marks {text} asks too much here: give --marks cut"
+            )
+        } else {
+            format!(in alloc; "unknown marks '{text}' after --marks: give cut")
+        },
+    }
+}
+
+fn product_option(option: ProductOption) -> &'static str {
+    match option {
+        ProductOption::PrintSpec => "--print-spec",
+        ProductOption::Plan => "--plan",
+        ProductOption::Preview => "--preview",
+    }
+}
+
+fn length_option(option: LengthOption) -> &'static str {
+    match option {
+        LengthOption::Margin => "--margin",
+        LengthOption::Gap => "--gap",
+        LengthOption::Trim => "--trim",
+        LengthOption::Creep => "--creep",
+        LengthOption::Overlap => "--overlap",
+    }
+}
+
+/// What is said of a text that means no paper.
+fn paper_text(alloc: Global, option: PaperOption, text: &str) -> Result<String, AllocError> {
+    let option = match option {
+        PaperOption::Paper => "--paper",
+        PaperOption::Sheet => "--sheet",
+    };
+    let shown = shown_word(alloc, text)?;
+    let shown = shown.as_str();
+    match read_paper(text.as_bytes()) {
+        Err(PaperError::NoUnit) => format!(in alloc;
+            "size '{shown}' after {option} has no unit: write {shown}mm, {shown}in or {shown}pt"
+        ),
+        Err(PaperError::UnitOfWidthAlone) => format!(in alloc;
+            "size '{shown}' after {option} has no unit behind the height: write it as 210x297mm or 210mmx297mm"
+        ),
+        Err(PaperError::NoSuchSize) => format!(in alloc;
+            "size '{shown}' after {option}: a side is zero, negative or too long"
+        ),
+        _ => {
+            let names = name_list();
+            format!(in alloc;
+                "unknown paper '{shown}' after {option}: name one of {names}, or a size as 210x297mm; \
+                a name with -landscape behind it is the paper on its side"
+            )
+        }
+    }
+}
+
+/// A text with a caret below the place in it that is at fault.
+fn shown(alloc: Global, message: String, text: &str, place: usize) -> Result<String, AllocError> {
+    let caret = caret_below(alloc, text, place)?;
+    format!(in alloc; "{message}{caret}")
+}
+
+fn ranges_of(request: Option<&Request>) -> &str {
+    match request {
+        Some(
+            Request {
+                choice: PageChoice {
+                    ranges: Some(ranges),
+                    ..
+                },
+                ..
+            },
+        ) => ranges.as_str(),
+        _ => "",
+    }
+}
+
+fn is_selection(request: Option<&Request>) -> bool {
+    match request {
+        Some(request) => matches!(request.layout, Layout::Selection),
+        None => false,
+    }
+}
+
+/// What is said of ranges that name no row.
+fn row_text(
+    alloc: Global,
+    error: &RowError,
+    request: Option<&Request>,
+) -> Result<String, AllocError> {
+    let message = match error {
+        RowError::NotARange(_) if is_selection(request) && looks_like_file(ranges_of(request)) =>
+            String::from_str(
+                alloc,
+                "page ranges: they stand before the file, and 1- are all pages: impose select 1- in.ps out.ps",
+            )?,
+        RowError::NotARange(at) => format!(in alloc;
+            "page ranges: no range at byte {at}; write them as 7, 3-9, 5-, _1 (the last) or blank, with commas \
+            between them"
+        )?,
+        error => String::from_str(alloc, row_message(error))?,
+    };
+    match ranges_place(error) {
+        Some(place) => shown(alloc, message, ranges_of(request), place),
+        None => Ok(message),
+    }
+}
+
+fn row_message(error: &RowError) -> &'static str {
+    match error {
+        RowError::NotARange(_) => "page ranges: no range",
+        RowError::NotInDocument(_) => "page ranges: the document doesn't have these pages",
+        RowError::TooManyEntries(_) => {
+            "page ranges: more than 1,000,000 pages; impose them in several runs"
+        }
+        RowError::NoEntries => {
+            "page ranges: no page is left by --odd or --even; pages are counted from 1"
+        }
+        RowError::NoMemory => "out of memory",
+    }
+}
+
+/// What is said of pages that can't be laid out so: of a scale that is asked for something else than of one that is found.
+fn layout_text(error: &ArrangementError, request: Option<&Request>) -> &'static str {
+    match error {
+        ArrangementError::ScaleOutOfRange if is_scaled(request) => {
+            "the scale is 0 or below, or too large: give one as --scale 0.7"
+        }
+        error => layout_message(error),
+    }
+}
+
+fn is_scaled(request: Option<&Request>) -> bool {
+    match request {
+        Some(request) => request.spacing.scale.is_some(),
+        None => false,
+    }
+}
+
+fn layout_message(error: &ArrangementError) -> &'static str {
+    match error {
+        ArrangementError::CellsOutOfRange => "a sheet takes from 1 to 1,024 pages",
+        ArrangementError::SideTooLong => {
+            "a side of a paper is 100,000 points or more: name a smaller paper"
+        }
+        ArrangementError::LengthOutOfRange => {
+            "a margin, a gap, a trim, a creep or an overlap is below 0, or 100,000 points or more"
+        }
+        ArrangementError::NothingLeftOfPage =>
+            "nothing is left of a page that is trimmed so: trim less",
+        ArrangementError::FoldOnLongEdge => {
+            "upright pages side by side would be larger on this sheet, and it would fold along its longer edge: name \
+            another sheet, as --sheet a4, or use nup 2"
+        }
+        ArrangementError::NoRoom => "margins and gaps leave no room for pages: take smaller ones",
+        ArrangementError::ScaleOutOfRange => {
+            "the pages would be too small or too large on the sheet: name other papers by --paper and --sheet"
+        }
+        ArrangementError::ScaleTooLarge =>
+            "pages of this scale are larger than their cells: take a smaller one",
+        ArrangementError::CreepOverFold => {
+            "there is no room at the fold for leaves to creep so far: take a smaller --creep or a larger --gap"
+        }
+        ArrangementError::NoMemory => "out of memory",
+    }
+}
+
+/// What is said of pages that can't be such a poster.
+fn poster_message(error: &PosterError) -> &'static str {
+    match error {
+        PosterError::TilesOutOfRange => {
+            "a poster has from 1 to 1,024 sheets: give other columns and rows"
+        }
+        PosterError::SideTooLong => {
+            "a side of a sheet or of the whole poster is 100,000 points or more: take fewer or smaller sheets"
+        }
+        PosterError::NothingButOverlap => {
+            "margins and overlap leave nothing of a sheet: take a smaller --margin or --overlap, or a larger --sheet"
+        }
+        PosterError::ScaleOutOfRange => {
+            "the page would be too small or too large on the poster: name other papers by --paper and --sheet"
+        }
+        PosterError::NoMemory => "out of memory",
+    }
+}
+
+/// What is said of a row that takes too many sheets.
+fn sheets_message(error: &MadeError) -> &'static str {
+    match error {
+        MadeError::TooManyPages => "the document has more than 1,000,000 pages: split it first",
+        MadeError::TooManySheets => {
+            "the output would have more than 1,000,000 sheets: impose in several runs"
+        }
+        MadeError::SlotsOutOfRange(_) => "a sheet takes at most 4,096 pages",
+        MadeError::TooManyPlaces => {
+            "more than 4,000,000 pages would be placed: impose in several runs"
+        }
+        MadeError::NoSuchPage(_) => "a sheet has a page that the document doesn't have",
+        MadeError::NoMemory => "out of memory",
+    }
+}
+
+/// Where page ranges are at fault, if that is at one place.
+fn ranges_place(error: &RowError) -> Option<usize> {
+    match error {
+        RowError::NotARange(at) | RowError::NotInDocument(at) | RowError::TooManyEntries(at) => {
+            Some(*at)
+        }
+        RowError::NoEntries | RowError::NoMemory => None,
+    }
+}
+
+fn run_text(
+    alloc: Global,
+    error: &RunError,
+    request: Option<&Request>,
+) -> Result<String, AllocError> {
+    match error {
+        RunError::Options => String::from_str(alloc, "bad options"),
+        RunError::Document(error) => {
+            let name = input_name(alloc, request)?;
+            document_text(alloc, error, name.as_str())
+        }
+        RunError::Plan(error) => plan_text(alloc, error),
+        RunError::Spec(SpecError::NoMemory) | RunError::NoMemory { written: 0 } => {
+            String::from_str(alloc, "out of memory")
+        }
+        RunError::Spec(error) => spec_text(alloc, error, spec_of(request)),
+        RunError::NoMemory { written } => format!(in alloc; "out of memory after {written} bytes"),
+        RunError::Write { written } => written_text(alloc, *written, request),
+    }
+}
+
+/// How many sheets a specification has at most.
+const MOST_GROUPS: u32 = 10_000;
+
+fn spec_of(request: Option<&Request>) -> &str {
+    match request {
+        Some(
+            Request {
+                layout: Layout::SpecRow { specs, .. },
+                ..
+            },
+        ) => specs.as_str(),
+        Some(
+            Request {
+                layout: Layout::Spec(spec),
+                ..
+            },
+        ) => spec.as_str(),
+        _ => "",
+    }
+}
+
+fn spec_text(alloc: Global, error: &SpecError, spec: &str) -> Result<String, AllocError> {
+    let message = match error {
+        SpecError::Syntax(_) if looks_like_file(spec) => String::from_str(
+            alloc,
+            "it stands before the file: impose spec 0,0 in.ps out.ps",
+        )?,
+        SpecError::Syntax(at) if *at < spec.len() => format!(in alloc;
+            "syntax error at byte {at}; what stands at the caret can't follow"
+        )?,
+        error => String::from_str(alloc, spec_message(error))?,
+    };
+    let message = format!(in alloc; "specification: {message}")?;
+    match spec_place(error, spec) {
+        Some(place) => shown(alloc, message, spec, place),
+        None => Ok(message),
+    }
+}
+
+fn spec_message(error: &SpecError) -> &'static str {
+    match error {
+        SpecError::TooLong => "longer than 65,536 bytes; impose in several runs",
+        SpecError::Syntax(_) => "incomplete; more has to follow at the caret",
+        SpecError::TooLarge => "a number is over 99,999; take a smaller one",
+        SpecError::ModuloZero => {
+            "the modulo is zero; for single pages leave it and its colon out"
+        }
+        SpecError::PageOutOfBlock(_) => {
+            "the page number is not below the modulo; pages are counted from 0 in each block"
+        }
+        SpecError::ScaleZero(_) => {
+            "the scale is not above zero; for pages of their own size leave it out"
+        }
+        SpecError::Repeated(_) => "a second scale or offset; leave one out",
+        SpecError::TooManySlots(_) => "a sheet takes at most 4,096 pages",
+        SpecError::TooManyGroups => "more than 10,000 sheets; impose in several runs",
+        SpecError::NoMemory => "out of memory",
+    }
+}
+
+/// Where a specification is at fault, if that is at one place.
+fn spec_place(error: &SpecError, spec: &str) -> Option<usize> {
+    match error {
+        SpecError::Syntax(at) => Some(*at),
+        SpecError::TooLarge => Some(large_place(spec)),
+        SpecError::ModuloZero => Some(0),
+        SpecError::PageOutOfBlock(item) => Some(item_place(spec, *item)),
+        SpecError::ScaleZero(item) | SpecError::Repeated(item) => Some(item_place(spec, *item)),
+        SpecError::TooManySlots(group) => Some(group_place(spec, *group)),
+        SpecError::TooManyGroups => Some(group_place(spec, MOST_GROUPS)),
+        SpecError::TooLong | SpecError::NoMemory => None,
+    }
+}
+
+/// What is said of a document that is refused. That it is too long the run says only of one that its guard makes so.
+fn document_text(alloc: Global, error: &DscError, name: &str) -> Result<String, AllocError> {
+    match error {
+        DscError::TooLong => format!(in alloc;
+            "{name} is longer than 1,073,741,824 bytes with its guard; split it first, or leave the guard out \
+            by --unguarded"
+        ),
+        DscError::NotPostScript => format!(in alloc;
+            "{name} is not PostScript: it doesn't begin with %!; cut off what stands before that"
+        ),
+        DscError::BadCount(at) => {
+            format!(in alloc;
+                "{name}: the %%BeginData: or %%BeginBinary: at byte {at} has no count, or a bad one; \
+                write the document anew"
+            )
+        }
+        DscError::ShortData(at) => {
+            format!(in alloc;
+                "{name}: the data behind the %%BeginData: or %%BeginBinary: at byte {at} is cut short; \
+                is the document complete?"
+            )
+        }
+        DscError::TooManyPages => format!(in alloc;
+            "{name} has more than 1,000,000 pages; split it first"
+        ),
+        DscError::NoPages => {
+            format!(in alloc;
+                "{name} has no %%Page: comments; for plain PostScript run it through ps2ps first"
+            )
+        }
+        DscError::NoMemory => String::from_str(alloc, "out of memory"),
+    }
+}
+
+fn plan_text(alloc: Global, error: &PlanError) -> Result<String, AllocError> {
+    match error {
+        PlanError::TooManyPages => String::from_str(
+            alloc,
+            "more than 1,000,000 pages with the blank ones of the last signature: take a smaller signature",
+        ),
+        PlanError::TooManySheets => {
+            String::from_str(
+                alloc,
+                "the output would have more than 1,000,000 sheets: split the document first",
+            )
+        }
+        PlanError::TooManyPlaces => {
+            String::from_str(
+                alloc,
+                "more than 4,000,000 pages would be placed: split the document first",
+            )
+        }
+        PlanError::NoMemory => String::from_str(alloc, "out of memory"),
+    }
+}

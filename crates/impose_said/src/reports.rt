@@ -1,0 +1,166 @@
+//! What is said of a finished run.
+ghost use Rattle.std.specs.Prelude.{◌≡◌, IfOk, Some, option_map, string_bytes};
+ghost use Rattle.impose_said.specs.Said.{HasCounts, IsNote, IsOfCut, IsReport, behind_text as text_of_behind};
+ghost use Rattle.impose_said.specs.Said.{is_pdf_name as names_pdf, origin_text as text_of_origin};
+
+use crate::finished::{Finished, PaperOrigin};
+use crate::shown::shown_word;
+use document_paper::Comment;
+use impose_words::{Layout, Request};
+use imposer::Report;
+use lengths::{Paper, print_points};
+use own_papers::Cut;
+use std::alloc::{AllocError, Global};
+
+/// What is said of a finished run.
+pub fn report_text(alloc: Global, done: &Finished, request: &Request) -> Result<String, AllocError>
+    ensures { IfOk result (λ text. IsReport done.now (Some (string_bytes text))) }
+{
+    let counts = counts_text(alloc, &done.report, request)?;
+    let counts = counts.as_str();
+    let size = size_text(alloc, &done.page_paper)?;
+    let size = size.as_str();
+    let origin = origin_text(done.origin);
+    format!(in alloc; "{counts}; pages of {size} pt, {origin}")
+}
+
+/// How many pages, blanks, sheets and leaves there are, and how many bytes.
+fn counts_text(alloc: Global, report: &Report, request: &Request) -> Result<String, AllocError>
+    ensures { IfOk result (λ text. HasCounts report.now (string_bytes text)) }
+{
+    let pages = report.pages;
+    let sheets = report.sheets;
+    let bytes = report.bytes;
+    let blanks = match blanks_of(request, report) {
+        0 => String::new(alloc),
+        blanks => format!(in alloc; ", blanks {blanks}")?,
+    };
+    let blanks = blanks.as_str();
+    let leaves = leaves_text(alloc, &request.layout, sheets)?;
+    let leaves = leaves.as_str();
+    format!(in alloc; "pages {pages}{blanks}, sheets {sheets}{leaves}, bytes {bytes}")
+}
+
+/// How many places of the sheets have no page, where all sheets have equally many and each page has one.
+fn blanks_of(request: &Request, report: &Report) -> u64 {
+    let places = match request.layout {
+        Layout::NUp(cells) if request.choice.is_whole() => cells.count(),
+        Layout::Notes { pages } if request.choice.is_whole() => u64::from(pages),
+        Layout::Booklet { .. } if request.choice.is_whole() => 2,
+        _ => 0,
+    };
+    places
+        .saturating_mul(u64::from(report.sheets))
+        .saturating_sub(u64::from(report.pages))
+}
+
+/// How many leaves of paper it takes, where sheets are printed on both sides.
+fn leaves_text(alloc: Global, layout: &Layout, sheets: u32) -> Result<String, AllocError> {
+    match layout {
+        Layout::Booklet { .. } | Layout::Stack { duplex: true, .. } => {
+            let leaves = sheets.div_ceil(2);
+            let word = if leaves == 1 { "leaf" } else { "leaves" };
+            format!(in alloc; " ({leaves} {word})")
+        }
+        _ => Ok(String::new(alloc)),
+    }
+}
+
+/// Both sides of a paper, in points.
+fn size_text(alloc: Global, paper: &Paper) -> Result<String, AllocError> {
+    let mut size = Vec::new(alloc);
+    print_points(paper.width(), &mut size)?;
+    size.extend_from_slice(b" x ")?;
+    print_points(paper.height(), &mut size)?;
+    Ok(text_or_empty(alloc, size))
+}
+
+/// What is said of pages that the paper cuts which is named for them.
+pub fn cut_text(alloc: Global, done: &Finished) -> Result<Option<String>, AllocError>
+    ensures { IfOk result (λ text. IsOfCut done.now.cut (option_map string_bytes text)) }
+{
+    let Some(cut) = done.cut else {
+        return Ok(None);
+    };
+    let pages = cut_pages_text(alloc, &cut)?;
+    let pages = pages.as_str();
+    let own = size_text(alloc, &cut.paper)?;
+    let own = own.as_str();
+    let named = size_text(alloc, &done.page_paper)?;
+    let named = named.as_str();
+    Ok(Some(format!(in alloc; "--paper cuts {pages}: {own} on {named}")?))
+}
+
+/// What is said of pages that stand behind the document's trailer.
+pub fn behind_text(alloc: Global, done: &Finished) -> Result<Option<String>, AllocError>
+    ensures { IfOk result (λ text. option_map string_bytes text ≡ text_of_behind done.now.behind) }
+{
+    let pages = done.behind;
+    match pages {
+        0 => Ok(None),
+        1 => Ok(Some(String::from_str(
+            alloc,
+            "1 page stands behind %%Trailer or %%EOF and is not imposed",
+        )?)),
+        _ => Ok(Some(format!(in alloc;
+            "{pages} pages stand behind %%Trailer or %%EOF and are not imposed"
+        )?)),
+    }
+}
+
+/// The pages that are cut, counted from 1.
+fn cut_pages_text(alloc: Global, cut: &Cut) -> Result<String, AllocError> {
+    let first = cut.first.saturating_add(1);
+    let last = cut.last.saturating_add(1);
+    let pages = cut.pages;
+    if pages == 1 {
+        format!(in alloc; "page {first}")
+    } else if pages == last.saturating_sub(cut.first) {
+        format!(in alloc; "pages {first}-{last}")
+    } else {
+        format!(in alloc; "{pages} pages from {first} to {last}")
+    }
+}
+
+/// What else is said of a finished run, if there is something: that a file named as a PDF isn't one.
+pub fn note_text(alloc: Global, request: &Request) -> Result<Option<String>, AllocError>
+    ensures { IfOk result (λ text. IsNote (option_map string_bytes request.now.outfile) (option_map string_bytes text)) }
+{
+    match &request.outfile {
+        Some(name) if is_pdf_name(name.as_str()) => {
+            let name = shown_word(alloc, name.as_str())?;
+            let name = name.as_str();
+            Ok(Some(format!(in alloc;
+                "{name} holds PostScript, not a PDF; for a PDF use: impose .. | ps2pdf -dAutoRotatePages=/None - {name}"
+            )?))
+        }
+        _ => Ok(None),
+    }
+}
+
+fn is_pdf_name(name: &str) -> bool
+    ensures { result ≡ names_pdf name.now }
+{
+    let name = name.as_bytes();
+    name.ends_with(b".pdf") || name.ends_with(b".PDF")
+}
+
+fn origin_text(origin: PaperOrigin) -> &'static str
+    ensures { result.now ≡ text_of_origin origin }
+{
+    match origin {
+        PaperOrigin::Named => "as named",
+        PaperOrigin::ByComment(Comment::DocumentMedia) => "by its %%DocumentMedia",
+        PaperOrigin::ByComment(Comment::DocumentPaperSizes) => "by its %%DocumentPaperSizes",
+        PaperOrigin::ByComment(Comment::BoundingBox) => "by its %%BoundingBox",
+        PaperOrigin::AtHome => "the usual one here, as the document names none",
+        PaperOrigin::FirstPage => "that of page 1, as no page has the document's",
+    }
+}
+
+fn text_or_empty(alloc: Global, bytes: Vec<u8>) -> String {
+    match String::from_utf8(bytes) {
+        Ok(text) => text,
+        Err(_) => String::new(alloc),
+    }
+}

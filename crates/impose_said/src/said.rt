@@ -1,0 +1,106 @@
+//! What is said on standard error of how the program ended.
+ghost use Rattle.std.specs.Prelude.{◌≡◌, IfOk, option_map, string_bytes};
+ghost use Rattle.impose_said.specs.Said.{AddsLine, Says, SaysFault, SaysRun, SaysWords, is_broken_pipe};
+
+use crate::fault::Fault;
+use crate::finished::{Done, Finished};
+use crate::messages::fault_text;
+use crate::mistakes::words_text;
+use crate::reports::{behind_text, cut_text, note_text, report_text};
+use clap::Error as WordsError;
+use impose_words::{CommandFault, Request};
+use std::alloc::Global;
+use std::io::ErrorKind;
+
+/// What is said on standard error of how the program ended with these words: of sheets the report, and behind it what else
+/// there is to say of them, unless the request is quiet; of a fault its message, unless whoever reads the output has
+/// closed it; and nothing of anything else. Help and the version, which go to standard output, aren't said here.
+///
+/// What is done is done: a line for which there is no memory isn't said, and the others are.
+pub fn text_said(
+    alloc: Global,
+    outcome: &Result<Done, Fault>,
+    request: Option<&Request>,
+    words: &[String],
+) -> String
+    ensures { Says outcome.now (option_map (λ r. r.now) request.entry) (string_bytes result) }
+{
+    match outcome {
+        Ok(Done::Imposed(done)) => match request {
+            Some(request) => text_of_run(alloc, done, request),
+            None => String::new(alloc),
+        },
+        Ok(_) => String::new(alloc),
+        Err(fault) => text_of_fault(alloc, fault, request, words),
+    }
+}
+
+/// What is said of a finished run.
+fn text_of_run(alloc: Global, done: &Finished, request: &Request) -> String
+    ensures { SaysRun done.now request.now (string_bytes result) }
+{
+    let mut said = String::new(alloc);
+    if request.is_quiet {
+        return said;
+    }
+    add_line(alloc, &mut said, report_text(alloc, done, request).ok());
+    add_line(alloc, &mut said, cut_text(alloc, done).unwrap_or(None));
+    add_line(alloc, &mut said, behind_text(alloc, done).unwrap_or(None));
+    add_line(alloc, &mut said, note_text(alloc, request).unwrap_or(None));
+    said
+}
+
+/// What is said of a fault.
+fn text_of_fault(
+    alloc: Global,
+    fault: &Fault,
+    request: Option<&Request>,
+    words: &[String],
+) -> String
+    ensures { SaysFault fault.now (string_bytes result) }
+{
+    if let Fault::Command(CommandFault::Words(error)) = fault {
+        return text_of_words(alloc, error, words);
+    }
+    let mut said = String::new(alloc);
+    if !is_broken_pipe(fault) {
+        add_line(alloc, &mut said, fault_text(alloc, fault, request).ok());
+    }
+    said
+}
+
+/// What is said of words that the command doesn't take; nothing of a call for help or for the version.
+fn text_of_words(alloc: Global, error: &WordsError, words: &[String]) -> String
+    ensures { SaysWords error.now (string_bytes result) }
+{
+    if error.use_stderr() {
+        words_text(alloc, error, words).unwrap_or(String::new(alloc))
+    } else {
+        String::new(alloc)
+    }
+}
+
+/// Whoever reads the output has closed it, and so has enough of it.
+fn is_broken_pipe(fault: &Fault) -> bool
+    ensures { result ≡ is_broken_pipe fault.now }
+{
+    match fault {
+        Fault::Write {
+            cause: Some(cause),
+            ..
+        } => matches!(cause.kind(), ErrorKind::BrokenPipe),
+        _ => false,
+    }
+}
+
+/// Adds a line with this message, if there is one and memory for the line.
+fn add_line(alloc: Global, said: &mut String, message: Option<String>)
+    ensures { AddsLine (option_map string_bytes message) (string_bytes said.old) (string_bytes said.new) }
+{
+    if let Some(message) = message {
+        let message = message.as_str();
+        if let Ok(line) = format!(in alloc; "impose: {message}\n") {
+            let _ = said.push_str(line.as_str());
+        }
+    }
+}

@@ -1,0 +1,115 @@
+-- What words stand for, worked out.
+use Rattle.std.proofs.Common.{◌≡◌, true, false, [], ◌∷◌, refl, map}
+use Rattle.std.specs.Prelude.{codes, pos, None, Some}
+use Rattle.lengths.specs.Reading.{number_at}
+use Rattle.rules.specs.Papers.{points}
+use Rattle.layouts.specs.Grids.{plain_order}
+use Rattle.layouts.specs.declared.arrangement.Cells.TheVariants.{AtLeast, Exactly}
+use Rattle.layouts.specs.declared.arrangement.Order.{Order}
+use Rattle.layouts.specs.declared.arrangement.Run.{Run}
+use Rattle.layouts.specs.declared.arrangement.Run.TheVariants.{Rows, Columns}
+use Rattle.layouts.specs.declared.arrangement.Turned.TheVariants.{Upright, Left, Right}
+use Rattle.rows.specs.declared.choices.Part.TheVariants.{All, Odd, Even}
+use Rattle.rows.specs.declared.sewing.Signing.TheVariants.{InOne, OfSides, Auto}
+use Rattle.paper_names.specs.Names.{papers}
+use Rattle.impose_words.specs.Signatures.{signing_asked}
+use Rattle.impose_words.specs.Sizes.{size_named}
+use Rattle.impose_words.specs.Arranging.{booklet_marks_named, cells_named, cut_marks_named, noted_alone, run_named, scale_named, turned_named}
+use Rattle.impose_words.specs.Words.{part_by, file_asked, is_outfile, order_by, run_asked, turned_asked}
+
+-- Sizes of paper.
+
+a_size : size_named (codes "1x1in") ≡ Some (points 72 72)
+unfolding number_at papers
+a_size = refl
+
+no_unit : size_named (codes "72x72") ≡ None
+unfolding number_at papers
+no_unit = refl
+
+-- Files and flags.
+
+standard_input : file_asked (Some (codes "-")) ≡ None
+standard_input = refl
+
+file_with_a_minus : file_asked (Some (codes "-a")) ≡ Some (codes "-a")
+file_with_a_minus = refl
+
+neither : part_by false false ≡ Some All
+neither = refl
+
+odd : part_by true false ≡ Some Odd
+odd = refl
+
+even : part_by false true ≡ Some Even
+even = refl
+
+both : part_by true true ≡ None
+both = refl
+
+-- Signatures.
+
+signatures : map signing_asked (None ∷ Some (codes "auto") ∷ Some (codes "4") ∷ Some (codes "6") ∷ Some (codes "0") ∷ Some (codes "x") ∷ []) ≡ Some InOne ∷ Some Auto ∷ Some (OfSides 4) ∷ None ∷ None ∷ None ∷ []
+signatures = refl
+
+-- Cells: a number of them, or columns and rows.
+
+numbers : map cells_named (codes "1" ∷ codes "8" ∷ codes "0008" ∷ codes "1024" ∷ []) ≡ Some (AtLeast 1) ∷ Some (AtLeast 8) ∷ Some (AtLeast 8) ∷ Some (AtLeast 1_024) ∷ []
+numbers = refl
+
+columns_and_rows : map cells_named (codes "2x4" ∷ codes "1x1" ∷ codes "32x32" ∷ codes "1024x1" ∷ []) ≡ Some (Exactly 2 4) ∷ Some (Exactly 1 1) ∷ Some (Exactly 32 32) ∷ Some (Exactly 1_024 1) ∷ []
+columns_and_rows = refl
+
+no_numbers : map cells_named ([] ∷ codes "0" ∷ codes "1025" ∷ codes "2.5" ∷ codes "-2" ∷ codes "two" ∷ codes "2 " ∷ []) ≡ None ∷ None ∷ None ∷ None ∷ None ∷ None ∷ None ∷ []
+no_numbers = refl
+
+no_columns_and_rows : map cells_named (codes "2x" ∷ codes "x" ∷ codes "x4" ∷ codes "0x3" ∷ codes "3x0" ∷ codes "2x4x1" ∷ codes "33x32" ∷ codes "2X4" ∷ []) ≡ None ∷ None ∷ None ∷ None ∷ None ∷ None ∷ None ∷ None ∷ []
+no_columns_and_rows = refl
+
+-- for pages with notes a sheet has twice as many
+noted : map (λ text. noted_alone (cells_named text)) (codes "1" ∷ codes "512" ∷ codes "513" ∷ codes "0" ∷ codes "2x3" ∷ []) ≡ Some (AtLeast 1) ∷ Some (AtLeast 512) ∷ None ∷ None ∷ None ∷ []
+noted = refl
+
+-- Orders of cells, which --rtl turns round.
+
+runs : map run_named (codes "right-down" ∷ codes "down-right" ∷ codes "left-down" ∷ codes "down-left" ∷ codes "down" ∷ []) ≡ Some (Rows, false) ∷ Some (Columns, false) ∷ Some (Rows, true) ∷ Some (Columns, true) ∷ None ∷ []
+runs = refl
+
+unasked : order_by (run_asked None) false (turned_asked None) ≡ Some plain_order
+unasked = refl
+
+abbrev from_right : Run → Order
+from_right run = record { run = run; right_to_left = true; turned = Upright }
+
+turned_round : map (λ run. order_by (Some run) true (Some Upright)) ((Rows, false) ∷ (Columns, false) ∷ (Rows, true) ∷ (Columns, true) ∷ [])
+    ≡ Some (from_right Rows) ∷ Some (from_right Columns) ∷ Some (from_right Rows) ∷ Some (from_right Columns) ∷ []
+turned_round = refl
+
+sides : map turned_named (codes "left" ∷ codes "right" ∷ codes "up" ∷ []) ≡ Some Left ∷ Some Right ∷ None ∷ []
+sides = refl
+
+scales : map scale_named (codes "0.7" ∷ codes ".5" ∷ codes "2" ∷ []) ≡ Some (pos 700_000_000) ∷ Some (pos 500_000_000) ∷ Some (pos 2_000_000_000) ∷ []
+unfolding number_at
+scales = refl
+
+no_scales : map scale_named (codes "70%" ∷ codes "x" ∷ codes "1/2" ∷ codes "100000" ∷ []) ≡ None ∷ None ∷ None ∷ None ∷ []
+unfolding number_at
+no_scales = refl
+
+-- Marks: a booklet has two kinds, other sheets have one.
+
+booklet_marks : map booklet_marks_named (codes "fold" ∷ codes "cut" ∷ codes "fold,cut" ∷ codes "cut,fold" ∷ codes "fold,fold" ∷ [] ∷ [])
+    ≡ Some (record { fold = true; cut = false; ruled = false })
+    ∷ Some (record { fold = false; cut = true; ruled = false })
+    ∷ Some (record { fold = true; cut = true; ruled = false })
+    ∷ Some (record { fold = true; cut = true; ruled = false })
+    ∷ None
+    ∷ None
+    ∷ []
+booklet_marks = refl
+
+other_marks : map cut_marks_named (codes "cut" ∷ codes "fold" ∷ codes "fold,cut" ∷ []) ≡ Some (record { fold = false; cut = true; ruled = false }) ∷ None ∷ None ∷ []
+other_marks = refl
+
+outfiles : map is_outfile (None ∷ Some (codes "out.ps") ∷ Some (codes "./-q") ∷ Some (codes "-q") ∷ Some (codes "-") ∷ []) ≡ true ∷ true ∷ true ∷ false ∷ false ∷ []
+outfiles = refl

@@ -1,0 +1,43 @@
+-- What is made for a request: the sheets, or in place of them what tells of them.
+use Rattle.std.specs.Prelude.{ℕ, Bool, true, false, List, Option, Some, None, codes, nat_eq, option_map, string_bytes}
+use Rattle.std.specs.List.{ends_with}
+use Rattle.impose_words.specs.declared.request.Layout.{Layout}
+use Rattle.impose_words.specs.declared.request.Layout.TheVariants as layout
+use Rattle.impose_words.specs.declared.request.Product.{Product}
+use Rattle.impose_words.specs.declared.request.Product.TheVariants as product
+
+abbrev pub is_specification : Product → Bool
+is_specification product.Sheets = false
+is_specification product.Specification = true
+is_specification product.Plan = false
+is_specification (product.Picture file) = false
+
+abbrev pub is_plan : Product → Bool
+is_plan product.Sheets = false
+is_plan product.Specification = false
+is_plan product.Plan = true
+is_plan (product.Picture file) = false
+
+-- the file of the picture, if one is made; without a name it is standard output
+abbrev pub picture_in : Product → Option (Option (List ℕ))
+picture_in product.Sheets = None
+picture_in product.Specification = None
+picture_in product.Plan = None
+picture_in (product.Picture file) = Some (option_map string_bytes file)
+
+-- a picture is an SVG, and its file is named so; standard output has no name
+abbrev pub is_picture_file : Option (List ℕ) → Bool
+is_picture_file None = true
+is_picture_file (Some name) = ends_with nat_eq name (codes ".svg")
+
+-- the layout lays rows of pages on sheets, of which a plan and a picture can be made
+abbrev pub lays_rows : Layout → Bool
+lays_rows (layout.NUp cells) = true
+lays_rows (layout.Cards cells) = true
+lays_rows (layout.Stack cells duplex) = true
+lays_rows (layout.Booklet signing long_edge) = true
+lays_rows (layout.Notes pages) = true
+lays_rows (layout.Poster columns rows) = true
+lays_rows layout.Selection = true
+lays_rows (layout.Spec specs) = false
+lays_rows (layout.SpecRow specs signing) = false

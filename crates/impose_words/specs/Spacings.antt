@@ -1,0 +1,69 @@
+-- What is kept free on the sheets of a request, how far leaves creep and sheets overlap, in which order one reads sheets, and
+-- at which scale the pages are.
+use Rattle.std.specs.Prelude.{ℕ, pos, Bool, true, false, None}
+use Rattle.layouts.specs.Grids.{plain_order}
+use Rattle.layouts.specs.declared.arrangement.Arrangement.{Arrangement}
+use Rattle.layouts.specs.declared.arrangement.Binding.{Binding}
+use Rattle.layouts.specs.declared.arrangement.Cells.{Cells}
+use Rattle.layouts.specs.declared.arrangement.Cells.TheVariants.{Exactly}
+use Rattle.layouts.specs.declared.arrangement.Order.{Order}
+use Rattle.layouts.specs.declared.arrangement.Run.TheVariants.{Columns}
+use Rattle.layouts.specs.declared.arrangement.Turned.TheVariants.{Upright}
+use Rattle.impose_words.specs.declared.request.Layout.{Layout}
+use Rattle.impose_words.specs.declared.request.Layout.TheVariants as layout
+use Rattle.impose_words.specs.declared.request.Spacing.{Spacing}
+
+-- the layout keeps room free if it is asked to
+abbrev pub keeps_room : Layout → Bool
+keeps_room (layout.NUp cells) = true
+keeps_room (layout.Cards cells) = true
+keeps_room (layout.Stack cells duplex) = true
+keeps_room (layout.Booklet signing long_edge) = true
+keeps_room (layout.Notes pages) = true
+keeps_room (layout.Poster columns rows) = true
+keeps_room layout.Selection = false
+keeps_room (layout.Spec specs) = false
+keeps_room (layout.SpecRow specs signing) = false
+
+-- nothing is asked for: nothing is kept free, one reads along rows from the left, and pages are as large as they can be
+abbrev pub nothing_kept : Spacing
+nothing_kept =
+    record {
+      margin = pos 0;
+      gap = pos 0;
+      trim = pos 0;
+      creep = pos 0;
+      overlap = pos 0;
+      order = plain_order;
+      scale = None;
+      same_scale = false;
+    }
+
+-- these cells
+abbrev pub arrangement_in : Spacing → Cells → Arrangement
+arrangement_in s cells = record {
+  cells = cells;
+  margin = s.margin;
+  gap = s.gap;
+  order = s.order;
+  scale = s.scale;
+  trim = s.trim;
+}
+
+-- from the top down, and then in the next column
+abbrev pub down_right : Order
+down_right = record { run = Columns; right_to_left = false; turned = Upright }
+
+-- two columns of so many cells, of which as many pages fill the left one, and leave the right one for notes
+abbrev pub notes_in : Spacing → (pages : ℕ) → Arrangement
+notes_in s pages = record (arrangement_in s (Exactly 2 pages)) { order = down_right }
+
+-- the halves of a sheet
+abbrev pub binding_in : Spacing → (long_edge : Bool) → Binding
+binding_in s long_edge = record {
+  margin = s.margin;
+  gap = s.gap;
+  right_to_left = s.order.right_to_left;
+  trim = s.trim;
+  long_edge = long_edge;
+}

@@ -1,0 +1,167 @@
+//! What the values of those arguments stand for that say how pages are arranged in the cells of a sheet.
+ghost use Rattle.std.specs.Prelude.{◌≡◌, ◌*◌};
+ghost use Rattle.impose_words.specs.Arranging as meaning;
+
+use layouts::{Cells, Run, Turned};
+use lengths::{Number, read_digits, read_number};
+use marks::Marks;
+
+/// How many cells a sheet has at most.
+const MOST_CELLS: u64 = 1_024;
+
+/// The cells that the text means: a number of them, or columns and rows with an `x` between them.
+pub fn cells_named(text: &str) -> Option<Cells>
+    ensures { result ≡ meaning.cells_named text.now }
+{
+    let (number, rest) = read_digits(text.as_bytes())?;
+    match rest {
+        [] => at_least(number),
+        [b'x', rest @ ..] => with_rows(number, rest),
+        _ => None,
+    }
+}
+
+/// So many cells or more.
+fn at_least(count: u32) -> Option<Cells>
+    ensures { result ≡ meaning.at_least count }
+{
+    if 1 <= count && u64::from(count) <= MOST_CELLS {
+        Some(Cells::AtLeast(count))
+    } else {
+        None
+    }
+}
+
+/// So many columns, and as many rows as the text says.
+fn with_rows(columns: u32, text: &[u8]) -> Option<Cells>
+    ensures { result ≡ meaning.with_rows columns (meaning.digits_at text.now) }
+{
+    match read_digits(text) {
+        Some((rows, [])) => exactly(columns, rows),
+        _ => None,
+    }
+}
+
+fn exactly(columns: u32, rows: u32) -> Option<Cells>
+    ensures { result ≡ meaning.exactly columns rows }
+{
+    let count = u64::from(columns) * u64::from(rows);
+    if 1 <= count && count <= MOST_CELLS {
+        Some(Cells::Exactly { columns, rows })
+    } else {
+        None
+    }
+}
+
+/// The columns and rows that the text means.
+pub fn exact_cells(text: &str) -> Option<Cells>
+    ensures { result ≡ meaning.exact_alone (meaning.cells_named text.now) }
+{
+    match cells_named(text) {
+        Some(Cells::AtLeast(_)) => None,
+        cells => cells,
+    }
+}
+
+/// The number of pages that the text means, if a sheet takes as many cells again for notes beside them.
+pub fn noted_cells(text: &str) -> Option<Cells>
+    ensures { result ≡ meaning.noted_alone (meaning.cells_named text.now) }
+{
+    match cells_named(text) {
+        Some(Cells::AtLeast(pages)) => with_notes(pages),
+        _ => None,
+    }
+}
+
+fn with_notes(pages: u32) -> Option<Cells>
+    ensures { result ≡ meaning.with_notes pages }
+{
+    let cells = 2 * u64::from(pages);
+    if 1 <= cells && cells <= MOST_CELLS {
+        Some(Cells::AtLeast(pages))
+    } else {
+        None
+    }
+}
+
+/// Along what pages run, and whether from the right to the left.
+pub fn run_named(text: &str) -> Option<(Run, bool)>
+    ensures { result ≡ meaning.run_named text.now }
+{
+    if text == "right-down" {
+        Some((Run::Rows, false))
+    } else if text == "down-right" {
+        Some((Run::Columns, false))
+    } else if text == "left-down" {
+        Some((Run::Rows, true))
+    } else if text == "down-left" {
+        Some((Run::Columns, true))
+    } else {
+        None
+    }
+}
+
+/// To which side one turns the pages to read them.
+pub fn turned_named(text: &str) -> Option<Turned>
+    ensures { result ≡ meaning.turned_named text.now }
+{
+    if text == "left" {
+        Some(Turned::Left)
+    } else if text == "right" {
+        Some(Turned::Right)
+    } else {
+        None
+    }
+}
+
+/// The scale that the text means: a number up to 99,999.999999999, whose decimals past the ninth have no effect.
+pub fn scale_named(text: &str) -> Option<Number>
+    ensures { result ≡ meaning.scale_named text.now }
+{
+    match read_number(text.as_bytes()) {
+        Ok((number, len)) if len == text.len() => Some(number),
+        _ => None,
+    }
+}
+
+/// The marks that the text means on a booklet, which is folded, and may be cut round its halves.
+pub fn booklet_marks_named(text: &str) -> Option<Marks>
+    ensures { result ≡ meaning.booklet_marks_named text.now }
+{
+    if text == "fold" {
+        Some(Marks {
+            fold: true,
+            cut: false,
+            ruled: false,
+        })
+    } else if text == "cut" {
+        Some(Marks {
+            fold: false,
+            cut: true,
+            ruled: false,
+        })
+    } else if text == "fold,cut" || text == "cut,fold" {
+        Some(Marks {
+            fold: true,
+            cut: true,
+            ruled: false,
+        })
+    } else {
+        None
+    }
+}
+
+/// The marks that the text means on other sheets, which are cut alone.
+pub fn cut_marks_named(text: &str) -> Option<Marks>
+    ensures { result ≡ meaning.cut_marks_named text.now }
+{
+    if text == "cut" {
+        Some(Marks {
+            fold: false,
+            cut: true,
+            ruled: false,
+        })
+    } else {
+        None
+    }
+}

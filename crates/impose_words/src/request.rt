@@ -1,0 +1,254 @@
+//! What a command line asks for.
+ghost use Rattle.std.specs.Prelude.{◌≡◌, option_map, string_bytes, true};
+ghost use Rattle.rows.specs.Choices.{choice_of};
+ghost use Rattle.impose_words.specs.Choices.{choice_in, is_whole};
+ghost use Rattle.impose_words.specs.Products.{lays_rows};
+ghost use Rattle.impose_words.specs.Spacings.{arrangement_in, binding_in, keeps_room, notes_in, nothing_kept};
+
+use layouts::{Arrangement, Binding, Cells, Order, Run, Turned};
+use lengths::{Grains, Number, Paper};
+use marks::Marks;
+use rows::{Choice, Part, Signing};
+
+/// How the pages are laid out.
+#[derive(Debug, Drop)]
+pub enum Layout {
+    /// A page in each of these cells of a sheet.
+    NUp(Cells),
+    /// The same page in each of these cells.
+    Cards(Cells),
+    /// A page in each of these cells, so that the parts of the sheets, cut and laid on one another, are in order; on both
+    /// sides if it is a duplex one.
+    Stack {
+        cells: Cells,
+        duplex: bool,
+    },
+    /// So many pages, one below another, and beside each of them a cell with lines for notes.
+    Notes {
+        pages: u32,
+    },
+    /// Each page over so many columns and rows of sheets.
+    Poster {
+        columns: u32,
+        rows: u32,
+    },
+    /// Two pages on each side of a sheet, to be folded and sewn so.
+    Booklet {
+        signing: Signing,
+        long_edge: bool,
+    },
+    /// Each page as it is, on a sheet of its own paper.
+    Selection,
+    /// By a page specification of pstops.
+    Spec(String),
+    /// By a page specification on a row, which is put into signatures if one is named: the places that its items name are
+    /// those of the row.
+    SpecRow {
+        specs: String,
+        signing: Option<Signing>,
+    },
+}
+
+impl Layout {
+    /// Whether it keeps room free if it is asked to.
+    pub fn keeps_room(&self) -> bool
+        ensures { result ≡ keeps_room self.now }
+    {
+        match self {
+            Layout::NUp(_) | Layout::Cards(_) | Layout::Stack { .. } | Layout::Booklet { .. } =>
+                true,
+            Layout::Notes { .. } | Layout::Poster { .. } => true,
+            Layout::Selection | Layout::Spec(_) | Layout::SpecRow { .. } => false,
+        }
+    }
+
+    /// Whether it lays rows of pages on sheets, of which a plan and a picture can be made.
+    pub fn lays_rows(&self) -> bool
+        ensures { result ≡ lays_rows self.now }
+    {
+        match self {
+            Layout::Spec(_) | Layout::SpecRow { .. } => false,
+            _ => true,
+        }
+    }
+}
+
+/// What is kept free on sheets, how far leaves creep, in which order one reads sheets, and at which scale the pages are.
+#[derive(Clone, Copy, Debug, PartialEq, Eq)]
+pub struct Spacing {
+    /// Kept free along each edge of a sheet.
+    pub margin: Grains,
+    /// Kept free between pages; in a booklet half of it on each side of the fold.
+    pub gap: Grains,
+    /// A page counts as smaller by this along each of its sides; what is there may reach over its neighbours.
+    pub trim: Grains,
+    /// Pages of a booklet's innermost leaves are moved towards the fold by this.
+    pub creep: Grains,
+    /// Neighbouring sheets of a poster overlap by this.
+    pub overlap: Grains,
+    /// In which order pages stand in the cells. A booklet is bound at the right if they stand from the right to the left.
+    pub order: Order,
+    /// The scale of the pages; without it they are as large as they can be.
+    pub scale: Option<Number>,
+    /// Whether all pages have the scale of the largest paper among them.
+    pub same_scale: bool,
+}
+
+impl Spacing {
+    /// Nothing is kept free, one reads along rows from the left, and pages are as large as they can be.
+    pub fn none() -> Spacing
+        ensures { result ≡ nothing_kept }
+    {
+        let plain = Arrangement::plain(Cells::AtLeast(1));
+        Spacing {
+            margin: plain.margin,
+            gap: plain.gap,
+            trim: plain.trim,
+            creep: plain.trim,
+            overlap: plain.trim,
+            order: plain.order,
+            scale: plain.scale,
+            same_scale: false,
+        }
+    }
+
+    /// These cells, with this kept free, in this order and at this scale.
+    pub fn arrangement(&self, cells: Cells) -> Arrangement
+        ensures { result ≡ arrangement_in self.now cells }
+    {
+        Arrangement {
+            cells,
+            margin: self.margin,
+            gap: self.gap,
+            order: self.order,
+            scale: self.scale,
+            trim: self.trim,
+        }
+    }
+
+    /// Two columns of so many cells, with this kept free: filled one after the other, so that as many pages fill the left one.
+    pub fn notes(&self, pages: u32) -> Arrangement
+        ensures { result ≡ notes_in self.now pages }
+    {
+        let cells = Cells::Exactly {
+            columns: 2,
+            rows: pages,
+        };
+        let order = Order {
+            run: Run::Columns,
+            right_to_left: false,
+            turned: Turned::Upright,
+        };
+        Arrangement {
+            order,
+            ..self.arrangement(cells)
+        }
+    }
+
+    /// The halves of a sheet, with this kept free.
+    pub fn binding(&self, long_edge: bool) -> Binding
+        ensures { result ≡ binding_in self.now long_edge }
+    {
+        Binding {
+            margin: self.margin,
+            gap: self.gap,
+            right_to_left: self.order.right_to_left,
+            trim: self.trim,
+            long_edge,
+        }
+    }
+}
+
+/// Which pages are imposed, and in which order.
+#[derive(Debug, Drop)]
+pub struct PageChoice {
+    /// The pages, as ranges name them; all pages if there are none.
+    pub ranges: Option<String>,
+    /// Which of these, by their places.
+    pub part: Part,
+    /// Whether the last one comes first.
+    pub backwards: bool,
+}
+
+impl PageChoice {
+    /// All pages, in their order.
+    pub fn whole() -> PageChoice
+        ensures { is_whole result ≡ true }
+    {
+        PageChoice {
+            ranges: None,
+            part: Part::All,
+            backwards: false,
+        }
+    }
+
+    /// Whether it is all pages, in their order, without any range.
+    pub fn is_whole(&self) -> bool
+        ensures { result ≡ is_whole self.now }
+    {
+        self.ranges.is_none() && self.part == Part::All && !self.backwards
+    }
+
+    /// The same as rows have it.
+    pub fn as_choice(&self) -> Choice<'_>
+        ensures { choice_of result ≡ choice_in self.now }
+    {
+        Choice {
+            ranges: ranges_of(&self.ranges),
+            part: self.part,
+            backwards: self.backwards,
+        }
+    }
+}
+
+fn ranges_of(ranges: &Option<String>) -> Option<&[u8]>
+    ensures { option_map (λ r. r.now) result ≡ option_map string_bytes ranges.now }
+{
+    match ranges {
+        Some(ranges) => Some(ranges.as_str().as_bytes()),
+        None => None,
+    }
+}
+
+/// What is made.
+#[derive(Debug, Drop)]
+pub enum Product {
+    /// The sheets.
+    Sheets,
+    /// The specification that says them, with a line of pstops, on standard output.
+    Specification,
+    /// The plan of the sheets, on standard output.
+    Plan,
+    /// A picture of the sheets in this file, or without a name on standard output.
+    Picture(Option<String>),
+}
+
+/// What a command line asks for.
+#[derive(Debug, Drop)]
+pub struct Request {
+    pub layout: Layout,
+    /// What is kept free, order and scale; for a selection or a specification nothing is asked for.
+    pub spacing: Spacing,
+    /// Which pages are laid out; those of a specification are all.
+    pub choice: PageChoice,
+    /// The paper of the pages, if it is named.
+    pub page_paper: Option<Paper>,
+    /// The paper of the pages if neither the words nor the document name one: the usual one where the program runs.
+    pub home_paper: Paper,
+    /// The paper of the sheets, if it is named; else it is that of the pages.
+    pub sheet_paper: Option<Paper>,
+    /// The width of a border round each placed page, if one is asked for.
+    pub border: Option<Grains>,
+    /// Which marks are drawn on the sheets.
+    pub marks: Marks,
+    /// Whether the guard is put in.
+    pub is_guarded: bool,
+    /// What is made: the sheets, or in place of them what tells of them.
+    pub product: Product,
+    /// Whether the report is left out.
+    pub is_quiet: bool,
+    /// The file that is read; standard input if there is none.
+    pub infile: Option<String>,
+    /// The file into which sheets are written; standard output if there is none.
+    pub outfile: Option<String>,
+}

@@ -1,0 +1,43 @@
+//! How a booklet is sewn, by the word of an option.
+ghost use Rattle.std.specs.Prelude.{◌≡◌};
+ghost use Rattle.command_words.specs.Matches.{number_of};
+ghost use Rattle.impose_words.specs.Signatures.{of_sides as signing_of_sides, signing_named as signing_by};
+
+use rows::Signing;
+
+/// How a booklet is sewn if this word asks for it: `auto`, or a number of sides that a signature may have.
+pub fn signing_named(text: &str) -> Option<Signing>
+    ensures { result ≡ signing_by text.now }
+{
+    if text == "auto" {
+        Some(Signing::Auto)
+    } else {
+        of_sides(number_in(text))
+    }
+}
+
+/// In signatures of so many sides, if leaves have so many.
+fn of_sides(sides: Option<u32>) -> Option<Signing>
+    ensures { result ≡ signing_of_sides sides }
+{
+    match sides {
+        Some(sides) => {
+            if 4 <= sides && sides <= 1_000_000 && sides % 4 == 0 {
+                Some(Signing::OfSides(sides))
+            } else {
+                None
+            }
+        }
+        None => None,
+    }
+}
+
+/// The whole number that a text is.
+pub fn number_in(text: &str) -> Option<u32>
+    ensures { result ≡ number_of text.now }
+{
+    match text.parse::<u32>() {
+        Ok(number) => Some(number),
+        Err(_) => None,
+    }
+}

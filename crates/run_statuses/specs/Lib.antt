@@ -1,0 +1,2 @@
+-- The exit statuses of a run's errors.
+pub mod Statuses

@@ -1,0 +1,20 @@
+//! Case files: documents, and commands with what each has to give. And what differs in what was found.
+#![tactic(auto)]
+
+mod blocks;
+mod case_file;
+mod compared;
+mod documents;
+mod reading;
+mod tally;
+#[cfg(test)]
+mod tests;
+mod words;
+
+pub use case_file::{
+    BadLine, Case, CaseFile, Digest, Document, Input, Setting, WantedFile, WantedText,
+};
+pub use compared::{Difference, differences};
+pub use reading::read_case_file;
+pub use tally::{Found, FoundFile, Tally, load};
+pub use words::words_of;

@@ -1,0 +1,75 @@
+//! Goes through the case files in `data`: calls of libraries, as commands over the documents that stand there, and what
+//! they answer. It prints the cases that differ, and how many there are.
+#![tactic(auto)]
+
+mod changes;
+mod cuts;
+mod document_commands;
+mod guards;
+mod known_laws;
+mod named_rows;
+mod paper_commands;
+mod papers;
+mod row_commands;
+mod sheets;
+mod words;
+
+use document_commands::answer_of_document;
+use known_laws::call_laws;
+use paper_commands::answer_of_papers;
+use row_commands::answer_of_rows;
+use std::alloc::Global;
+use test_cases::{Case, Document, Found, Tally, load};
+
+const FILES: [&str; 6] = [
+    "cuts.cases",
+    "documents.cases",
+    "guards.cases",
+    "papers.cases",
+    "rows.cases",
+    "sheets.cases",
+];
+
+fn main(rt: HostRuntime) -> anyhow::Result<()> {
+    call_laws();
+    let mut tally = Tally::new();
+    for name in FILES {
+        let file = load(&rt, name)?;
+        tally.tell_bad_lines(&rt, name, &file)?;
+        for case in file.cases.iter() {
+            let found = found(rt.alloc(), case, file.documents.as_slice())?;
+            tally.compare(&rt, name, case, &found)?;
+        }
+    }
+    tally.end(&rt)
+}
+
+/// What a command gives: its answer, or why it has none.
+fn found(alloc: Global, case: &Case, documents: &[Document]) -> anyhow::Result<Found> {
+    let mut words = Vec::new(alloc);
+    for word in case.words.iter() {
+        words.push(word.as_str())?;
+    }
+    let (status, text) = match answer(alloc, words.as_slice(), documents) {
+        Ok(Some(text)) => (0, text),
+        Ok(None) => (2, String::from_str(alloc, "no such command\n")?),
+        Err(error) => (2, format!(in alloc; "{error}\n")?),
+    };
+    Ok(Found {
+        status,
+        output: Vec::from_slice(alloc, text.as_bytes())?,
+        error: Vec::new(alloc),
+        files: Vec::new(alloc),
+    })
+}
+
+/// What the library answers that the command names.
+fn answer(alloc: Global, words: &[&str], documents: &[Document]) -> anyhow::Result<Option<String>> {
+    if let Some(text) = answer_of_document(alloc, words, documents)? {
+        return Ok(Some(text));
+    }
+    if let Some(text) = answer_of_papers(alloc, words, documents)? {
+        return Ok(Some(text));
+    }
+    answer_of_rows(alloc, words)
+}

@@ -1,0 +1,178 @@
+//! Sheets that are made of rows.
+use crate::named_rows::entries;
+use crate::papers::paper_text;
+use crate::words::{number, paper};
+use lengths::{Number, Paper};
+use pagespec::{Item, Measure, Turn, read_spec};
+use row_sheets::{Cells, PagePapers, PaperList, SpecOnRow, lay_out, select, spec_sheets};
+use rows::all_pages;
+use sheet_plan::MadeSheets;
+use std::alloc::{AllocError, Global};
+
+/// The most sheets that are written out.
+const FEW: usize = 20;
+
+/// Each entry of a row on a sheet of its own.
+pub fn on_their_own(alloc: Global, blank: &str, papers: &str, row: &str) -> anyhow::Result<String> {
+    let (pages, papers) = papers_of(alloc, papers)?;
+    let row = row_of(alloc, pages, row)?;
+    let made = select(alloc, row.as_slice(), &papers, &paper(blank)?)?;
+    Ok(sheets_text(alloc, &made)?)
+}
+
+/// The entries of a row in cells: `pairs`, or `fours`.
+pub fn in_cells(alloc: Global, cells: &str, papers: &str, row: &str) -> anyhow::Result<String> {
+    let cells = match cells {
+        "pairs" => pairs(alloc)?,
+        _ => Cells::new(alloc, &paper("a4")?, 4, 2),
+    };
+    let (pages, papers) = papers_of(alloc, papers)?;
+    let row = row_of(alloc, pages, row)?;
+    if row.len() > 1 << 40 {
+        return Ok(String::from_str(alloc, "too many entries\n")?);
+    }
+    let made = lay_out(alloc, row.as_slice(), &cells, &papers)?;
+    Ok(sheets_text(alloc, &made)?)
+}
+
+/// The sheets of a specification on a row, of A3 for pages of A4; or why there are none.
+pub fn by_specification(alloc: Global, spec: &str, row: &str) -> anyhow::Result<String> {
+    let spec = read_spec(alloc, spec)?;
+    let row = entries(alloc, row)?;
+    let on = SpecOnRow {
+        spec: &spec,
+        row: row.as_slice(),
+        sheet: paper("a3")?,
+        page: paper("a4")?,
+    };
+    match spec_sheets(alloc, &on) {
+        Ok(made) => Ok(sheets_text(alloc, &made)?),
+        Err(refusal) => Ok(format!(in alloc; "{refusal}\n")?),
+    }
+}
+
+/// So many pages, and their papers in turn: `5 a4 a3`.
+fn papers_of(alloc: Global, text: &str) -> anyhow::Result<(u32, PagePapers)> {
+    let (pages, names) = text.split_once(' ').unwrap_or((text, ""));
+    let pages = number(pages)?;
+    let mut papers = Vec::new(alloc);
+    for name in names.split_whitespace() {
+        papers.push(paper(name)?)?;
+    }
+    match papers.as_slice() {
+        [only] => Ok((pages, PagePapers::one(pages, only))),
+        turns => Ok((pages, PagePapers::each(in_turn(alloc, pages, turns)?))),
+    }
+}
+
+fn in_turn(alloc: Global, pages: u32, turns: &[Paper]) -> Result<PaperList, AllocError> {
+    let mut list = PaperList::new(alloc);
+    for paper in turns.iter().cycle().take(pages as usize) {
+        list.push(paper)?;
+    }
+    Ok(list)
+}
+
+/// The entries of a row, or `all` pages.
+fn row_of(alloc: Global, pages: u32, row: &str) -> anyhow::Result<Vec<Option<u32>>> {
+    match row {
+        "all" => Ok(all_pages(alloc, pages)?),
+        text => entries(alloc, text),
+    }
+}
+
+/// Two cells on each of two sides of an A3 sheet: pages of A4 lie to the left on the fronts and to the right on the
+/// backs, pages of A3 upright and by half.
+fn pairs(alloc: Global) -> anyhow::Result<Cells> {
+    let mut cells = Cells::new(alloc, &paper("a3")?, 2, 2);
+    add_turned(alloc, &mut cells, "a4", Turn::Left, Turn::Right)?;
+    add_turned(alloc, &mut cells, "a3", Turn::None, Turn::Half)?;
+    Ok(cells)
+}
+
+/// How pages of a paper lie in two cells of the front, and in two of the back.
+fn add_turned(
+    alloc: Global,
+    cells: &mut Cells,
+    name: &str,
+    front: Turn,
+    back: Turn,
+) -> anyhow::Result<()> {
+    let mut items = Vec::new(alloc);
+    for turn in [front, front, back, back] {
+        items.push(Item {
+            page: 0,
+            from_end: false,
+            turn,
+            scale: Number::ONE,
+            offset: (Measure::ZERO, Measure::ZERO),
+        })?;
+    }
+    cells.add(&paper(name)?, items)?;
+    Ok(())
+}
+
+/// A line for each sheet; of many sheets two lines at each end, and how many there are.
+fn sheets_text(alloc: Global, made: &MadeSheets) -> Result<String, AllocError> {
+    let sheets = made.len();
+    let mut lines = String::new(alloc);
+    for sheet in 0..sheets {
+        if sheets <= FEW || sheet < 2 || sheets - sheet <= 2 {
+            lines.push_str(sheet_text(alloc, made, sheet)?.as_str())?;
+        } else if sheet == 2 {
+            lines.push_str("..\n")?;
+        }
+    }
+    if sheets > FEW {
+        lines.push_str(format!(in alloc; "sheets {sheets}\n")?.as_str())?;
+    }
+    Ok(lines)
+}
+
+/// A sheet as `a3: 1 a4 left, -`.
+fn sheet_text(alloc: Global, made: &MadeSheets, sheet: usize) -> Result<String, AllocError> {
+    let mut text = String::new(alloc);
+    let Ok(sheet) = u32::try_from(sheet) else {
+        return Ok(text);
+    };
+    if (sheet as usize) < made.len() {
+        text.push_str(paper_text(alloc, made.paper(sheet))?.as_str())?;
+        text.push_str(":")?;
+        for slot in 0..made.slots(sheet) {
+            text.push_str(if slot == 0 { " " } else { ", " })?;
+            text.push_str(slot_text(alloc, made, sheet, slot)?.as_str())?;
+        }
+        text.push_str("\n")?;
+    }
+    Ok(text)
+}
+
+/// What stands in a slot, as `1 a4 left`: the page's number from 1, its paper, and its turn.
+fn slot_text(
+    alloc: Global,
+    made: &MadeSheets,
+    sheet: u32,
+    slot: u32,
+) -> Result<String, AllocError> {
+    if sheet as usize >= made.len() || slot >= made.slots(sheet) {
+        return String::from_str(alloc, "none");
+    }
+    match made.placed(sheet, slot) {
+        Some(placed) => {
+            let number = placed.page.saturating_add(1);
+            let paper = paper_text(alloc, placed.paper)?;
+            format!(in alloc; "{number} {paper} {}", turn_text(placed.item.turn))
+        }
+        None => String::from_str(alloc, "-"),
+    }
+}
+
+/// A turn in words.
+fn turn_text(turn: Turn) -> &'static str {
+    match turn {
+        Turn::None => "upright",
+        Turn::Left => "left",
+        Turn::Half => "half",
+        Turn::Right => "right",
+    }
+}

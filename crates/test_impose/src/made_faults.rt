@@ -1,0 +1,85 @@
+//! Faults that no small command line brings about, by their names.
+use arranged_sheets::PosterError;
+use dsc::DscError;
+use impose_cli::{CommandFault, Fault};
+use imposer::RunError;
+use layouts::ArrangementError;
+use pagespec::SpecError;
+use sheet_plan::{MadeError, PlanError};
+use std::io;
+use std::io::ErrorKind;
+
+/// The fault of that name, which may have a number: `Spec.Syntax(12)`.
+pub fn fault_named(name: &str) -> Option<Fault> {
+    let (name, number) = match name.split_once('(') {
+        None => (name, 0),
+        Some((name, rest)) => match rest.strip_suffix(')') {
+            None => return None,
+            Some(digits) => match digits.parse::<u32>() {
+                Ok(number) => (name, number),
+                Err(_) => return None,
+            },
+        },
+    };
+    if let Some(name) = name.strip_prefix("Spec.") {
+        return match spec_error_named(name, number) {
+            Some(error) => Some(Fault::Run(RunError::Spec(error))),
+            None => None,
+        };
+    }
+    if let Some(name) = name.strip_prefix("Write") {
+        return write_fault_named(name, number as u64);
+    }
+    other_fault_named(name, number as u64)
+}
+
+fn spec_error_named(name: &str, number: u32) -> Option<SpecError> {
+    match name {
+        "TooLong" => Some(SpecError::TooLong),
+        "Syntax" => Some(SpecError::Syntax(number as usize)),
+        "TooLarge" => Some(SpecError::TooLarge),
+        "ModuloZero" => Some(SpecError::ModuloZero),
+        "PageOutOfBlock" => Some(SpecError::PageOutOfBlock(number)),
+        "Repeated" => Some(SpecError::Repeated(number)),
+        "ScaleZero" => Some(SpecError::ScaleZero(number)),
+        "TooManySlots" => Some(SpecError::TooManySlots(number)),
+        "TooManyGroups" => Some(SpecError::TooManyGroups),
+        _ => None,
+    }
+}
+
+fn write_fault_named(name: &str, written: u64) -> Option<Fault> {
+    let kind = match name {
+        "" => {
+            let cause = None;
+            return Some(Fault::Write { written, cause });
+        }
+        ".BrokenPipe" => ErrorKind::BrokenPipe,
+        ".StorageFull" => ErrorKind::StorageFull,
+        _ => return None,
+    };
+    Some(Fault::Write {
+        written,
+        cause: Some(io::Error::from(kind)),
+    })
+}
+
+fn other_fault_named(name: &str, written: u64) -> Option<Fault> {
+    match name {
+        "NoText" => Some(Fault::Command(CommandFault::NoText)),
+        "NoMemory" => Some(Fault::Command(CommandFault::NoMemory)),
+        "Read" => Some(Fault::Read(None)),
+        "TooLong" => Some(Fault::TooLong),
+        "Run.NoMemory" => Some(Fault::Run(RunError::NoMemory { written })),
+        "Document.TooLong" => Some(Fault::Run(RunError::Document(DscError::TooLong))),
+        "Document.TooManyPages" => Some(Fault::Run(RunError::Document(DscError::TooManyPages))),
+        "Plan.TooManySheets" => Some(Fault::Run(RunError::Plan(PlanError::TooManySheets))),
+        "Plan.TooManyPages" => Some(Fault::Run(RunError::Plan(PlanError::TooManyPages))),
+        "Plan.TooManyPlaces" => Some(Fault::Run(RunError::Plan(PlanError::TooManyPlaces))),
+        "Sheets.TooManySheets" => Some(Fault::Sheets(MadeError::TooManySheets)),
+        "Layout.CellsOutOfRange" => Some(Fault::Layout(ArrangementError::CellsOutOfRange)),
+        "Layout.ScaleOutOfRange" => Some(Fault::Layout(ArrangementError::ScaleOutOfRange)),
+        "Poster.TilesOutOfRange" => Some(Fault::Poster(PosterError::TilesOutOfRange)),
+        _ => None,
+    }
+}

@@ -1,0 +1,48 @@
+//! Runs each case of its folder `data`: command lines of impose over files in memory, and faults that are made up. It
+//! prints what differs.
+#![tactic(auto)]
+
+mod asked;
+mod cut_off;
+mod made_faults;
+mod runs;
+
+use runs::found_of_case;
+use std::sync::Wait;
+use std::thread::Threads;
+use test_cases::{Tally, load};
+
+/// The case files.
+const FILES: [&str; 5] = [
+    "messages.cases",
+    "specifications.cases",
+    "looks.cases",
+    "reports.cases",
+    "sheets.cases",
+];
+
+fn main(rt: HostRuntime) -> anyhow::Result<()> {
+    let mut tally = Tally::new();
+    for name in FILES {
+        run_file(&rt, &rt, name, &mut tally)?;
+    }
+    tally.end(&rt)
+}
+
+/// Runs each case of the file.
+fn run_file<R: Threads + Wait + Sync>(
+    rt: &HostRuntime,
+    threads: &R,
+    name: &str,
+    tally: &mut Tally,
+) -> anyhow::Result<()> {
+    let file = load(rt, name)?;
+    tally.tell_bad_lines(rt, name, &file)?;
+    for case in file.cases.iter() {
+        match found_of_case(threads, rt.alloc(), &file, case)? {
+            Some(found) => tally.compare(rt, name, case, &found)?,
+            None => tally.refuse(rt, name, case, "no such command or setting")?,
+        }
+    }
+    Ok(())
+}

@@ -1,0 +1,83 @@
+//! Runs of the program over a world in memory, as a case describes it.
+use pstops_cli::pstops;
+use std::alloc::{AllocError, Global};
+use std::sync::Wait;
+use std::thread::Threads;
+use test_cases::{Case, CaseFile, Found, FoundFile};
+use test_world::{Folder, GivenFile, Takes, Written};
+
+/// Room for every output.
+const AMPLE: Takes = Takes::Bytes(1_000_000);
+
+/// Runs the program. Nothing if the case has a setting that there isn't.
+pub(crate) fn ran<R: Threads + Wait + Sync>(
+    rt: &R,
+    alloc: Global,
+    words: &[String],
+    file: &CaseFile,
+    case: &Case,
+) -> Result<Option<Found>, AllocError> {
+    let Some(takes) = takes_of(case) else {
+        return Ok(None);
+    };
+    let files = files_of(alloc, file, case)?;
+    let world = Folder {
+        alloc,
+        files: files.as_slice(),
+        takes,
+    };
+    let ended = pstops(rt, alloc, words, world);
+    let mut found = Found {
+        status: ended.status,
+        output: Vec::new(alloc),
+        error: ended.line,
+        files: Vec::new(alloc),
+    };
+    if let Some(output) = ended.output {
+        take_output(&mut found, output)?;
+    }
+    Ok(Some(found))
+}
+
+/// The files that can be read.
+fn files_of<'a>(
+    alloc: Global,
+    file: &'a CaseFile,
+    case: &'a Case,
+) -> Result<Vec<GivenFile<'a>>, AllocError> {
+    let mut files = Vec::new(alloc);
+    for input in case.inputs.iter() {
+        files.push(GivenFile {
+            name: input.name.as_str(),
+            bytes: file.text_of(input),
+        })?;
+    }
+    Ok(files)
+}
+
+/// What the outputs take: every byte, unless a setting says otherwise.
+fn takes_of(case: &Case) -> Option<Takes> {
+    let mut takes = AMPLE;
+    for setting in case.settings.iter() {
+        takes = match (setting.key.as_str(), setting.value.as_str()) {
+            ("output", "none") => Takes::Nothing,
+            ("output", "unflushed") => Takes::NoFlush,
+            ("output", count) => Takes::Bytes(count.parse::<usize>().ok()?),
+            ("pieces", count) => Takes::Pieces(count.parse::<usize>().ok()?),
+            _ => return None,
+        };
+    }
+    Some(takes)
+}
+
+/// What was written, to standard output or to a file.
+fn take_output(found: &mut Found, output: Written) -> Result<(), AllocError> {
+    match output.name {
+        None => found.output = output.bytes,
+        Some(name) => found.files.push(FoundFile {
+            name,
+            bytes: output.bytes,
+        })?,
+    }
+    Ok(())
+}

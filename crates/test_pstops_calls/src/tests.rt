@@ -1,0 +1,32 @@
+//! Inputs, lines, requests and whole programs.
+mod growth;
+mod lines;
+mod outputs;
+mod reading;
+mod requests;
+
+use pstops_cli::{Request, read_command};
+use std::alloc::{AllocError, Global};
+use std::process::Abort;
+
+/// The words of a command, each a `String`.
+fn words_of(alloc: Global, words: &[&str]) -> Result<Vec<String>, AllocError> {
+    let mut all = Vec::new(alloc);
+    for word in words {
+        all.push(String::from_str(alloc, word)?)?;
+    }
+    Ok(all)
+}
+
+/// The request that words make.
+fn request_of<R: Abort>(rt: &R, alloc: Global, words: &[&str]) -> Result<Request, AllocError> {
+    let words = words_of(alloc, words)?;
+    match read_command(alloc, words.as_slice()) {
+        Ok(request) => Ok(request),
+        Err(_) => panic!(rt; "refused"),
+    }
+}
+
+fn assert_same<R: Abort>(rt: &R, found: &[u8], wanted: &[u8]) {
+    assert!(rt; found == wanted);
+}

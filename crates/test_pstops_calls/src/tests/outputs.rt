@@ -1,0 +1,150 @@
+//! The whole program over a world in memory: how many inputs it opens, and outputs that fail at any byte.
+use super::{assert_same, words_of};
+use pstops_cli::{Ended, pstops};
+use std::alloc::{AllocError, Global};
+use std::io::{self, ErrorKind, Write};
+use std::process::Abort;
+use std::sync::Wait;
+use std::sync::atomic::AtomicU32;
+use std::sync::atomic::Ordering::SeqCst;
+use std::test::Fail;
+use std::thread::Threads;
+use test_tools::{ONE_PAGE, one_up_output, with_lines};
+use test_world::{InMemory, Takes};
+use world::tell;
+
+/// Room for every output.
+const AMPLE: Takes = Takes::Bytes(100_000);
+
+/// Runs the program over a world with this document as the file `in.ps`, and counts the inputs that it opens.
+fn ended<'a, R: Threads + Wait + Sync>(
+    rt: &R,
+    alloc: Global,
+    words: &[&str],
+    document: &'a str,
+    takes: Takes,
+    opened: &'a AtomicU32,
+) -> Result<Ended<InMemory<'a>>, AllocError> {
+    let words = words_of(alloc, words)?;
+    let world = InMemory {
+        alloc,
+        opened,
+        name: "in.ps",
+        text: document,
+        home: None,
+        takes,
+    };
+    Ok(pstops(rt, alloc, words.as_slice(), world))
+}
+
+/// These words end with this status, behind so many inputs that were opened, and nothing is created.
+fn assert_stopped<R: Threads + Wait + Abort + Sync>(
+    rt: &R,
+    alloc: Global,
+    words: &[&str],
+    status: u8,
+    inputs: u32,
+) -> Result<(), AllocError> {
+    let opened = AtomicU32::new(0);
+    let end = ended(rt, alloc, words, ONE_PAGE, AMPLE, &opened)?;
+    assert!(rt; end.status == status && opened.load(SeqCst) == inputs);
+    assert!(rt; end.world.is_some() && end.output.is_none());
+    Ok(())
+}
+
+#[test]
+fn words_are_looked_at_before_an_input_is_opened(rt: HostRuntime) -> Result<(), Fail> {
+    let alloc = rt.alloc();
+    assert_stopped(&rt, alloc, &["-j", "17", "0", "in.ps", "out.ps"], 2, 0)?;
+    assert_stopped(&rt, alloc, &["-p", "a99", "0", "in.ps", "out.ps"], 2, 0)?;
+    assert_stopped(&rt, alloc, &["0", "other.ps", "out.ps"], 3, 1)?;
+    Ok(())
+}
+
+/// A writer that takes no byte.
+#[derive(Drop)]
+struct Closed {}
+
+impl Write for Closed {
+    fn write(&mut self, _bytes: &[u8]) -> io::Result<usize> {
+        Err(io::Error::from(ErrorKind::BrokenPipe))
+    }
+
+    fn flush(&mut self) -> io::Result<()> {
+        Err(io::Error::from(ErrorKind::BrokenPipe))
+    }
+}
+
+/// A run over outputs like this ends with this status, though nobody takes its line.
+fn assert_status<R: Threads + Wait + Abort + Sync>(
+    rt: &R,
+    alloc: Global,
+    takes: Takes,
+    status: u8,
+) -> Result<(), AllocError> {
+    let opened = AtomicU32::new(0);
+    let end = ended(
+        rt,
+        alloc,
+        &["0", "in.ps", "out.ps"],
+        ONE_PAGE,
+        takes,
+        &opened,
+    )?;
+    assert!(rt; end.output.is_some() == (status == 0));
+    assert!(rt; tell(&mut Closed {}, end.line.as_slice(), end.status) == status);
+    Ok(())
+}
+
+#[test]
+fn a_report_that_is_not_taken_changes_no_status(rt: HostRuntime) -> Result<(), Fail> {
+    assert_status(&rt, rt.alloc(), AMPLE, 0)?;
+    assert_status(&rt, rt.alloc(), Takes::Nothing, 3)?;
+    Ok(())
+}
+
+/// Runs the program into outputs that take so many bytes: those are a first part of the sheets.
+fn assert_cut_off<R: Threads + Wait + Abort + Sync>(
+    rt: &R,
+    alloc: Global,
+    document: &str,
+    sheets: &str,
+    most: usize,
+) -> Result<(), AllocError> {
+    let words = ["-q", "0", "in.ps", "out.ps"];
+    let opened = AtomicU32::new(0);
+    let end = ended(rt, alloc, &words, document, Takes::Bytes(most), &opened)?;
+    let (first, rest) = sheets.as_bytes().split_at(most.min(sheets.len()));
+    if rest.is_empty() {
+        assert!(rt; end.status == 0 && end.line.is_empty());
+    } else {
+        assert!(rt; end.status == 3);
+        assert_same(rt, end.line.as_slice(), b"pstops: cannot write output\n");
+    }
+    match &end.output {
+        Some(output) => assert_same(rt, output.bytes.as_slice(), first),
+        None => panic!(rt; "no output"),
+    }
+    Ok(())
+}
+
+#[test]
+fn a_writer_that_fails_at_any_byte(rt: HostRuntime) -> Result<(), Fail> {
+    let output = one_up_output(rt.alloc(), "")?;
+    for most in 0..=274usize {
+        assert_cut_off(&rt, rt.alloc(), ONE_PAGE, &output, most)?;
+    }
+    Ok(())
+}
+
+// More than what is written at once, so that a write fails before the run is over: 273 + 4,999 * 8 bytes.
+#[test]
+fn a_writer_that_fails_within_a_long_sheet(rt: HostRuntime) -> Result<(), Fail> {
+    let document = with_lines(rt.alloc(), ONE_PAGE, 5_000)?;
+    let sheet = with_lines(rt.alloc(), &one_up_output(rt.alloc(), "")?, 5_000)?;
+    for most in [0, 1, 16_384, 20_000, 40_264, 40_265] {
+        assert_cut_off(&rt, rt.alloc(), &document, &sheet, most)?;
+    }
+    assert!(rt; sheet.len() == 40_265);
+    Ok(())
+}

@@ -1,0 +1,146 @@
+//! Rows, and sheets of rows.
+use lengths::{Paper, paper_by_name};
+use row_sheets::{Cells, PagePapers, PaperList, lay_out, select};
+use rows::{Choice, Part, RowError, Signing, imposed_row, read_row};
+use sheet_plan::MadeSheets;
+use std::alloc::{AllocError, Global};
+use std::process::Abort;
+use std::test::Fail;
+use test_tools::{MOST_GROWTHS, has_refused, refuse};
+
+/// A call in which a growth was to be refused: whether one was, and whether the call answered rightly.
+struct Seen {
+    is_refused: bool,
+    is_right: bool,
+}
+
+/// A row of so many entries is wanted if nothing is refused.
+fn seen_row(is_refused: bool, answer: Result<Vec<Option<u32>>, RowError>, entries: usize) -> Seen {
+    let is_right = match answer {
+        Ok(row) => !is_refused && row.len() == entries,
+        Err(error) => is_refused && error == RowError::NoMemory,
+    };
+    Seen {
+        is_refused,
+        is_right,
+    }
+}
+
+/// So many sheets are wanted if nothing is refused.
+fn seen_sheets(is_refused: bool, answer: Result<MadeSheets, AllocError>, sheets: usize) -> Seen {
+    let is_right = match answer {
+        Ok(made) => !is_refused && made.len() == sheets,
+        Err(_) => is_refused,
+    };
+    Seen {
+        is_refused,
+        is_right,
+    }
+}
+
+fn read_text(alloc: Global, number: u32) -> Seen {
+    refuse(alloc, number);
+    let answer = read_row(alloc, 9, b"1-3,_,last,2");
+    seen_row(has_refused(alloc), answer, 6)
+}
+
+/// A text that is refused before memory is asked for.
+fn refuse_text(alloc: Global, number: u32) -> Seen {
+    refuse(alloc, number);
+    let answer = read_row(alloc, 9, b"1-,x");
+    let is_refused = has_refused(alloc);
+    let is_right = match answer {
+        Ok(_) => false,
+        Err(error) => !is_refused && error == RowError::NotARange(3),
+    };
+    Seen {
+        is_refused,
+        is_right,
+    }
+}
+
+/// A row of odd entries, backwards, in signatures.
+fn impose(alloc: Global, number: u32) -> Seen {
+    let choice = Choice {
+        ranges: Some(b"_,1-"),
+        part: Part::Odd,
+        backwards: true,
+    };
+    refuse(alloc, number);
+    let answer = imposed_row(alloc, 9, &choice, Some(Signing::Auto));
+    seen_row(has_refused(alloc), answer, 8)
+}
+
+/// Puts a paper behind another one; again, with memory, if it was refused.
+fn push_paper(alloc: Global, number: u32, one: &Paper, other: &Paper) -> Result<Seen, AllocError> {
+    let mut list = PaperList::new(alloc);
+    list.push(one)?;
+    refuse(alloc, number);
+    let answer = list.push(other);
+    let is_refused = has_refused(alloc);
+    let is_kept = list.paper_of(0).is_some() && list.paper_of(1).is_some() != is_refused;
+    let is_right = answer.is_err() == is_refused && is_kept;
+    if is_refused {
+        list.push(other)?;
+    }
+    Ok(Seen {
+        is_refused,
+        is_right: is_right && list.paper_of(1).is_some(),
+    })
+}
+
+/// Each entry on a sheet of its own.
+fn select_row(alloc: Global, number: u32, paper: &Paper) -> Seen {
+    let papers = PagePapers::one(2, paper);
+    refuse(alloc, number);
+    let answer = select(alloc, &[Some(0), None, Some(1)], &papers, paper);
+    seen_sheets(has_refused(alloc), answer, 3)
+}
+
+/// Entries in two cells.
+fn lay_out_row(alloc: Global, number: u32, paper: &Paper) -> Seen {
+    let papers = PagePapers::one(2, paper);
+    let cells = Cells::new(alloc, paper, 2, 1);
+    refuse(alloc, number);
+    let answer = lay_out(alloc, &[Some(0), None, Some(1)], &cells, &papers);
+    seen_sheets(has_refused(alloc), answer, 2)
+}
+
+/// Whether a growth was refused in a call, which has to be answered rightly.
+fn goes_on<R: Abort>(rt: &R, seen: Seen) -> bool {
+    assert!(rt; seen.is_right);
+    seen.is_refused
+}
+
+/// One of the calls.
+fn call(
+    alloc: Global,
+    place: u32,
+    number: u32,
+    (one, other): (&Paper, &Paper),
+) -> Result<Seen, AllocError> {
+    match place {
+        0 => Ok(read_text(alloc, number)),
+        1 => Ok(refuse_text(alloc, number)),
+        2 => Ok(impose(alloc, number)),
+        3 => push_paper(alloc, number, one, other),
+        4 => Ok(select_row(alloc, number, one)),
+        _ => Ok(lay_out_row(alloc, number, one)),
+    }
+}
+
+#[test]
+fn rows_and_sheets(rt: HostRuntime) -> Result<(), Fail> {
+    let one = paper_by_name("a4").expect(&rt, "a4 is a paper");
+    let other = paper_by_name("a3").expect(&rt, "a3 is a paper");
+    for place in 0..6 {
+        let mut number = 1;
+        while number < MOST_GROWTHS
+            && goes_on(&rt, call(rt.alloc(), place, number, (&one, &other))?)
+        {
+            number += 1;
+        }
+        assert!(rt; number < MOST_GROWTHS);
+    }
+    Ok(())
+}

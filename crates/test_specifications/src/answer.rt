@@ -1,0 +1,84 @@
+//! What a command gives, as text.
+use std::alloc::Global;
+use std::fmt::{Debug, Display};
+use std::io::Write;
+
+/// What is shown of an answer: all of it, with a refusal by its name; a refusal by its line; or `yes` in place of an
+/// answer that is no refusal.
+#[derive(Clone, Copy, PartialEq, Eq)]
+pub enum Form {
+    Whole,
+    Line,
+    Taken,
+}
+
+/// The text of an answer.
+#[derive(Drop)]
+pub struct Answer {
+    pub alloc: Global,
+    pub form: Form,
+    pub bytes: Vec<u8>,
+    is_refused: bool,
+    is_whole: bool,
+}
+
+impl Answer {
+    pub fn new(alloc: Global) -> Answer {
+        Answer {
+            alloc,
+            form: Form::Whole,
+            bytes: Vec::new(alloc),
+            is_refused: false,
+            is_whole: true,
+        }
+    }
+
+    /// The text, unless memory was lacking.
+    pub fn whole(mut self) -> Option<Vec<u8>> {
+        if self.form == Form::Taken && !self.is_refused {
+            self.bytes.clear();
+            self.verdict(true);
+        }
+        if self.is_whole {
+            Some(self.bytes)
+        } else {
+            None
+        }
+    }
+
+    /// Whether something could be added.
+    pub fn note(&mut self, is_added: bool) {
+        self.is_whole = self.is_whole && is_added;
+    }
+
+    pub fn text(&mut self, text: &str) {
+        let added = self.bytes.extend_from_slice(text.as_bytes());
+        self.note(added.is_ok());
+    }
+
+    pub fn show<D: Display + Drop>(&mut self, value: D) {
+        let added = write!(self.bytes, "{value}");
+        self.note(added.is_ok());
+    }
+
+    /// A value on a line of its own.
+    pub fn line<D: Display + Drop>(&mut self, value: D) {
+        self.show(value);
+        self.text("\n");
+    }
+
+    pub fn verdict(&mut self, is_so: bool) {
+        self.text(if is_so { "yes\n" } else { "no\n" });
+    }
+
+    /// An error, by its name or by its line.
+    pub fn refusal<E: Debug + Display + Drop>(&mut self, error: E) {
+        self.is_refused = true;
+        let added = if self.form == Form::Line {
+            write!(self.bytes, "{error}\n")
+        } else {
+            write!(self.bytes, "{error:?}\n")
+        };
+        self.note(added.is_ok());
+    }
+}

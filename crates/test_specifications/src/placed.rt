@@ -1,0 +1,260 @@
+//! Pages as their printed matrices place them on a sheet.
+use lengths::Paper;
+use pagespec::Spec;
+use placement::{matrix_of, matrix_text};
+use std::alloc::{AllocError, Global};
+
+/// A rectangle, in 10^-9 of a point.
+#[derive(Clone, Copy)]
+struct Area {
+    left: i64,
+    right: i64,
+    bottom: i64,
+    top: i64,
+}
+
+impl Area {
+    /// Whether a strip along a side, as wide as the gap, parts them.
+    fn is_apart_from(self, other: Area, gap: i64) -> bool {
+        self.right.saturating_add(gap) <= other.left
+            || other.right.saturating_add(gap) <= self.left
+            || self.top.saturating_add(gap) <= other.bottom
+            || other.top.saturating_add(gap) <= self.bottom
+    }
+}
+
+/// A placed page, as its printed matrix says: where it stands on the sheet, where as one holds the sheet to read it,
+/// its scale in 10^-9, and its turn in quarters.
+#[derive(Clone, Copy)]
+pub struct Placed {
+    on_sheet: Area,
+    held: Area,
+    pub scale: i64,
+    pub quarters: u32,
+}
+
+/// The numbers of a matrix's text, in 10^-9.
+fn numbers(alloc: Global, text: &[u8]) -> Result<Vec<i64>, AllocError> {
+    let mut row = Vec::new(alloc);
+    let mut value: i64 = 0;
+    let mut weight: i64 = 0;
+    let mut is_negative = false;
+    for b in text {
+        match *b {
+            b'[' => (),
+            b'-' => is_negative = true,
+            b'.' => weight = 1_000_000_000,
+            b' ' | b']' => {
+                row.push(if is_negative {
+                    0i64.saturating_sub(value)
+                } else {
+                    value
+                })?;
+                value = 0;
+                weight = 0;
+                is_negative = false;
+            }
+            digit => {
+                let digit = i64::from(digit).saturating_sub(48);
+                if weight == 0 {
+                    value = value
+                        .saturating_mul(10)
+                        .saturating_add(digit.saturating_mul(1_000_000_000));
+                } else {
+                    weight = weight / 10;
+                    value = value.saturating_add(digit.saturating_mul(weight));
+                }
+            }
+        }
+    }
+    Ok(row)
+}
+
+/// The area between two corners.
+fn between(one: (i64, i64), other: (i64, i64)) -> Area {
+    Area {
+        left: one.0.min(other.0),
+        right: one.0.max(other.0),
+        bottom: one.1.min(other.1),
+        top: one.1.max(other.1),
+    }
+}
+
+/// Where a matrix with these numbers sends a point of the page, in points.
+fn sent(numbers: &[i64], x: i64, y: i64) -> Option<(i64, i64)> {
+    match numbers {
+        [a, b, c, d, tx, ty] => Some((
+            tx.saturating_add(a.saturating_mul(x))
+                .saturating_add(c.saturating_mul(y)),
+            ty.saturating_add(b.saturating_mul(x))
+                .saturating_add(d.saturating_mul(y)),
+        )),
+        _ => None,
+    }
+}
+
+/// A point of the sheet as one holds it, if pages are turned by this many quarters to the left.
+fn as_held(quarters: u32, point: (i64, i64)) -> (i64, i64) {
+    let (x, y) = point;
+    match quarters {
+        0 => (x, y),
+        1 => (y, 0i64.saturating_sub(x)),
+        2 => (0i64.saturating_sub(x), 0i64.saturating_sub(y)),
+        _ => (0i64.saturating_sub(y), x),
+    }
+}
+
+/// The turn of a matrix, in quarters to the left, and its scale.
+fn turn_of(numbers: &[i64]) -> Option<(u32, i64)> {
+    match numbers {
+        [a, 0, 0, d, _, _] if a == d && *a > 0 => Some((0, *a)),
+        [0, b, c, 0, _, _] if *b > 0 && 0i64.saturating_sub(*b) == *c => Some((1, *b)),
+        [a, 0, 0, d, _, _] if a == d => Some((2, 0i64.saturating_sub(*a))),
+        [0, b, c, 0, _, _] if 0i64.saturating_sub(*b) == *c => Some((3, *c)),
+        _ => None,
+    }
+}
+
+/// The pages of a sheet of a specification, as their printed matrices place them, if there is such a sheet. A page has
+/// these sides, in points.
+pub fn pages_of(
+    alloc: Global,
+    spec: &Spec,
+    sheet: usize,
+    page: &Paper,
+    sides: (i64, i64),
+) -> Result<Vec<Placed>, AllocError> {
+    let mut pages = Vec::new(alloc);
+    let Some(group) = spec.groups().get(sheet) else {
+        return Ok(pages);
+    };
+    for item in group.iter() {
+        let mut text = Vec::new(alloc);
+        matrix_text(&matrix_of(item, page), &mut text)?;
+        let row = numbers(alloc, text.as_slice())?;
+        if let Some(placed) = placed_by(row.as_slice(), sides) {
+            pages.push(placed)?;
+        }
+    }
+    Ok(pages)
+}
+
+/// Where a matrix with these numbers places a page with these sides, in points.
+fn placed_by(numbers: &[i64], sides: (i64, i64)) -> Option<Placed> {
+    let one = sent(numbers, 0, 0)?;
+    let other = sent(numbers, sides.0, sides.1)?;
+    let (quarters, scale) = turn_of(numbers)?;
+    Some(Placed {
+        on_sheet: between(one, other),
+        held: between(as_held(quarters, one), as_held(quarters, other)),
+        scale,
+        quarters,
+    })
+}
+
+/// Whether all pages lie on a sheet with these sides, in points, and keep the margin, in 10^-9 of a point.
+pub fn are_inside(pages: &[Placed], sides: (i64, i64), margin: i64) -> bool {
+    for page in pages {
+        let area = page.on_sheet;
+        if area.left < margin
+            || area.bottom < margin
+            || sides.0.saturating_mul(1_000_000_000) < area.right.saturating_add(margin)
+            || sides.1.saturating_mul(1_000_000_000) < area.top.saturating_add(margin)
+        {
+            return false;
+        }
+    }
+    true
+}
+
+/// Whether each two pages are apart by the gap, in 10^-9 of a point.
+pub fn are_apart(pages: &[Placed], gap: i64) -> bool {
+    for (k, page) in pages.iter().enumerate() {
+        for (l, other) in pages.iter().enumerate() {
+            if k < l && !page.on_sheet.is_apart_from(other.on_sheet, gap) {
+                return false;
+            }
+        }
+    }
+    true
+}
+
+/// How many pages stand in the first row: they end as high as the first one does.
+pub fn columns_of(pages: &[Placed]) -> usize {
+    let mut columns = 0usize;
+    for page in pages {
+        if let Some(first) = pages.first() {
+            if page.held.top == first.held.top {
+                columns = columns.saturating_add(1);
+            }
+        }
+    }
+    columns
+}
+
+/// Whether the pages stand in rows of so many columns, row by row and each row from the left, as one holds the sheet.
+pub fn are_in_order(pages: &[Placed], columns: usize) -> bool {
+    if columns == 0 {
+        return false;
+    }
+    for (k, page) in pages.iter().enumerate() {
+        for (l, other) in pages.iter().enumerate() {
+            if k % columns < l % columns && other.held.left < page.held.right {
+                return false;
+            }
+            if k / columns < l / columns && page.held.bottom < other.held.top {
+                return false;
+            }
+        }
+    }
+    true
+}
+
+/// Whether all pages have this turn and this scale.
+pub fn are_like(pages: &[Placed], quarters: u32, scale: i64) -> bool {
+    for page in pages {
+        if page.quarters != quarters || page.scale != scale {
+            return false;
+        }
+    }
+    true
+}
+
+/// What is kept free along the edges and between cells, in 10^-5 of a point.
+#[derive(Clone, Copy)]
+pub struct Kept {
+    pub margin: i64,
+    pub gap: i64,
+}
+
+/// The largest scale, in 10^-9, with which pages fit the exact cells of a grid of so many or more, upright or turned.
+pub fn largest(n: i64, page: (i64, i64), sheet: (i64, i64), kept: Kept) -> i64 {
+    let mut best = 0i64;
+    for rows in 1..n.saturating_add(1) {
+        // as few columns as are enough
+        let columns = n
+            .saturating_add(rows)
+            .saturating_sub(1)
+            .checked_div(rows)
+            .unwrap_or(0);
+        for (width, height) in [sheet, (sheet.1, sheet.0)] {
+            best = best.max(room(width, columns, page.0, kept).min(room(
+                height, rows, page.1, kept,
+            )));
+        }
+    }
+    best
+}
+
+/// The largest scale, in 10^-9, with which so many sides fit a side of which something is kept free.
+fn room(whole: i64, parts: i64, side: i64, kept: Kept) -> i64 {
+    let margins = kept.margin.saturating_mul(2);
+    let gaps = kept.gap.saturating_mul(parts.saturating_sub(1));
+    whole
+        .saturating_mul(100_000)
+        .saturating_sub(margins)
+        .saturating_sub(gaps)
+        .saturating_mul(10_000)
+        .checked_div(parts.saturating_mul(side))
+        .unwrap_or(0)
+}

@@ -1,0 +1,51 @@
+//! A world of any number of files.
+ghost use Rattle.std.specs.Prelude.{true};
+
+use crate::in_memory::{Given, Takes, Written};
+use std::alloc::Global;
+use std::io;
+use std::io::ErrorKind;
+use world::{Refused, World};
+
+/// A file that can be read.
+#[derive(Clone, Copy)]
+pub struct GivenFile<'a> {
+    pub name: &'a str,
+    pub bytes: &'a [u8],
+}
+
+/// A world of files that can be read. Standard input is the one named `-`, and empty if there is none.
+#[derive(Drop)]
+pub struct Folder<'a> {
+    pub alloc: Global,
+    pub files: &'a [GivenFile<'a>],
+    pub takes: Takes,
+}
+
+impl<'a> World for Folder<'a> {
+    type Input = Given<'a>;
+
+    type Output = Written;
+
+    ghost tells = { λ _. true };
+
+    fn open(&self, name: Option<&str>) -> io::Result<Given<'a>> {
+        let wanted = name.unwrap_or("-");
+        for file in self.files.iter() {
+            if file.name == wanted {
+                return Ok(Given::new(file.bytes));
+            }
+        }
+        match name {
+            None => Ok(Given::new(&[])),
+            Some(_) => Err(io::Error::from(ErrorKind::NotFound)),
+        }
+    }
+
+    fn create(self, name: Option<&str>) -> Result<Written, Refused<Folder<'a>>> {
+        match Written::new(self.alloc, name, self.takes) {
+            Ok(output) => Ok(output),
+            Err(cause) => Err(Refused { world: self, cause }),
+        }
+    }
+}
