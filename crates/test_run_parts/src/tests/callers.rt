@@ -5,7 +5,8 @@ ghost use Rattle.gather_table.specs.Shared.{IsSeatOf};
 ghost use Rattle.handover.specs.Passes.{IsPassOf};
 
 use super::jobs;
-use gather_table::{GatherTable, Seat};
+use super::tables::mark_checked;
+use gather_table::{GatherTable, Published, Reply, Seat};
 use handover::{Pass, Prepared, Ready, Shelf};
 use run_steps::{
     Answers, DeliverError, Delivered, Delivery, ImposeError, Imposed, deliver, impose, is_complete,
@@ -173,6 +174,19 @@ impl<'s, 'j, 't, 'd> Caller<'s, 'j, 't, 'd> {
             return None;
         }
         self.table.page_at(&mut self.seat, page)
+    }
+
+    /// Publishes a page at this index. None for one that the job doesn't have.
+    pub(super) fn publish(&mut self, page: u32, index: u32) -> Option<Published> {
+        if page >= self.job.plan().pages() {
+            return None;
+        }
+        Some(self.table.publish(&mut self.seat, page, index))
+    }
+
+    /// Marks a slot. None for one that is blank or isn't there, or whose page has no index.
+    pub(super) fn mark(&mut self, sheet: u32, slot: u16) -> Option<Reply> {
+        mark_checked(self.table, self.job.plan(), &mut self.seat, sheet, slot)
     }
 
     /// The oldest sheet of the queue.

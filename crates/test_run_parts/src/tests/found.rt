@@ -4,9 +4,9 @@ ghost use Rattle.handover.specs.Shelves.{IsOn};
 
 use handover::{Prepared, Receipt, Shelf};
 use std::alloc::{AllocError, Global};
-use std::process::Abort;
 use std::sync::Wait;
 use std::test::Fail;
+use test_tools::assert_that;
 
 /// A page of which the tests know the number and the bytes.
 #[derive(Clone, Copy)]
@@ -38,27 +38,26 @@ fn is_known(page: &Prepared<'_>, known: Known<'_>) -> bool {
     page.page() == known.page && page.raw() == known.raw
 }
 
-/// The page is found at the index of its receipt, with a receipt that reads the same page.
-fn assert_found<'d, R: Abort>(rt: &R, shelf: &Shelf<'d>, receipt: &Receipt<'d>, known: Known<'_>)
+/// Whether the page is found at the index of its receipt, with a receipt that reads the same page.
+fn is_found<'d>(shelf: &Shelf<'d>, receipt: &Receipt<'d>, known: Known<'_>) -> bool
     requires { IsOn shelf.now receipt.now }
 {
     let index = receipt.index();
     let Some(found) = shelf.find(index) else {
-        panic!(rt; "nothing is found");
+        return false;
     };
     shelf.agree(receipt, &found.receipt);
-    let is_same = found.receipt.index() == index
+    found.receipt.index() == index
         && is_known(found.page, known)
-        && is_known(shelf.read(&found.receipt), known);
-    assert!(rt; is_same);
+        && is_known(shelf.read(&found.receipt), known)
 }
 
-/// The page is shown at the index of its receipt.
-fn assert_shown<'d, R: Abort>(rt: &R, shelf: &Shelf<'d>, receipt: &Receipt<'d>, known: Known<'_>) {
-    let Some(page) = shelf.at(receipt.index()) else {
-        panic!(rt; "nothing is shown");
-    };
-    assert!(rt; is_known(page, known));
+/// Whether the page is shown at the index of its receipt.
+fn is_shown<'d>(shelf: &Shelf<'d>, receipt: &Receipt<'d>, known: Known<'_>) -> bool {
+    match shelf.at(receipt.index()) {
+        Some(page) => is_known(page, known),
+        None => false,
+    }
 }
 
 #[test]
@@ -74,9 +73,9 @@ fn entries_are_found_with_their_receipts(rt: HostRuntime) -> Result<(), Fail> {
     };
     let first = shelved(&rt, rt.alloc(), &shelf, one)?;
     let second = shelved(&rt, rt.alloc(), &shelf, two)?;
-    assert_found(&rt, &shelf, &first, one);
-    assert_found(&rt, &shelf, &second, two);
-    assert_shown(&rt, &shelf, &first, one);
-    assert_shown(&rt, &shelf, &second, two);
+    assert_that(&rt, is_found(&shelf, &first, one));
+    assert_that(&rt, is_found(&shelf, &second, two));
+    assert_that(&rt, is_shown(&shelf, &first, one));
+    assert_that(&rt, is_shown(&shelf, &second, two));
     Ok(())
 }

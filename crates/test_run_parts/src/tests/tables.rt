@@ -98,7 +98,7 @@ impl<'p> Calls for OneThread<'p> {
 }
 
 // Marks a slot through a seat, if it isn't blank and the page has an index.
-fn mark_checked(
+pub(super) fn mark_checked(
     table: &GatherTable,
     plan: &Plan,
     seat: &mut Seat,

@@ -6,7 +6,7 @@ use sheet_plan::MadeSheets;
 use std::alloc::{AllocError, Global};
 use std::process::Abort;
 use std::test::Fail;
-use test_tools::{MOST_GROWTHS, has_refused, refuse};
+use test_tools::{Refused, assert_that, has_refused, refuse, refuse_each};
 
 /// A call in which a growth was to be refused: whether one was, and whether the call answered rightly.
 #[derive(Drop)]
@@ -107,12 +107,6 @@ fn lay_out_row(alloc: Global, number: u32, paper: &Paper) -> Seen {
     seen_sheets(has_refused(alloc), answer, 2)
 }
 
-/// Whether a growth was refused in a call, which has to be answered rightly.
-fn goes_on<R: Abort>(rt: &R, seen: Seen) -> bool {
-    assert!(rt; seen.is_right);
-    seen.is_refused
-}
-
 /// One of the calls.
 fn call(
     alloc: Global,
@@ -130,18 +124,31 @@ fn call(
     }
 }
 
+/// The call of this place in the list, with two papers.
+#[derive(Drop)]
+struct Call<'p> {
+    place: u32,
+    papers: (&'p Paper, &'p Paper),
+}
+
+impl<'p, R: Abort> Refused<R> for Call<'p> {
+    fn refuse(&self, rt: &R, alloc: Global, number: u32) -> Result<bool, Fail> {
+        let seen = call(alloc, self.place, number, self.papers)?;
+        assert_that(rt, seen.is_right);
+        Ok(seen.is_refused)
+    }
+}
+
 #[test]
 fn rows_and_sheets(rt: HostRuntime) -> Result<(), Fail> {
-    let one = paper_by_name("a4").expect(&rt, "a4 is a paper");
-    let other = paper_by_name("a3").expect(&rt, "a3 is a paper");
-    for place in 0..6 {
-        let mut number = 1;
-        while number < MOST_GROWTHS
-            && goes_on(&rt, call(rt.alloc(), place, number, (&one, &other))?)
-        {
-            number += 1;
-        }
-        assert!(rt; number < MOST_GROWTHS);
+    let one = paper_by_name("a4").ok_or(AllocError)?;
+    let other = paper_by_name("a3").ok_or(AllocError)?;
+    for place in 0..6u32 {
+        let call = Call {
+            place,
+            papers: (&one, &other),
+        };
+        assert_that(&rt, refuse_each(&rt, rt.alloc(), &call)?);
     }
     Ok(())
 }
