@@ -133,9 +133,12 @@ struct Call<'p> {
 
 impl<'p, R: Abort> Refused<R> for Call<'p> {
     fn refuse(&self, rt: &R, alloc: Global, number: u32) -> Result<bool, Fail> {
-        let seen = call(alloc, self.place, number, self.papers)?;
-        assert_that(rt, seen.is_right);
-        Ok(seen.is_refused)
+        let Seen {
+            is_refused,
+            is_right,
+        } = call(alloc, self.place, number, self.papers)?;
+        assert_that(rt, is_right);
+        Ok(is_refused)
     }
 }
 
