@@ -3,6 +3,7 @@
 #![tactic(auto)]
 
 mod asked;
+mod cut_off;
 mod made_faults;
 mod runs;
 
@@ -12,7 +13,13 @@ use std::thread::Threads;
 use test_cases::{Tally, load};
 
 /// The case files.
-const FILES: [&str; 1] = ["messages.cases"];
+const FILES: [&str; 5] = [
+    "messages.cases",
+    "specifications.cases",
+    "looks.cases",
+    "reports.cases",
+    "sheets.cases",
+];
 
 fn main(rt: HostRuntime) -> anyhow::Result<()> {
     let mut tally = Tally::new();

@@ -1,5 +1,6 @@
 //! Cases that are run.
 use crate::asked::{Asked, asked_of};
+use crate::cut_off::found_of_cut_offs;
 use crate::made_faults::fault_named;
 use impose_cli::{
     CommandFault, Done, Ended, Fault, RoomyText, fault_status, impose, read_command, text_said,
@@ -18,14 +19,19 @@ pub fn found_of_case<R: Threads + Wait + Sync>(
     file: &CaseFile,
     case: &Case,
 ) -> Result<Option<Found>, AllocError> {
-    let Some(asked) = asked_of(alloc, case)? else {
+    let Some(mut asked) = asked_of(alloc, case)? else {
         return Ok(None);
     };
     let words = case.words.as_slice();
     match words {
-        [program, ..] if program.as_str() == "impose" => Ok(Some(run(
-            rt, alloc, file, case, &asked,
-        )?)),
+        [program, ..] if program.as_str() == "impose" => {
+            let found = run(rt, alloc, file, case, words, &asked)?;
+            Ok(Some(found))
+        }
+        [program, ..] if program.as_str() == "cut_off" => {
+            let found = found_of_cut_offs(rt, alloc, file, case, &mut asked)?;
+            Ok(Some(found))
+        }
         [program, name, ..] if program.as_str() == "fault" => {
             found_of_fault(alloc, name.as_str(), words)
         }
@@ -37,12 +43,13 @@ pub fn found_of_case<R: Threads + Wait + Sync>(
     }
 }
 
-/// Runs the program over the files that the case gives.
-fn run<R: Threads + Wait + Sync>(
+/// Runs the program with these words over the files that the case gives.
+pub fn run<R: Threads + Wait + Sync>(
     rt: &R,
     alloc: Global,
     file: &CaseFile,
     case: &Case,
+    words: &[String],
     asked: &Asked,
 ) -> Result<Found, AllocError> {
     let mut files = Vec::new(alloc);
@@ -63,7 +70,6 @@ fn run<R: Threads + Wait + Sync>(
         files: files.as_slice(),
         takes: asked.takes,
     };
-    let words = case.words.as_slice();
     let paper_size = asked.paper_size.as_str().as_bytes();
     let ended = impose(rt, alloc, words, paper_size, world);
     found_at_the_end(alloc, &ended, words, asked)

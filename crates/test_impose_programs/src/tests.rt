@@ -1,4 +1,0 @@
-//! Whole programs over a world in memory, and the text that they read.
-mod programs;
-mod roomy_texts;
-mod said;
