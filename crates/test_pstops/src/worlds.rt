@@ -30,11 +30,11 @@ pub(crate) fn ran<R: Threads + Wait + Sync>(
     let mut found = Found {
         status: ended.status,
         output: Vec::new(alloc),
-        error: ended.line,
+        error: Vec::from_slice(alloc, ended.line.as_slice())?,
         files: Vec::new(alloc),
     };
-    if let Some(output) = ended.output {
-        take_output(&mut found, output)?;
+    if let Some(output) = &ended.output {
+        take_output(alloc, &mut found, output)?;
     }
     Ok(Some(found))
 }
@@ -71,13 +71,14 @@ fn takes_of(case: &Case) -> Option<Takes> {
 }
 
 /// What was written, to standard output or to a file.
-fn take_output(found: &mut Found, output: Written) -> Result<(), AllocError> {
-    match output.name {
-        None => found.output = output.bytes,
-        Some(name) => found.files.push(FoundFile {
-            name,
-            bytes: output.bytes,
-        })?,
+fn take_output(alloc: Global, found: &mut Found, output: &Written) -> Result<(), AllocError> {
+    let bytes = Vec::from_slice(alloc, output.bytes.as_slice())?;
+    match &output.name {
+        None => found.output = bytes,
+        Some(name) => {
+            let name = String::from_str(alloc, name.as_str())?;
+            found.files.push(FoundFile { name, bytes })?;
+        }
     }
     Ok(())
 }
