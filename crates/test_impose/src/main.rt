@@ -13,12 +13,14 @@ use std::thread::Threads;
 use test_cases::{Tally, load};
 
 /// The case files.
-const FILES: [&str; 5] = [
+const FILES: [&str; 7] = [
     "messages.cases",
     "specifications.cases",
     "looks.cases",
     "reports.cases",
     "sheets.cases",
+    "papers.cases",
+    "real_document.cases",
 ];
 
 fn main(rt: HostRuntime) -> anyhow::Result<()> {
