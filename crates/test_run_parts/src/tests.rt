@@ -1,5 +1,6 @@
 //! Worked examples, each public call once, and threads beside each other.
 mod callers;
+mod checks;
 mod doubled;
 mod ended_tables;
 mod examples;

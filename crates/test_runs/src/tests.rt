@@ -3,6 +3,7 @@ ghost use Rattle.std.specs.Prelude.{◌<◌};
 ghost use Rattle.imposer.specs.Workers.{AreWorkers};
 ghost use Rattle.sheet_writer.specs.Sinks.{IsCountable};
 
+mod checks;
 mod examples;
 mod gates;
 mod growth;

@@ -1,5 +1,5 @@
 //! Sheets whose cells are filled from a row, and posters.
-ghost use Rattle.std.specs.Prelude.{◌≤◌, IfSome};
+ghost use Rattle.std.specs.Prelude.{◌*◌, ◌≤◌, IfSome};
 ghost use Rattle.layouts.specs.Cells.{size};
 
 use crate::answer::Answer;
@@ -105,7 +105,9 @@ fn scale(out: &mut Answer, paper: &Paper) -> Option<()> {
 }
 
 /// Two columns and one row of A4 sheets, with 10 points free along each edge, that overlap by 20 points.
-fn two_tiles() -> Poster {
+fn two_tiles() -> Poster
+    ensures { result.rows * result.columns ≤ 1_024 }
+{
     Poster {
         sheet: a4(),
         columns: 2,

@@ -1,8 +1,7 @@
-//! What tests of several crates assert and write: documents of small pages and their sheets, specifications, and growth of
+//! What tests of several crates write: documents of small pages and their sheets, specifications, and growth of
 //! memory that is refused in turn.
 #![tactic(auto)]
 
-mod checks;
 mod documents;
 mod growth;
 mod sheets;
@@ -10,7 +9,6 @@ mod specifications;
 #[cfg(test)]
 mod tests;
 
-pub use checks::{assert_bytes, assert_that, assert_told};
 pub use documents::{ONE_PAGE, TWO_PAGES, document_of, document_with, page_body, with_lines};
 pub use growth::{MOST_GROWTHS, Refused, has_refused, refuse, refuse_each};
 pub use sheets::{

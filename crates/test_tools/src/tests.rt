@@ -1,5 +1,8 @@
 //! Each text once, written out.
+mod checks;
+
 use super::*;
+use checks::{assert_bytes, assert_that};
 use std::test::Fail;
 
 #[test]

@@ -1,4 +1,5 @@
 //! Inputs as large as the limits allow, with ample memory: none of them is told as out of memory.
+use crate::tests::checks::assert_that;
 use dsc::Document;
 use gather_table::{GatherTable, PlainTable};
 use handover::Ready;
@@ -6,7 +7,6 @@ use pagespec::read_spec;
 use sheet_plan::Plan;
 use std::alloc::Global;
 use std::test::Fail;
-use test_tools::assert_that;
 
 /// The most pages that a document may have, and the most sheets that a plan may have.
 const MOST_PAGES: u32 = 1_000_000;

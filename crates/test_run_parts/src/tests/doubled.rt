@@ -1,6 +1,7 @@
 //! Each page of a document is delivered more than once, by one caller and by several at once: each sheet is completed
 //! once.
 use super::callers::{Caller, Task, is_imposed, two_others, with_caller};
+use crate::tests::checks::assert_that;
 use gather_table::{Closing, Published, Reply};
 use run_steps::Delivered;
 use std::alloc::{AllocError, Global};
@@ -9,7 +10,7 @@ use std::sync::Wait;
 use std::test::Fail;
 use std::thread;
 use std::thread::Threads;
-use test_tools::{assert_that, document_of};
+use test_tools::document_of;
 
 /// What a caller was told of a page that stands in one slot.
 #[derive(Clone, Copy, Debug)]

@@ -1,11 +1,12 @@
 //! Tables that are taken apart, and what their words show.
 use super::tables::bring_one;
+use crate::tests::checks::assert_that;
 use gather_table::GatherTable;
 use pagespec::read_spec;
 use sheet_plan::Plan;
 use std::alloc::{AllocError, Global};
 use std::test::Fail;
-use test_tools::{assert_that, same_items};
+use test_tools::same_items;
 
 // The word of a table, as it is left behind a slot of the first sheet whose page came at index 5; None if the table has
 // no such word.

@@ -2,11 +2,11 @@
 ghost use Rattle.std.specs.Prelude.{IfOk};
 ghost use Rattle.handover.specs.Shelves.{IsOn};
 
+use crate::tests::checks::assert_that;
 use handover::{Prepared, Receipt, Shelf};
 use std::alloc::{AllocError, Global};
 use std::sync::Wait;
 use std::test::Fail;
-use test_tools::assert_that;
 
 /// A page of which the tests know the number and the bytes.
 #[derive(Clone, Copy)]

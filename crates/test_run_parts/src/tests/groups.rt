@@ -6,6 +6,7 @@ ghost use Rattle.sheet_writer.specs.Writing.{AreEarly, HaveTexts};
 use super::jobs::{Task, with_job};
 use super::pieces::bytes_of;
 use super::writing::START;
+use crate::tests::checks::{assert_bytes, assert_that};
 use sheet_text::{Job, Openings, Rope, append_placed, begin_sheet, end_sheet, sheet_text};
 use sheet_writer::{
     Early, FinishedSheets, MemorySink, Sink, Spent, WriteSink, write_early, write_rest,
@@ -14,9 +15,7 @@ use std::alloc::{AllocError, Global};
 use std::io::{self, ErrorKind, Write};
 use std::process::Abort;
 use std::test::Fail;
-use test_tools::{
-    A4_SIDES, UNMOVED, assert_bytes, assert_that, document_with, opening, placed, sheet,
-};
+use test_tools::{A4_SIDES, UNMOVED, document_with, opening, placed, sheet};
 
 /// A sheet with a text of these bytes comes alone.
 fn put_one(

@@ -1,9 +1,9 @@
 //! Texts of several sheets in the same memory.
 use super::pieces::bytes_of;
+use crate::tests::checks::assert_that;
 use sheet_text::{Rope, Texts};
 use std::alloc::{AllocError, Global};
 use std::test::Fail;
-use test_tools::assert_that;
 
 /// A text of a slice between bytes of its own.
 #[derive(Clone, Copy)]

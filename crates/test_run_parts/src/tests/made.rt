@@ -1,4 +1,5 @@
 //! The text of a sheet that was made: pages with papers of their own, and lines at its start and at its end.
+use crate::tests::checks::assert_bytes;
 use dsc::Document;
 use lengths::{Number, Paper, a4, paper_by_name};
 use pagespec::{Item, Measure, Turn};
@@ -6,7 +7,7 @@ use sheet_plan::{MadeSheets, MadeSlot, Plan};
 use sheet_text::{Dress, Job, Lines, SheetLines, sheet_text};
 use std::alloc::{AllocError, Global};
 use std::test::Fail;
-use test_tools::{TWO_PAGES, UNMOVED, assert_bytes, page_body, placed, placed_on, sheet};
+use test_tools::{TWO_PAGES, UNMOVED, page_body, placed, placed_on, sheet};
 
 /// The second page on A4, a blank, and the first page on A5.
 fn made_sheet(alloc: Global) -> Result<String, AllocError> {

@@ -1,6 +1,7 @@
 //! Worked examples of the shelf and of the queue.
 ghost use Rattle.handover.specs.Passes.{IsPassOf};
 
+use crate::tests::checks::assert_that;
 use dsc::Document;
 use handover::{Full, Pass, Prepared, Ready, Shelf};
 use std::alloc::{AllocError, Global};
@@ -10,7 +11,6 @@ use std::sync::{Mutex, Wait};
 use std::test::Fail;
 use std::thread;
 use std::thread::Threads;
-use test_tools::assert_that;
 
 /// Whether a page has this number, these bytes, and this body.
 fn is_page(found: &Prepared<'_>, page: u32, raw: &[u8], body: &[u8]) -> bool {

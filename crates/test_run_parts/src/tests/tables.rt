@@ -4,6 +4,7 @@ ghost use Rattle.rules.specs.Sheets.{layout};
 ghost use Rattle.gather_table.specs.Shared.{IsSeatOf};
 ghost use Rattle.gather_table.specs.Table.{HasGroup};
 
+use crate::tests::checks::{assert_that, assert_told};
 use gather_table::{Closing, GatherTable, PlainTable, Published, Reply, Seat};
 use pagespec::read_spec;
 use sheet_plan::Plan;
@@ -12,7 +13,7 @@ use std::marker::{Brand, PhantomData};
 use std::test::Fail;
 use std::thread;
 use std::thread::Threads;
-use test_tools::{assert_that, assert_told, same_items};
+use test_tools::same_items;
 
 // The calls of a table, each None if its numbers are out of bounds, the slot is blank, its page has no index, the sheet
 // isn't wide, or a slot of the group to be closed is missing.

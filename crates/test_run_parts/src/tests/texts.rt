@@ -1,10 +1,11 @@
 //! The text of a sheet of one page.
 use super::jobs::{Task, with_border, with_job};
+use crate::tests::checks::{assert_bytes, assert_that};
 use lengths::Grains;
 use sheet_text::{Job, Pieces, Rope, begin_sheet, sheet_rope};
 use std::alloc::{AllocError, Global};
 use std::test::Fail;
-use test_tools::{A4_SIDES, ONE_PAGE, assert_bytes, assert_that, border, one_up_sheet};
+use test_tools::{A4_SIDES, ONE_PAGE, border, one_up_sheet};
 
 /// The text of the first sheet, and how much room it asked for.
 #[derive(Drop)]

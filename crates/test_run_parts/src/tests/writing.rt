@@ -2,13 +2,14 @@
 ghost use Rattle.std.specs.Prelude.{◌<◌};
 
 use super::jobs::{Task, with_job};
+use crate::tests::checks::{assert_bytes, assert_that};
 use sheet_text::Job;
 use sheet_writer::{Early, MemorySink, Progress, Rest, Sink, SinkFault, WriteSink, write_rest};
 use std::alloc::Global;
 use std::io::{self, ErrorKind, Write};
 use std::process::Abort;
 use std::test::Fail;
-use test_tools::{TWO_UP, assert_bytes, assert_that, document_of, two_up_sheets};
+use test_tools::{TWO_UP, document_of, two_up_sheets};
 
 #[test]
 fn a_sink_that_has_answered_its_calls_fails(rt: HostRuntime) -> Result<(), Fail> {

@@ -9,13 +9,14 @@ mod two_threads;
 mod wide_sheets;
 
 use super::{answered, ends_with, report_of, workers, writes};
+use crate::tests::checks::assert_that;
 use imposer::{Options, RunError};
 use lengths::Grains;
 use std::alloc::{AllocError, Global};
 use std::test::Fail;
 use test_tools::{
-    A4_SIDES, ONE_PAGE, TWO_PAGES, TWO_UP, UNMOVED, assert_that, border, document_of,
-    document_with, one_up_output, page_body, placed, sheet, two_up_output,
+    A4_SIDES, ONE_PAGE, TWO_PAGES, TWO_UP, UNMOVED, border, document_of, document_with,
+    one_up_output, page_body, placed, sheet, two_up_output,
 };
 
 /// A page with a document inside it, whose page line begins no page.

@@ -3,6 +3,7 @@
 ghost use Rattle.std.specs.Prelude.{None};
 
 use super::{Trial, run_into, wait_for};
+use crate::tests::checks::assert_that;
 use imposer::{Gate, Look, Open, Report, RunError, Sink, SinkFault, Step};
 use std::alloc::Global;
 use std::sync::Wait;
@@ -11,7 +12,7 @@ use std::sync::atomic::Ordering::SeqCst;
 use std::test::Fail;
 use std::thread;
 use std::thread::Threads;
-use test_tools::{ONE_PAGE, assert_that, document_of};
+use test_tools::{ONE_PAGE, document_of};
 
 /// How many pages the document has, each on a sheet of its own.
 const PAGES: u32 = 16;

@@ -1,11 +1,12 @@
 //! Gatherings into sinks that fail: seat and pass come back whole.
 use super::{WHOLE, gather_pairs};
+use crate::tests::checks::assert_that;
 use imposer::{MemorySink, RunError, Workers};
 use std::alloc::Global;
 use std::sync::Wait;
 use std::test::Fail;
 use std::thread::Threads;
-use test_tools::{assert_that, document_of};
+use test_tools::document_of;
 
 /// Gathers eight pages into a sink with so much room: whether the sink fails behind so many bytes, and the seat and the
 /// pass come back whole.

@@ -4,6 +4,7 @@ ghost use Rattle.std.specs.Prelude.{◌<◌};
 
 use super::wait_for;
 use super::windows::six_pages;
+use crate::tests::checks::assert_that;
 use dsc::Document;
 use gather_table::GatherTable;
 use handover::{Ready, Shelf};
@@ -17,7 +18,7 @@ use std::sync::atomic::AtomicUsize;
 use std::sync::atomic::Ordering::SeqCst;
 use std::test::Fail;
 use std::thread::Threads;
-use test_tools::{TWO_UP, assert_that};
+use test_tools::TWO_UP;
 
 /// How many sheets there are, of two pages each.
 const SHEETS: u32 = 3;

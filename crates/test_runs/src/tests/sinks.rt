@@ -3,13 +3,14 @@ ghost use Rattle.std.specs.Prelude.{None};
 ghost use Rattle.sheet_writer.specs.Sinks.{IsCountable};
 
 use super::{Trial, run_into};
+use crate::tests::checks::assert_that;
 use imposer::{MemorySink, Open, Report, RunError, Sink, SinkFault, WriteSink};
 use std::alloc::{AllocError, Global};
 use std::io::{self, ErrorKind, Write};
 use std::sync::Wait;
 use std::test::Fail;
 use std::thread::Threads;
-use test_tools::{TWO_PAGES, TWO_UP, assert_that, two_up_output};
+use test_tools::{TWO_PAGES, TWO_UP, two_up_output};
 
 /// The numbers of preparers and of imposers.
 const COUNTS: [(u32, u32); 2] = [(1, 1), (2, 3)];

@@ -3,6 +3,7 @@
 ghost use Rattle.std.specs.Prelude.{◌≡◌, None};
 
 use super::{Trial, large_pages, run_into, wait_for};
+use crate::tests::checks::assert_that;
 use imposer::{Gate, Open, Report, RunError, Sink, SinkFault, Step};
 use std::alloc::{AllocError, Global};
 use std::sync::Wait;
@@ -10,7 +11,6 @@ use std::sync::atomic::AtomicUsize;
 use std::sync::atomic::Ordering::SeqCst;
 use std::test::Fail;
 use std::thread::Threads;
-use test_tools::assert_that;
 
 /// How many pages the documents here have.
 const PAGES: usize = 6;

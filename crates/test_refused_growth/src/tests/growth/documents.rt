@@ -1,10 +1,11 @@
 //! Documents, their texts, and prepared pages.
+use crate::tests::checks::assert_that;
 use dsc::{Document, DscError, prepare};
 use handover::Prepared;
 use std::alloc::{AllocError, Global};
 use std::process::Abort;
 use std::test::Fail;
-use test_tools::{Refused, assert_that, has_refused, refuse, refuse_each};
+use test_tools::{Refused, has_refused, refuse, refuse_each};
 
 /// A page with another document in it. Lines end in CR.
 const EMBEDDED: &str =

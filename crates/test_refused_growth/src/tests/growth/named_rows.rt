@@ -1,4 +1,5 @@
 //! Rows, and sheets of rows.
+use crate::tests::checks::assert_that;
 use lengths::{Paper, paper_by_name};
 use row_sheets::{Cells, PagePapers, PaperList, lay_out, select};
 use rows::{Choice, Part, RowError, Signing, imposed_row, read_row};
@@ -6,7 +7,7 @@ use sheet_plan::MadeSheets;
 use std::alloc::{AllocError, Global};
 use std::process::Abort;
 use std::test::Fail;
-use test_tools::{Refused, assert_that, has_refused, refuse, refuse_each};
+use test_tools::{Refused, has_refused, refuse, refuse_each};
 
 /// A call in which a growth was to be refused: whether one was, and whether the call answered rightly.
 #[derive(Drop)]
@@ -108,7 +109,7 @@ fn lay_out_row(alloc: Global, number: u32, paper: &Paper) -> Seen {
 }
 
 /// One of the calls.
-fn call(
+fn called_at(
     alloc: Global,
     place: u32,
     number: u32,
@@ -136,7 +137,7 @@ impl<'p, R: Abort> Refused<R> for Call<'p> {
         let Seen {
             is_refused,
             is_right,
-        } = call(alloc, self.place, number, self.papers)?;
+        } = called_at(alloc, self.place, number, self.papers)?;
         assert_that(rt, is_right);
         Ok(is_refused)
     }

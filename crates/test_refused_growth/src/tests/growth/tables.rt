@@ -2,6 +2,7 @@
 ghost use Rattle.std.specs.Prelude.{IfOk};
 ghost use Rattle.handover.specs.Shelves.{IsOn};
 
+use crate::tests::checks::assert_that;
 use gather_table::{GatherTable, PlainTable};
 use handover::{Prepared, PutError, Ready, Receipt, Shelf};
 use pagespec::read_spec;
@@ -10,7 +11,7 @@ use std::alloc::{AllocError, Global};
 use std::process::Abort;
 use std::sync::Wait;
 use std::test::Fail;
-use test_tools::{BOOKLET, Refused, assert_that, has_refused, refuse, refuse_each, same_items};
+use test_tools::{BOOKLET, Refused, has_refused, refuse, refuse_each, same_items};
 
 /// Both tables of a plan; of a sheet of 65 slots too.
 fn make_tables<R: Abort>(rt: &R, alloc: Global, number: u32, items: &str) -> Result<bool, Fail> {

@@ -1,4 +1,5 @@
 //! Specifications, plans, and texts that are appended to a vector.
+use crate::tests::checks::assert_that;
 use lengths::{Grains, Number, Paper, a4, print_number, print_points, print_scale};
 use pagespec::{Item, Spec, SpecError, read_spec, write_spec};
 use placement::{closing_text, matrix_of, matrix_text, opening_text};
@@ -6,9 +7,7 @@ use sheet_plan::{Plan, PlanError};
 use std::alloc::{AllocError, Global};
 use std::process::Abort;
 use std::test::Fail;
-use test_tools::{
-    A4_SIDES, BOOKLET, Refused, assert_that, border, has_refused, opening, refuse, refuse_each,
-};
+use test_tools::{A4_SIDES, BOOKLET, Refused, border, has_refused, opening, refuse, refuse_each};
 
 /// Reads the specification; whether a growth was refused in the call.
 fn read_booklet<R: Abort>(rt: &R, alloc: Global, number: u32) -> Result<bool, Fail> {

@@ -1,12 +1,13 @@
 //! A page is delivered: what the table, the queue and the shelf answer.
 use crate::tests::callers::{Caller, Task, is_imposed, with_caller};
+use crate::tests::checks::assert_that;
 use gather_table::{Published, Reply};
 use run_steps::{Answers, Delivered};
 use std::alloc::{AllocError, Global};
 use std::process::Abort;
 use std::sync::Wait;
 use std::test::Fail;
-use test_tools::{ONE_PAGE, assert_that};
+use test_tools::ONE_PAGE;
 
 /// Whether these were the answers.
 fn has_answers(

@@ -1,12 +1,13 @@
 //! A sheet is imposed of what stands on the shelf at the index of its page.
 use crate::tests::callers::{Caller, Task, with_caller};
+use crate::tests::checks::assert_that;
 use gather_table::{Published, Reply};
 use run_steps::{ImposeError, Imposed};
 use sheet_text::sheet_text;
 use std::alloc::{AllocError, Global};
 use std::sync::Wait;
 use std::test::Fail;
-use test_tools::{ONE_PAGE, TWO_PAGES, assert_that};
+use test_tools::{ONE_PAGE, TWO_PAGES};
 
 // What comes of a sheet.
 #[derive(Clone, Copy, PartialEq, Eq)]

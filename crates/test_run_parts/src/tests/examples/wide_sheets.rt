@@ -1,5 +1,6 @@
 //! Pages are delivered to a sheet of over 64 slots, by one thread and by two.
 use crate::tests::callers::{Caller, Task, is_imposed, two_others, with_caller};
+use crate::tests::checks::assert_that;
 use gather_table::{Closing, Published, Reply};
 use std::alloc::{AllocError, Global};
 use std::process::Abort;
@@ -7,7 +8,7 @@ use std::sync::Wait;
 use std::test::Fail;
 use std::thread;
 use std::thread::Threads;
-use test_tools::{ONE_PAGE, assert_that, same_items};
+use test_tools::{ONE_PAGE, same_items};
 
 /// Of 65 slots: whether the first 63 fill nothing, the last of the first group fills it, and the one of the second group
 /// that.

@@ -1,5 +1,6 @@
 //! Pages that are delivered, and sheets that are imposed.
 use super::super::callers::{Caller, Task, with_caller};
+use crate::tests::checks::assert_that;
 use gather_table::{Closing, Published, Reply};
 use handover::Prepared;
 use run_steps::{DeliverError, Delivered, ImposeError};
@@ -8,9 +9,7 @@ use std::alloc::{AllocError, Global};
 use std::process::Abort;
 use std::sync::Wait;
 use std::test::Fail;
-use test_tools::{
-    MOST_GROWTHS, ONE_PAGE, Refused, assert_that, has_refused, refuse, refuse_each, same_items,
-};
+use test_tools::{MOST_GROWTHS, ONE_PAGE, Refused, has_refused, refuse, refuse_each, same_items};
 
 /// A page that came back is delivered with memory. Until then table and queue answer as before.
 fn deliver_with_memory<'d, R: Wait + Abort>(

@@ -1,11 +1,12 @@
 //! Texts that are added to others, alone and with their sheets.
 use super::super::pieces::bytes_of;
+use crate::tests::checks::assert_that;
 use sheet_text::{Rope, Texts};
 use sheet_writer::{Early, FinishedSheets};
 use std::alloc::{AllocError, Global};
 use std::process::Abort;
 use std::test::Fail;
-use test_tools::{MOST_GROWTHS, Refused, assert_that, has_refused, refuse, refuse_each};
+use test_tools::{MOST_GROWTHS, Refused, has_refused, refuse, refuse_each};
 
 /// Whether one of the texts has these bytes.
 fn is_text(alloc: Global, texts: &Texts<'_>, nth: usize, bytes: &[u8]) -> Result<bool, AllocError> {

@@ -2,6 +2,7 @@
 ghost use Rattle.std.specs.Prelude.{◌≡◌};
 ghost use Rattle.sheet_writer.specs.Sinks.{IsCountable};
 
+use crate::tests::checks::{assert_bytes, assert_that};
 use dsc::Document;
 use imposer::{Dress, Job, Lines, MemorySink, Open, Report, SheetLines, Sink, Workers, run_plan};
 use lengths::{Number, Paper, paper_by_name};
@@ -11,9 +12,7 @@ use std::alloc::{AllocError, Global};
 use std::sync::Wait;
 use std::test::Fail;
 use std::thread::Threads;
-use test_tools::{
-    A4_SIDES, TWO_PAGES, UNMOVED, assert_bytes, assert_that, page_body, placed_on, sheet,
-};
+use test_tools::{A4_SIDES, TWO_PAGES, UNMOVED, page_body, placed_on, sheet};
 
 /// The second page on A4 and the first on A5, each on a sheet, and a line at each of the three places.
 fn dressed_output(alloc: Global) -> Result<String, AllocError> {

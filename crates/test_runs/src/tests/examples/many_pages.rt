@@ -1,13 +1,14 @@
 //! Two hundred pages, by few workers and by many.
 ghost use Rattle.imposer.specs.Workers.{AreWorkers};
 
+use crate::tests::checks::assert_that;
 use crate::tests::{WHOLE, gather_pairs, report_of, workers, writes};
 use imposer::{MemorySink, Workers};
 use std::alloc::Global;
 use std::sync::Wait;
 use std::test::Fail;
 use std::thread::Threads;
-use test_tools::{TWO_UP, assert_that, document_of, two_up_output};
+use test_tools::{TWO_UP, document_of, two_up_output};
 
 #[test]
 fn no_byte_depends_on_the_workers(rt: HostRuntime) -> Result<(), Fail> {

@@ -1,4 +1,5 @@
 //! What is refused first, and how a refusal reads.
+use crate::tests::checks::assert_that;
 use crate::tests::{answered, workers};
 use dsc::DscError;
 use imposer::RunError;
@@ -9,7 +10,7 @@ use std::process::Abort;
 use std::sync::Wait;
 use std::test::Fail;
 use std::thread::Threads;
-use test_tools::{ONE_PAGE, TWO_UP, assert_that};
+use test_tools::{ONE_PAGE, TWO_UP};
 
 /// Why a run is refused, before it writes anything. None if it isn't.
 fn refusal_of<R: Threads + Wait + Abort + Sync>(

@@ -1,8 +1,9 @@
 //! Runs in signatures.
+use crate::tests::checks::assert_that;
 use crate::tests::{answered, ends_with, report_of, workers};
 use imposer::{Options, RunError};
 use std::test::Fail;
-use test_tools::{ONE_PAGE, assert_that, document_of};
+use test_tools::{ONE_PAGE, document_of};
 
 fn in_signatures(sides: u32) -> Options {
     Options {

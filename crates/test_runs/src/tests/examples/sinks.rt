@@ -1,13 +1,14 @@
 //! Sinks that fail, and one that takes a byte a call, beside one worker of each kind and beside several.
 ghost use Rattle.std.specs.Prelude.{◌<◌};
 
+use crate::tests::checks::assert_that;
 use crate::tests::{Trial, run_into};
 use imposer::{MemorySink, Open, Report, RunError};
 use std::alloc::{AllocError, Global};
 use std::sync::Wait;
 use std::test::Fail;
 use std::thread::Threads;
-use test_tools::{ONE_PAGE, assert_that, one_up_output};
+use test_tools::{ONE_PAGE, one_up_output};
 
 /// The numbers of preparers and of imposers.
 const COUNTS: [(u32, u32); 2] = [(1, 1), (2, 3)];

@@ -1,6 +1,7 @@
 //! Gates at which threads wait for each other: a run on one thread would never come past them.
 ghost use Rattle.std.specs.Prelude.{◌<◌, None};
 
+use crate::tests::checks::assert_that;
 use crate::tests::{Trial, run_into, wait_for};
 use imposer::{Gate, Look, MemorySink, Report, RunError, Sink, SinkFault, Step};
 use std::alloc::Global;
@@ -9,7 +10,7 @@ use std::sync::atomic::AtomicUsize;
 use std::sync::atomic::Ordering::SeqCst;
 use std::test::Fail;
 use std::thread::Threads;
-use test_tools::{TWO_PAGES, assert_that};
+use test_tools::TWO_PAGES;
 
 /// Two pages on two sheets, with this gate and by so many workers.
 fn run_gated<R: Threads + Wait + Sync, G: Gate + Sync>(

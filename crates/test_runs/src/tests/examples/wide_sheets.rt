@@ -1,11 +1,12 @@
 //! Runs on sheets of over 64 slots.
+use crate::tests::checks::assert_that;
 use crate::tests::{ran, report_of, workers};
 use imposer::{MemorySink, RunError};
 use std::alloc::Global;
 use std::sync::Wait;
 use std::test::Fail;
 use std::thread::Threads;
-use test_tools::{ONE_PAGE, assert_that, document_of, same_items};
+use test_tools::{ONE_PAGE, document_of, same_items};
 
 /// A hundred pages on one sheet, in ten rows of ten from the top, each at a tenth of its size.
 fn contact_sheet(alloc: Global) -> Result<String, Fail> {

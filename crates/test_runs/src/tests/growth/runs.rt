@@ -1,6 +1,7 @@
 //! Whole runs and gatherings, over a sink that was made before.
 ghost use Rattle.std.specs.Prelude.{◌<◌};
 
+use crate::tests::checks::assert_that;
 use crate::tests::{Trial, gather_pairs, large_pages, run_into};
 use imposer::{Gate, MemorySink, Open, RunError, Step, Workers};
 use std::alloc::{AllocError, Global};
@@ -9,7 +10,7 @@ use std::sync::Wait;
 use std::test::Fail;
 use std::thread;
 use std::thread::Threads;
-use test_tools::{BOOKLET, MOST_GROWTHS, TWO_UP, assert_that, document_of, has_refused, refuse};
+use test_tools::{BOOKLET, MOST_GROWTHS, TWO_UP, document_of, has_refused, refuse};
 
 /// More bytes than a run here writes.
 const ROOM: usize = 2_000_000;
