@@ -66,7 +66,7 @@ pub(super) fn with_caller<A, R, T: Task<R, A>>(
 }
 
 /// A caller with this seat and this pass.
-fn caller_of<'s, 'j, 't, 'd>(
+pub(super) fn caller_of<'s, 'j, 't, 'd>(
     job: &'s Job<'j, 'd>,
     table: &'s GatherTable<'t>,
     shelf: &'s Shelf<'d>,

@@ -1,9 +1,15 @@
 //! Each page of a document is delivered more than once, by one caller and by several at once: each sheet is completed
 //! once.
-use super::callers::{Caller, Task, is_imposed, two_others, with_caller};
+use super::callers::{Caller, caller_of, is_imposed, two_others};
 use crate::tests::checks::assert_that;
-use gather_table::{Closing, Published, Reply};
+use dsc::Document;
+use gather_table::{Closing, GatherTable, Published, Reply};
+use handover::{Ready, Shelf};
+use lengths::a4;
+use pagespec::read_spec;
 use run_steps::Delivered;
+use sheet_plan::Plan;
+use sheet_text::Job;
 use std::alloc::{AllocError, Global};
 use std::process::Abort;
 use std::sync::Wait;
@@ -277,27 +283,39 @@ fn gives_each_sheet<R: Wait>(
     Ok(caller.take(rt).is_none() && are_all(taken.as_slice()))
 }
 
-/// Each page is delivered more than once, on so many sheets of so many slots.
-#[derive(Drop)]
-struct Doubled {
-    sheets: u32,
-    slots: u32,
+/// Each page of the caller's job is delivered more than once, on so many sheets of so many slots.
+fn deliver_and_look<R: Threads + Wait + Sync + Abort>(
+    rt: &R,
+    alloc: Global,
+    caller: Caller<'_, '_, '_, '_>,
+    (sheets, slots): (u32, u32),
     callers: Callers,
+) -> Result<(), AllocError> {
+    let mut caller = caller;
+    let pages = sheets.saturating_mul(slots);
+    assert_that(rt, caller.job.document().pages() == pages);
+    assert_that(rt, caller.job.sheets() == sheets);
+    let all = deliver_by(rt, alloc, &mut caller, callers)?;
+    assert_that(rt, all.len() > 1);
+    let is_once = is_each_once(alloc, all.as_slice(), pages as usize, slots as usize)?;
+    assert_that(rt, is_once);
+    assert_that(rt, gives_each_sheet(rt, alloc, &mut caller)?);
+    Ok(())
 }
 
-impl<R: Threads + Wait + Sync + Abort> Task<R, ()> for Doubled {
-    fn go(&self, rt: &R, alloc: Global, caller: Caller<'_, '_, '_, '_>) -> Result<(), Fail> {
-        let mut caller = caller;
-        let pages = self.sheets.saturating_mul(self.slots);
-        assert_that(rt, caller.job.document().pages() == pages);
-        assert_that(rt, caller.job.sheets() == self.sheets);
-        let all = deliver_by(rt, alloc, &mut caller, self.callers)?;
-        assert_that(rt, all.len() > 1);
-        let (pages, slots) = (pages as usize, self.slots as usize);
-        assert_that(rt, is_each_once(alloc, all.as_slice(), pages, slots)?);
-        assert_that(rt, gives_each_sheet(rt, alloc, &mut caller)?);
-        Ok(())
-    }
+/// The same of a job, with room in the queue for each sheet once.
+fn deliver_job<R: Threads + Wait + Sync + Abort>(
+    rt: &R,
+    alloc: Global,
+    job: &Job<'_, '_>,
+    sizes: (u32, u32),
+    callers: Callers,
+) -> Result<(), AllocError> {
+    let (table, seat) = GatherTable::new(alloc, job.plan())?;
+    let shelf = Shelf::new(alloc)?;
+    let (ready, pass) = Ready::new(alloc, job.sheets().max(1))?;
+    let caller = caller_of(job, &table, &shelf, &ready, seat, pass);
+    deliver_and_look(rt, alloc, caller, sizes, callers)
 }
 
 /// So many pages a sheet, each in one slot.
@@ -310,7 +328,7 @@ fn pages_per_sheet(alloc: Global, slots: u32) -> Result<String, AllocError> {
     Ok(text)
 }
 
-/// The same of a document of so many pages, with room in the queue for each sheet once.
+/// The same of a document of so many pages.
 fn deliver_document<R: Threads + Wait + Sync + Abort>(
     rt: &R,
     alloc: Global,
@@ -320,12 +338,11 @@ fn deliver_document<R: Threads + Wait + Sync + Abort>(
 ) -> Result<(), Fail> {
     let text = document_of(alloc, sheets.saturating_mul(slots))?;
     let items = pages_per_sheet(alloc, slots)?;
-    let task = Doubled {
-        sheets,
-        slots,
-        callers,
-    };
-    with_caller(rt, alloc, &text, &items, sheets, &task)
+    let spec = read_spec(alloc, &items)?;
+    let document = Document::read(alloc, text.as_bytes())?;
+    let plan = Plan::new(alloc, &spec, document.pages())?;
+    let job = Job::new(&plan, &document, a4(), None);
+    Ok(deliver_job(rt, alloc, &job, (sheets, slots), callers)?)
 }
 
 #[test]

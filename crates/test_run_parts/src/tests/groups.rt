@@ -171,7 +171,13 @@ fn text_with<'r>(
     begin_sheet(&mut text, job, sheet)?;
     append_placed(&mut text, &mut Openings::new(alloc), job, sheet, 0, body)?;
     end_sheet(&mut text, job, sheet)?;
-    Ok(text)
+    let wanted = sheet_text(alloc, job, sheet)?;
+    let bytes = text.to_vec(alloc)?;
+    if bytes.as_slice() == wanted.as_slice() {
+        Ok(text)
+    } else {
+        Err(AllocError)
+    }
 }
 
 /// Adds a sheet to others.

@@ -1,7 +1,13 @@
 //! Pages are delivered to a sheet of over 64 slots, by one thread and by two.
-use crate::tests::callers::{Caller, Task, is_imposed, two_others, with_caller};
+use crate::tests::callers::{Caller, Task, caller_of, is_imposed, two_others, with_caller};
 use crate::tests::checks::assert_that;
-use gather_table::{Closing, Published, Reply};
+use dsc::Document;
+use gather_table::{Closing, GatherTable, Published, Reply};
+use handover::{Ready, Shelf};
+use lengths::a4;
+use pagespec::read_spec;
+use sheet_plan::Plan;
+use sheet_text::Job;
 use std::alloc::{AllocError, Global};
 use std::process::Abort;
 use std::sync::Wait;
@@ -147,28 +153,43 @@ fn is_completed_once(one: &[Closing], other: &[Closing]) -> bool {
 }
 
 /// Two threads deliver a page that fills both groups of a sheet.
-#[derive(Drop)]
-struct CompleteByTwo {}
+fn deliver_and_look<R: Threads + Wait + Sync + Abort>(
+    rt: &R,
+    alloc: Global,
+    caller: &mut Caller<'_, '_, '_, '_>,
+) -> Result<(), AllocError> {
+    let (one, other) = deliver_in_two_threads(rt, alloc, caller)?;
+    let (one, closed) = one?;
+    let (other, also_closed) = other?;
+    assert_that(rt, are_filled_once(one.as_slice(), other.as_slice()));
+    assert_that(
+        rt,
+        is_completed_once(closed.as_slice(), also_closed.as_slice()),
+    );
+    assert_that(rt, caller.take(rt) == Some(0));
+    assert_that(rt, caller.take(rt).is_none());
+    Ok(())
+}
 
-impl<R: Threads + Wait + Sync + Abort> Task<R, ()> for CompleteByTwo {
-    fn go(&self, rt: &R, alloc: Global, caller: Caller<'_, '_, '_, '_>) -> Result<(), Fail> {
-        let mut caller = caller;
-        let (one, other) = deliver_in_two_threads(rt, alloc, &mut caller)?;
-        let (one, closed) = one?;
-        let (other, also_closed) = other?;
-        assert_that(rt, are_filled_once(one.as_slice(), other.as_slice()));
-        assert_that(
-            rt,
-            is_completed_once(closed.as_slice(), also_closed.as_slice()),
-        );
-        assert_that(rt, caller.take(rt) == Some(0));
-        assert_that(rt, caller.take(rt).is_none());
-        Ok(())
-    }
+/// The same of a job.
+fn complete_by_two<R: Threads + Wait + Sync + Abort>(
+    rt: &R,
+    alloc: Global,
+    job: &Job<'_, '_>,
+) -> Result<(), AllocError> {
+    let (table, seat) = GatherTable::new(alloc, job.plan())?;
+    let shelf = Shelf::new(alloc)?;
+    let (ready, pass) = Ready::new(alloc, 1)?;
+    let mut caller = caller_of(job, &table, &shelf, &ready, seat, pass);
+    deliver_and_look(rt, alloc, &mut caller)
 }
 
 #[test]
 fn two_threads_complete_a_wide_sheet_once(rt: HostRuntime) -> Result<(), Fail> {
     let items = same_items(rt.alloc(), "0", 65)?;
-    with_caller(&rt, rt.alloc(), ONE_PAGE, &items, 1, &CompleteByTwo {})
+    let spec = read_spec(rt.alloc(), &items)?;
+    let document = Document::read(rt.alloc(), ONE_PAGE.as_bytes())?;
+    let plan = Plan::new(rt.alloc(), &spec, document.pages())?;
+    let job = Job::new(&plan, &document, a4(), None);
+    Ok(complete_by_two(&rt, rt.alloc(), &job)?)
 }
