@@ -354,7 +354,10 @@ fn write_two_groups<R: Abort>(
     let mut sink = MemorySink::new(alloc, 10_000, 10_000, 100)?;
     put_sheets(rt, alloc, job, bodies, &mut early, &[0, 2])?;
     let progress = write_early(job, &mut sink, START, &mut early, given_back);
-    assert_that(rt, progress.halted.is_none());
+    // What follows asks for this, and no helper's answer says it.
+    if progress.halted.is_some() {
+        return Err(AllocError);
+    }
     let first = (progress.next, given_back.groups.len());
     put_sheets(rt, alloc, job, bodies, &mut early, &[1, 3])?;
     let progress = write_early(job, &mut sink, progress, &mut early, given_back);

@@ -157,35 +157,23 @@ fn shares_come_back(rt: HostRuntime) -> Result<(), Fail> {
     Ok(())
 }
 
-// Two workers with room for a put each. What room there is belongs to the other one, and a take gives none back.
-fn put_by_right<R: Wait + Abort>(rt: &R, one: &mut Worker<'_>, other: &mut Worker<'_>) {
-    assert_that(rt, (one.pass.room(), other.pass.room()) == (1, 1));
-    assert_that(rt, one.put(rt, 7).is_ok());
-    assert_that(rt, is_refused(rt, one, 8));
-    assert_that(rt, one.take(rt) == Some(7));
-    assert_that(rt, is_refused(rt, one, 8));
-    assert_that(rt, other.put(rt, 9).is_ok());
-}
-
-// A worker with all shares and without room, before a queue with a sheet and place for another: it knows that nobody else
-// has room.
-fn put_with_all_shares<R: Wait + Abort>(rt: &R, whole: &mut Worker<'_>) {
-    assert_that(rt, whole.pass.room() == 0);
-    assert_that(rt, whole.put(rt, 8).is_ok());
-    assert_that(rt, is_refused(rt, whole, 7));
-    assert_that(rt, whole.take(rt) == Some(9));
-}
-
 #[test]
 fn puts_by_right_are_not_refused(rt: HostRuntime) -> Result<(), Fail> {
-    let (queue, mut pass) = Ready::by_right(rt.alloc(), 2)?;
-    let ready = &queue;
-    let other = ready.split_with_room(&mut pass, 1, 1);
-    let mut one = Worker { ready, pass };
-    let mut other = Worker { ready, pass: other };
-    put_by_right(&rt, &mut one, &mut other);
-    let pass = ready.join(one.pass, other.pass);
-    put_with_all_shares(&rt, &mut Worker { ready, pass });
+    let (ready, mut pass) = Ready::by_right(rt.alloc(), 2)?;
+    let mut other = ready.split_with_room(&mut pass, 1, 1);
+    assert_that(&rt, (pass.room(), other.room()) == (1, 1));
+    assert_that(&rt, ready.put(&rt, &mut pass, 7) == Ok(()));
+    // What room there is belongs to the other one, and a take gives none back.
+    assert_that(&rt, ready.put(&rt, &mut pass, 8) == Err(Full(8)));
+    assert_that(&rt, ready.take(&rt, &mut pass) == Some(7));
+    assert_that(&rt, ready.put(&rt, &mut pass, 8) == Err(Full(8)));
+    assert_that(&rt, ready.put(&rt, &mut other, 9) == Ok(()));
+    let mut whole = ready.join(pass, other);
+    assert_that(&rt, whole.room() == 0);
+    // A pass with all shares knows that nobody else has room.
+    assert_that(&rt, ready.put(&rt, &mut whole, 8) == Ok(()));
+    assert_that(&rt, ready.put(&rt, &mut whole, 7) == Err(Full(7)));
+    assert_that(&rt, ready.take(&rt, &mut whole) == Some(9));
     Ok(())
 }
 
