@@ -15,11 +15,11 @@ NAMES = f"uses the machine's {len(PROVED) + len(ALWAYS)} names alone"
 # The premises on each page.
 USES = f"each page {NAMES}"
 CALLS = "each page calls showpage by its name, when it runs"
-BEHIND = "what stands behind showpage paints and prints nothing"
+BEHIND = "what follows showpage paints and prints nothing"
 RESETS = "no page runs initgraphics, or another operator that looks at where it is or puts it back"
 TAKES_BACK = "no page takes back what it didn't push or save"
 LEAVES = "each page leaves both stacks as they were"
-ASKS = "no page defines showpage or ImposeSave, or asks what they mean in another way; and restore means the operator behind it"
+ASKS = "no page defines showpage or ImposeSave, or asks what they mean in another way; and after it restore means the operator"
 ENDS = "each page ends between tokens"
 APART = "no comment that is dropped from a page stands within a string, or has a form feed in it"
 PAGE_PREMISES = (USES, CALLS, BEHIND, RESETS, TAKES_BACK, LEAVES, ASKS, ENDS, APART)
@@ -64,7 +64,7 @@ def ground(document, further=False):
         *found,
         (f"the preamble {NAMES}", None),
         ("it paints and prints nothing", None if not m.painted and not m.sheets else "it does"),
-        ("the names that a sheet's text uses mean the operators behind it", f"these don't: {text(others)}" if others else None),
+        ("the names that a sheet's text uses mean the operators after it", f"these don't: {text(others)}" if others else None),
         ("userdict is on the dictionary stack, without showpage and ImposeSave", f"it has {text(put)}" if put else None if on_stack else "it isn't"),
         ("the graphics state is as initgraphics makes it (a font may be set)", left_set(m.graphics)),
         ("nothing is saved or pushed", "something is" if is_saved(m) else None),

@@ -905,7 +905,7 @@ def get(m):
 
 
 def length(m):
-    (o,) = m.taken(Array)
+    (o,) = m.taken(lambda o: type(o) in (Array, Procedure))
     m.operands.append(whole(len(o.items)))
 
 

@@ -23,11 +23,11 @@ tile_in r c n h =
     let row = (div-lt_iff_lt-mul some.1).1 h in
     (mod-lt n some.1, omega (arith, row, some.0))
 
-passed_if : (b : Bool) (x : Option PosterError) (e : PosterError) → (if b then x else Some e) ≡ None → (b ≡ true) × (x ≡ None)
+pub passed_if : (b : Bool) (x : Option PosterError) (e : PosterError) → (if b then x else Some e) ≡ None → (b ≡ true) × (x ≡ None)
 passed_if true x e h = (refl, h)
 passed_if false x e h = absurd (cc (h))
 
-less : (a b : ℕ) → nat_lt a b ≡ true → a < b
+pub less : (a b : ℕ) → nat_lt a b ≡ true → a < b
 less a b h = search (rules, h)
 
 -- along a side

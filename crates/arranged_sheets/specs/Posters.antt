@@ -1,6 +1,6 @@
 -- Posters: one page over several sheets, which are its tiles. All here is this project's own rules.
-use Rattle.std.specs.Prelude.{◌≡◌, ◌⊎◌, ℕ, ◌+◌, ◌-◌, ◌*◌, ◌/◌, ◌%◌, ◌<◌, min, pos, ◌+ℤ◌, ◌-ℤ◌, ◌≤ℤ◌, nat_abs, nat_le, nat_lt, ◌&&◌}
-use Rattle.std.specs.Prelude.{false, if◌then◌else◌, List, [], ◌∷◌, map, flat_map, slice_index_or, Option, Some, None}
+use Rattle.std.specs.Prelude.{◌≡◌, ◌⊎◌, ⊤, ℕ, ◌+◌, ◌-◌, ◌*◌, ◌/◌, ◌%◌, ◌<◌, min, pos, ◌+ℤ◌, ◌-ℤ◌, ◌≤ℤ◌, nat_abs, nat_le, nat_lt, ◌&&◌}
+use Rattle.std.specs.Prelude.{false, if◌then◌else◌, List, [], ◌∷◌, map, flat_map, slice_get, slice_index_or, Option, Some, None}
 use Rattle.std.specs.List.{range_with_len}
 use Rattle.rules.specs.Papers.{Paper}
 use Rattle.rules.specs.Specification.{Item, Upright}
@@ -109,9 +109,13 @@ abbrev pub IsNoPosterFrom : Poster → List Paper → (entry : Option ℕ) → P
 IsNoPosterFrom p papers entry e =
     (page : ℕ) × (entry ≡ Some page) × (why_no_poster (poster_paper p papers page) p ≡ Some e)
 
--- it is out of memory, or the reason for a page of the row
+-- it is the reason for a page of the row
+abbrev pub IsNoPosterIn : Poster → List Paper → Row → PosterError → Type 0
+IsNoPosterIn p papers row e = (i : ℕ) × IsNoPosterFrom p papers (entry_of row i) e
+
+-- or it is out of memory
 abbrev pub IsNoPosterFor : Poster → List Paper → Row → PosterError → Type 0
-IsNoPosterFor p papers row e = (e ≡ why.NoMemory) ⊎ ((i : ℕ) × IsNoPosterFrom p papers (entry_of row i) e)
+IsNoPosterFor p papers row e = (e ≡ why.NoMemory) ⊎ IsNoPosterIn p papers row e
 
 -- ---- the page on the tiles
 
@@ -170,3 +174,41 @@ TilesOverlap = (page : Paper) (p : Poster) (k column row : ℕ) (at : Point) →
     × ((stands page (tile_item page p k column row) at).y
     ≡ (stands page (tile_item page p k column (row + 1)) at).y
     +ℤ (fine (tile (nat_abs p.sheet.height) p.edge) -ℤ fine p.overlap))
+
+-- ---- what such sheets rest on
+
+-- a page of this paper can be such a poster
+pub record MayBePoster (p : Poster) (page : Paper) : Type 0 where
+  pub page_is : IsPaper page
+  pub fits : why_no_poster page p ≡ None
+
+abbrev pub EntryMayBePoster : Poster → List Paper → (entry : Option ℕ) → Type 0
+EntryMayBePoster p papers None = ⊤
+EntryMayBePoster p papers (Some page) = MayBePoster p (poster_paper p papers page)
+
+-- each page of a row can be one: nothing had to be refused
+abbrev pub AllMayBePosters : Poster → List Paper → Row → Type 0
+AllMayBePosters p papers row = (i : ℕ) → EntryMayBePoster p papers (entry_of row i)
+
+-- a poster that a page can be has tiles: a law
+abbrev pub PosterHasTiles : Type 0
+PosterHasTiles = (page : Paper) (p : Poster) → why_no_poster page p ≡ None → HasTiles p
+
+-- the first of the sheets of entry i is sheet i times so many
+abbrev pub first_tile : Poster → (i : ℕ) → ℕ
+first_tile p i = i * (p.rows * p.columns)
+
+-- these sheets show a point of a page: on one of the entry's sheets the page is placed by its own paper, and what the
+-- margins leave of that sheet has the point
+pub record IsOnTile (p : Poster) (made : List MadeSheet) (i page : ℕ) (paper : Paper) (at : Point) : Type 0 where
+  pub n : ℕ
+  pub is_one : n < p.rows * p.columns
+  pub item : Item
+  pub sheet : slice_get made (first_tile p i + n) ≡ Some (record { paper = p.sheet; slots = Placed page item paper ∷ [] })
+  pub shown : IsShown p (stands paper item at)
+
+-- each point of each page of a row is shown on one of its sheets, if each page can be a poster: a law
+abbrev pub RowIsShown : Type 0
+RowIsShown = (p : Poster) (papers : List Paper) (row : Row) (i page : ℕ) (at : Point) → AllMayBePosters p papers row
+    → entry_of row i ≡ Some page → IsOfPage 0 (poster_paper p papers page) at
+    → IsOnTile p (row_tiles p papers row) i page (poster_paper p papers page) at

@@ -37,6 +37,10 @@ entry_in h t row s c = entry_of row (place h t s c)
 abbrev pub IsRefusedFrom : Filling → (entry : Option ℕ) → ArrangementError → Type 0
 IsRefusedFrom f entry e = (page : ℕ) × (entry ≡ Some page) × (why_not_fitted f.setting (f.paper_of page) ≡ Some e)
 
--- it is out of memory, or the reason for a page of the row
+-- it is the reason for a page of the row
+abbrev pub IsRefusedIn : Filling → Row → ArrangementError → Type 0
+IsRefusedIn f row e = (i : ℕ) × IsRefusedFrom f (entry_of row i) e
+
+-- or it is out of memory
 abbrev pub IsRefusedFor : Filling → Row → ArrangementError → Type 0
-IsRefusedFor f row e = (e ≡ why.NoMemory) ⊎ ((i : ℕ) × IsRefusedFrom f (entry_of row i) e)
+IsRefusedFor f row e = (e ≡ why.NoMemory) ⊎ IsRefusedIn f row e

@@ -1,16 +1,18 @@
 -- Sheets that stand well: what is placed on them keeps the margin, the gap, and the fold. All here is this project's own
 -- rules.
-use Rattle.std.specs.Prelude.{◌≡◌, ⊤, ℕ, ◌-◌, ◌*◌, ◌+◌, ◌<◌, ◌≤◌, nat_abs, Bool, true, false, if◌then◌else◌, List, [], ◌∷◌, length}
+use Rattle.std.specs.Prelude.{◌≡◌, ⊤, ℕ, ◌-◌, ◌*◌, ◌+◌, ◌/◌, ◌%◌, ◌<◌, ◌≤◌, nat_abs, Bool, true, false, if◌then◌else◌, List, [], ◌∷◌, length}
 use Rattle.std.specs.Prelude.{All, AllPairs, Option, Some, None, slice_index_or}
 use Rattle.rules.specs.Papers.{Paper}
+use Rattle.rules.specs.Signatures.{entry_of}
 use Rattle.made_sheets.specs.Made.{MadeSlot, Blank, Placed, MadeSheet}
+use Rattle.made_sheets.specs.Rows.{Row}
 use Rattle.layouts.specs.declared.setting.Setting.{Setting}
 use Rattle.layouts.specs.Placed.{Room}
-use Rattle.layouts.specs.Cells.{whole}
-use Rattle.layouts.specs.Fitted.{why_not_fitted}
-use Rattle.layouts.specs.Laws.{IsPaper}
-use Rattle.arranged_sheets.specs.Filled.{Filling, SlotIsInside, SlotsAreApart, is_turned}
-use Rattle.arranged_sheets.specs.Creep.{StaysBefore, StaysBehind, why_not_creeping}
+use Rattle.layouts.specs.Cells.{size, whole, run_in}
+use Rattle.layouts.specs.Fitted.{IsFitted, why_not_fitted}
+use Rattle.layouts.specs.Laws.{IsPaper, ComesInRun, ComesInRunBefore}
+use Rattle.arranged_sheets.specs.Filled.{Filling, SlotIsInside, SlotsAreApart, filled, grid_entry, is_turned}
+use Rattle.arranged_sheets.specs.Creep.{StaysBefore, StaysBehind, creep_on, why_not_creeping}
 
 -- ---- in cells
 
@@ -88,3 +90,39 @@ EntryFits f (Some page) = FitsIn f.setting (f.paper_of page)
 abbrev pub EntryCreeps : Filling → (creep : ℕ) → (entry : Option ℕ) → Type 0
 EntryCreeps f creep None = ⊤
 EntryCreeps f creep (Some page) = FitsOnLeaf f.setting (f.paper_of page) creep
+
+-- each page of a row has its place: nothing had to be refused
+abbrev pub AllFit : Filling → Row → Type 0
+AllFit f row = (i : ℕ) → EntryFits f (entry_of row i)
+
+-- and so on leaves that creep, in signatures of so many
+abbrev pub AllFitOnLeaves : Filling → (creep leaves : ℕ) → Row → Type 0
+AllFitOnLeaves f creep leaves row =
+    (s k : ℕ) → k < 2 → EntryCreeps f (creep_on creep leaves s) (grid_entry 2 row s k)
+
+-- ---- what follows for the sheets
+
+-- the slot of a cell: its page is fitted into that cell
+abbrev pub SlotIsFitted : Setting → (c : ℕ) → MadeSlot → Type 0
+SlotIsFitted t c Blank = ⊤
+SlotIsFitted t c (Placed page item paper) = IsFitted t paper c item
+
+-- the slots of two cells: as one reads the sheet, in the order of their cells
+abbrev pub SlotsAreInOrder : Setting → (c d : ℕ) → (one other : MadeSlot) → Type 0
+SlotsAreInOrder t c d Blank other = ⊤
+SlotsAreInOrder t c d (Placed page item paper) Blank = ⊤
+SlotsAreInOrder t c d (Placed page item paper) (Placed page' item' paper') =
+    (let run = run_in t.order.run t.order.turned t.grid in
+    (c % run < d % run → ComesInRun t.order.run t.room t.order.turned t.order.right_to_left paper item paper' item')
+    × (c / run < d / run → ComesInRunBefore t.order.run t.room t.order.turned t.order.right_to_left paper item paper' item'))
+
+-- a sheet whose pages stand in their cells: each is fitted into its own, and they read in order
+pub record StandsInCells (t : Setting) (sheet : MadeSheet) : Type 0 where
+  pub fitted : (c : ℕ) (d : MadeSlot) → c < length sheet.slots → SlotIsFitted t c (slice_index_or sheet.slots c d)
+  pub in_order : (b c : ℕ) (d : MadeSlot) → b < length sheet.slots → c < length sheet.slots
+      → SlotsAreInOrder t b c (slice_index_or sheet.slots b d) (slice_index_or sheet.slots c d)
+
+-- sheets that are filled with pages that have their places stand so: a law
+abbrev pub FilledStandsInCells : Type 0
+FilledStandsInCells = (f : Filling) (sheets cells : ℕ) (entry : (s c : ℕ) → Option ℕ) → cells ≤ size f.setting.grid
+    → ((s c : ℕ) → EntryFits f (entry s c)) → All (StandsInCells f.setting) (filled f sheets cells entry)

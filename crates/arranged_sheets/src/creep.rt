@@ -10,7 +10,7 @@ ghost use Rattle.arranged_sheets.specs.Shapes.{filling};
 ghost use Rattle.arranged_sheets.specs.Creep.{creep_on as creep_on_side, up_to_fold, moved_up as moved_up_by};
 ghost use Rattle.arranged_sheets.specs.Creep.{creeping, creeping_slot as creeping_slot_of, creeping_sheets as creeping_of};
 ghost use Rattle.arranged_sheets.specs.Creep.{AreHalves, may_creep, why_not_creeping, IsRefusedCreep, IsRefusedCreeping};
-ghost use Rattle.arranged_sheets.specs.Standing.{EntryCreeps, FitsOnLeaf, LeavesStand};
+ghost use Rattle.arranged_sheets.specs.Standing.{AllFitOnLeaves, EntryCreeps, FitsOnLeaf, LeavesStand};
 
 use super::fill::{blocks_of, entry_at, is_turned, paper_of};
 use super::fitter::Fitter;
@@ -43,6 +43,8 @@ pub fn creeping_booklet_sheets(
     ensures made { IfOk result (λ made. made
         ≡ creeping_of (filling setting.now papers.now) turned_backs creep.innermost creep.leaves row.now) }
     ensures stands { IfOk result (LeavesStand setting.now turned_backs creep.innermost) }
+    ensures fits { OnOk result
+        (AllFitOnLeaves (filling setting.now papers.now) creep.innermost creep.leaves row.now) }
     ensures refused { IfErr result
         (IsRefusedCreeping (filling setting.now papers.now) creep.innermost creep.leaves row.now) }
 {

@@ -10,7 +10,7 @@ ghost use Rattle.arranged_sheets.specs.Filled.{behind_in, slot_on as slot_of_cel
 ghost use Rattle.arranged_sheets.specs.Filled.{grid_sheets as grid_of, card_sheets as cards_of, stack_sheets as stack_of};
 ghost use Rattle.arranged_sheets.specs.Filled.{duplex_sheets as leaves_of, booklet_sheets as booklet_of};
 ghost use Rattle.arranged_sheets.specs.Shapes.{filling, place as place_of, cell_on, entry_in, IsRefusedFor, IsRefusedFrom};
-ghost use Rattle.arranged_sheets.specs.Standing.{AllStand, EntryFits};
+ghost use Rattle.arranged_sheets.specs.Standing.{AllFit, AllStand, EntryFits};
 
 use super::fitter::Fitter;
 use layouts::{ArrangementError, Run, Setting, Turned};
@@ -49,6 +49,7 @@ pub fn grid_sheets(
     requires cells { cells ≤ size setting.now.grid }
     ensures made { IfOk result (λ made. made ≡ grid_of (filling setting.now papers.now) cells row.now) }
     ensures stands { IfOk result (AllStand setting.now.room) }
+    ensures fits { OnOk result (AllFit (filling setting.now papers.now) row.now) }
     ensures refused { IfErr result (IsRefusedFor (filling setting.now papers.now) row.now) }
 {
     let sheets = match blocks_of(row, u64::from(cells)) {
@@ -82,6 +83,7 @@ pub fn card_sheets(
     requires cells { cells ≤ size setting.now.grid }
     ensures made { IfOk result (λ made. made ≡ cards_of (filling setting.now papers.now) cells row.now) }
     ensures stands { IfOk result (AllStand setting.now.room) }
+    ensures fits { OnOk result (AllFit (filling setting.now papers.now) row.now) }
     ensures refused { IfErr result (IsRefusedFor (filling setting.now papers.now) row.now) }
 {
     let sheets = match blocks_of(row, 1) {
@@ -115,6 +117,7 @@ pub fn stack_sheets(
     requires cells { cells ≤ size setting.now.grid }
     ensures made { IfOk result (λ made. made ≡ stack_of (filling setting.now papers.now) cells row.now) }
     ensures stands { IfOk result (AllStand setting.now.room) }
+    ensures fits { OnOk result (AllFit (filling setting.now papers.now) row.now) }
     ensures refused { IfErr result (IsRefusedFor (filling setting.now papers.now) row.now) }
 {
     let sheets = match blocks_of(row, u64::from(cells)) {
@@ -146,6 +149,7 @@ pub fn leaf_sheets(
 ) -> Result<MadeSheets, ArrangementError>
     ensures made { IfOk result (λ made. made ≡ leaves_of (filling setting.now papers.now) row.now) }
     ensures stands { IfOk result (AllStand setting.now.room) }
+    ensures fits { OnOk result (AllFit (filling setting.now papers.now) row.now) }
     ensures refused { IfErr result (IsRefusedFor (filling setting.now papers.now) row.now) }
 {
     let cells = match cells_in(setting) {
@@ -188,6 +192,7 @@ pub fn booklet_sheets(
     requires { 2 ≤ size setting.now.grid }
     ensures made { IfOk result (λ made. made ≡ booklet_of (filling setting.now papers.now) turned_backs row.now) }
     ensures stands { IfOk result (AllStand setting.now.room) }
+    ensures fits { OnOk result (AllFit (filling setting.now papers.now) row.now) }
     ensures refused { IfErr result (IsRefusedFor (filling setting.now papers.now) row.now) }
 {
     let sheets = match blocks_of(row, 2) {
@@ -247,6 +252,8 @@ fn filled(
     ensures made { IfOk result (λ made. made ≡ sides_of (filling setting.now papers.now) shape.turned_backs shape.sheets
         shape.cells (entry_in shape setting.now row.now)) }
     ensures stands { IfOk result (AllStand setting.now.room) }
+    ensures fits { OnOk result ((s c : ℕ) → s < shape.sheets → c < shape.cells
+        → EntryFits (filling setting.now papers.now) (entry_in shape setting.now row.now s c)) }
     ensures refused { IfErr result (IsRefusedFor (filling setting.now papers.now) row.now) }
 {
     let mut fitter = match Fitter::new(alloc, setting, shape.cells) {

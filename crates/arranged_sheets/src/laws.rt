@@ -2,8 +2,10 @@
 ghost use Rattle.arranged_sheets.specs.Filled.{GridRunsOn, StackRunsOn, DuplexRunsOn, BehindIsMirror};
 ghost use Rattle.arranged_sheets.specs.Filled.{FilledIsInside, FilledIsApart, SidesAreInside, SidesAreApart, BookletIsGrid, BookletKeepsFold};
 ghost use Rattle.arranged_sheets.specs.Creep.{CreepMoves, CreepGrows, CreepKeepsSides, NoCreepIsPlain};
-ghost use Rattle.arranged_sheets.specs.Posters.{PosterCovers, TilesOverlap};
+ghost use Rattle.arranged_sheets.specs.Bound.{BookletIsRead};
+ghost use Rattle.arranged_sheets.specs.Posters.{PosterCovers, PosterHasTiles, RowIsShown, TilesOverlap};
 ghost use Rattle.arranged_sheets.specs.SameScale.{HaveOneScale, OneScaleStands};
+ghost use Rattle.arranged_sheets.specs.Standing.{FilledStandsInCells};
 
 /// The cells of the sheets of a grid, sheet by sheet, are the row.
 pub fn grid_runs_on()
@@ -75,6 +77,11 @@ pub fn no_creep_is_plain()
     ensures { NoCreepIsPlain }
 {}
 
+/// A booklet whose leaves are folded, put into one another and bound at either side is read in the order of its row.
+pub fn booklet_is_read()
+    ensures { BookletIsRead }
+{}
+
 /// Each point of a poster's page is shown on a tile.
 pub fn poster_covers()
     ensures { PosterCovers }
@@ -83,6 +90,21 @@ pub fn poster_covers()
 /// Neighbouring tiles of a poster share exactly the overlap.
 pub fn tiles_overlap()
     ensures { TilesOverlap }
+{}
+
+/// A poster that isn't refused has tiles, which are longer than they overlap.
+pub fn poster_has_tiles()
+    ensures { PosterHasTiles }
+{}
+
+/// So each point of each page of a row of posters is shown on one of its sheets.
+pub fn row_is_shown()
+    ensures { RowIsShown }
+{}
+
+/// Pages that have their places are each fitted into its cell, and read in order.
+pub fn filled_stands_in_cells()
+    ensures { FilledStandsInCells }
 {}
 
 /// With one scale for a row all its pages have that of the largest paper, the least of their own.

@@ -2,6 +2,7 @@
 //! also of leaves that creep, posters.
 #![tactic(auto)]
 
+mod checked;
 mod creep;
 mod fill;
 mod fitter;
@@ -10,6 +11,7 @@ mod poster;
 mod poster_rows;
 mod same_scale;
 
+pub use checked::{check_cells, check_posters};
 pub use creep::{Creep, creeping_booklet_sheets};
 pub use fill::{booklet_sheets, card_sheets, grid_sheets, leaf_sheets, stack_sheets};
 pub use poster::{Poster, PosterError, check_poster, poster_sheets};

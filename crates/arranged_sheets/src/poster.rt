@@ -4,9 +4,10 @@ ghost use Rattle.rules.specs.Papers.{is_side, longest_side};
 ghost use Rattle.pagespec.specs.Items.{item_of, measure_of};
 ghost use Rattle.rules.specs.Numbers.{greatest_number};
 ghost use Rattle.layouts.specs.Cells.{in_points, fitting as fits, slack as slack_of};
+ghost use Rattle.layouts.specs.Laws.{IsPaper};
 ghost use Rattle.layouts.specs.Refusals.{is_scale as may_be_scale};
 ghost use Rattle.arranged_sheets.specs.Posters.{tile as tile_of, stride as stride_of, length_of, poster_sheets as sheets_of};
-ghost use Rattle.arranged_sheets.specs.Posters.{most_tiles, why_no_poster, IsNoPoster, laid_of, laid_item, IsNear};
+ghost use Rattle.arranged_sheets.specs.Posters.{most_tiles, why_no_poster, IsNoPoster, MayBePoster, laid_of, laid_item, IsNear};
 
 use lengths::{Grains, Number, Paper, Unit};
 use pagespec::{Item, Measure, Turn};
@@ -65,6 +66,7 @@ pub fn check_poster(poster: &Poster, page_paper: &Paper) -> Result<(), PosterErr
     ensures tiles { OnOk result (poster.now.rows * poster.now.columns ≤ most_tiles) }
     ensures edge { OnOk result (poster.now.edge ≤ 10_000_000_000) }
     ensures possible { OnOk result (why_no_poster page_paper.now poster.now ≡ None) }
+    ensures fits { OnOk result (MayBePoster poster.now page_paper.now) }
     ensures refused { IfErr result (λ error. why_no_poster page_paper.now poster.now ≡ Some error) }
 {
     match laid_on(poster, page_paper) {
@@ -101,6 +103,7 @@ pub(crate) fn push_poster(
 ) -> Result<(), PosterError>
     ensures pushed { OnOk result (made.new ≡ made.old ++ sheets_of page_paper.now poster.now page) }
     ensures possible { OnOk result (why_no_poster page_paper.now poster.now ≡ None) }
+    ensures fits { OnOk result (MayBePoster poster.now page_paper.now) }
     ensures refused { IfErr result (IsNoPoster (why_no_poster page_paper.now poster.now)) }
 {
     let laid = match laid_on(poster, page_paper) {
@@ -126,6 +129,7 @@ pub(crate) fn push_poster(
 fn laid_on(poster: &Poster, page_paper: &Paper) -> Result<Laid, PosterError>
     ensures value { IfOk result (λ laid. laid ≡ laid_of page_paper.now poster.now) }
     ensures tiles { IfOk result (λ laid. poster.now.rows * poster.now.columns ≤ most_tiles) }
+    ensures page { OnOk result (IsPaper page_paper.now) }
     ensures edge { IfOk result (λ laid. poster.now.edge ≤ 10_000_000_000) }
     ensures possible { OnOk result (why_no_poster page_paper.now poster.now ≡ None) }
     ensures refused { IfErr result (λ error. why_no_poster page_paper.now poster.now ≡ Some error) }

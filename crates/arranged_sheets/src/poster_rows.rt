@@ -1,7 +1,7 @@
 //! Posters of the pages of a row.
 ghost use Rattle.std.specs.Prelude.{◌≡◌, ◌⊎◌, ◌++◌, ◌*◌, ◌≤◌, IfErr, IfOk, OnOk, slice_index_or};
 ghost use Rattle.arranged_sheets.specs.Posters.{most_tiles, blank_tiles, entry_tiles, poster_paper, row_tiles};
-ghost use Rattle.arranged_sheets.specs.Posters.{IsNoPosterFor, IsNoPosterFrom};
+ghost use Rattle.arranged_sheets.specs.Posters.{AllMayBePosters, EntryMayBePoster, IsNoPosterFor, IsNoPosterFrom};
 ghost use Rattle.arranged_sheets.specs.declared.poster.PosterError.TheVariants as why;
 
 use crate::poster::{Poster, PosterError, push_poster};
@@ -19,6 +19,7 @@ pub fn poster_row_sheets(
 ) -> Result<MadeSheets, PosterError>
     requires { poster.now.rows * poster.now.columns ≤ most_tiles }
     ensures made { IfOk result (λ made. made ≡ row_tiles poster.now papers.now row.now) }
+    ensures fits { OnOk result (AllMayBePosters poster.now papers.now row.now) }
     ensures refused { IfErr result (IsNoPosterFor poster.now papers.now row.now) }
 {
     let mut made = MadeSheets::new(alloc);
@@ -40,16 +41,17 @@ fn push_entry(
 ) -> Result<(), PosterError>
     requires { poster.now.rows * poster.now.columns ≤ most_tiles }
     ensures pushed { OnOk result (made.new ≡ made.old ++ entry_tiles poster.now papers.now entry) }
+    ensures fits { OnOk result (EntryMayBePoster poster.now papers.now entry) }
     ensures refused { IfErr result (λ e. (e ≡ why.NoMemory) ⊎ IsNoPosterFrom poster.now papers.now entry e) }
 {
     match entry {
-        Some(page) => push_poster(poster, &paper_of(poster, papers, page), page, made),
+        Some(page) => push_poster(poster, &poster_paper_of(poster, papers, page), page, made),
         None => push_blanks(poster, made),
     }
 }
 
 /// The paper of a page.
-fn paper_of(poster: &Poster, papers: &[Paper], page: u32) -> Paper
+pub(crate) fn poster_paper_of(poster: &Poster, papers: &[Paper], page: u32) -> Paper
     ensures { result ≡ poster_paper poster.now papers.now page }
 {
     if (page as usize) < papers.len() {

@@ -6,8 +6,10 @@ ghost use Rattle.dsc.specs.Fields.{fields_in};
 ghost use Rattle.dsc.specs.Units.{units_of};
 ghost use Rattle.document_paper.specs.Media as meaning;
 
-use crate::fields::{is_zero, points_of};
-use dsc::{comment_value, first_content, header_len, line_end_after, next_field, trailer_box};
+use crate::boxes::{box_paper, paper_of, paper_of_box};
+use crate::comments::{continuation, first_comment};
+use crate::fields::points_of;
+use dsc::{header_len, next_field, trailer_box};
 use lengths::{Grains, Paper};
 use paper_names::paper_by_name;
 
@@ -21,32 +23,43 @@ pub enum Comment {
     DocumentMedia,
     /// The first `%%DocumentPaperSizes:`, of which a field is the name of a paper.
     DocumentPaperSizes,
-    /// The first `%%BoundingBox:`, which begins at 0 0.
+    /// The first `%%BoundingBox:`.
     BoundingBox,
 }
 
-/// The paper of a document, by the width and height of its first `%%DocumentMedia:`, else by the first known name in its
-/// `%%DocumentPaperSizes:` (on its side, if the box told has its sides exchanged, to 15 points), else by a `%%BoundingBox:` that begins at 0 0, among its header comments (DSC 3.0, 5.2). A box
-/// that is `(atend)` is the first `%%BoundingBox:` of the trailer; a text with a faulty data block has no trailer.
-pub fn document_paper(text: &[u8]) -> Option<(Paper, Comment)>
-    ensures { result ≡ meaning.document_paper text.now }
+/// The paper of a document for which this one is usual, by its header comments (DSC 3.0, 5.2): by the width and height
+/// of its first `%%DocumentMedia:`, else by the first known name in its `%%DocumentPaperSizes:` (on its side, if the box
+/// at 0 0 has its sides exchanged, to 15 points), else by its `%%BoundingBox:`, as `paper_of_box` has it. A box that is
+/// `(atend)` is the first `%%BoundingBox:` of the trailer; a text with a faulty data block has no trailer.
+pub fn document_paper(text: &[u8], usual: &Paper) -> Option<(Paper, Comment)>
+    ensures { result ≡ meaning.document_paper usual.now text.now }
 {
     let (header, _) = text.split_at(header_len(text));
     match media_in(header) {
         Some(paper) => Some((paper, Comment::DocumentMedia)),
-        None => named_or_boxed(header, text),
+        None => named_or_boxed(header, text, usual),
     }
 }
 
 /// The paper of the first known name among the comments, else that of the first box.
-fn named_or_boxed(header: &[u8], text: &[u8]) -> Option<(Paper, Comment)>
-    ensures { result ≡ meaning.or_named (meaning.contents header.now) (meaning.trailer_lines (units_of text.now)) None }
+fn named_or_boxed(header: &[u8], text: &[u8], usual: &Paper) -> Option<(Paper, Comment)>
+    ensures { result ≡ meaning.or_named usual.now (meaning.contents header.now) (meaning.trailer_lines (units_of text.now)) None }
 {
-    let told = box_in(header, text);
+    let value = box_of(header, text);
     match named_in(header) {
-        Some(paper) => Some((lying_as(told, paper), Comment::DocumentPaperSizes)),
-        None => Some((told?, Comment::BoundingBox)),
+        Some(paper) => Some((
+            lying_as(corner_paper(value), paper),
+            Comment::DocumentPaperSizes,
+        )),
+        None => Some((paper_of_box(usual, value?)?, Comment::BoundingBox)),
     }
+}
+
+/// The paper of a box that begins at 0 0, if there is a box.
+fn corner_paper(value: Option<&[u8]>) -> Option<Paper>
+    ensures { result ≡ option_and_then meaning.box_paper (option_map (λ v. fields_in v.now) value.entry) }
+{
+    box_paper(value?)
 }
 
 /// The paper as this box lies: on its side, if the box has its sides exchanged.
@@ -75,12 +88,30 @@ fn are_near(one: Grains, other: Grains) -> bool
     (one.get() - other.get()).unsigned_abs() <= NEARNESS
 }
 
-/// The paper of the first known name in the first list of names among the comments.
+/// The paper of the first known name in the first list of names among the comments, which lines may continue.
 fn named_in(header: &[u8]) -> Option<Paper>
-    ensures { result ≡ option_and_then meaning.first_named
-        (meaning.comment_fields (codes "%%DocumentPaperSizes") (meaning.contents header.now)) }
+    ensures { result ≡ meaning.first_named_in
+        (meaning.comment_lines (codes "%%DocumentPaperSizes") (meaning.contents header.now)) }
 {
-    first_named(value_of(header, b"%%DocumentPaperSizes", b"%%DocumentPaperSizes:")?)
+    let (value, others) = first_comment(header, b"%%DocumentPaperSizes", b"%%DocumentPaperSizes:")?;
+    match first_named(value) {
+        Some(paper) => Some(paper),
+        None => named_behind(others),
+    }
+}
+
+/// The paper of the first known name in the lines at the front that continue a comment.
+fn named_behind(text: &[u8]) -> Option<Paper>
+    ensures { result ≡ meaning.first_named_in (meaning.continued (meaning.contents text.now)) }
+{
+    let mut rest = text;
+    while let Some((value, others)) = continuation(rest) {
+        if let Some(paper) = first_named(value) {
+            return Some(paper);
+        }
+        rest = others;
+    }
+    None
 }
 
 /// The paper of the first field that is the name of one.
@@ -105,32 +136,25 @@ fn media_in(header: &[u8]) -> Option<Paper>
     media_paper(value_of(header, b"%%DocumentMedia", b"%%DocumentMedia:")?)
 }
 
-/// The paper of the first box among the comments, which may stand in the trailer.
-fn box_in(header: &[u8], text: &[u8]) -> Option<Paper>
-    ensures { result ≡ option_and_then (meaning.box_of (meaning.trailer_lines (units_of text.now)))
-        (meaning.comment_fields (codes "%%BoundingBox") (meaning.contents header.now)) }
+/// What stands behind the colon of the first box among the comments, which may stand in the trailer.
+fn box_of<'t>(header: &'t [u8], text: &'t [u8]) -> Option<&'t [u8]>
+    ensures { option_map (λ value. fields_in value.now) result
+        ≡ meaning.box_of (meaning.contents header.now) (meaning.trailer_lines (units_of text.now)) }
 {
-    box_told(value_of(header, b"%%BoundingBox", b"%%BoundingBox:")?, text)
+    box_or_last(value_of(header, b"%%BoundingBox", b"%%BoundingBox:")?, text)
 }
 
-/// The paper of a box in the header with this value.
-fn box_told(value: &[u8], text: &[u8]) -> Option<Paper>
-    ensures { result ≡ meaning.box_of (meaning.trailer_lines (units_of text.now)) (fields_in value.now) }
+/// A box in the header with this value, or the first one in the trailer.
+#[tactic(auto, using(crate::proofs::Contents::trailer_box_is))]
+fn box_or_last<'t>(value: &'t [u8], text: &'t [u8]) -> Option<&'t [u8]>
+    ensures { option_map (λ v. fields_in v.now) result
+        ≡ meaning.box_or_last (meaning.trailer_lines (units_of text.now)) (fields_in value.now) }
 {
     if is_at_end(value) {
-        box_in_trailer(text)
+        trailer_box(text)
     } else {
-        box_paper(value)
+        Some(value)
     }
-}
-
-/// The paper of the first box in the trailer.
-#[tactic(auto, using(crate::proofs::Contents::trailer_box_is))]
-fn box_in_trailer(text: &[u8]) -> Option<Paper>
-    ensures { result ≡ option_and_then meaning.box_paper
-        (meaning.comment_fields (codes "%%BoundingBox") (meaning.trailer_lines (units_of text.now))) }
-{
-    box_paper(trailer_box(text)?)
 }
 
 /// Whether a comment in the header with this value stands in the trailer.
@@ -144,21 +168,16 @@ fn is_at_end(value: &[u8]) -> bool
 }
 
 /// What stands behind the colon of the first comment with this key.
+#[tactic(auto, using(crate::proofs::Contents::none_told, crate::proofs::Contents::first_told))]
 fn value_of<'t>(header: &'t [u8], key: &[u8], with_colon: &[u8]) -> Option<&'t [u8]>
     requires { with_colon.now ≡ key.now ++ colon ∷ [] }
     ensures { option_map (λ value. fields_in value.now) result
         ≡ meaning.comment_fields key.now (meaning.contents header.now) }
 {
-    let mut rest = header;
-    while !rest.is_empty() {
-        let content = first_content(rest);
-        if let Some(value) = comment_value(content, key, with_colon) {
-            return Some(value);
-        }
-        let (_, others) = rest.split_at(line_end_after(rest, content.len()));
-        rest = others;
+    match first_comment(header, key, with_colon) {
+        Some((value, _)) => Some(value),
+        None => None,
     }
-    None
 }
 
 /// The paper of a medium: its name, its width, its height, and more.
@@ -169,26 +188,4 @@ pub fn media_paper(value: &[u8]) -> Option<Paper>
     let (width, rest) = next_field(rest)?;
     let (height, _) = next_field(rest)?;
     paper_of(points_of(width), points_of(height))
-}
-
-/// The paper of a box that begins at 0 0: left, bottom, right, top, and more.
-pub fn box_paper(value: &[u8]) -> Option<Paper>
-    ensures { result ≡ meaning.box_paper (fields_in value.now) }
-{
-    let (left, rest) = next_field(value)?;
-    let (bottom, rest) = next_field(rest)?;
-    let (right, rest) = next_field(rest)?;
-    let (top, _) = next_field(rest)?;
-    if is_zero(points_of(left)) && is_zero(points_of(bottom)) {
-        paper_of(points_of(right), points_of(top))
-    } else {
-        None
-    }
-}
-
-/// The paper with these sides, if there is one.
-fn paper_of(width: Option<Grains>, height: Option<Grains>) -> Option<Paper>
-    ensures { result ≡ meaning.paper_of width height }
-{
-    Paper::new(width?, height?)
 }

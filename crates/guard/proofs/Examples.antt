@@ -48,8 +48,8 @@ unfolding digits
 a4 = refl
 
 -- with a paper it has one line more, the third
-without_a_paper : length (guard_lines None) ≡ 33
+without_a_paper : length (guard_lines None) ≡ 38
 without_a_paper = refl
 
-with_a_paper : length (guard_lines (Some (points 595 842))) ≡ 34
+with_a_paper : length (guard_lines (Some (points 595 842))) ≡ 39
 with_a_paper = refl

@@ -20,7 +20,10 @@ const OTHER_LINES: &[u8] = b"\
     /showpage {PStoPSenablepage {ImposeShow} if} def\n\
     /copypage {} def\n\
     /erasepage {} def\n\
-    /setpagedevice where {pop /setpagedevice {pop} def} if\n\
+    /setpagedevice where {pop /ImposeDevice /setpagedevice load def\n\
+    /setpagedevice {PStoPSenablepage {[/Duplex /Tumble /NumCopies /Collate /MediaType /MediaColor\n\
+    /MediaWeight /MediaPosition /ManualFeed] {1 index 1 index known\n\
+    {1 dict dup 2 index 4 index 4 index get put ImposeDevice} if pop} forall} if pop} def} if\n\
     [/letter /lettersmall /legal /ledger /tabloid /11x17 /note /a3 /a4 /a4small /a5 /b4 /b5\n\
     /executivepage /folio /quarto /halfletter /com10envelope /monarchenvelope /c5envelope /dlenvelope]\n\
     {dup where {pop {} def} {pop} ifelse} forall\n\
@@ -42,13 +45,15 @@ const OTHER_LINES: &[u8] = b"\
     end newpath systemdict /save get exec pop} put\n\
     /save {count 0 ne {dup /ImposeSave eq {\n\
     /showpage where {dup userdict ne 1 index wcheck and\n\
-    {/showpage {userdict /showpage get exec} put} {pop} ifelse} if\n\
+    {/showpage {userdict /showpage get exec} put}\n\
+    {pop PStoPSenablepage {/showpage load dup /ImposeShow load ne {length 0 eq\n\
+    {userdict /showpage {PStoPSenablepage {ImposeShow} if} put} if} {pop} ifelse} if} ifelse} if\n\
     ImposeGuard begin} if} if systemdict /save get exec} def\n\
     end} bind if\n\
     %%EndResource\n";
 
 /// More bytes than the guard has, with any paper.
-const ROOM: usize = 2_048;
+const ROOM: usize = 2_560;
 
 /// The text with the guard put in behind its header comments: the first line, and the comments behind it up to and with
 /// `%%EndComments`. With a sheet's paper the guard first sets the device's page size to it, if the interpreter has

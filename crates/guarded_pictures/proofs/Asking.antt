@@ -7,7 +7,7 @@ use Rattle.pictures.specs.Operators.{with_operands, judged, located, loaded, sam
 use Rattle.pictures.specs.Machine.{State, push, saved, worked}
 use Rattle.pictures.specs.Sheets.{run_of}
 use Rattle.pictures.proofs.Runs.{runs_one, runs_none}
-use Rattle.guarded_pictures.specs.Behind.{save_tokens}
+use Rattle.guarded_pictures.specs.Behind.{save_tokens, keeping_tokens}
 use Rattle.guarded_pictures.specs.Lines.{asks_userdict, at_sheet_save, with_asking, marked, AsksUserdict, AskingShows}
 use Rattle.guarded_pictures.proofs.Absent.{known, known_below, through}
 use Rattle.guarded_pictures.proofs.Counting.{counted}
@@ -26,7 +26,7 @@ abbrev putting : List Token → List Token
 putting l =
     Opens ∷ Literal (codes "showpage")
     ∷ Opens ∷ Name (codes "userdict") ∷ Literal (codes "showpage") ∷ Bound (codes "get") ∷ Bound (codes "exec") ∷ Closes
-    ∷ Bound (codes "put") ∷ Closes ∷ Opens ∷ Bound (codes "pop") ∷ Closes ∷ Bound (codes "ifelse") ∷ l
+    ∷ Bound (codes "put") ∷ Closes ∷ (keeping_tokens ++ (Bound (codes "ifelse") ∷ l))
 
 abbrev comparing : List Token → List Token
 comparing l = Bound (codes "ne") ∷ Number (codes "1") ∷ Bound (codes "index") ∷ Bound (codes "wcheck") ∷ Bound (codes "and") ∷ putting l

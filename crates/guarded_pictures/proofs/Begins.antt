@@ -1,10 +1,12 @@
 -- What the sheet's text and the guard do where a page begins.
 use Rattle.std.specs.Prelude.{Option, Some, None, codes, bytes_eq, decimal, if◌then◌else◌}
+use Rattle.std.specs.Fmt.{digits}
 use Rattle.std.proofs.lemmas.Slice.Eq.{bytes_eq-Decides}
-use Rattle.std.proofs.Common.{◌≡◌, ℕ, ◌+◌, refl, ap, ◌∙◌, sym, subst, Bool, true, false, not, true≢false, ◌&&◌, ◌==◌, List, [], ◌∷◌, ◌++◌, length, arith}
-use Rattle.pictures.specs.Objects.{Token, Number, Name, Literal, Bound, Opens, Closes, Object, Plain, Truth, Procedure, Mark, Dictionary, SystemDictionary, Matrix, Saved, Call}
+use Rattle.std.proofs.Common.{◌≡◌, ℕ, ◌+◌, ◌^◌, ◌<◌, refl, ap, ◌∙◌, sym, subst, Bool, true, false, not, true≢false, ◌&&◌, ◌==◌, List, [], ◌∷◌, ◌++◌, length, arith}
+use Rattle.pictures.specs.Objects.{Token, Number, Name, Literal, Bound, Opens, Closes, Object, Plain, Truth, Procedure, Mark, Dictionary, SystemDictionary, Matrix, Saved, Call, Equal}
 use Rattle.pictures.specs.Dictionaries.{Entry, meaning, system, or, entry_of}
 use Rattle.pictures.specs.Operators.{Work, with_operands, judged, located, loaded, ended, holder}
+use Rattle.pictures.specs.Calculations.{compared}
 use Rattle.pictures.specs.Chains.{is_same_chain, are_same_operands}
 use Rattle.pictures.specs.Machine.{State, Graphics, Segment, Runs, push, worked, traced, may_precede, procedure_for, numbers_before}
 use Rattle.pictures.specs.Sheets.{run_of, among, Numbers, zero_text, edge, point, edge_tokens, border_tokens, saving_tokens, placing_tokens, place_in, border_in, in_userdict}
@@ -14,10 +16,10 @@ use Rattle.pictures.proofs.Straight.{Known, straight, straight_runs}
 use Rattle.pictures.proofs.Opening.{snapshot_of, apart, is_apart}
 use Rattle.pictures.proofs.Tests.{first, second}
 use Rattle.pictures.proofs.Placed.{both_true}
-use Rattle.guarded_pictures.specs.Behind.{save_tokens, clip_tokens, outer_tokens}
+use Rattle.guarded_pictures.specs.Behind.{operator, save_tokens, clip_tokens, outer_tokens, showpage_tokens, looking_tokens, putting_back_tokens, keeping_tokens}
 use Rattle.guarded_pictures.specs.Behind.{path_tokens as tracing_tokens}
 use Rattle.guarded_pictures.specs.Shelter.{Outer, outer_is, means, all_absent, outer_entries, outer_made, sheltered, outline_tokens}
-use Rattle.guarded_pictures.specs.Pages.{TakesPages, Encloses, around, placed_at, has_nothing, looked_up, looked_up_first, PageBegins}
+use Rattle.guarded_pictures.specs.Pages.{TakesPages, Encloses, Shows, around, placed_at, has_nothing, looked_up, looked_up_first, PageBegins}
 use Rattle.guarded_pictures.proofs.Absent.{known, known_below, keys_differ, through}
 use Rattle.guarded_pictures.proofs.Counting.{counted}
 use Rattle.guarded_pictures.proofs.Steps.{some, by_name}
@@ -72,10 +74,120 @@ for_save s = Plain (Literal (codes "ImposeSave")) ∷ Dictionary 0 ∷ s.work.op
 abbrev pub before : State → List Object → State
 before s os = record s { work = with_operands s.work os }
 
--- behind the test for a dictionary's own showpage
-abbrev begins_page : List Token → List Token
-begins_page l =
-    Closes ∷ Bound (codes "if") ∷ Closes ∷ Bound (codes "if") ∷ Name (codes "systemdict") ∷ really l
+-- The test for an empty showpage.
+
+-- behind the flag
+abbrev pub looking : List Token → List Token
+looking l = Opens ∷ (looking_tokens ++ (Closes ∷ Bound (codes "if") ∷ l))
+
+-- and behind what it finds
+abbrev pub filling : List Token → List Token
+filling l = Opens ∷ (putting_back_tokens ++ (Closes ∷ Bound (codes "if") ∷ l))
+
+abbrev pub measuring : List Token → List Token
+measuring l = Bound (codes "length") ∷ Number (codes "0") ∷ Bound (codes "eq") ∷ filling l
+
+-- outside all pages a procedure is measured
+pub looked : (s u : State) (ts l : List Token) → means s (codes "PStoPSenablepage") ≡ Some (Truth true) → means s (codes "showpage") ≡ Some (Procedure ts)
+    → means s (codes "ImposeShow") ≡ system (codes "showpage") → Runs false (run_of (measuring l) (push (Procedure ts) s)) u
+    → Runs false (run_of (Name (codes "PStoPSenablepage") ∷ looking l) s) u
+looked s u ts l flag is show r =
+    let comparing : List Token =
+    Bound (codes "ne") ∷ Opens ∷ Bound (codes "length") ∷ Number (codes "0") ∷ Bound (codes "eq")
+    ∷ Opens ∷ (putting_back_tokens ++ (Closes ∷ Bound (codes "if") ∷ Closes ∷ Opens ∷ Bound (codes "pop") ∷ Closes ∷ Bound (codes "ifelse") ∷ l)) in
+    let l2 : List Token = Bound (codes "load") ∷ comparing in
+    let l1 : List Token = Bound (codes "dup") ∷ Literal (codes "ImposeShow") ∷ l2 in
+    let l0 : List Token = Bound (codes "load") ∷ l1 in
+    let to_load : State = push (Plain (Literal (codes "showpage"))) s in
+    let one : State = push (Procedure ts) s in
+    let two : State = push (Procedure ts) one in
+    let asked : State = push (Plain (Literal (codes "ImposeShow"))) two in
+    let both : State = push (operator (system (codes "showpage"))) two in
+    by_name (codes "PStoPSenablepage") (looking l) s (run_of (looking l) (push (Truth true) s)) u (Some (Truth true)) flag refl
+    (some 3 (run_of (looking l) (push (Truth true) s)) (run_of l0 to_load) u refl
+    (runs_one false (run_of l0 to_load) (run_of l1 one) u (ap (λ x. worked (loaded x s.work) (run_of l1 to_load)) is)
+    (some 2 (run_of l1 one) (run_of l2 asked) u refl
+    (runs_one false (run_of l2 asked) (run_of comparing both) u (ap (λ x. worked (loaded x two.work) (run_of comparing asked)) show)
+    (some 4 (run_of comparing both) (run_of (measuring l) one) u refl r)))))
+
+three_isnt_none : compared Equal (decimal 3) (codes "0") ≡ Some false
+unfolding digits
+three_isnt_none = refl
+
+-- the guard's own stays
+stays_shown : (s : State) (l : List Token) → means s (codes "PStoPSenablepage") ≡ Some (Truth true) → means s (codes "showpage") ≡ Some (Procedure showpage_tokens)
+    → means s (codes "ImposeShow") ≡ system (codes "showpage") → Runs false (run_of (Name (codes "PStoPSenablepage") ∷ looking l) s) (run_of l s)
+stays_shown s l flag is show =
+    let end : State = run_of l s in
+    let one : State = push (Procedure showpage_tokens) s in
+    let measured : State = push (Plain (Number (codes "0"))) (push (Plain (Number (decimal 3))) s) in
+    let l1 : List Token = Bound (codes "eq") ∷ filling l in
+    looked s end showpage_tokens l flag is show
+    (some 2 (run_of (measuring l) one) (run_of l1 measured) end refl
+    (runs_one false (run_of l1 measured) (run_of (filling l) (push (Truth false) s)) end (ap (λ x. worked (judged x (with_operands s.work s.work.operands)) (run_of (filling l) measured)) three_isnt_none)
+    (some 2 (run_of (filling l) (push (Truth false) s)) end end refl (runs_none false end))))
+
+-- and within a page nothing is asked
+still_shown : (outers : List Outer) (s : State) (os : List Object) (l : List Token) → Encloses outers s → Shows outers s
+    → Runs false (run_of (Name (codes "PStoPSenablepage") ∷ looking l) (before s os)) (run_of l (before s os))
+still_shown [] s os l flag shows = stays_shown (before s os) l flag shows.0 shows.1
+still_shown (o ∷ os) s operands l e shows =
+    let there : State = before s operands in
+    by_name (codes "PStoPSenablepage") (looking l) there (run_of (looking l) (push (Truth false) there)) (run_of l there) (Some (Truth false)) e.0 refl
+    (some 2 (run_of (looking l) (push (Truth false) there)) (run_of l there) (run_of l there) refl (runs_none false (run_of l there)))
+
+-- The sheet's save.
+
+-- behind that test
+abbrev pub finding : List Token → List Token
+finding l = Name (codes "ImposeGuard") ∷ Bound (codes "begin") ∷ Name (codes "systemdict") ∷ really l
+
+-- up to it, where userdict has the first showpage
+pub up_to_test : (s u : State) (l : List Token) → meaning s.work.dictionaries s.work.entries (codes "userdict") ≡ system (codes "userdict")
+    → holder s.work.dictionaries s.work.entries (codes "showpage") ≡ Some 0 → length s.work.operands + 2 < 10 ^ 64
+    → Runs false (run_of (Name (codes "PStoPSenablepage") ∷ looking (finding l)) (before s (for_save s))) u
+    → Runs false (run_of (save_tokens ++ l) (before s (for_save s))) u
+up_to_test s u l user first_is few r =
+    let os : List Object = for_save s in
+    let count : Object = Plain (Number (decimal (length os))) in
+    let l1 : List Token = Bound (codes "ne") ∷ asked_name l in
+    let here : List Token = Name (codes "PStoPSenablepage") ∷ looking (finding l) in
+    let asking : List Token =
+    Bound (codes "ne") ∷ Number (codes "1") ∷ Bound (codes "index") ∷ Bound (codes "wcheck") ∷ Bound (codes "and")
+    ∷ Opens ∷ Literal (codes "showpage")
+    ∷ Opens ∷ Name (codes "userdict") ∷ Literal (codes "showpage") ∷ Bound (codes "get") ∷ Bound (codes "exec") ∷ Closes
+    ∷ Bound (codes "put") ∷ Closes ∷ (keeping_tokens ++ (Bound (codes "ifelse") ∷ finding l)) in
+    let deciding : List Token =
+    Opens ∷ Bound (codes "dup") ∷ Name (codes "userdict") ∷ Bound (codes "ne") ∷ Number (codes "1")
+    ∷ Bound (codes "index") ∷ Bound (codes "wcheck") ∷ Bound (codes "and")
+    ∷ Opens ∷ Literal (codes "showpage")
+    ∷ Opens ∷ Name (codes "userdict") ∷ Literal (codes "showpage") ∷ Bound (codes "get") ∷ Bound (codes "exec") ∷ Closes
+    ∷ Bound (codes "put") ∷ Closes ∷ (keeping_tokens ++ (Bound (codes "ifelse") ∷ Closes ∷ Bound (codes "if") ∷ finding l)) in
+    let found : List Token = Bound (codes "where") ∷ deciding in
+    let s1 : State = before s (Plain (Number (codes "0")) ∷ count ∷ os) in
+    let s2 : State = before s (Plain (Literal (codes "showpage")) ∷ os) in
+    let s3 : State = before s (Truth true ∷ Dictionary 0 ∷ os) in
+    let s4 : State = before s (Dictionary 0 ∷ Dictionary 0 ∷ os) in
+    some 2 (run_of (save_tokens ++ l) (before s os)) (run_of l1 s1) u refl
+    (runs_one false (run_of l1 s1) (run_of (asked_name l) (before s (Truth true ∷ os))) u (ap (λ x. worked (judged x (with_operands s.work os)) (run_of (asked_name l) s1)) (counted (length os) (omega arith) (omega (arith, few))))
+    (some 8 (run_of (asked_name l) (before s (Truth true ∷ os))) (run_of found s2) u refl
+    (runs_one false (run_of found s2) (run_of deciding s3) u (ap (λ x. worked (located x true false (with_operands s.work os)) (run_of deciding s2)) first_is)
+    (some 3 (run_of deciding s3) (run_of (Name (codes "userdict") ∷ asking) s4) u refl
+    (by_name (codes "userdict") asking s4 (run_of asking (push (Dictionary 0) s4)) u (system (codes "userdict")) user refl
+    (some 9 (run_of asking (push (Dictionary 0) s4)) (run_of here (before s os)) u refl r))))))
+
+-- and behind it: the dictionary that marks a page is put on the stack, and the state saved
+pub marks_page : (s : State) (os : List Object) (number : ℕ) (l : List Token) → means s (codes "ImposeGuard") ≡ Some (Dictionary number)
+    → meaning (number ∷ s.work.dictionaries) s.work.entries (codes "systemdict") ≡ system (codes "systemdict")
+    → Runs false (run_of (finding l) (before s os)) (run_of l (within s (Saved s.level ∷ os) (number ∷ s.work.dictionaries) s.work.entries s.work.made s.graphics))
+marks_page s os number l guard real =
+    let there : State = before s os in
+    let marked : State = record there { work = record there.work { dictionaries = number ∷ s.work.dictionaries } } in
+    let end : State = run_of l (within s (Saved s.level ∷ os) (number ∷ s.work.dictionaries) s.work.entries s.work.made s.graphics) in
+    let l1 : List Token = Bound (codes "begin") ∷ Name (codes "systemdict") ∷ really l in
+    by_name (codes "ImposeGuard") l1 there (run_of l1 (push (Dictionary number) there)) end (Some (Dictionary number)) guard refl
+    (some 1 (run_of l1 (push (Dictionary number) there)) (run_of (Name (codes "systemdict") ∷ really l) marked) end refl
+    (really_saves marked l real))
 
 -- the sheet's save puts the dictionary that marks a page on the stack, and saves
 page_saves : (outers : List Outer) (s : State) (l : List Token) (h : TakesPages outers s)
@@ -84,42 +196,12 @@ page_saves : (outers : List Outer) (s : State) (l : List Token) (h : TakesPages 
 page_saves outers s l h =
     let ds : List ℕ = s.work.dictionaries in
     let es : List Entry = s.work.entries in
-    let names = known_below looked_up 0 ds es h.names in
-    let first_names = known looked_up_first (h.number ∷ ds) es h.clip_alone in
-    let os : List Object = for_save s in
-    let end : State = run_of l (within s (Saved s.level ∷ os) (h.number ∷ ds) es s.work.made s.graphics) in
-    let count : Object = Plain (Number (decimal (length os))) in
-    let later : List Token = Closes ∷ Bound (codes "if") ∷ Name (codes "systemdict") ∷ really l in
-    let l1 : List Token = Bound (codes "ne") ∷ asked_name l in
-    let finding : List Token = Name (codes "ImposeGuard") ∷ Bound (codes "begin") ∷ Name (codes "systemdict") ∷ really l in
-    let deciding : List Token =
-    Opens ∷ Bound (codes "dup") ∷ Name (codes "userdict") ∷ Bound (codes "ne") ∷ Number (codes "1")
-    ∷ Bound (codes "index") ∷ Bound (codes "wcheck") ∷ Bound (codes "and")
-    ∷ Opens ∷ Literal (codes "showpage")
-    ∷ Opens ∷ Name (codes "userdict") ∷ Literal (codes "showpage") ∷ Bound (codes "get") ∷ Bound (codes "exec") ∷ Closes
-    ∷ Bound (codes "put") ∷ Closes ∷ Opens ∷ Bound (codes "pop") ∷ Closes ∷ Bound (codes "ifelse") ∷ Closes ∷ Bound (codes "if") ∷ finding in
-    let found : List Token = Bound (codes "where") ∷ deciding in
-    let asking : List Token =
-    Bound (codes "ne") ∷ Number (codes "1") ∷ Bound (codes "index") ∷ Bound (codes "wcheck") ∷ Bound (codes "and")
-    ∷ Opens ∷ Literal (codes "showpage")
-    ∷ Opens ∷ Name (codes "userdict") ∷ Literal (codes "showpage") ∷ Bound (codes "get") ∷ Bound (codes "exec") ∷ Closes
-    ∷ Bound (codes "put") ∷ Closes ∷ Opens ∷ Bound (codes "pop") ∷ Closes ∷ Bound (codes "ifelse") ∷ finding in
-    let s1 : State = before s (Plain (Number (codes "0")) ∷ count ∷ os) in
-    let s2 : State = before s (Plain (Literal (codes "showpage")) ∷ os) in
-    let s3 : State = before s (Truth true ∷ Dictionary 0 ∷ os) in
-    let s4 : State = before s (Dictionary 0 ∷ Dictionary 0 ∷ os) in
-    let s5 : State = before s os in
-    let marked : State = record s5 { work = record s5.work { dictionaries = h.number ∷ ds } } in
-    some 2 (run_of (save_tokens ++ l) (before s os)) (run_of l1 s1) end refl
-    (runs_one false (run_of l1 s1) (run_of (asked_name l) (before s (Truth true ∷ os))) end (ap (λ x. worked (judged x (with_operands s.work os)) (run_of (asked_name l) s1)) (counted (length os) (omega arith) (omega (arith, h.few_operands))))
-    (some 8 (run_of (asked_name l) (before s (Truth true ∷ os))) (run_of found s2) end refl
-    (runs_one false (run_of found s2) (run_of deciding s3) end (ap (λ x. worked (located x true false (with_operands s.work os)) (run_of deciding s2)) h.userdict_first)
-    (some 3 (run_of deciding s3) (run_of (Name (codes "userdict") ∷ asking) s4) end refl
-    (by_name (codes "userdict") asking s4 (run_of asking (push (Dictionary 0) s4)) end (system (codes "userdict")) (names (codes "userdict") refl) refl
-    (some 9 (run_of asking (push (Dictionary 0) s4)) (run_of finding s5) end refl
-    (by_name (codes "ImposeGuard") (Bound (codes "begin") ∷ Name (codes "systemdict") ∷ really l) s5 (run_of (Bound (codes "begin") ∷ Name (codes "systemdict") ∷ really l) (push (Dictionary h.number) s5)) end (Some (Dictionary h.number)) h.guard_is refl
-    (some 1 (run_of (Bound (codes "begin") ∷ Name (codes "systemdict") ∷ really l) (push (Dictionary h.number) s5)) (run_of (Name (codes "systemdict") ∷ really l) marked) end refl
-    (really_saves marked l (first_names (codes "systemdict") refl))))))))))
+    let end : State = run_of l (within s (Saved s.level ∷ for_save s) (h.number ∷ ds) es s.work.made s.graphics) in
+    let there : State = before s (for_save s) in
+    up_to_test s end l (known_below looked_up 0 ds es h.names (codes "userdict") refl) h.userdict_first h.few_operands
+    (runs_join false (run_of (Name (codes "PStoPSenablepage") ∷ looking (finding l)) there) (run_of (finding l) there) end
+    (still_shown outers s (for_save s) (finding l) h.encloses h.shows)
+    (marks_page s (for_save s) h.number l h.guard_is (known looked_up_first (h.number ∷ ds) es h.clip_alone (codes "systemdict") refl)))
 
 -- The outline.
 

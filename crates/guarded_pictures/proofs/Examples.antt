@@ -7,3 +7,4 @@ pub mod AppliedTwice
 pub mod AppliedMadeTwice
 pub mod AppliedNests
 pub mod AppliedOwn
+pub mod AppliedSilenced

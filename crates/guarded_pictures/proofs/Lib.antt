@@ -20,6 +20,7 @@ pub mod Nests
 pub mod Documents
 pub mod Imposed
 pub mod OwnShowpage
+pub mod Silenced
 pub mod ImposedOwn
 pub mod TwoRuns
 pub mod TwoMadeRuns

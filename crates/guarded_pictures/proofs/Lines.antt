@@ -1,20 +1,23 @@
 -- Single lines of the guard, run.
-use Rattle.std.specs.Prelude.{Option, Some, None, codes, if◌then◌else◌, decimal}
+use Rattle.std.specs.Prelude.{Option, Some, None, codes, bytes_eq, if◌then◌else◌, decimal}
 use Rattle.std.specs.Fmt.{digits}
-use Rattle.std.proofs.Common.{◌≡◌, ℕ, ◌+◌, ◌<◌, ◌^◌, refl, ap, ◌∙◌, sym, subst, List, [], ◌∷◌, ◌++◌, Bool, true, false, true≢false, length, arith, eq-eqb}
+use Rattle.std.proofs.Common.{◌≡◌, ℕ, ◌+◌, ◌<◌, ◌^◌, refl, ap, ◌∙◌, sym, subst, List, [], ◌∷◌, ◌++◌, Bool, true, false, not, ◌&&◌, map, true≢false, length, arith, eq-eqb}
 use Rattle.std.proofs.lemmas.Bool.{ne_eqb}
 use Rattle.pictures.specs.Objects.{Token, Name, Literal, Bound, Opens, Closes, Object, Plain, Truth, Procedure, Matrix, SystemDictionary, Number, NotEqual}
 use Rattle.pictures.specs.Objects.{Array, Call, Dictionary, Mark}
-use Rattle.pictures.specs.Dictionaries.{Entry, system, meaning}
+use Rattle.pictures.specs.Dictionaries.{Entry, system, meaning, entry_of, has}
 use Rattle.pictures.specs.Machine.{State, Graphics, Clip, Kept, Runs, traced, push, shipped, saved, set_to, chain_of, filled_with, filled_from, worked, reset}
-use Rattle.pictures.specs.Operators.{Work, bound_to, judged, gathered, onto, ended, with_operands}
+use Rattle.pictures.specs.Operators.{Work, bound_to, loaded, judged, gathered, onto, ended, with_operands}
 use Rattle.pictures.specs.Sheets.{run_of, edge, Numbers}
 use Rattle.pictures.specs.Calculations.{compared}
 use Rattle.pictures.proofs.Runs.{runs_one, runs_none, runs_join}
+use Rattle.pictures.proofs.Names.{not_true}
+use Rattle.pictures.proofs.Opening.{name_other}
+use Rattle.pictures.proofs.Tests.{first, second}
 use Rattle.pictures.proofs.Straight.{straight_runs}
-use Rattle.guarded_pictures.specs.Behind.{showpage_tokens, path_tokens, own_clip_tokens, clips_tokens, save_tokens, page_begins_tokens}
+use Rattle.guarded_pictures.specs.Behind.{handing_tokens, printer_keys, setpagedevice_tokens, showpage_tokens, path_tokens, own_clip_tokens, clips_tokens, save_tokens, page_begins_tokens}
 use Rattle.guarded_pictures.specs.Shelter.{Outer, outer_is, means, outline_tokens, outline_names}
-use Rattle.guarded_pictures.specs.Lines.{PageIsLeft, DeviceIsLeft, ShowpageStaysAName, LoadedShowpage, MatrixIsThePages, DefaultIsThePages, Noted, AreNoted, clip_to, clips_to, clipped, OuterIsKept, ClipIsThePages, GraphicsAreThePages, IsAnother, SaveSaves}
+use Rattle.guarded_pictures.specs.Lines.{PageIsLeft, DeviceIsLeft, with_setting, handed, DeviceIsHanded, ShowpageStaysAName, LoadedShowpage, MatrixIsThePages, DefaultIsThePages, Noted, AreNoted, clip_to, clips_to, clipped, OuterIsKept, ClipIsThePages, GraphicsAreThePages, IsAnother, SaveSaves}
 use Rattle.guarded_pictures.proofs.Absent.{known}
 use Rattle.guarded_pictures.proofs.Redrawn.{element, told, told_append, path_traced, tells_path, drawings, all_collected, draws_path, with}
 use Rattle.guarded_pictures.proofs.Counting.{counted}
@@ -23,10 +26,101 @@ use Rattle.guarded_pictures.proofs.Steps.{some, by_name}
 pub page_is_left : PageIsLeft
 page_is_left s name rest e = by_name name rest s (run_of rest s) (run_of rest s) (Some (Procedure [])) e refl (runs_none false (run_of rest s))
 
+-- `setpagedevice`, behind its test.
+
+abbrev handing : List Token → List Token
+handing rest =
+    Opens ∷ Bound (codes "[") ∷ (map Literal printer_keys ++ (Bound (codes "]")
+    ∷ Opens ∷ (handing_tokens ++ (Closes ∷ Bound (codes "forall") ∷ Closes ∷ Bound (codes "if") ∷ Bound (codes "pop") ∷ rest))))
+
 pub device_is_left : DeviceIsLeft
-device_is_left s o rest e =
-    by_name (codes "setpagedevice") rest (push o s) (run_of (Bound (codes "pop") ∷ rest) (push o s)) (run_of rest s) (Some (Procedure (Bound (codes "pop") ∷ []))) e refl
-    (some 1 (run_of (Bound (codes "pop") ∷ rest) (push o s)) (run_of rest s) (run_of rest s) refl (runs_none false (run_of rest s)))
+device_is_left s o rest e flag =
+    let there : State = push o s in
+    let end : State = run_of rest s in
+    by_name (codes "setpagedevice") rest there (run_of (setpagedevice_tokens ++ rest) there) end (Some (Procedure setpagedevice_tokens)) e refl
+    (by_name (codes "PStoPSenablepage") (handing rest) there (run_of (handing rest) (push (Truth false) there)) end (Some (Truth false)) flag refl
+    (some 3 (run_of (handing rest) (push (Truth false) there)) end end refl (runs_none false end)))
+
+-- the turns of its loop
+abbrev turns_of : List (List ℕ) → List Token → List Token
+turns_of [] l = l
+turns_of (key ∷ keys) l = Literal key ∷ (handing_tokens ++ turns_of keys l)
+
+-- behind its test for a key
+abbrev deciding : List Token → List Token
+deciding l =
+    Opens ∷ Number (codes "1") ∷ Bound (codes "dict") ∷ Bound (codes "dup")
+    ∷ Number (codes "2") ∷ Bound (codes "index") ∷ Number (codes "4") ∷ Bound (codes "index")
+    ∷ Number (codes "4") ∷ Bound (codes "index") ∷ Bound (codes "get") ∷ Bound (codes "put") ∷ Name (codes "ImposeDevice")
+    ∷ Closes ∷ Bound (codes "if") ∷ Bound (codes "pop") ∷ l
+
+-- with these operands, and a dictionary more
+abbrev grown : State → List Object → State
+grown s os = record s { work = record s.work { operands = os; made = s.work.made + 1 } }
+
+decided : (s : State) (d : ℕ) (key : List ℕ) (l : List Token) (x : Option Object) → entry_of d key s.work.entries ≡ x → bytes_eq key (codes "ImposeDevice") ≡ false
+    → means s (codes "ImposeDevice") ≡ system (codes "setpagedevice")
+    → Runs false (run_of (deciding l) (push (Truth (has x)) (push (Plain (Literal key)) (push (Dictionary d) s)))) (run_of l (push (Dictionary d) (with_setting x key s)))
+decided s d key l None e other is =
+    let end : State = run_of l (push (Dictionary d) s) in
+    some 3 (run_of (deciding l) (push (Truth false) (push (Plain (Literal key)) (push (Dictionary d) s)))) end end refl (runs_none false end)
+decided s d key l (Some o) e other is =
+    let end : State = run_of l (push (Dictionary d) (with_setting (Some o) key s)) in
+    let k : Object = Plain (Literal key) in
+    let new : Object = Dictionary (s.work.made + 1) in
+    let below : List Object = k ∷ Dictionary d ∷ s.work.operands in
+    let both : List Object = new ∷ new ∷ below in
+    let l3 : List Token = Bound (codes "pop") ∷ l in
+    let l2 : List Token = Name (codes "ImposeDevice") ∷ l3 in
+    let l1 : List Token = Bound (codes "put") ∷ l2 in
+    let l0 : List Token = Bound (codes "get") ∷ l1 in
+    let asked : State = grown s (k ∷ Dictionary d ∷ k ∷ both) in
+    let rest : State = grown s (k ∷ both) in
+    let e2 : Entry = record { dictionary = s.work.made + 1; key = key; value = o } in
+    let filled : State = record s { work = record s.work { operands = new ∷ below; entries = e2 ∷ s.work.entries; made = s.work.made + 1 } } in
+    let set : State = push k (push (Dictionary d) (with_setting (Some o) key s)) in
+    some 11 (run_of (deciding l) (push (Truth true) (push k (push (Dictionary d) s)))) (run_of l0 asked) end refl
+    (runs_one false (run_of l0 asked) (run_of l1 (push o rest)) end (ap (λ x. worked (loaded x rest.work) (run_of l1 asked)) e)
+    (some 1 (run_of l1 (push o rest)) (run_of l2 filled) end refl
+    (by_name (codes "ImposeDevice") l3 filled (run_of l3 set) end (system (codes "setpagedevice")) (name_other s.work.dictionaries e2 s.work.entries (codes "ImposeDevice") other ∙ is) refl
+    (some 1 (run_of l3 set) end end refl (runs_none false end)))))
+
+-- none of the keys is the guard's name for the operator
+abbrev are_other : List (List ℕ) → Bool
+are_other [] = true
+are_other (key ∷ keys) = not (bytes_eq key (codes "ImposeDevice")) && are_other keys
+
+still_device : (s : State) (key : List ℕ) (x : Option Object) → bytes_eq key (codes "ImposeDevice") ≡ false → means s (codes "ImposeDevice") ≡ system (codes "setpagedevice")
+    → means (with_setting x key s) (codes "ImposeDevice") ≡ system (codes "setpagedevice")
+still_device s key None other is = is
+still_device s key (Some o) other is =
+    name_other s.work.dictionaries (record { dictionary = s.work.made + 1; key = key; value = o }) s.work.entries (codes "ImposeDevice") other ∙ is
+
+hands : (keys : List (List ℕ)) (s : State) (d : ℕ) (l : List Token) → are_other keys ≡ true → means s (codes "ImposeDevice") ≡ system (codes "setpagedevice")
+    → Runs false (run_of (turns_of keys l) (push (Dictionary d) s)) (run_of l (push (Dictionary d) (handed d keys s)))
+hands [] s d l other is = runs_none false (run_of l (push (Dictionary d) s))
+hands (key ∷ keys) s d l other is =
+    let x : Option Object = entry_of d key s.work.entries in
+    let more : List Token = turns_of keys l in
+    let end : State = run_of l (push (Dictionary d) (handed d (key ∷ keys) s)) in
+    let here : State = push (Truth (has x)) (push (Plain (Literal key)) (push (Dictionary d) s)) in
+    let next : State = with_setting x key s in
+    let differs = not_true (bytes_eq key (codes "ImposeDevice")) (first (not (bytes_eq key (codes "ImposeDevice"))) (are_other keys) other) in
+    some 6 (run_of (turns_of (key ∷ keys) l) (push (Dictionary d) s)) (run_of (deciding more) here) end refl
+    (runs_join false (run_of (deciding more) here) (run_of more (push (Dictionary d) next)) end (decided s d key more x refl differs is)
+    (hands keys next d l (second (not (bytes_eq key (codes "ImposeDevice"))) (are_other keys) other) (still_device s key x differs is)))
+
+pub device_is_handed : DeviceIsHanded
+device_is_handed s d rest e flag is =
+    let there : State = push (Dictionary d) s in
+    let last : List Token = Bound (codes "pop") ∷ rest in
+    let behind : State = handed d printer_keys s in
+    let end : State = run_of rest behind in
+    by_name (codes "setpagedevice") rest there (run_of (setpagedevice_tokens ++ rest) there) end (Some (Procedure setpagedevice_tokens)) e refl
+    (by_name (codes "PStoPSenablepage") (handing rest) there (run_of (handing rest) (push (Truth true) there)) end (Some (Truth true)) flag refl
+    (some 15 (run_of (handing rest) (push (Truth true) there)) (run_of (turns_of printer_keys last) there) end refl
+    (runs_join false (run_of (turns_of printer_keys last) there) (run_of last (push (Dictionary d) behind)) end (hands printer_keys s d last refl is)
+    (some 1 (run_of last (push (Dictionary d) behind)) end end refl (runs_none false end)))))
 
 pub showpage_stays_a_name : ShowpageStaysAName
 showpage_stays_a_name w e = ap (λ x. bound_to x (Name (codes "showpage"))) e

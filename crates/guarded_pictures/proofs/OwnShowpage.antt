@@ -57,7 +57,7 @@ and_same : (a b : Bool) → a ≡ true → (a && b) ≡ b
 and_same true b e = refl
 and_same false b e = absurd (true≢false (sym e))
 
-not_has : (x : Option Object) → has x ≡ false → x ≡ None
+pub not_has : (x : Option Object) → has x ≡ false → x ≡ None
 not_has None e = refl
 not_has (Some o) e = absurd (true≢false e)
 
@@ -75,7 +75,7 @@ still_first (c ∷ ds) es d e =
     (λ differ. ap (λ b. if has (if b then Some asks_userdict else here) then Some c else below) differ
     ∙ ap (λ b. if b then Some c else below) f ∙ still_first ds es d later))
 
-some_same : (x : Option ℕ) (c d : ℕ) → x ≡ Some c → x ≡ Some d → c ≡ d
+pub some_same : (x : Option ℕ) (c d : ℕ) → x ≡ Some c → x ≡ Some d → c ≡ d
 some_same (Some n) c d e f = ap (number_in n) (sym e) ∙ ap (number_in n) f
   where
     number_in : ℕ → Option ℕ → ℕ
@@ -350,7 +350,7 @@ begins_slots frame us picture [] more e = absurd (true≢false (sym e))
 begins_slots frame us picture (slot ∷ slots) more e =
     begins_slot frame us picture slot.page slot.item (shown_sheet frame us picture slots) more (any_page slots) e (begins_slots frame us picture slots more)
 
-begins_sheets : (frame : Frame) (us : List NestedUnit) (picture : ℕ → List Painting) (all : List (List Slot)) → FirstHasAPage all → BeginsWithAPage (map (shown_sheet frame us picture) all)
+pub begins_sheets : (frame : Frame) (us : List NestedUnit) (picture : ℕ → List Painting) (all : List (List Slot)) → FirstHasAPage all → BeginsWithAPage (map (shown_sheet frame us picture) all)
 begins_sheets frame us picture [] h = tt
 begins_sheets frame us picture (slots ∷ more) h = begins_slots frame us picture slots (map (shown_sheet frame us picture) more) h
 

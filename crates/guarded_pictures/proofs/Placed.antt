@@ -63,7 +63,7 @@ closing s t n rest old_operands old_dictionaries l =
     subst (λ x. Runs false (record p { left = x ++ (closing_tokens ++ rest) }) (behind rest n s t.painted)) (sym l.nothing_left) start
 
 -- the place has the clips to the paper's edge and to those round it
-on_paper : (outers : List Outer) (s : State) (n : Numbers) (l : List Token) → TakesPages outers s → IsOnPaper n outers (around l n s)
+pub on_paper : (outers : List Outer) (s : State) (n : Numbers) (l : List Token) → TakesPages outers s → IsOnPaper n outers (around l n s)
 on_paper outers s n l g = (
   ap (λ clips. clip_to n (place_in s.graphics n).chain ∷ clips) g.clips,
   same_place n s.graphics.chain g.numbers,
@@ -85,6 +85,7 @@ takes_pages s g = record {
   operands = g.operands;
   dictionaries = g.dictionaries;
   encloses = g.flag_is;
+  shows = (g.showpage_is, g.show_is);
   clips = sym (ap (λ z. z.clip) g.graphics);
   numbers = subst (λ l. is_same_chain l l ≡ true) (ap (λ z. z.chain) g.graphics) refl;
   held = tt;

@@ -92,8 +92,8 @@ with_rest ts rest w kept run = runs_with_more rest (started ts) (left_with [] w 
 
 -- in so many steps
 alone_runs : (sheet : Option Paper) → Runs false (started (guard_tokens sheet)) (behind_guard sheet [])
-alone_runs None = (245, refl)
-alone_runs (Some paper) = (260, refl)
+alone_runs None = (249, refl)
+alone_runs (Some paper) = (264, refl)
 
 pub guard_defines : GuardDefines
 guard_defines sheet = (

@@ -7,7 +7,7 @@ use Rattle.pictures.specs.Sheets.{run_of, Shown, LeavesAsItWas, placed_tokens, s
 use Rattle.pictures.specs.Pictures.{printed, sheets_tokens}
 use Rattle.pictures.proofs.Runs.{runs_join, runs_none}
 use Rattle.guarded_pictures.specs.Shelter.{Outer, outline_tokens, PaintsSheltered}
-use Rattle.guarded_pictures.specs.Pages.{IsGuarded, Encloses, TakesPages, AllSheltered, AllSheetsSheltered, GuardedSheetsArePrinted}
+use Rattle.guarded_pictures.specs.Pages.{IsGuarded, Encloses, Shows, TakesPages, AllSheltered, AllSheetsSheltered, GuardedSheetsArePrinted}
 use Rattle.guarded_pictures.proofs.Lines.{loaded_showpage}
 use Rattle.guarded_pictures.proofs.Placed.{guarded_page_is_placed, takes_pages}
 
@@ -15,6 +15,10 @@ use Rattle.guarded_pictures.proofs.Placed.{guarded_page_is_placed, takes_pages}
 still_encloses : (outers : List Outer) (s : State) (ps : List Painting) (sheets : List (List Painting)) → Encloses outers s → Encloses outers (record s { painted = ps; sheets = sheets })
 still_encloses [] s ps sheets h = h
 still_encloses (o ∷ os) s ps sheets h = h
+
+still_shows : (outers : List Outer) (s : State) (ps : List Painting) (sheets : List (List Painting)) → Shows outers s → Shows outers (record s { painted = ps; sheets = sheets })
+still_shows [] s ps sheets h = h
+still_shows (o ∷ os) s ps sheets h = h
 
 pub still_takes : (outers : List Outer) (s : State) (ps : List Painting) (sheets : List (List Painting)) → TakesPages outers s → TakesPages outers (record s { painted = ps; sheets = sheets })
 still_takes outers s ps sheets g = record {
@@ -30,6 +34,7 @@ still_takes outers s ps sheets g = record {
   operands = g.operands;
   dictionaries = g.dictionaries;
   encloses = still_encloses outers s ps sheets g.encloses;
+  shows = still_shows outers s ps sheets g.shows;
   clips = g.clips;
   numbers = g.numbers;
   held = g.held;
@@ -74,7 +79,7 @@ pub all_place : (outers : List Outer) (s : State) (xs : List Shown) → TakesPag
 all_place outers s [] g h = tt
 all_place outers s (x ∷ xs) g h = (page_places outers s x g h.0, all_place outers s xs g h.1)
 
-all_sheets_place : (s : State) (xs : List (List Shown)) → TakesPages [] s → AllSheetsSheltered s xs → AllSheetsPlace s xs
+pub all_sheets_place : (s : State) (xs : List (List Shown)) → TakesPages [] s → AllSheetsSheltered s xs → AllSheetsPlace s xs
 all_sheets_place s [] g h = tt
 all_sheets_place s (x ∷ xs) g h = (all_place [] s x g h.0, all_sheets_place s xs g h.1)
 
@@ -82,7 +87,7 @@ abbrev pub pages_of : List Shown → List Token
 pages_of xs = flat_map placed_tokens (map (λ x. x.placed) xs)
 
 -- a sheet's own state: so much is painted and printed
-abbrev fresh : State → List Token → List Painting → List (List Painting) → State
+abbrev pub fresh : State → List Token → List Painting → List (List Painting) → State
 fresh s l ps sheets = record s { left = l; painted = ps; sheets = sheets }
 
 pub pages_run : (xs : List Shown) (s : State) (ps : List Painting) (sheets : List (List Painting)) (rest : List Token) → AllPlace s xs
@@ -109,7 +114,7 @@ sheet_run xs s rest before g h =
     (subst (λ z. Runs false (run_of more full) (record end { graphics = z })) g.graphics
     ((loaded_showpage full (codes "showpage") rest g.showpage_is).1 g.flag_is g.show_is)))
 
-all_sheets_run : (xs : List (List Shown)) (s : State) (rest : List Token) (before : List (List Painting)) → IsGuarded s → AllSheetsPlace s xs
+pub all_sheets_run : (xs : List (List Shown)) (s : State) (rest : List Token) (before : List (List Painting)) → IsGuarded s → AllSheetsPlace s xs
     → Runs false (fresh s (sheets_tokens xs ++ rest) [] before) (fresh s rest [] (printed s.graphics xs before))
 all_sheets_run [] s rest before g h = runs_none false (fresh s rest [] before)
 all_sheets_run (x ∷ xs) s rest before g h =

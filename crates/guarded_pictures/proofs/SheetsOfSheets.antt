@@ -278,6 +278,7 @@ takes_there outers s n t =
       operands = operands_old s.work.made (page_matrix outers s) s.level (s.level + 1 + 1) s.work.operands (omega (arith, made)) (omega arith) g.operands;
       dictionaries = dictionaries_old s.work.made (page_matrix outers s) ds (omega (arith, made)) g.dictionaries;
       encloses = (flag_there outers s n t, matrix_there outers s n t, outline_there outers s n t, outer_there outers s n t, refl, new_there outers s n t);
+      shows = tt;
       clips = ap (λ clips. clip_to n chain ∷ clips) g.clips;
       numbers = same_place n s.graphics.chain g.numbers;
       held = (

@@ -59,6 +59,10 @@ stays_taking_sheets s e t a made =
         operands = g.operands;
         dictionaries = g.dictionaries;
         encloses = name_other ds e es (codes "PStoPSenablepage") (other (codes "PStoPSenablepage") refl) ∙ g.encloses;
+        shows = (
+          name_other ds e es (codes "showpage") (other (codes "showpage") refl) ∙ g.shows.0,
+          name_other ds e es (codes "ImposeShow") (other (codes "ImposeShow") refl) ∙ g.shows.1,
+        );
         clips = g.clips;
         numbers = g.numbers;
         held = g.held;

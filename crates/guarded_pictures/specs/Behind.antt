@@ -1,5 +1,5 @@
 -- The guard's procedures, and the state of a machine behind the guard's text: what each of its names means.
-use Rattle.std.specs.Prelude.{ℕ, ◌+◌, List, [], ◌∷◌, ◌++◌, flat_map, codes, true, false, Option, Some, None}
+use Rattle.std.specs.Prelude.{ℕ, ◌+◌, List, [], ◌∷◌, ◌++◌, map, flat_map, codes, true, false, Option, Some, None}
 use Rattle.rules.specs.Bytes.{line}
 use Rattle.rules.specs.Numbers.{points_text}
 use Rattle.rules.specs.Papers.{Paper}
@@ -25,9 +25,27 @@ abbrev pub showpage_tokens : List Token
 showpage_tokens =
     Name (codes "PStoPSenablepage") ∷ Opens ∷ Name (codes "ImposeShow") ∷ Closes ∷ Bound (codes "if") ∷ []
 
--- `{pop}`
+-- `1 index 1 index known {1 dict dup 2 index 4 index 4 index get put ImposeDevice} if pop`
+abbrev pub handing_tokens : List Token
+handing_tokens =
+    Number (codes "1") ∷ Bound (codes "index") ∷ Number (codes "1") ∷ Bound (codes "index") ∷ Bound (codes "known")
+    ∷ Opens ∷ Number (codes "1") ∷ Bound (codes "dict") ∷ Bound (codes "dup")
+    ∷ Number (codes "2") ∷ Bound (codes "index") ∷ Number (codes "4") ∷ Bound (codes "index")
+    ∷ Number (codes "4") ∷ Bound (codes "index") ∷ Bound (codes "get") ∷ Bound (codes "put") ∷ Name (codes "ImposeDevice")
+    ∷ Closes ∷ Bound (codes "if") ∷ Bound (codes "pop") ∷ []
+
+-- the keys that say how a printer treats its paper
+abbrev pub printer_keys : List (List ℕ)
+printer_keys =
+    codes "Duplex" ∷ codes "Tumble" ∷ codes "NumCopies" ∷ codes "Collate" ∷ codes "MediaType" ∷ codes "MediaColor"
+    ∷ codes "MediaWeight" ∷ codes "MediaPosition" ∷ codes "ManualFeed" ∷ []
+
+-- `{PStoPSenablepage {[/Duplex .. /ManualFeed] {..} forall} if pop}`
 abbrev pub setpagedevice_tokens : List Token
-setpagedevice_tokens = Bound (codes "pop") ∷ []
+setpagedevice_tokens =
+    Name (codes "PStoPSenablepage")
+    ∷ Opens ∷ Bound (codes "[") ∷ (map Literal printer_keys ++ (Bound (codes "]")
+    ∷ Opens ∷ (handing_tokens ++ (Closes ∷ Bound (codes "forall") ∷ Closes ∷ Bound (codes "if") ∷ Bound (codes "pop") ∷ []))))
 
 -- `{clippath}`
 abbrev pub sheet_outline_tokens : List Token
@@ -106,14 +124,35 @@ asking_tokens =
     ∷ Opens ∷ Name (codes "userdict") ∷ Literal (codes "showpage") ∷ Bound (codes "get") ∷ Bound (codes "exec") ∷ Closes
     ∷ Bound (codes "put") ∷ Closes ∷ []
 
--- `/showpage where {dup userdict ne 1 index wcheck and {..} {pop} ifelse} if ImposeGuard begin`
+-- `userdict /showpage {PStoPSenablepage {ImposeShow} if} put`
+abbrev pub putting_back_tokens : List Token
+putting_back_tokens =
+    Name (codes "userdict") ∷ Literal (codes "showpage")
+    ∷ Opens ∷ (showpage_tokens ++ (Closes ∷ Bound (codes "put") ∷ []))
+
+-- `/showpage load dup /ImposeShow load ne {length 0 eq {..} if} {pop} ifelse`
+abbrev pub looking_tokens : List Token
+looking_tokens =
+    Literal (codes "showpage") ∷ Bound (codes "load") ∷ Bound (codes "dup")
+    ∷ Literal (codes "ImposeShow") ∷ Bound (codes "load") ∷ Bound (codes "ne")
+    ∷ Opens ∷ Bound (codes "length") ∷ Number (codes "0") ∷ Bound (codes "eq")
+    ∷ Opens ∷ (putting_back_tokens ++ (Closes ∷ Bound (codes "if") ∷ Closes
+    ∷ Opens ∷ Bound (codes "pop") ∷ Closes ∷ Bound (codes "ifelse") ∷ []))
+
+-- `{pop PStoPSenablepage {..} if}`
+abbrev pub keeping_tokens : List Token
+keeping_tokens =
+    Opens ∷ Bound (codes "pop") ∷ Name (codes "PStoPSenablepage")
+    ∷ Opens ∷ (looking_tokens ++ (Closes ∷ Bound (codes "if") ∷ Closes ∷ []))
+
+-- `/showpage where {dup userdict ne 1 index wcheck and {..} {..} ifelse} if ImposeGuard begin`
 abbrev pub page_begins_tokens : List Token
 page_begins_tokens =
     Literal (codes "showpage") ∷ Bound (codes "where")
     ∷ Opens ∷ Bound (codes "dup") ∷ Name (codes "userdict") ∷ Bound (codes "ne") ∷ Number (codes "1")
     ∷ Bound (codes "index") ∷ Bound (codes "wcheck") ∷ Bound (codes "and")
-    ∷ (asking_tokens ++ (Opens ∷ Bound (codes "pop") ∷ Closes ∷ Bound (codes "ifelse") ∷ Closes ∷ Bound (codes "if")
-    ∷ Name (codes "ImposeGuard") ∷ Bound (codes "begin") ∷ []))
+    ∷ (asking_tokens ++ (keeping_tokens ++ (Bound (codes "ifelse") ∷ Closes ∷ Bound (codes "if")
+    ∷ Name (codes "ImposeGuard") ∷ Bound (codes "begin") ∷ [])))
 
 -- `{count 0 ne {dup /ImposeSave eq {..} if} if systemdict /save get exec}`
 abbrev pub save_tokens : List Token
@@ -167,6 +206,7 @@ guard_entries sheet =
     ∷ in_userdict (codes "PStoPSclip") (Procedure sheet_outline_tokens)
     ∷ in_userdict (codes "PStoPSmatrix") (Matrix (sheet_matrix sheet))
     ∷ in_userdict (codes "setpagedevice") (Procedure setpagedevice_tokens)
+    ∷ in_userdict (codes "ImposeDevice") (operator (system (codes "setpagedevice")))
     ∷ in_userdict (codes "erasepage") (Procedure [])
     ∷ in_userdict (codes "copypage") (Procedure [])
     ∷ in_userdict (codes "showpage") (Procedure showpage_tokens)

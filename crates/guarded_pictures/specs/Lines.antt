@@ -6,10 +6,11 @@ use Rattle.pictures.specs.Objects.{Token, Name, Literal, Bound, Dictionary, Obje
 use Rattle.pictures.specs.Objects.{Matrix, Call, Equal}
 use Rattle.pictures.specs.Dictionaries.{Entry, userdict, system, entry_of, has, meaning, read_only}
 use Rattle.pictures.specs.Operators.{Work, bound, holder, objects_compared}
-use Rattle.pictures.specs.Machine.{State, Clip, Kept, Runs, push, saved, shipped, chain_of, filled_with, fonts}
+use Rattle.pictures.specs.Machine.{State, Clip, Kept, Runs, push, saved, reset, shipped, chain_of, filled_with}
+use Rattle.pictures.specs.Machine.{fonts}
 use Rattle.pictures.specs.Scanner.{tokens}
 use Rattle.pictures.specs.Sheets.{run_of, Numbers, edge}
-use Rattle.guarded_pictures.specs.Behind.{guard_text, setpagedevice_tokens, showpage_tokens, path_tokens}
+use Rattle.guarded_pictures.specs.Behind.{guard_text, printer_keys, setpagedevice_tokens, showpage_tokens, path_tokens}
 use Rattle.guarded_pictures.specs.Behind.{defaultmatrix_tokens, initmatrix_tokens, initclip_tokens}
 use Rattle.guarded_pictures.specs.Behind.{clips_tokens, initgraphics_tokens, save_tokens}
 use Rattle.guarded_pictures.specs.Shelter.{Outer, outer_is, means, all_absent, outline_tokens, outline_names}
@@ -32,12 +33,40 @@ PageIsLeft =
     (s : State) (name : List ℕ) (rest : List Token) → means s name ≡ Some (Procedure [])
     → Runs false (run_of (Name name ∷ rest) s) (run_of rest s)
 
--- `setpagedevice` takes its operand, and leaves all else as it is: a law
+-- within a placed page `setpagedevice` takes its operand, and leaves all else as it is: a law
 abbrev pub DeviceIsLeft : Type 0
 DeviceIsLeft =
     (s : State) (o : Object) (rest : List Token)
     → means s (codes "setpagedevice") ≡ Some (Procedure setpagedevice_tokens)
+    → means s (codes "PStoPSenablepage") ≡ Some (Truth false)
     → Runs false (run_of (Name (codes "setpagedevice") ∷ rest) (push o s)) (run_of rest s)
+
+-- the operator `setpagedevice` has run with a new dictionary that has this for this key alone
+abbrev pub with_setting : Option Object → (key : List ℕ) → State → State
+with_setting None key s = s
+with_setting (Some o) key s = record (reset s) {
+  work = record s.work {
+    entries = record { dictionary = s.work.made + 1; key = key; value = o } ∷ s.work.entries;
+    made = s.work.made + 1;
+  };
+  painted = [];
+}
+
+-- for each of these keys, with what the dictionary has for it, if it has it
+abbrev pub handed : (dictionary : ℕ) → List (List ℕ) → State → State
+handed d [] s = s
+handed d (key ∷ keys) s = handed d keys (with_setting (entry_of d key s.work.entries) key s)
+
+-- elsewhere it hands to the operator what its dictionary has for the keys that say how a printer treats its paper, and
+-- nothing else of it: a law
+abbrev pub DeviceIsHanded : Type 0
+DeviceIsHanded =
+    (s : State) (d : ℕ) (rest : List Token)
+    → means s (codes "setpagedevice") ≡ Some (Procedure setpagedevice_tokens)
+    → means s (codes "PStoPSenablepage") ≡ Some (Truth true)
+    → means s (codes "ImposeDevice") ≡ system (codes "setpagedevice")
+    → Runs false (run_of (Name (codes "setpagedevice") ∷ rest) (push (Dictionary d) s))
+    (run_of rest (handed d printer_keys s))
 
 -- `bind` leaves the name `showpage` as it is: a law
 abbrev pub ShowpageStaysAName : Type 0

@@ -33,7 +33,7 @@ papers_tokens =
 
 -- the lines of the guard's text that it is made of
 abbrev pub papers_lines : List (List ℕ)
-papers_lines = take 3 (drop 6 other_lines)
+papers_lines = take 3 (drop 9 other_lines)
 
 -- a name that is there is defined to do nothing
 abbrev pub left_if : Option ℕ → List ℕ → List Entry → List Entry

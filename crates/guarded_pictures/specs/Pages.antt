@@ -157,6 +157,13 @@ Encloses (o ∷ os) s =
     × (means s (codes "ImposeOuter") ≡ Some (outer_is os))
     × (o.dictionary ≡ s.work.made + 1) × (has_nothing o.dictionary s.work.entries ≡ true)
 
+-- Outside all pages `showpage` is the guard's, and what that prints by is the operator
+abbrev pub Shows : List Outer → State → Type 0
+Shows [] s =
+    (means s (codes "showpage") ≡ Some (Procedure showpage_tokens))
+    × (means s (codes "ImposeShow") ≡ system (codes "showpage"))
+Shows (o ∷ os) s = Unit {0}
+
 -- these pages are round those that are placed there
 pub record TakesPages (outers : List Outer) (s : State) : Type 0 where
   pub number : ℕ
@@ -171,6 +178,7 @@ pub record TakesPages (outers : List Outer) (s : State) : Type 0 where
   pub operands : all_are_old s.work.made s.level s.work.operands ≡ true
   pub dictionaries : all_old s.work.made s.work.dictionaries ≡ true
   pub encloses : Encloses outers s
+  pub shows : Shows outers s
   pub clips : s.graphics.clip ≡ clips_to outers []
   pub numbers : is_same_chain s.graphics.chain s.graphics.chain ≡ true
   pub held : AllHeld outers s.kept

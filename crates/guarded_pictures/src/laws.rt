@@ -8,12 +8,14 @@ ghost use Rattle.guarded_pictures.specs.OwnShowpage.{OwnPageIsPlaced, OwnSheetsA
 ghost use Rattle.guarded_pictures.specs.Pages.{GuardIsEnough, GuardedDocumentIsShown, GuardedPageIsPlaced};
 ghost use Rattle.guarded_pictures.specs.Pages.{GuardedSheetsArePrinted, GuardedSheetsShowThePages, PageBegins};
 ghost use Rattle.guarded_pictures.specs.Pages.{ShelterCommutes, StaysGuarded};
+ghost use Rattle.guarded_pictures.specs.Silenced.{ShowpageIsPutBack, SilencedDocumentIsShown};
+ghost use Rattle.guarded_pictures.specs.Silenced.{SilencedPageIsPlaced, SilencedSheetsArePrinted};
 ghost use Rattle.guarded_pictures.specs.SheetsOfSheets.{SheetIsComposed, SheetIsPlaced, SheetsOfSheetsArePrinted};
 ghost use Rattle.guarded_pictures.specs.SheetsOfSheets.{NestsArePrinted, SheetsAreTakenWithin};
 ghost use Rattle.guarded_pictures.specs.SheetsOfSheets.{GuardTakesSheets, StaysTakingSheets, TwoRunsAreShown};
 ghost use Rattle.guarded_pictures.specs.TwoMadeRuns.{TwoMadeRunsAreShown};
 ghost use Rattle.guarded_pictures.specs.Lines.{AskingShows, AsksUserdict, ClipIsThePages, DefaultIsThePages};
-ghost use Rattle.guarded_pictures.specs.Lines.{DeviceIsLeft, GraphicsAreThePages, GuardedTwice, LoadedShowpage};
+ghost use Rattle.guarded_pictures.specs.Lines.{DeviceIsHanded, DeviceIsLeft, GraphicsAreThePages, GuardedTwice, LoadedShowpage};
 ghost use Rattle.guarded_pictures.specs.Lines.{MatrixIsThePages, OuterIsKept, PageIsLeft, SaveSaves, ShowpageStaysAName};
 
 /// Behind the guard's text each of its names means what is said of it, and all else is as it was.
@@ -31,9 +33,14 @@ pub fn page_is_left()
     ensures { PageIsLeft }
 {}
 
-/// `setpagedevice` takes its operand, and does nothing.
+/// Within a placed page `setpagedevice` takes its operand, and does nothing.
 pub fn device_is_left()
     ensures { DeviceIsLeft }
+{}
+
+/// Elsewhere it hands on the keys that say how a printer treats its paper, and nothing else.
+pub fn device_is_handed()
+    ensures { DeviceIsHanded }
 {}
 
 /// The papers' names that are there are made to do nothing, and no others are.
@@ -176,6 +183,26 @@ pub fn own_showpage_is_shown()
 /// And so it prints what impose makes of such a document on sheets that are told as one paper, by whatever layout.
 pub fn own_made_document_is_shown()
     ensures { OwnMadeDocumentIsShown }
+{}
+
+/// Where a page begins and userdict's `showpage` is empty, the guard puts its own there again.
+pub fn showpage_is_put_back()
+    ensures { ShowpageIsPutBack }
+{}
+
+/// A placed page of a document that made it so paints on the sheet what it paints by itself, placed.
+pub fn silenced_page_is_placed()
+    ensures { SilencedPageIsPlaced }
+{}
+
+/// Each sheet of such a document is printed with the pictures of its pages, placed, if the first one has a page.
+pub fn silenced_sheets_are_printed()
+    ensures { SilencedSheetsArePrinted }
+{}
+
+/// A machine prints of what impose makes of such a document, sheet by sheet, what its pages paint by themselves, placed.
+pub fn silenced_document_is_shown()
+    ensures { SilencedDocumentIsShown }
 {}
 
 /// Behind the guard's text the state is one in which sheets of sheets can be placed.

@@ -168,7 +168,7 @@ pub printed : (r : Request) (input : List ℕ) (tells : Bool) (task : Task) (lin
     → Prints r input tells outcome has_output written
 printed r input tells task lines (Ok what) has_output written is_task h =
     subst (λ d. Prints r input tells (Ok d) has_output written) (sym h.0) (task, lines, is_task, h.1)
-printed r input tells task lines (Err f) has_output written is_task h = inr h
+printed r input tells task lines (Err f) has_output written is_task h = inr (task, is_task, h)
 
 -- the plan or the picture was written to the output of that name
 pub shown : (l : Look) (name : Option (List ℕ)) (r : Request) (input : List ℕ) (tells : Bool) (text : List ℕ)
@@ -176,7 +176,7 @@ pub shown : (l : Look) (name : Option (List ℕ)) (r : Request) (input : List �
     → Writes name text done.Shown tells outcome written → Shows l name r input tells outcome has_output written
 shown l name r input tells text (Ok what) has_output written told h =
     subst (λ d. Shows l name r input tells (Ok d) has_output written) (sym h.0) (text, told, h.1)
-shown l name r input tells text (Err f) has_output written told h = inr h
+shown l name r input tells text (Err f) has_output written told h = inr (text, told, h)
 
 lays : (l : Layout) → lays_rows l ≡ true → LaysRows l
 lays (layout.NUp cells) e = tt

@@ -40,6 +40,7 @@ is_row_job r input t job is of = record {
   choice = of.choice;
   signing = ap (option_map signing_of) of.signing ∙ is.signing;
   laying = is.laying ∙ ap Some (sym of.laying);
+  possible = is.possible;
   same_scale = of.same_scale;
   border = of.border;
   marks = of.marks;

@@ -115,7 +115,7 @@ Writes name text what tells (Ok said) written = (said ≡ what) × Appends (told
 Writes name text what tells (Err f) written = IsFailedWrite f
 
 -- What comes of a request to print the specification for this input: there is a task, and standard output has what was
--- printed of it; or there is none, or no memory, and nothing was created; or a write failed.
+-- printed of it; or there is none, or no memory, and nothing was created; or there is a task, and a write failed.
 abbrev pub Prints : Request → (input : List ℕ) → (tells : Bool) → Result Done Fault → (has_output : Bool)
     → (written : Option (List ℕ)) → Type 0
 Prints r input tells (Ok (done.Imposed finished)) has_output written = ⊥
@@ -123,10 +123,12 @@ Prints r input tells (Ok done.Printed) has_output written =
     (task : Task) × (lines : List ℕ) × IsTask r input task × Appends (told_if tells None []) written lines
 Prints r input tells (Ok done.Shown) has_output written = ⊥
 Prints r input tells (Err f) has_output written =
-    ((RefusesTask r input f ⊎ (f ≡ without_memory)) × (has_output ≡ false)) ⊎ IsFailedWrite f
+    ((RefusesTask r input f ⊎ (f ≡ without_memory)) × (has_output ≡ false))
+    ⊎ ((task : Task) × IsTask r input task × IsFailedWrite f)
 
 -- What comes of a request to show the sheets for this input: the output of this name has exactly the text that tells of the
--- sheets that would be imposed; or the request is refused as its run would be, and nothing was created; or a write failed.
+-- sheets that would be imposed; or the request is refused as its run would be, and nothing was created; or there is such a
+-- text, and a write failed.
 abbrev pub Shows : Look → (name : Option (List ℕ)) → Request → (input : List ℕ) → (tells : Bool) → Result Done Fault
     → (has_output : Bool) → (written : Option (List ℕ)) → Type 0
 Shows l name r input tells (Ok (done.Imposed finished)) has_output written = ⊥
@@ -134,7 +136,7 @@ Shows l name r input tells (Ok done.Printed) has_output written = ⊥
 Shows l name r input tells (Ok done.Shown) has_output written =
     (text : List ℕ) × TellsRow r input l text × Appends (told_if tells name []) written text
 Shows l name r input tells (Err f) has_output written =
-    (RefusesRowLook r input f × (has_output ≡ false)) ⊎ IsFailedWrite f
+    (RefusesRowLook r input f × (has_output ≡ false)) ⊎ ((text : List ℕ) × TellsRow r input l text × IsFailedWrite f)
 
 -- ---- all of it
 

@@ -179,6 +179,7 @@ pub record IsRowTask (r : Request) (input : List ℕ) (t : RowTask) : Type 0 whe
   pub behind : HasBehind input t.behind
   pub text : t.text.items ≡ text_for r t.papers.items t.page_paper input
   pub laying : laying_in r.layout r.spacing t.page_paper (sheet_paper_in r.layout r.sheet_paper t.page_paper) ≡ Some t.laying
+  pub possible : why_not_laid r.layout r.spacing t.page_paper (sheet_paper_in r.layout r.sheet_paper t.page_paper) ≡ None
   pub may_be_laid : MayBeLaid t.laying
   pub signing : option_map signing_of t.signing ≡ signing_in r.layout
   pub may_be_sewn : IfSome t.signing MayBeSewn
@@ -198,12 +199,14 @@ pub record IsJobOf (r : Request) (t : RowTask) (job : RowJob) : Type 0 where
 abbrev pub ImposesTask : Request → RowTask → (old new : Option (List ℕ)) → Report → Type 0
 ImposesTask r t old new report = (job : RowJob) × IsJobOf r t job × Imposes job old new report
 
--- the job is what the request asks for with this document, laid out for pages of this paper
+-- the job is what the request asks for with this document, laid out for pages of this paper; and for none of its lengths,
+-- its cells and these papers the layout had to be refused
 pub record IsRowJob (r : Request) (input : List ℕ) (page_paper : Paper) (job : RowJob) : Type 0 where
   pub document : document_of (text_for r job.papers.now page_paper input) ≡ Ok job.document.now
   pub choice : choice_of job.asked.choice ≡ choice_in r.choice
   pub signing : option_map signing_of job.asked.signing ≡ signing_in r.layout
   pub laying : laying_in r.layout r.spacing page_paper (sheet_paper_in r.layout r.sheet_paper page_paper) ≡ Some job.asked.laying
+  pub possible : why_not_laid r.layout r.spacing page_paper (sheet_paper_in r.layout r.sheet_paper page_paper) ≡ None
   pub same_scale : job.asked.same_scale ≡ r.spacing.same_scale
   pub border : job.border ≡ r.border
   pub marks : job.marks ≡ r.marks

@@ -37,7 +37,7 @@ own_or_home home (Some own) = (own.0, ByComment own.1)
 
 abbrev pub page_paper_found : (named : Option Paper) → (home : Paper) → (input : List ℕ) → Paper × PaperOrigin
 page_paper_found (Some page_paper) home input = (page_paper, Named)
-page_paper_found None home input = own_or_home home (document_paper input)
+page_paper_found None home input = own_or_home home (document_paper home input)
 
 -- the paper of the sheets: the one that is named, else that of the pages
 abbrev pub sheet_paper_found : (named : Option Paper) → (page_paper : Paper) → Paper
@@ -51,7 +51,7 @@ taken_text is_guarded sheet_paper input = if is_guarded then guarded (Some sheet
 abbrev pub HasPages : (input : List ℕ) → ℕ → Type 0
 HasPages input n = (us : List NestedUnit) × (document_of input ≡ Ok us) × (n ≡ length (pages us))
 
--- the document is accepted, and so many pages stand behind its trailer
+-- the document is accepted, and so many pages follow its trailer
 abbrev pub HasBehind : (input : List ℕ) → ℕ → Type 0
 HasBehind input n = (us : List NestedUnit) × (document_of input ≡ Ok us) × (n ≡ pages_behind us)
 

@@ -190,7 +190,7 @@ fn input_of<W: World>(alloc: Global, name: Option<&str>, world: &W) -> Result<Ro
 }
 
 /// Room for the guard before the document: more bytes than it has, with any paper.
-const ROOM: u32 = 2_048;
+const ROOM: u32 = 2_560;
 
 fn read_from<I: Read + Drop>(alloc: Global, input: I) -> Result<RoomyText, Fault>
     ensures read { IfOk result (λ bytes. IsFirst most_bytes (I.remaining input) bytes.items) }

@@ -99,7 +99,7 @@ pub struct RowTask {
     pub(crate) papers: Vec<Paper>,
     /// The pages that the paper cuts which is named for them.
     cut: Option<Cut>,
-    /// How many pages stand behind its trailer.
+    /// How many pages follow its trailer.
     behind: usize,
     pub(crate) laying: Laying,
     pub(crate) signing: Option<Signing>,
@@ -161,7 +161,7 @@ struct FoundPapers {
     papers: Vec<Paper>,
     /// The pages that the paper cuts which is named for them.
     cut: Option<Cut>,
-    /// How many pages stand behind the trailer.
+    /// How many pages follow the trailer.
     behind: usize,
 }
 

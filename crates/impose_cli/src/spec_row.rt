@@ -63,7 +63,7 @@ pub struct SpecRowTask {
     page_paper: Paper,
     sheet_paper: Paper,
     origin: PaperOrigin,
-    /// How many pages stand behind the document's trailer.
+    /// How many pages follow the document's trailer.
     behind: usize,
 }
 

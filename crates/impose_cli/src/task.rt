@@ -48,7 +48,7 @@ pub struct Task {
     pub options: Options,
     /// Where the paper of the pages was found.
     pub origin: PaperOrigin,
-    /// How many pages stand behind the document's trailer.
+    /// How many pages follow the document's trailer.
     pub behind: usize,
 }
 
@@ -161,7 +161,7 @@ pub(crate) fn paper_of_pages(request: &Request, input: &[u8]) -> (Paper, PaperOr
 {
     match request.page_paper {
         Some(page_paper) => (page_paper, PaperOrigin::Named),
-        None => match document_paper(input) {
+        None => match document_paper(input, &request.home_paper) {
             Some((page_paper, comment)) => (page_paper, PaperOrigin::ByComment(comment)),
             None => (request.home_paper, PaperOrigin::AtHome),
         },

@@ -28,10 +28,10 @@ faults = refl
 none_behind : behind_text 0 ≡ None
 none_behind = refl
 
-one_behind : behind_text 1 ≡ Some (codes "1 page stands behind %%Trailer or %%EOF and is not imposed")
+one_behind : behind_text 1 ≡ Some (codes "1 page follows %%Trailer or %%EOF and is not imposed")
 one_behind = refl
 
-two_behind : behind_text 2 ≡ Some (codes "2 pages stand behind %%Trailer or %%EOF and are not imposed")
+two_behind : behind_text 2 ≡ Some (codes "2 pages follow %%Trailer or %%EOF and are not imposed")
 unfolding digits
 two_behind = refl
 

@@ -53,8 +53,8 @@ IsOfCut (Some cut) message = (pages own named : List ℕ)
 -- of pages behind the document's trailer, if there are some
 abbrev pub behind_text : (pages : ℕ) → Option (List ℕ)
 behind_text pages = if pages == 0 then None
-    else (if pages == 1 then Some (codes "1 page stands behind %%Trailer or %%EOF and is not imposed")
-    else Some (decimal pages ++ codes " pages stand behind %%Trailer or %%EOF and are not imposed"))
+    else (if pages == 1 then Some (codes "1 page follows %%Trailer or %%EOF and is not imposed")
+    else Some (decimal pages ++ codes " pages follow %%Trailer or %%EOF and are not imposed"))
 
 -- a file is named as a PDF
 abbrev pub is_pdf_name : (name : List ℕ) → Bool
@@ -92,7 +92,7 @@ AddsLine message before after = (text : List ℕ) × IsLineOf message text × (a
 
 -- ---- all of it
 
--- Of a finished run four lines are said, in this order: the report, then that pages are cut, that pages stand behind the
+-- Of a finished run four lines are said, in this order: the report, then that pages are cut, that pages follow the
 -- trailer, and that the output is no PDF.
 pub record SaysLines (finished : Finished) (r : Request) (text : List ℕ) : Type 0 where
   pub report : List ℕ

@@ -35,6 +35,39 @@ pub(crate) fn caret_below(alloc: Global, text: &str, place: usize) -> Result<Str
     format!(in alloc; "{above}{below}")
 }
 
+/// Where a text can't go on that is to be a range from this byte on.
+pub(crate) fn range_place(text: &str, start: usize) -> usize {
+    let Some((_, range)) = text.split_at_checked(start) else {
+        return start;
+    };
+    let first = behind_place(range);
+    let left = match first.strip_prefix("-") {
+        Some(second) if is_place(range, first) => behind_place(second),
+        _ => first,
+    };
+    text.len().saturating_sub(left.len())
+}
+
+/// What stands behind the place, or the blank page, that a text begins with.
+fn behind_place(text: &str) -> &str {
+    if let Some(behind) = text.strip_prefix("last") {
+        return behind;
+    }
+    if let Some(behind) = text.strip_prefix("blank") {
+        return behind;
+    }
+    let digits = match text.strip_prefix("_") {
+        Some(digits) => digits,
+        None => text,
+    };
+    digits.trim_start_matches(|letter: char| letter.is_ascii_digit())
+}
+
+/// Whether a text begins with a place, behind which this is left: blank pages are none.
+fn is_place(text: &str, left: &str) -> bool {
+    left.len() < text.len() && !text.starts_with("blank") && !text.starts_with("_-")
+}
+
 /// Where an item of a specification stands, counted from 0 over the whole text.
 pub(crate) fn item_place(text: &str, item: u32) -> usize {
     place_behind(text.as_bytes(), item, true)

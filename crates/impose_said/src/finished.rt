@@ -27,7 +27,7 @@ pub struct Finished {
     pub origin: PaperOrigin,
     /// The pages that the paper cuts which was named for them. By a specification none are told.
     pub cut: Option<Cut>,
-    /// How many pages stand behind the document's trailer, which aren't imposed.
+    /// How many pages follow the document's trailer, which aren't imposed.
     pub behind: usize,
 }
 

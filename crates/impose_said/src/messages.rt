@@ -2,7 +2,7 @@
 ghost use Rattle.std.specs.Prelude.{◌≡◌};
 ghost use Rattle.impose_said.specs.Statuses.{fault_status as status_of_fault, words_status as status_of_words};
 
-use crate::caret::{caret_below, group_place, item_place, large_place};
+use crate::caret::{caret_below, group_place, item_place, large_place, range_place};
 use crate::fault::Fault;
 use crate::mistakes::looks_like_file;
 use crate::shown::shown_word;
@@ -16,6 +16,7 @@ use impose_words::{
 };
 use imposer::RunError;
 use layouts::ArrangementError;
+use lengths::Paper;
 use pagespec::SpecError;
 use paper_names::{PaperError, name_list, read_paper};
 use rows::RowError;
@@ -283,15 +284,15 @@ fn cells_text(alloc: Global, command: GridCommand, text: &str) -> Result<String,
     let shown = shown.as_str();
     if looks_like_file(text) {
         format!(in alloc;
-            "the number of pages is missing before '{shown}': it stands behind {command}, as in: {example}"
+            "the number of pages is missing before '{shown}': it comes after {command}, as in: {example}"
         )
     } else if text.contains("x") {
         format!(in alloc;
-            "bad grid '{shown}' behind {command}: give columns and rows as 2x4, at most 1024 cells in all"
+            "bad grid '{shown}' after {command}: give columns and rows as 2x4, at most 1024 cells in all"
         )
     } else {
         format!(in alloc;
-            "bad number of pages '{shown}' behind {command}: give one from 1 to 1024, or columns and rows as 2x4"
+            "bad number of pages '{shown}' after {command}: give one from 1 to 1024, or columns and rows as 2x4"
         )
     }
 }
@@ -302,12 +303,10 @@ fn noted_text(alloc: Global, text: &str) -> Result<String, AllocError> {
     let shown = shown.as_str();
     if looks_like_file(text) {
         format!(in alloc;
-            "the number of pages is missing before '{shown}': it stands behind notes, as in: impose notes 3 in.ps out.ps"
+            "the number of pages is missing before '{shown}': it comes after notes, as in: impose notes 3 in.ps out.ps"
         )
     } else {
-        format!(in alloc;
-            "bad number of pages '{shown}' behind notes: give one from 1 to 512, as 3"
-        )
+        format!(in alloc; "bad number of pages '{shown}' after notes: give one from 1 to 512, as 3")
     }
 }
 
@@ -317,12 +316,12 @@ fn tiles_text(alloc: Global, text: &str) -> Result<String, AllocError> {
     let shown = shown.as_str();
     if looks_like_file(text) {
         format!(in alloc;
-            "columns and rows of sheets are missing before '{shown}': they stand behind poster, as in: \
+            "columns and rows of sheets are missing before '{shown}': they come after poster, as in: \
             impose poster 2x2 in.ps out.ps"
         )
     } else {
         format!(in alloc;
-            "bad grid '{shown}' behind poster: give columns and rows of sheets as 2x3, at most 1024 in all"
+            "bad grid '{shown}' after poster: give columns and rows of sheets as 2x3, at most 1024 in all"
         )
     }
 }
@@ -381,13 +380,13 @@ fn paper_text(alloc: Global, option: PaperOption, text: &str) -> Result<String, 
     let shown = shown_word(alloc, text)?;
     let shown = shown.as_str();
     match read_paper(text.as_bytes()) {
-        Err(PaperError::NoUnit) => format!(in alloc;
+        Err(PaperError::NoUnit) if may_have_unit(alloc, text)? => format!(in alloc;
             "size '{shown}' after {option} has no unit: write {shown}mm, {shown}in or {shown}pt"
         ),
         Err(PaperError::UnitOfWidthAlone) => format!(in alloc;
-            "size '{shown}' after {option} has no unit behind the height: write it as 210x297mm or 210mmx297mm"
+            "size '{shown}' after {option} has no unit after the height: write it as 210x297mm or 210mmx297mm"
         ),
-        Err(PaperError::NoSuchSize) => format!(in alloc;
+        Err(PaperError::NoUnit) | Err(PaperError::NoSuchSize) => format!(in alloc;
             "size '{shown}' after {option}: a side is zero, negative or too long"
         ),
         _ => {
@@ -398,6 +397,12 @@ fn paper_text(alloc: Global, option: PaperOption, text: &str) -> Result<String, 
             )
         }
     }
+}
+
+/// Whether a size without a unit is one with it.
+fn may_have_unit(alloc: Global, text: &str) -> Result<bool, AllocError> {
+    let with_unit = format!(in alloc; "{text}mm")?;
+    Ok(read_paper(with_unit.as_bytes()).is_ok())
 }
 
 /// A text with a caret below the place in it that is at fault.
@@ -438,18 +443,22 @@ fn row_text(
         RowError::NotARange(_) if is_selection(request) && looks_like_file(ranges_of(request)) =>
             String::from_str(
                 alloc,
-                "page ranges: they stand before the file, and 1- are all pages: impose select 1- in.ps out.ps",
+                "page ranges: they come before the file, and 1- are all pages: impose select 1- in.ps out.ps",
             )?,
-        RowError::NotARange(at) => format!(in alloc;
-            "page ranges: no range at byte {at}; write them as 7, 3-9, 5-, _1 (the last) or blank, with commas \
-            between them"
-        )?,
+        RowError::NotARange(at) => no_range_text(alloc, range_place(ranges_of(request), *at))?,
         error => String::from_str(alloc, row_message(error))?,
     };
-    match ranges_place(error) {
+    match ranges_place(error, ranges_of(request)) {
         Some(place) => shown(alloc, message, ranges_of(request), place),
         None => Ok(message),
     }
+}
+
+fn no_range_text(alloc: Global, place: usize) -> Result<String, AllocError> {
+    format!(in alloc;
+        "page ranges: no range at byte {place}; write them as 7, 3-9, 5-, _1 (the last) or blank, with commas \
+        between them"
+    )
 }
 
 fn row_message(error: &RowError) -> &'static str {
@@ -472,7 +481,36 @@ fn layout_text(error: &ArrangementError, request: Option<&Request>) -> &'static 
         ArrangementError::ScaleOutOfRange if is_scaled(request) => {
             "the scale is 0 or below, or too large: give one as --scale 0.7"
         }
+        ArrangementError::FoldOnLongEdge => fold_message(request),
         error => layout_message(error),
+    }
+}
+
+/// Why a booklet's sheet would fold along its longer edge. A sheet that isn't named is the pages', and if these aren't named
+/// either the document tells them.
+fn fold_message(request: Option<&Request>) -> &'static str {
+    match named_sheet(request) {
+        None => {
+            "the sheet is wider than high, or upright pages side by side would be larger on it, and it would fold along its \
+            longer edge: name another sheet, as --sheet a4, or use nup 2"
+        }
+        Some(sheet) if sheet.width() > sheet.height() => {
+            "the sheet is wider than high, and would fold along its longer edge: name another sheet, as --sheet a4, or use \
+            nup 2"
+        }
+        Some(_) => {
+            "upright pages side by side would be larger on this sheet, and it would fold along its longer edge: name \
+            another sheet, as --sheet a4, or use nup 2"
+        }
+    }
+}
+
+/// The paper of the sheets, if the words name it.
+fn named_sheet(request: Option<&Request>) -> Option<Paper> {
+    let request = request?;
+    match request.sheet_paper {
+        Some(sheet) => Some(sheet),
+        None => request.page_paper,
     }
 }
 
@@ -494,10 +532,7 @@ fn layout_message(error: &ArrangementError) -> &'static str {
         }
         ArrangementError::NothingLeftOfPage =>
             "nothing is left of a page that is trimmed so: trim less",
-        ArrangementError::FoldOnLongEdge => {
-            "upright pages side by side would be larger on this sheet, and it would fold along its longer edge: name \
-            another sheet, as --sheet a4, or use nup 2"
-        }
+        ArrangementError::FoldOnLongEdge => fold_message(None),
         ArrangementError::NoRoom => "margins and gaps leave no room for pages: take smaller ones",
         ArrangementError::ScaleOutOfRange => {
             "the pages would be too small or too large on the sheet: name other papers by --paper and --sheet"
@@ -547,11 +582,10 @@ fn sheets_message(error: &MadeError) -> &'static str {
 }
 
 /// Where page ranges are at fault, if that is at one place.
-fn ranges_place(error: &RowError) -> Option<usize> {
+fn ranges_place(error: &RowError, ranges: &str) -> Option<usize> {
     match error {
-        RowError::NotARange(at) | RowError::NotInDocument(at) | RowError::TooManyEntries(at) => {
-            Some(*at)
-        }
+        RowError::NotARange(at) => Some(range_place(ranges, *at)),
+        RowError::NotInDocument(at) | RowError::TooManyEntries(at) => Some(*at),
         RowError::NoEntries | RowError::NoMemory => None,
     }
 }
@@ -602,10 +636,10 @@ fn spec_text(alloc: Global, error: &SpecError, spec: &str) -> Result<String, All
     let message = match error {
         SpecError::Syntax(_) if looks_like_file(spec) => String::from_str(
             alloc,
-            "it stands before the file: impose spec 0,0 in.ps out.ps",
+            "it comes before the file: impose spec 0,0 in.ps out.ps",
         )?,
         SpecError::Syntax(at) if *at < spec.len() => format!(in alloc;
-            "syntax error at byte {at}; what stands at the caret can't follow"
+            "syntax error at byte {at}; what is at the caret can't follow"
         )?,
         error => String::from_str(alloc, spec_message(error))?,
     };
@@ -659,7 +693,8 @@ fn document_text(alloc: Global, error: &DscError, name: &str) -> Result<String, 
             by --unguarded"
         ),
         DscError::NotPostScript => format!(in alloc;
-            "{name} is not PostScript: it doesn't begin with %!; cut off what stands before that"
+            "{name} is not PostScript: it doesn't begin with %!; cut off what stands before that, or if it is plain text \
+            use: enscript -p - in.txt | impose .. -"
         ),
         DscError::BadCount(at) => {
             format!(in alloc;

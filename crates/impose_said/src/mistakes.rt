@@ -37,13 +37,18 @@ fn value_in(word: &str) -> &str {
     }
 }
 
-/// Clap's text with this tip above the usage, or the last line if there is none, and without the tip to hide an option.
+/// Clap's text with this tip above the usage, or the last line if there is none, and without the tip to hide an option, or
+/// to take another word that isn't like the one that is there; then the usage, which is of that word, is left out too.
 fn with_tip(alloc: Global, text: &str, tip: Option<&str>) -> Result<String, AllocError> {
     let mut out = String::new(alloc);
     let mut left = tip;
     let mut is_behind_blank = false;
+    let astray = leads_astray(text, tip.is_some());
     for line in text.lines() {
         if line.starts_with("  tip: to pass ") || line.is_empty() && is_behind_blank {
+            continue;
+        }
+        if astray && (is_likeness(line) || line.starts_with("Usage:")) {
             continue;
         }
         if line.starts_with("Usage:") || line.starts_with("For more information") {
@@ -54,6 +59,42 @@ fn with_tip(alloc: Global, text: &str, tip: Option<&str>) -> Result<String, Allo
         is_behind_blank = line.is_empty();
     }
     Ok(out)
+}
+
+/// Whether a line is clap's tip to take a word that is like the one that is there.
+fn is_likeness(line: &str) -> bool {
+    line.starts_with("  tip: a similar ") || line.starts_with("  tip: some similar ")
+}
+
+/// Whether clap's text has such a tip though there is another one, or the words don't begin alike.
+fn leads_astray(text: &str, has_tip: bool) -> bool {
+    for line in text.lines() {
+        if is_likeness(line) {
+            return has_tip || first_letter(quoted_in(line)) != first_letter(quoted_in(text));
+        }
+    }
+    false
+}
+
+/// The first word of a text that stands in quotes.
+fn quoted_in(text: &str) -> &str {
+    match text.split_once("'") {
+        None => "",
+        Some((_, behind)) => match behind.split_once("'") {
+            None => "",
+            Some((word, _)) => word,
+        },
+    }
+}
+
+/// The first letter of an option or a command.
+fn first_letter(word: &str) -> Option<char> {
+    let word = match word.strip_prefix("--") {
+        Some(word) => word,
+        None => word,
+    };
+    let mut letters = word.chars();
+    letters.next()
 }
 
 fn push_tip(out: &mut String, tip: Option<&str>) -> Result<(), AllocError> {
@@ -104,11 +145,29 @@ fn is_command(word: &str) -> bool {
 /// The first word is no command.
 fn tip_on_command(word: &str) -> Option<&'static str> {
     if word.starts_with("-") {
-        Some("options stand behind the command, as in: impose nup 2 -q in.ps out.ps")
+        Some("options come after the command, as in: impose nup 2 -q in.ps out.ps")
     } else if looks_like_file(word) {
-        Some("a command stands before the files, as in: impose booklet in.ps out.ps")
+        Some("a command comes before the files, as in: impose booklet in.ps out.ps")
     } else if word.starts_with(|letter: char| letter.is_ascii_digit()) {
-        Some("a command stands before its number, as in: impose nup 2 in.ps out.ps")
+        Some("a command comes before its number, as in: impose nup 2 in.ps out.ps")
+    } else {
+        tip_on_wish(word)
+    }
+}
+
+/// What other programs have a command for.
+fn tip_on_wish(word: &str) -> Option<&'static str> {
+    if word == "rotate" || word == "turn" {
+        Some(
+            "pages are turned by a specification, as to the left by: impose spec 'L(1h,0)' --sheet a4-landscape in.ps out.ps",
+        )
+    } else if word == "split" || word == "cut" {
+        Some(
+            "some of the pages are taken by: impose select 1-3 in.ps out.ps; each page is put over several sheets by: \
+            impose poster 2x1 in.ps out.ps",
+        )
+    } else if word == "scale" || word == "resize" {
+        Some("pages are scaled to another paper by: impose nup 1 --sheet a5 in.ps out.ps")
     } else {
         None
     }
@@ -117,21 +176,19 @@ fn tip_on_command(word: &str) -> Option<&'static str> {
 /// The argument that the command begins with is missing.
 fn tip_on_argument(command: &str) -> Option<&'static str> {
     if command == "nup" {
-        Some("the number of pages stands behind nup, as in: impose nup 2 in.ps out.ps")
+        Some("the number of pages comes after nup, as in: impose nup 2 in.ps out.ps")
     } else if command == "cards" {
-        Some("the number of pages stands behind cards, as in: impose cards 8 in.ps out.ps")
+        Some("the number of pages comes after cards, as in: impose cards 8 in.ps out.ps")
     } else if command == "stack" {
-        Some("the number of pages stands behind stack, as in: impose stack 2 in.ps out.ps")
+        Some("the number of pages comes after stack, as in: impose stack 2 in.ps out.ps")
     } else if command == "notes" {
-        Some("the number of pages stands behind notes, as in: impose notes 3 in.ps out.ps")
+        Some("the number of pages comes after notes, as in: impose notes 3 in.ps out.ps")
     } else if command == "poster" {
-        Some(
-            "columns and rows of sheets stand behind poster, as in: impose poster 2x2 in.ps out.ps",
-        )
+        Some("columns and rows of sheets come after poster, as in: impose poster 2x2 in.ps out.ps")
     } else if command == "select" {
-        Some("the pages stand behind select, and 1- are all: impose select 1- --odd in.ps out.ps")
+        Some("the pages come after select, and 1- are all: impose select 1- --odd in.ps out.ps")
     } else {
-        Some("the specification stands behind spec, as in: impose spec 0,0 in.ps out.ps")
+        Some("the specification comes after spec, as in: impose spec 0,0 in.ps out.ps")
     }
 }
 
@@ -151,6 +208,9 @@ fn tip_on_unknown(command: &str, behind: &[String]) -> Option<&'static str> {
                 in.ps out.ps",
             );
         }
+        if let Some(tip) = tip_on_option(command, word) {
+            return Some(tip);
+        }
         if begins_with_minus_and_number(word) {
             return Some(tip_on_negative(command, before));
         }
@@ -164,7 +224,52 @@ fn tip_on_unknown(command: &str, behind: &[String]) -> Option<&'static str> {
     if behind.iter().any(|word| word.as_str().starts_with("-")) {
         None
     } else {
-        Some("there are two files at most, INFILE and OUTFILE; a name with blanks stands in quotes")
+        Some("there are two files at most, INFILE and OUTFILE; put a name with blanks in quotes")
+    }
+}
+
+/// What other programs have an option for, or other commands.
+fn tip_on_option(command: &str, word: &str) -> Option<&'static str> {
+    if word == "--short-edge" {
+        Some(
+            "without an option a booklet is for printers that flip on the short edge: leave it out",
+        )
+    } else if word == "--copies" || word == "--repeat" {
+        Some(
+            "each page stands several times on a sheet by: impose cards 2 in.ps out.ps; and the document several times behind \
+            itself by --pages 1-,1-",
+        )
+    } else if word == "--blank" {
+        Some("a blank page is named among the others, as in: --pages 1,blank,2-")
+    } else if word == "--verbose" || word == "-v" {
+        Some("there is no longer report; --plan prints which page is where")
+    } else if word == "--dry-run" || word == "-n" {
+        Some("--plan prints which page is where on each sheet, and imposes nothing")
+    } else if word == "--landscape" {
+        Some("a sheet on its side is named so, as in: --sheet a4-landscape")
+    } else if word == "--version" {
+        Some("the version is printed without a command: impose --version")
+    } else {
+        tip_on_order(command, word)
+    }
+}
+
+/// What only some of the commands have.
+fn tip_on_order(command: &str, word: &str) -> Option<&'static str> {
+    if word == "--order" && command == "booklet" {
+        Some(
+            "the order of a booklet is that in which one reads it; one that is bound at the right takes --rtl",
+        )
+    } else if word == "--order" {
+        Some(
+            "nup, cards and stack have an order, as in: impose nup 4 --order down-right in.ps out.ps",
+        )
+    } else if word == "--marks" {
+        Some(
+            "nup, cards, stack and booklet have marks, as in: impose cards 8 --marks cut in.ps out.ps",
+        )
+    } else {
+        None
     }
 }
 
@@ -179,6 +284,8 @@ fn begins_with_minus_and_number(word: &str) -> bool {
 fn tip_on_negative(command: &str, before: &str) -> &'static str {
     if takes_length(before) {
         "a length is not below 0, as in: --gap 5mm"
+    } else if before == "-p" || before == "--paper" || before == "--sheet" {
+        "the sides of a paper are above 0, as in: --paper 210x297mm"
     } else if before == "--scale" {
         "a scale is above 0, as in: --scale 0.7"
     } else if before == "--pages" {

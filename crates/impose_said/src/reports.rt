@@ -84,11 +84,21 @@ pub fn cut_text(alloc: Global, done: &Finished) -> Result<Option<String>, AllocE
     };
     let pages = cut_pages_text(alloc, &cut)?;
     let pages = pages.as_str();
-    let own = size_text(alloc, &cut.paper)?;
+    let own = cut_size_text(alloc, &cut)?;
     let own = own.as_str();
     let named = size_text(alloc, &done.page_paper)?;
     let named = named.as_str();
     Ok(Some(format!(in alloc; "--paper cuts {pages}: {own} on {named}")?))
+}
+
+/// The size of a page that is cut; of several, so far they reach.
+fn cut_size_text(alloc: Global, cut: &Cut) -> Result<String, AllocError> {
+    let size = size_text(alloc, &cut.paper)?;
+    if cut.pages == 1 {
+        return Ok(size);
+    }
+    let size = size.as_str();
+    format!(in alloc; "up to {size}")
 }
 
 /// What is said of pages that stand behind the document's trailer.
@@ -100,10 +110,10 @@ pub fn behind_text(alloc: Global, done: &Finished) -> Result<Option<String>, All
         0 => Ok(None),
         1 => Ok(Some(String::from_str(
             alloc,
-            "1 page stands behind %%Trailer or %%EOF and is not imposed",
+            "1 page follows %%Trailer or %%EOF and is not imposed",
         )?)),
         _ => Ok(Some(format!(in alloc;
-            "{pages} pages stand behind %%Trailer or %%EOF and are not imposed"
+            "{pages} pages follow %%Trailer or %%EOF and are not imposed"
         )?)),
     }
 }

@@ -1,38 +1,42 @@
 -- No grid of n cells or more is better than the chosen one.
 use Rattle.std.proofs.Common.{arith, rules, ◌≡◌, ◌≢◌, inl, inr, ℕ, suc, zero, ◌+◌, ◌-◌, ◌*◌, ◌/◌, ◌<◌, ◌≤◌, Bool, true, false, refl, sym, ap, subst, ◌∙◌, eq-eqb}
-use Rattle.std.specs.Prelude.{nat_lt, ◌==◌, ◌&&◌, ◌||◌, if◌then◌else◌}
-use Rattle.std.proofs.Math.Nat.{lt-div-mul-add, mul_comm, mul_left_comm, lt_of_mul-lt-mul_left, mul-le-mul_left, mul-le-mul_right, mul-add, suc-mul, zero-mul, div-zero, div-mul-le_self, div-lt_iff_lt-mul}
+use Rattle.std.specs.Prelude.{nat_lt, nat_abs, min, ◌==◌, ◌&&◌, ◌||◌, if◌then◌else◌}
+use Rattle.std.proofs.Math.Nat.{lt-div-mul-add, mul_comm, mul_left_comm, lt_of_mul-lt-mul_left, mul-le-mul_left, mul-le-mul_right, mul-add, mul_assoc, suc-mul, zero-mul, div-zero, div-mul-le_self, div-lt_iff_lt-mul}
 use Rattle.std.proofs.lemmas.Bool.{cases_lt}
 use Rattle.std.proofs.lemmas.Nat.{le-div}
 use Rattle.rules.specs.Papers.{Paper}
 use Rattle.layouts.specs.declared.arrangement.Turned.{Turned}
 use Rattle.layouts.specs.declared.arrangement.Turned.TheVariants as sideways
 use Rattle.layouts.specs.Placed.{Room}
-use Rattle.layouts.specs.Cells.{Grid, part, fitting, held_width, held_height, left_free, kept, step, wide, high, counted, scale_in, size}
-use Rattle.layouts.specs.Grids.{grid, better, best_of, best_grid, formed, best_formed}
+use Rattle.layouts.specs.Cells.{Grid, fitting, held_width, held_height, left_free, kept, step, wide, high, counted, exact_along, exact_scale, scale_in, size}
+use Rattle.layouts.specs.Grids.{grid, is_better, better, best_of, best_grid, formed, best_formed}
 use Rattle.layouts.specs.Laws.{IsAsGood, BestIsBest, BestHasCells, BestIsLarge, Allows, IsNotTiny}
-use Rattle.layouts.proofs.InGrid.{cells}
+use Rattle.layouts.proofs.InGrid.{cells, room_in}
 
 -- fewer parts are no smaller
 
-part_le : (side a b : ℕ) → 0 < b → b ≤ a → part side a ≤ part side b
-part_le side a b some fewer =
-    let q = side / (1_270_000 * a) in
-    let most : 1_270_000 * b ≤ 1_270_000 * a = omega (arith, fewer) in
-    le-div q side (1_270_000 * b) (omega (arith, some)) (omega (arith, mul-le-mul_left q most, div-mul-le_self side (1_270_000 * a)))
+-- a lesser number, in larger parts
+over_le : (n m p q : ℕ) → n ≤ m → q ≤ p → (q ≡ 0 → p ≡ 0) → n / p ≤ m / q
+over_le n m p zero less parts none =
+    subst (λ d. n / d ≤ m / 0) (sym (none refl)) (omega (arith, div-zero n, div-zero m))
+over_le n m p (suc q) less parts none =
+    le-div (n / p) m (suc q) (omega arith) (omega (arith, less, mul-le-mul_left (n / p) parts, div-mul-le_self n p))
 
-fitting_le : (a b side : ℕ) → a ≤ b → fitting a side ≤ fitting b side
-fitting_le a b zero h = omega (arith, div-zero (1_270_000_000_000_000 * a), div-zero (1_270_000_000_000_000 * b))
-fitting_le a b (suc side) h =
-    le-div (fitting a (suc side)) (1_270_000_000_000_000 * b) (suc side) (omega arith) (omega (arith, h, div-mul-le_self (1_270_000_000_000_000 * a) (suc side)))
+no_page : (page a b : ℕ) → 0 < b → page * b ≡ 0 → page * a ≡ 0
+no_page zero a b some e = zero-mul a
+no_page (suc page) a b some e = absurd (omega (arith, some, e, suc-mul page b))
 
-cell_le : (room : Room) (side a b page : ℕ) → 0 < b → b ≤ a → fitting (step room side a - kept room room.gap) page ≤ fitting (step room side b - kept room room.gap) page
-cell_le room side a b page some fewer =
-    fitting_le (step room side a - kept room room.gap) (step room side b - kept room room.gap) page (omega (arith, part_le (left_free room side + 1_270_000 * kept room room.gap) a b some fewer))
+exact_le : (room : Room) (side a b page : ℕ) → 0 < b → b ≤ a → exact_along room side a page ≤ exact_along room side b page
+exact_le room side a b page some fewer =
+    let d = kept room room.gap in
+    let gaps : d * b ≤ d * a = mul-le-mul_left d fewer in
+    over_le (1_000_000_000 * left_free room side + 1_270_000_000_000_000 * d - 1_270_000_000_000_000 * (d * a))
+    (1_000_000_000 * left_free room side + 1_270_000_000_000_000 * d - 1_270_000_000_000_000 * (d * b)) (page * a) (page * b)
+    (omega (arith, gaps)) (mul-le-mul_left page fewer) (no_page page a b some)
 
-scale_le : (page : Paper) (room : Room) (r c r' c' : ℕ) (b : Bool) → 0 < r' → 0 < c' → r' ≤ r → c' ≤ c → scale_in page room (cells r c b) ≤ scale_in page room (cells r' c' b)
+scale_le : (page : Paper) (room : Room) (r c r' c' : ℕ) (b : Bool) → 0 < r' → 0 < c' → r' ≤ r → c' ≤ c → exact_scale page room (cells r c b) ≤ exact_scale page room (cells r' c' b)
 scale_le page room r c r' c' b some_rows some_columns rows columns =
-    omega (arith, cell_le room (held_width b room.paper) c c' (counted room page.width) some_columns columns, cell_le room (held_height b room.paper) r r' (counted room page.height) some_rows rows)
+    omega (arith, exact_le room (held_width b room.paper) c c' (counted room page.width) some_columns columns, exact_le room (held_height b room.paper) r r' (counted room page.height) some_rows rows)
 
 -- the better of two
 
@@ -50,14 +54,14 @@ same_turn false b true x y e = absurd (cc (e))
 
 good_trans : (page : Paper) (room : Room) (f g h : Grid) → IsAsGood page room f g → IsAsGood page room g h → IsAsGood page room f h
 good_trans page room f g h x y =
-    let more : scale_in page room g ≤ scale_in page room f = x.large in
-    let more' : scale_in page room h ≤ scale_in page room g = y.large in
-    let first : scale_in page room f ≡ scale_in page room h → scale_in page room f ≡ scale_in page room g = λ e. omega (arith, more, more', e) in
-    let last : scale_in page room f ≡ scale_in page room h → scale_in page room g ≡ scale_in page room h = λ e. omega (arith, more, more', e) in
-    let few : scale_in page room f ≡ scale_in page room h → size f ≤ size g = λ e. x.few (first e) in
-    let few' : scale_in page room f ≡ scale_in page room h → size g ≤ size h = λ e. y.few (last e) in
-    let size_first : scale_in page room f ≡ scale_in page room h → size f ≡ size h → size f ≡ size g = λ e s. let m = few e in let m' = few' e in omega (arith, m, m', s) in
-    let size_last : scale_in page room f ≡ scale_in page room h → size f ≡ size h → size g ≡ size h = λ e s. let m = few e in let m' = few' e in omega (arith, m, m', s) in
+    let more : exact_scale page room g ≤ exact_scale page room f = x.large in
+    let more' : exact_scale page room h ≤ exact_scale page room g = y.large in
+    let first : exact_scale page room f ≡ exact_scale page room h → exact_scale page room f ≡ exact_scale page room g = λ e. omega (arith, more, more', e) in
+    let last : exact_scale page room f ≡ exact_scale page room h → exact_scale page room g ≡ exact_scale page room h = λ e. omega (arith, more, more', e) in
+    let few : exact_scale page room f ≡ exact_scale page room h → size f ≤ size g = λ e. x.few (first e) in
+    let few' : exact_scale page room f ≡ exact_scale page room h → size g ≤ size h = λ e. y.few (last e) in
+    let size_first : exact_scale page room f ≡ exact_scale page room h → size f ≡ size h → size f ≡ size g = λ e s. let m = few e in let m' = few' e in omega (arith, m, m', s) in
+    let size_last : exact_scale page room f ≡ exact_scale page room h → size f ≡ size h → size g ≡ size h = λ e s. let m = few e in let m' = few' e in omega (arith, m, m', s) in
     record {
       large = omega (arith, more, more');
       few = λ e. let m = few e in let m' = few' e in omega (arith, m, m');
@@ -77,29 +81,29 @@ record IsFirst (one other : Grid) : Type 0 where
 abbrev BothGood : (page : Paper) → Room → (chosen one other : Grid) → Type 0
 BothGood page room chosen one other = IsAsGood page room chosen one × IsAsGood page room chosen other
 
-prefer_at : (page : Paper) (room : Room) (one other : Grid) → IsFirst one other → (more same fewer : Bool) → nat_lt (scale_in page room one) (scale_in page room other) ≡ more
-    → (scale_in page room one == scale_in page room other) ≡ same → nat_lt (size other) (size one) ≡ fewer → BothGood page room (if more || same && fewer then other else one) one other
+prefer_at : (page : Paper) (room : Room) (one other : Grid) → IsFirst one other → (more same fewer : Bool) → nat_lt (exact_scale page room one) (exact_scale page room other) ≡ more
+    → (exact_scale page room one == exact_scale page room other) ≡ same → nat_lt (size other) (size one) ≡ fewer → BothGood page room (if more || same && fewer then other else one) one other
 prefer_at page room one other first true same fewer e f g =
-    let h : scale_in page room one < scale_in page room other = search (rules, e) in (
+    let h : exact_scale page room one < exact_scale page room other = search (rules, e) in (
       record { large = omega (arith, h); few = λ eq. absurd (omega (arith, h, eq)); upright = λ eq. absurd (omega (arith, h, eq)); narrow = λ eq. absurd (omega (arith, h, eq)) },
       good_self page room other,
     )
 prefer_at page room one other first false true true e f g =
-    let h : scale_in page room one ≡ scale_in page room other = search (rules, f) in
+    let h : exact_scale page room one ≡ exact_scale page room other = search (rules, f) in
     let m : size other < size one = search (rules, g) in
     (record { large = omega (arith, h); few = λ eq. omega (arith, m); upright = λ eq s. absurd (omega (arith, m, s)); narrow = λ eq s. absurd (omega (arith, m, s)) }, good_self page room other)
 prefer_at page room one other first false true false e f g =
-    let h : scale_in page room one ≡ scale_in page room other = search (rules, f) in
+    let h : exact_scale page room one ≡ exact_scale page room other = search (rules, f) in
     let m : size one ≤ size other = search (rules, g) in
     (good_self page room one, record { large = omega (arith, h); few = λ eq. m; upright = λ eq s. first.upright; narrow = λ eq s. first.narrow })
 prefer_at page room one other first false false fewer e f g =
-    let h : scale_in page room other ≤ scale_in page room one = search (rules, e) in
-    let differ : scale_in page room one ≢ scale_in page room other = λ eq. let same = eq-eqb (scale_in page room one) (scale_in page room other) eq in absurd (cc (f, same)) in
+    let h : exact_scale page room other ≤ exact_scale page room one = search (rules, e) in
+    let differ : exact_scale page room one ≢ exact_scale page room other = λ eq. let same = eq-eqb (exact_scale page room one) (exact_scale page room other) eq in absurd (cc (f, same)) in
     (good_self page room one, record { large = h; few = λ eq. absurd (differ eq); upright = λ eq. absurd (differ eq); narrow = λ eq. absurd (differ eq) })
 
 both_good : (page : Paper) (room : Room) (one other : Grid) → IsFirst one other → BothGood page room (better page room one other) one other
 both_good page room one other first =
-    prefer_at page room one other first (nat_lt (scale_in page room one) (scale_in page room other)) (scale_in page room one == scale_in page room other) (nat_lt (size other) (size one)) refl refl refl
+    prefer_at page room one other first (nat_lt (exact_scale page room one) (exact_scale page room other)) (exact_scale page room one == exact_scale page room other) (nat_lt (size other) (size one)) refl refl refl
 
 -- the turn and the columns of what was found so far
 
@@ -232,12 +236,48 @@ allowed page room g t sides rows columns allows =
     let down : t < fitting (high room g) (counted room page.height) + 1_000 = nearly room (held_height g.turned room.paper) g.rows (counted room page.height) t sides.1 rows allows.high in
     omega (arith, across, down)
 
+-- and what exact parts allow at most is, too
+product : (a b : ℕ) → 0 < a → 0 < b → 0 < a * b
+product zero b some some' = absurd (omega (arith, some))
+product (suc a) b some some' = omega (arith, some', suc-mul a b)
+
+near_by : (room : Room) (side parts page t : ℕ) → 1_397_000_000_000 ≤ page → 0 < parts
+    → t * (page * parts) ≤ 1_000_000_000 * (side - 2_540_000 * kept room room.edge) + 1_270_000_000_000_000 * kept room room.gap - 1_270_000_000_000_000 * (kept room room.gap * parts)
+    → t < fitting (step room side parts - kept room room.gap) page + 1_000
+near_by room side parts page zero large some fits = omega arith
+near_by room side parts page (suc t) large some fits =
+    let here = product page parts (omega (arith, large)) some in
+    nearly room side parts page (suc t) large some (omega (arith, fits, here, suc-mul t (page * parts), mul_assoc (suc t) page parts))
+
+near_along : (room : Room) (side parts page : ℕ) → 1_397_000_000_000 ≤ page → 0 < parts
+    → exact_along room side parts page < fitting (step room side parts - kept room room.gap) page + 1_000
+near_along room side parts page large some =
+    near_by room side parts page (exact_along room side parts page) large some
+    (div-mul-le_self (1_000_000_000 * left_free room side + 1_270_000_000_000_000 * kept room room.gap - 1_270_000_000_000_000 * (kept room room.gap * parts)) (page * parts))
+
+near_exact : (page : Paper) (room : Room) (g : Grid) → IsNotTiny page room → 0 < g.rows → 0 < g.columns → exact_scale page room g < scale_in page room g + 1_000
+near_exact page room g sides rows columns =
+    omega (arith, near_along room (held_width g.turned room.paper) g.columns (counted room page.width) sides.0 columns, near_along room (held_height g.turned room.paper) g.rows (counted room page.height) sides.1 rows)
+
+within_along : (room : Room) (side parts page t : ℕ) → 1_397_000_000_000 ≤ page → 0 < parts
+    → t * page * parts + 1_270_000_000_000_000 * (kept room room.gap * parts) ≤ 1_000_000_000 * (side - 2_540_000 * kept room room.edge) + 1_270_000_000_000_000 * kept room room.gap
+    → t ≤ exact_along room side parts page
+within_along room side parts page t large some allows =
+    le-div t (1_000_000_000 * left_free room side + 1_270_000_000_000_000 * kept room room.gap - 1_270_000_000_000_000 * (kept room room.gap * parts)) (page * parts)
+    (product page parts (omega (arith, large)) some) (omega (arith, allows, mul_assoc t page parts))
+
+within_exact : (page : Paper) (room : Room) (g : Grid) (t : ℕ) → IsNotTiny page room → 0 < g.rows → 0 < g.columns → Allows page room g t → t ≤ exact_scale page room g
+within_exact page room g t sides rows columns allows =
+    omega (arith, within_along room (held_width g.turned room.paper) g.columns (counted room page.width) t sides.0 columns allows.wide, within_along room (held_height g.turned room.paper) g.rows (counted room page.height) t sides.1 rows allows.high)
+
 pub best_is_large : BestIsLarge
 best_is_large page room n g t sides many h allows =
     let (rows, columns) = sides_of g.rows g.columns n many h in
-    let here = allowed page room g t sides rows columns allows in
-    let best : scale_in page room g ≤ scale_in page room (best_grid page room n) = (best_is_best page room n g many h).large in
-    omega (arith, here, best)
+    let here = within_exact page room g t sides rows columns allows in
+    let best : exact_scale page room g ≤ exact_scale page room (best_grid page room n) = (best_is_best page room n g many h).large in
+    let (rows', columns') = sides_of (best_grid page room n).rows (best_grid page room n).columns n many (best_has_cells page room n many) in
+    let near = near_exact page room (best_grid page room n) sides rows' columns' in
+    omega (arith, here, best, near)
 
 -- ---- so many columns and rows
 
@@ -246,29 +286,36 @@ some_formed sideways.Upright b columns rows some some' = (some', some)
 some_formed sideways.Left b columns rows some some' = (some, some')
 some_formed sideways.Right b columns rows some some' = (some, some')
 
-either_large : (page : Paper) (room : Room) (one other : Grid) → (more same fewer : Bool) → nat_lt (scale_in page room one) (scale_in page room other) ≡ more
-    → (scale_in page room one == scale_in page room other) ≡ same
-    → (scale_in page room one ≤ scale_in page room (if more || same && fewer then other else one)) × (scale_in page room other ≤ scale_in page room (if more || same && fewer then other else one))
+either_large : (page : Paper) (room : Room) (one other : Grid) → (more same fewer : Bool) → nat_lt (exact_scale page room one) (exact_scale page room other) ≡ more
+    → (exact_scale page room one == exact_scale page room other) ≡ same
+    → (exact_scale page room one ≤ exact_scale page room (if more || same && fewer then other else one)) × (exact_scale page room other ≤ exact_scale page room (if more || same && fewer then other else one))
 either_large page room one other true same fewer e f =
-    let h : scale_in page room one < scale_in page room other = search (rules, e) in (omega (arith, h), omega arith)
+    let h : exact_scale page room one < exact_scale page room other = search (rules, e) in (omega (arith, h), omega arith)
 either_large page room one other false true true e f =
-    let h : scale_in page room one ≡ scale_in page room other = search (rules, f) in (omega (arith, h), omega arith)
+    let h : exact_scale page room one ≡ exact_scale page room other = search (rules, f) in (omega (arith, h), omega arith)
 either_large page room one other false true false e f =
-    let h : scale_in page room one ≡ scale_in page room other = search (rules, f) in (omega arith, omega (arith, h))
+    let h : exact_scale page room one ≡ exact_scale page room other = search (rules, f) in (omega arith, omega (arith, h))
 either_large page room one other false false fewer e f =
-    let h : scale_in page room other ≤ scale_in page room one = search (rules, e) in (omega arith, h)
+    let h : exact_scale page room other ≤ exact_scale page room one = search (rules, e) in (omega arith, h)
 
-formed_large : (page : Paper) (room : Room) (t : Turned) (b : Bool) (columns rows : ℕ) → scale_in page room (formed t b columns rows) ≤ scale_in page room (best_formed page room t columns rows)
+formed_large : (page : Paper) (room : Room) (t : Turned) (b : Bool) (columns rows : ℕ) → exact_scale page room (formed t b columns rows) ≤ exact_scale page room (best_formed page room t columns rows)
 formed_large page room t false columns rows =
     (either_large page room (formed t false columns rows) (formed t true columns rows) _ _ (nat_lt (size (formed t true columns rows)) (size (formed t false columns rows))) refl refl).0
 formed_large page room t true columns rows =
     (either_large page room (formed t false columns rows) (formed t true columns rows) _ _ (nat_lt (size (formed t true columns rows)) (size (formed t false columns rows))) refl refl).1
 
+some_best : (t : Turned) (columns rows : ℕ) (b : Bool) → 0 < columns → 0 < rows
+    → (0 < (if b then formed t true columns rows else formed t false columns rows).rows) × (0 < (if b then formed t true columns rows else formed t false columns rows).columns)
+some_best t columns rows true some some' = some_formed t true columns rows some some'
+some_best t columns rows false some some' = some_formed t false columns rows some some'
+
 pub formed_is_large : (page : Paper) (room : Room) (t : Turned) (columns rows : ℕ) (b : Bool) (s : ℕ) → 0 < columns → 0 < rows → IsNotTiny page room → Allows page room (formed t b columns rows) s
     → s < scale_in page room (best_formed page room t columns rows) + 1_000
 formed_is_large page room t columns rows b s some some' sides allows =
     let (in_rows, in_columns) = some_formed t b columns rows some some' in
-    omega (arith, allowed page room (formed t b columns rows) s sides in_rows in_columns allows, formed_large page room t b columns rows)
+    let best = some_best t columns rows (is_better page room (formed t false columns rows) (formed t true columns rows)) some some' in
+    let near = near_exact page room (best_formed page room t columns rows) sides best.0 best.1 in
+    omega (arith, within_exact page room (formed t b columns rows) s sides in_rows in_columns allows, formed_large page room t b columns rows, near)
 
 -- one more number of columns
 pub next_best : (page : Paper) (room : Room) (turned : Bool) (n k : ℕ) (best other result : Grid) → result ≡ better page room best other → best ≡ best_of page room turned n k → other ≡ grid turned n (k + 1)
@@ -278,3 +325,71 @@ next_best page room turned n k best other result e f g =
     let back : better page room (best_of page room turned n k) (grid turned n (k + 1)) ≡ best_of page room turned n (k + 1) =
     subst (λ m. better page room (best_of page room turned n k) (grid turned n m) ≡ best_of page room turned n m) next refl in
     e ∙ (ap (λ b. better page room b other) f ∙ (ap (λ q. better page room (best_of page room turned n k) q) g ∙ back))
+
+-- ---- one page on a sheet of its own paper
+
+along_one : (sheet : Paper) (side d page : ℕ) → exact_along (room_in sheet 0 d 0) side 1 page ≡ 1_000_000_000 * side / page
+along_one sheet side d page =
+    let all : 1_000_000_000 * left_free (room_in sheet 0 d 0) side + 1_270_000_000_000_000 * d - 1_270_000_000_000_000 * (d * 1) ≡ 1_000_000_000 * side = omega arith in
+    let one : page * 1 ≡ page = omega arith in
+    ap (λ n. n / (page * 1)) all ∙ ap (λ m. 1_000_000_000 * side / m) one
+
+at_most_whole : (side page : ℕ) → 0 < page → side ≤ page → 1_000_000_000 * side / page ≤ 1_000_000_000
+at_most_whole side page some less =
+    let h : 1_000_000_000 * side / page < 1_000_000_001 = (div-lt_iff_lt-mul some).1 (omega (arith, some, less)) in
+    omega (arith, h)
+
+whole_side : (side : ℕ) → 0 < side → 1_000_000_000 ≤ 1_000_000_000 * side / side
+whole_side side some = le-div 1_000_000_000 (1_000_000_000 * side) side some (omega arith)
+
+either_less : (w h : ℕ) → 0 < w → 0 < h → min (1_000_000_000 * h / w) (1_000_000_000 * w / h) ≤ min (1_000_000_000 * w / w) (1_000_000_000 * h / h)
+either_less w h wide high =
+    let a = whole_side w wide in
+    let b = whole_side h high in
+    elim (cases_lt w h) [
+      | inl more ↦ omega (arith, a, b, at_most_whole w h high (omega (arith, more)))
+      | inr less ↦ omega (arith, a, b, at_most_whole h w wide less)
+    ]
+
+upright_as_large : (page sheet : Paper) (d : ℕ) → nat_abs page.width ≡ nat_abs sheet.width → nat_abs page.height ≡ nat_abs sheet.height → 0 < nat_abs page.width → 0 < nat_abs page.height
+    → exact_scale page (room_in sheet 0 d 0) (cells 1 1 true) ≤ exact_scale page (room_in sheet 0 d 0) (cells 1 1 false)
+upright_as_large page sheet d same same' wide high =
+    let w = nat_abs page.width in
+    let h = nat_abs page.height in
+    let r = room_in sheet 0 d 0 in
+    let all_wide : counted (room_in sheet 0 d 0) page.width ≡ nat_abs page.width = omega arith in
+    let all_high : counted (room_in sheet 0 d 0) page.height ≡ nat_abs page.height = omega arith in
+    let one : exact_scale page (room_in sheet 0 d 0) (cells 1 1 true) ≡ min (1_000_000_000 * h / w) (1_000_000_000 * w / h) =
+    ap (λ x. min (exact_along r (nat_abs sheet.height) 1 x) (exact_along r (nat_abs sheet.width) 1 (counted r page.height))) all_wide
+    ∙ (ap (λ y. min (exact_along r (nat_abs sheet.height) 1 w) (exact_along r (nat_abs sheet.width) 1 y)) all_high
+    ∙ (ap (λ x. min x (exact_along r (nat_abs sheet.width) 1 h)) (along_one sheet (nat_abs sheet.height) d w ∙ ap (λ m. 1_000_000_000 * m / w) (sym same'))
+    ∙ ap (λ y. min (1_000_000_000 * h / w) y) (along_one sheet (nat_abs sheet.width) d h ∙ ap (λ m. 1_000_000_000 * m / h) (sym same)))) in
+    let two : exact_scale page (room_in sheet 0 d 0) (cells 1 1 false) ≡ min (1_000_000_000 * w / w) (1_000_000_000 * h / h) =
+    ap (λ x. min (exact_along r (nat_abs sheet.width) 1 x) (exact_along r (nat_abs sheet.height) 1 (counted r page.height))) all_wide
+    ∙ (ap (λ y. min (exact_along r (nat_abs sheet.width) 1 w) (exact_along r (nat_abs sheet.height) 1 y)) all_high
+    ∙ (ap (λ x. min x (exact_along r (nat_abs sheet.height) 1 h)) (along_one sheet (nat_abs sheet.width) d w ∙ ap (λ m. 1_000_000_000 * m / w) (sym same))
+    ∙ ap (λ y. min (1_000_000_000 * w / w) y) (along_one sheet (nat_abs sheet.height) d h ∙ ap (λ m. 1_000_000_000 * m / h) (sym same')))) in
+    let done = either_less w h wide high in
+    subst (λ m. m ≤ exact_scale page (room_in sheet 0 d 0) (cells 1 1 false)) (sym one)
+    (subst (λ m. min (1_000_000_000 * h / w) (1_000_000_000 * w / h) ≤ m) (sym two) done)
+
+-- the first of two grids is kept if the other isn't larger, and has no fewer cells
+first_kept : (page : Paper) (room : Room) (one other : Grid) → (more same fewer : Bool) → nat_lt (exact_scale page room one) (exact_scale page room other) ≡ more → nat_lt (size other) (size one) ≡ fewer
+    → exact_scale page room other ≤ exact_scale page room one → size one ≤ size other → (if more || same && fewer then other else one) ≡ one
+first_kept page room one other true same fewer e f large few = let h : exact_scale page room one < exact_scale page room other = search (rules, e) in absurd (omega (arith, h, large))
+first_kept page room one other false true true e f large few = let h : size other < size one = search (rules, f) in absurd (omega (arith, h, few))
+first_kept page room one other false true false e f large few = refl
+first_kept page room one other false false fewer e f large few = refl
+
+kept_first : (page : Paper) (room : Room) (one other : Grid) → exact_scale page room other ≤ exact_scale page room one → size one ≤ size other → better page room one other ≡ one
+kept_first page room one other large few =
+    first_kept page room one other (nat_lt (exact_scale page room one) (exact_scale page room other)) (exact_scale page room one == exact_scale page room other) (nat_lt (size other) (size one)) refl refl large few
+
+-- so it is upright
+pub one_upright : (page sheet : Paper) (d : ℕ) → nat_abs page.width ≡ nat_abs sheet.width → nat_abs page.height ≡ nat_abs sheet.height → 0 < nat_abs page.width → 0 < nat_abs page.height
+    → better page (room_in sheet 0 d 0) (cells 1 1 false) (cells 1 1 true) ≡ cells 1 1 false
+one_upright page sheet d same same' wide high =
+    kept_first page (room_in sheet 0 d 0) (cells 1 1 false) (cells 1 1 true) (upright_as_large page sheet d same same' wide high) (omega arith)
+
+pub best_of_one : (page : Paper) (room : Room) (b : Bool) → best_of page room b 1 1 ≡ cells 1 1 b
+best_of_one page room b = kept_first page room (cells 1 1 b) (cells 1 1 b) (omega arith) (omega arith)

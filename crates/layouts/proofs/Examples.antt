@@ -11,15 +11,10 @@ use Rattle.layouts.specs.declared.arrangement.Run.TheVariants.{Rows, Columns}
 use Rattle.layouts.specs.declared.arrangement.Turned.TheVariants as sideways
 use Rattle.layouts.specs.declared.arrangement.Order.{Order}
 use Rattle.layouts.specs.declared.error.ArrangementError.TheVariants as why
-use Rattle.layouts.specs.declared.error.LayoutError.TheVariants.{FoldOnLongEdge, PagesOutOfRange, SideTooLong}
 use Rattle.layouts.specs.Placed.{bare}
 use Rattle.layouts.specs.Cells.{scale_in}
-use Rattle.layouts.specs.Grids.{n_up, best_grid, leaves, arranged, bound, plain}
-use Rattle.layouts.specs.Refusals.{is_count, is_reached, is_scale, is_length, why_not, why_no_booklet, why_no_scale, why_not_arranged}
-use Rattle.pagespec.specs.Reading.{joined_at}
-use Rattle.layouts.specs.declared.selections.Which.TheVariants.{All, Odd, Even}
-use Rattle.layouts.specs.Selections.{One, FromTo, From, row_of, misses}
-use Rattle.layouts.specs.Reading.{ranges_at, range_at}
+use Rattle.layouts.specs.Grids.{best_grid, best_formed, arranged, bound, plain, plain_binding}
+use Rattle.layouts.specs.Refusals.{is_count, is_reached, is_scale, is_length, why_no_scale, why_not_arranged, why_not_bound}
 
 two_on_a4 : best_grid (points 595 842) (bare (points 595 842)) 2 ≡ record { rows = 1; columns = 2; turned = true }
 two_on_a4 = refl
@@ -38,6 +33,15 @@ two_squares = refl
 -- on a sheet that isn't as high as wide they stand beside one another
 two_on_a_wide_sheet : best_grid (points 100 100) (bare (points 200 199)) 2 ≡ record { rows = 1; columns = 2; turned = false }
 two_on_a_wide_sheet = refl
+
+-- five rows of six pages of 500 by 600 points allow a sixth of their size on a sheet of their own paper, upright or turned,
+-- though cells of whole 10^-5 of a point are a little larger if pages are turned
+six_by_five : best_formed (points 500 600) (bare (points 500 600)) sideways.Upright 6 5 ≡ record { rows = 5; columns = 6; turned = false }
+six_by_five = refl
+
+-- three pages above one another, beside as many places for notes, on a sheet of 3 by 2
+notes_on_three_by_two : best_formed (points 960 640) (bare (points 960 640)) sideways.Upright 2 3 ≡ record { rows = 3; columns = 2; turned = false }
+notes_on_three_by_two = refl
 
 three_on_a_row : best_grid (points 100 100) (bare (points 300 100)) 3 ≡ record { rows = 1; columns = 3; turned = false }
 three_on_a_row = refl
@@ -62,43 +66,43 @@ eight_on_a4 = refl
 eleven_on_a4 : best_grid (points 595 842) (bare (points 595 842)) 11 ≡ record { rows = 4; columns = 3; turned = false }
 eleven_on_a4 = refl
 
-two_on_a4_text : canonical (n_up (points 595 842) (points 595 842) 2) ≡ codes "2:0L@.706650831(595,.27137)+1L@.706650831(595,421.27137)"
+two_on_a4_text : canonical (arranged (points 595 842) (points 595 842) (plain (AtLeast 2))) ≡ codes "2:0L@.706650831(595,.27137)+1L@.706650831(595,421.27137)"
 unfolding digits
 two_on_a4_text = refl
 
-four_on_a4_text : canonical (n_up (points 595 842) (points 595 842) 4) ≡ codes "4:0@.5(0,421)+1@.5(297.5,421)+2@.5+3@.5(297.5,0)"
+four_on_a4_text : canonical (arranged (points 595 842) (points 595 842) (plain (AtLeast 4))) ≡ codes "4:0@.5(0,421)+1@.5(297.5,421)+2@.5+3@.5(297.5,0)"
 unfolding digits
 four_on_a4_text = refl
 
-one_on_a4_text : canonical (n_up (points 595 842) (points 595 842) 1) ≡ codes "0"
+one_on_a4_text : canonical (arranged (points 595 842) (points 595 842) (plain (AtLeast 1))) ≡ codes "0"
 unfolding digits
 one_on_a4_text = refl
 
 -- a sheet that is twice as high as wide folds parallel to its shorter edge, and one that is higher doesn't
-twice_as_high : why_no_booklet (points 100 200) (points 100 200) ≡ None
+twice_as_high : why_not_bound (points 100 200) (points 100 200) (plain_binding false) ≡ None
 twice_as_high = refl
 
-more_than_twice_as_high : why_no_booklet (points 100 201) (points 100 201) ≡ Some FoldOnLongEdge
+more_than_twice_as_high : why_not_bound (points 100 201) (points 100 201) (plain_binding false) ≡ Some why.FoldOnLongEdge
 more_than_twice_as_high = refl
 
-wider_than_high : why_no_booklet (points 842 595) (points 842 595) ≡ Some FoldOnLongEdge
+wider_than_high : why_not_bound (points 842 595) (points 842 595) (plain_binding false) ≡ Some why.FoldOnLongEdge
 wider_than_high = refl
 
 -- a square folds as well one way as the other
-square : why_no_booklet (points 100 100) (points 100 100) ≡ None
+square : why_not_bound (points 100 100) (points 100 100) (plain_binding false) ≡ None
 square = refl
 
 -- the backs of a booklet are turned by half, about the middle of the sheet
-backs_text : canonical (leaves (points 595 842) (points 595 842) true) ≡ codes "4:0L@.706650831(595,.27137)+1L@.706650831(595,421.27137),2R@.706650831(0,841.72863)+3R@.706650831(0,420.72863)"
+backs_text : canonical (bound (points 595 842) (points 595 842) (plain_binding true)) ≡ codes "4:0L@.706650831(595,.27137)+1L@.706650831(595,421.27137),2R@.706650831(0,841.72863)+3R@.706650831(0,420.72863)"
 unfolding digits
 backs_text = refl
 
 -- one page on a sheet that differs from its paper in one side is placed
-higher_sheet_text : canonical (n_up (points 595 842) (points 595 844) 1) ≡ codes "0(0,1)"
+higher_sheet_text : canonical (arranged (points 595 842) (points 595 844) (plain (AtLeast 1))) ≡ codes "0(0,1)"
 unfolding digits
 higher_sheet_text = refl
 
-wider_sheet_text : canonical (n_up (points 595 842) (points 597 842) 1) ≡ codes "0(1,0)"
+wider_sheet_text : canonical (arranged (points 595 842) (points 597 842) (plain (AtLeast 1))) ≡ codes "0(1,0)"
 unfolding digits
 wider_sheet_text = refl
 
@@ -233,48 +237,8 @@ scale_past_greatest : is_scale 99_999_000_000_001 ≡ false
 scale_past_greatest = refl
 
 -- the number of pages is looked at before the papers
-count_before_sides : why_not (points 100_000 1) (points 1 1) 1_025 ≡ Some PagesOutOfRange
+count_before_sides : why_not_arranged (points 100_000 1) (points 1 1) (plain (AtLeast 1_025)) ≡ Some why.CellsOutOfRange
 count_before_sides = refl
 
-side_too_long : why_not (points 1 1) (points 1 100_000) 1 ≡ Some SideTooLong
+side_too_long : why_not_arranged (points 1 1) (points 1 100_000) (plain (AtLeast 1)) ≡ Some why.SideTooLong
 side_too_long = refl
-
--- selections
-
-text_of_ranges : ranges_at (codes "9-7,08-,3") ≡ Some (FromTo 9 7 ∷ From 8 ∷ One 3 ∷ [])
-unfolding joined_at range_at
-text_of_ranges = refl
-
-no_text_of_ranges : ranges_at (codes "1-2-3") ≡ None
-unfolding joined_at range_at
-no_text_of_ranges = refl
-
-down_and_to_the_last : row_of All 9 (FromTo 9 7 ∷ From 8 ∷ One 3 ∷ []) ≡ 9 ∷ 8 ∷ 7 ∷ 8 ∷ 9 ∷ 3 ∷ []
-down_and_to_the_last = refl
-
-odd_ones : row_of Odd 6 (From 1 ∷ []) ≡ 1 ∷ 3 ∷ 5 ∷ []
-odd_ones = refl
-
-page_after_the_last : misses 4 (From 5 ∷ []) ≡ true
-page_after_the_last = refl
-
-even_ones : row_of Even 6 (FromTo 5 2 ∷ One 6 ∷ []) ≡ 4 ∷ 2 ∷ 6 ∷ []
-even_ones = refl
-
-page_to_itself : row_of All 4 (FromTo 3 3 ∷ []) ≡ 3 ∷ []
-page_to_itself = refl
-
-from_the_last : row_of All 4 (From 4 ∷ []) ≡ 4 ∷ []
-from_the_last = refl
-
-last_page : misses 4 (One 4 ∷ []) ≡ false
-last_page = refl
-
-page_0 : misses 4 (One 0 ∷ []) ≡ true
-page_0 = refl
-
-end_after_the_last : misses 4 (One 1 ∷ FromTo 1 5 ∷ []) ≡ true
-end_after_the_last = refl
-
-start_after_the_last : misses 4 (FromTo 5 1 ∷ []) ≡ true
-start_after_the_last = refl

@@ -1,6 +1,6 @@
 -- Pages of several papers, each fitted into its cell.
 use Rattle.std.proofs.Common.{arith, rules, ◌≡◌, ◌≢◌, ℕ, suc, zero, ◌*◌, ◌/◌, ◌%◌, ◌<◌, ◌≤◌, Bool, true, false, Option, None, refl, sym, ap, subst, ◌∙◌, [], ◌∷◌}
-use Rattle.std.specs.Prelude.{◌&&◌, ◌==◌, nat_le, nat_abs, if◌then◌else◌, is_none, map, IsTrue}
+use Rattle.std.specs.Prelude.{◌&&◌, ◌==◌, not, nat_le, nat_lt, nat_abs, if◌then◌else◌, is_none, map, IsTrue}
 use Rattle.std.specs.List.{range_with_len}
 use Rattle.lengths.proofs.Numbers.{same_byte}
 use Rattle.rules.specs.Papers.{Paper}
@@ -10,25 +10,27 @@ use Rattle.layouts.specs.declared.arrangement.Binding.{Binding}
 use Rattle.layouts.specs.declared.arrangement.Cells.{Cells}
 use Rattle.layouts.specs.declared.arrangement.Cells.TheVariants.{AtLeast, Exactly}
 use Rattle.layouts.specs.declared.arrangement.Turned.{Turned}
+use Rattle.layouts.specs.declared.arrangement.Turned.TheVariants as sideways
 use Rattle.layouts.specs.declared.arrangement.Order.{Order}
 use Rattle.layouts.specs.declared.error.ArrangementError.{ArrangementError}
 use Rattle.layouts.specs.declared.error.ArrangementError.TheVariants as why
 use Rattle.layouts.specs.declared.setting.Setting.{Setting}
-use Rattle.layouts.specs.Placed.{Room, IsInside, AreApart}
-use Rattle.layouts.specs.Cells.{Grid, size, scale_in, item_in, run_in, read_rows, row_of, column_of}
-use Rattle.layouts.specs.Grids.{beside, leaf_order, alone, is_same, is_itself, room_of, grid, grid_of, best_grid, best_of, best_formed, scale_for, count_of, rounded_up, rounded_down, arranged, sides_in}
+use Rattle.layouts.specs.Placed.{Room, IsInside, AreApart, stands}
+use Rattle.layouts.specs.Cells.{Grid, size, kept, scale_in, item_in, run_in, read_rows, row_of, column_of}
+use Rattle.layouts.specs.Grids.{beside, leaf_order, alone, is_same, is_itself, room_of, grid, grid_of, better, best_grid, best_of, best_formed, scale_for, count_of, rounded_up, rounded_down, arranged, sides_in}
 use Rattle.layouts.specs.Refusals.{first_of, is_count, are_reached, is_length, is_shown, is_near, why_no_scale, why_not_arranged, why_not_bound, folds_short}
-use Rattle.layouts.specs.Laws.{IsPaper, HasPlace, IsExact, IsHalfTurnOf, IsInMiddle, cell_at, ComesInRun, ComesInRunBefore, IsNotTiny, Allows, IsChosen}
-use Rattle.layouts.specs.Fitted.{is_whole, scale_on, fitted, fitted_back, setting_of, binding_setting_of, why_no_scale_on, why_not_fitted, IsFitted, FittedStands, FittedIsApart, FittedIsInOrder, ArrangedIsFitted, HaveOneFold, halves, BoundIsFitted}
+use Rattle.layouts.specs.Laws.{IsPaper, HasPlace, IsExact, IsHalfTurnOf, IsInCell, IsInMiddle, cell_at, ComesInRun, ComesInRunBefore, IsNotTiny, Allows, IsChosen}
+use Rattle.layouts.specs.Fitted.{is_whole, past_cell, scale_on, fitted, fitted_back, setting_of, binding_setting_of, why_no_scale_on, why_not_fitted, IsFitted, FittedStands, FittedIsApart, FittedIsInOrder, ArrangedIsFitted, HaveOneFold, halves, BoundIsFitted}
 use Rattle.layouts.proofs.Folds.{fold, in_middle as fold_in_middle, fold_on_sheet, lies_before, lies_behind, turned_behind, turned_before}
 use Rattle.layouts.proofs.InGrid.{fits, cells, room_in, both_true}
 use Rattle.layouts.proofs.InOrder.{grid_inside, grid_in_order}
 use Rattle.layouts.proofs.Apart.{grid_apart}
 use Rattle.layouts.proofs.Middle.{grid_in_middle}
+use Rattle.layouts.proofs.InCell.{farther, grid_in_cell, past_is}
 use Rattle.layouts.proofs.Backs.{back_inside, back_is_half_turn, half_turned_apart}
-use Rattle.layouts.proofs.BestGrid.{allowed, best_has_cells}
+use Rattle.layouts.proofs.BestGrid.{allowed, best_has_cells, best_of_one, one_upright}
 use Rattle.layouts.proofs.Printing.{printed_as_it_is}
-use Rattle.layouts.proofs.LaidOut.{SameSides, same_sides, itself_in, itself_exact, itself_large_at, some_each, read_best, read_square, is_chosen, enough}
+use Rattle.layouts.proofs.LaidOut.{SameSides, same_sides, one_each, itself_in, itself_exact, itself_large_at, some_each, read_best, read_square, is_chosen, enough}
 use Rattle.layouts.proofs.Possible.{passed, one_way, either_way, no_scale, good_scale, place, cells_made, itself_made, is_alone}
 
 -- ---- a page on a sheet of its own paper
@@ -42,7 +44,8 @@ record IsWholePage (t : Setting) (page : Paper) : Type 0 where
 
 whole_page : (t : Setting) (page : Paper) → is_whole t page ≡ true → IsWholePage t page
 whole_page t page h =
-    let four = both_true ((size t.grid == 1) && is_same page t.room.paper && (t.room.edge == 0) && (t.room.trim == 0)) (is_none t.scale) h in
+    let five = both_true ((size t.grid == 1) && is_same page t.room.paper && (t.room.edge == 0) && (t.room.trim == 0) && is_none t.scale) (not t.grid.turned) h in
+    let four = both_true ((size t.grid == 1) && is_same page t.room.paper && (t.room.edge == 0) && (t.room.trim == 0)) (is_none t.scale) five.0 in
     let three = both_true ((size t.grid == 1) && is_same page t.room.paper && (t.room.edge == 0)) (t.room.trim == 0) four.0 in
     let two = both_true ((size t.grid == 1) && is_same page t.room.paper) (t.room.edge == 0) three.0 in
     let one = both_true (size t.grid == 1) (is_same page t.room.paper) two.0 in
@@ -57,6 +60,7 @@ whole_page t page h =
 -- what holds of it
 record StandsWhole (page : Paper) (room : Room) (g : Grid) (o : Order) (k : ℕ) : Type 0 where
   pub inside : IsInside room page (alone k)
+  pub in_cell : IsInCell room page (cell_at room g (row_of o g k) (column_of o g k)) 1 (alone k)
   pub middle : IsInMiddle page (cell_at room g (row_of o g k) (column_of o g k)) (alone k)
   pub exact : IsExact page (alone k)
   pub large : (s : ℕ) → IsNotTiny page room → Allows page room g s → s < 1_000_001_000
@@ -71,6 +75,7 @@ stands_whole page sheet zero d zero (suc zero) (suc zero) b o zero is on same ed
     let at = itself_in page sheet d b o is on same in
     record {
       inside = at.0;
+      in_cell = at.2;
       middle = at.1;
       exact = itself_exact page;
       large = λ s sides allows. itself_large_at page sheet d 1 1 b s same sides (omega arith) (omega arith) allows;
@@ -87,6 +92,7 @@ whole_fitted t page k is on within h =
     let stands = stands_whole page t.room.paper t.room.edge t.room.gap t.room.trim t.grid.rows t.grid.columns t.grid.turned t.order k is on whole.same whole.edge whole.trim whole.one within in
     record {
       inside = stands.inside;
+      in_cell = subst (λ n. IsInCell t.room page (cell_at t.room t.grid (row_of t.order t.grid k) (column_of t.order t.grid k)) n (alone k)) (sym (one_way (is_whole t page) 1 (kept t.room 0) h)) stands.in_cell;
       middle = stands.middle;
       exact = stands.exact;
       scale = 1_000_000_000;
@@ -114,6 +120,8 @@ cell_fitted t page k is on within h =
     let some = some_each t.grid.rows t.grid.columns (omega (arith, within)) in
     record {
       inside = grid_inside page t.room t.grid t.order (scale_on t page) k is on has within;
+      in_cell = λ p of. farther (cell_at t.room t.grid (row_of t.order t.grid k) (column_of t.order t.grid k)) (kept t.room 0) (past_cell t page) (stands page (item_in page t.room t.grid t.order (scale_on t page) k) p)
+          (past_is t.room (is_whole t page)) (grid_in_cell page t.room t.grid t.order (scale_on t page) k is has p of);
       middle = grid_in_middle page t.room t.grid t.order (scale_on t page) k is has;
       exact = (printed_as_it_is page t.room t.grid t.order (scale_on t page) 0 k).0;
       scale = scale_on t page;
@@ -300,13 +308,51 @@ cells_so page sheet a holds e not =
           ∙ ap (λ b. one_group (count_of a.cells) (λ k. if b then alone k else item_in page t.room t.grid t.order (scale_on t page) k)) (sym not),
     )
 
+-- one page on a sheet of its own paper is upright
+alone_formed : (page sheet : Paper) (d : ℕ) (t : Turned) → SameSides page sheet → 0 < nat_abs page.width → 0 < nat_abs page.height → best_formed page (room_in sheet 0 d 0) t 1 1 ≡ cells 1 1 false
+alone_formed page sheet d sideways.Upright same wide high = one_upright page sheet d same.wide same.high wide high
+alone_formed page sheet d sideways.Left same wide high = one_upright page sheet d same.wide same.high wide high
+alone_formed page sheet d sideways.Right same wide high = one_upright page sheet d same.wide same.high wide high
+
+alone_best : (page sheet : Paper) (d : ℕ) → SameSides page sheet → 0 < nat_abs page.width → 0 < nat_abs page.height → best_grid page (room_in sheet 0 d 0) 1 ≡ cells 1 1 false
+alone_best page sheet d same wide high =
+    let room = room_in sheet 0 d 0 in
+    ap (λ g. better page room g (best_of page room true 1 1)) (best_of_one page room false)
+    ∙ (ap (λ g. better page room (cells 1 1 false) g) (best_of_one page room true) ∙ one_upright page sheet d same.wide same.high wide high)
+
+alone_grid : (page sheet : Paper) (e d l : ℕ) (t : Turned) (c : Cells) → count_of c ≡ 1 → SameSides page sheet → e ≡ 0 → l ≡ 0 → 0 < nat_abs page.width → 0 < nat_abs page.height
+    → grid_of page (room_in sheet e d l) t c ≡ cells 1 1 false
+alone_grid page sheet (suc e) d l t c one same edge trim wide high = absurd (omega (arith, edge))
+alone_grid page sheet zero d (suc l) t c one same edge trim wide high = absurd (omega (arith, trim))
+alone_grid page sheet zero d zero t (AtLeast n) one same edge trim wide high =
+    ap (λ m. best_grid page (room_in sheet 0 d 0) m) one ∙ alone_best page sheet d same wide high
+alone_grid page sheet zero d zero t (Exactly columns rows) one same edge trim wide high =
+    let (in_columns, in_rows) = one_each columns rows one in
+    ap (λ m. best_formed page (room_in sheet 0 d 0) t m rows) in_columns
+    ∙ (ap (λ m. best_formed page (room_in sheet 0 d 0) t 1 m) in_rows ∙ alone_formed page sheet d t same wide high)
+
+some_sides_of : (trim : ℕ) (v : ℕ) → nat_lt (2_540_000 * trim) v ≡ true → 0 < v
+some_sides_of trim v h = let less : 2_540_000 * trim < v = search (rules, h) in omega (arith, less)
+
+alone_upright : (page sheet : Paper) (a : Arrangement) → is_shown page (room_of sheet a.margin a.gap a.trim) ≡ true → is_itself page sheet a ≡ true → (setting_of page sheet a).grid.turned ≡ false
+alone_upright page sheet a shown e =
+    let alone = is_alone page sheet a e in
+    let trim = rounded_down a.trim in
+    let sides = both_true (nat_lt (2_540_000 * trim) (nat_abs page.width)) (nat_lt (2_540_000 * trim) (nat_abs page.height)) shown in
+    ap (λ (g : Grid). g.turned)
+    (alone_grid page sheet (rounded_up a.margin) (rounded_up a.gap) trim a.order.turned a.cells alone.one alone.same alone.edge alone.trim
+    (some_sides_of trim (nat_abs page.width) sides.0) (some_sides_of trim (nat_abs page.height) sides.1))
+
 pub arranged_is_fitted : ArrangedIsFitted
 arranged_is_fitted page sheet a h =
     let holds = nothing_refuses page sheet a h in
     let room = room_of sheet a.margin a.gap a.trim in
-    let same : is_whole (setting_of page sheet a) page ≡ is_itself page sheet a =
+    let g = grid_of page room a.order.turned a.cells in
+    let same : ((size g == 1) && is_same page sheet && (rounded_up a.margin == 0) && (rounded_down a.trim == 0) && is_none a.scale) ≡ is_itself page sheet a =
     ap (λ b. b && is_same page sheet && (rounded_up a.margin == 0) && (rounded_down a.trim == 0) && is_none a.scale) (same_test page room a.order.turned a.cells holds.some) in
-    by_test (is_itself page sheet a) (λ e. whole_so page sheet a e (same ∙ e)) (λ e. cells_so page sheet a holds e (same ∙ e))
+    by_test (is_itself page sheet a)
+    (λ e. whole_so page sheet a e (ap (λ b. b && not g.turned) (same ∙ e) ∙ ap not (alone_upright page sheet a holds.shown e)))
+    (λ e. cells_so page sheet a holds e (ap (λ b. b && not g.turned) (same ∙ e)))
 
 -- ---- leaves
 

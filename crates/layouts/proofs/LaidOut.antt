@@ -1,6 +1,6 @@
 -- What holds of pages that are arranged, and of the sheets of a booklet.
 use Rattle.std.proofs.Common.{arith, rules, ◌≡◌, ◌⊎◌, inl, inr, ℕ, suc, zero, ◌+◌, ◌-◌, ◌*◌, ◌/◌, ◌<◌, ◌≤◌, List, [], ◌∷◌, Bool, true, false, refl, sym, ap, subst, None, Option}
-use Rattle.std.specs.Prelude.{map, ℤ, pos, nat_abs, nat_le, ◌==◌, IsTrue, if◌then◌else◌}
+use Rattle.std.specs.Prelude.{map, ℤ, pos, ◌≤ℤ◌, ◌+ℤ◌, ◌*ℤ◌, nat_abs, nat_le, ◌==◌, IsTrue, if◌then◌else◌}
 use Rattle.std.specs.List.{range_with_len, AllByRecursion}
 use Rattle.std.proofs.Math.Nat.{le_of_mul-le-mul_left, mul_comm, mul-le-mul_left, lt-div-mul-add, div-mul-le_self, suc-mul}
 use Rattle.std.proofs.lemmas.Bool.{cases_lt}
@@ -13,10 +13,10 @@ use Rattle.layouts.specs.declared.arrangement.Cells.TheVariants.{AtLeast, Exactl
 use Rattle.layouts.specs.declared.arrangement.Turned.{Turned}
 use Rattle.layouts.specs.declared.arrangement.Turned.TheVariants as sideways
 use Rattle.layouts.specs.declared.arrangement.Order.{Order}
-use Rattle.layouts.specs.Placed.{Room, IsInside, AreApart}
+use Rattle.layouts.specs.Placed.{Room, IsInside, AreApart, fine, stands}
 use Rattle.layouts.specs.Cells.{Grid, size, item_in, back_in, in_grid, scale_in, turn_in, run_in, read_columns, read_rows, row_of, column_of}
 use Rattle.layouts.specs.Grids.{formed, best_formed, grid_of, count_of, scale_for, beside, leaf_order, alone, is_same, sides_in}
-use Rattle.layouts.specs.Laws.{IsPaper, HasPlace, IsNotTiny, Allows, EachTwo, IsInOrder, IsLike, IsExact, IsLaidOut, ArePages, IsChosen, IsArrangedIn, AreInMiddle, IsInMiddle, cell_at, AreSidesIn, AreFolded}
+use Rattle.layouts.specs.Laws.{IsPaper, HasPlace, IsNotTiny, Allows, EachTwo, IsInOrder, IsLike, IsExact, IsLaidOut, ArePages, IsChosen, IsArrangedIn, AreInMiddle, IsInCell, IsInMiddle, cell_at, AreSidesIn, AreFolded}
 use Rattle.layouts.proofs.Sides.{of_sides}
 use Rattle.layouts.proofs.InGrid.{cells, room_in, both_true, with_sides}
 use Rattle.layouts.proofs.InOrder.{grid_inside, grid_in_order, place_fits}
@@ -212,19 +212,52 @@ itself_middle_at v u d true zero zero in_rows in_columns =
 itself_middle_at v u d b (suc row) column in_rows in_columns = absurd (omega (arith, in_rows))
 itself_middle_at v u d b zero (suc column) in_rows in_columns = absurd (omega (arith, in_columns))
 
+-- so the page lies in it, to 10^-5 of a point
+at_start : (z : ℤ) (l : ℕ) → l ≡ 0 → fine 0 ≤ℤ z → fine l ≤ℤ (z +ℤ fine 1)
+at_start z l none h = omega (arith, ints, none, h)
+
+at_end : (z : ℤ) (l n w : ℕ) → 1_000_000_000 * w ≤ 1_270_000_000_000_000 * n + 1_270_000_000_000_000 → (z +ℤ fine 0) ≤ℤ (pos 1_000_000_000 *ℤ pos w) → z ≤ℤ fine (l + n + 1)
+at_end z l n w large h = omega (arith, ints, large, h)
+
+itself_cell_at : (v u d : ℕ) (b : Bool) (row column : ℕ) → row < 1 → column < 1 → IsInCell (room_in (of_sides v u) 0 d 0) (of_sides v u) (cell_at (room_in (of_sides v u) 0 d 0) (cells 1 1 b) row column) 1 (alone 0)
+itself_cell_at v u d false zero zero in_rows in_columns p of =
+    let cell = cell_at (room_in (of_sides v u) 0 d 0) (cells 1 1 false) 0 0 in
+    let at = stands (of_sides v u) (alone 0) p in
+    let lies = itself_inside_at v u d p of in
+    record {
+      left = at_start at.x cell.left (omega arith) lies.left;
+      right = at_end at.x cell.left cell.width v (one_cell v d).1 lies.right;
+      bottom = at_start at.y cell.bottom (omega arith) lies.bottom;
+      top = at_end at.y cell.bottom cell.height u (one_cell u d).1 lies.top;
+    }
+itself_cell_at v u d true zero zero in_rows in_columns p of =
+    let cell = cell_at (room_in (of_sides v u) 0 d 0) (cells 1 1 true) 0 0 in
+    let at = stands (of_sides v u) (alone 0) p in
+    let lies = itself_inside_at v u d p of in
+    record {
+      left = at_start at.x cell.left (omega arith) lies.left;
+      right = at_end at.x cell.left cell.width v (one_cell v d).1 lies.right;
+      bottom = at_start at.y cell.bottom (omega arith) lies.bottom;
+      top = at_end at.y cell.bottom cell.height u (one_cell u d).1 lies.top;
+    }
+itself_cell_at v u d b (suc row) column in_rows in_columns p of = absurd (omega (arith, in_rows))
+itself_cell_at v u d b zero (suc column) in_rows in_columns p of = absurd (omega (arith, in_columns))
+
 abbrev ItselfIn : (d : ℕ) (b : Bool) (row column : ℕ) → (o q : Paper) → Type 0
 ItselfIn d b row column o q = SameSides o q → IsInside (room_in q 0 d 0) o (alone 0) × IsInMiddle o (cell_at (room_in q 0 d 0) (cells 1 1 b) row column) (alone 0)
+    × IsInCell (room_in q 0 d 0) o (cell_at (room_in q 0 d 0) (cells 1 1 b) row column) 1 (alone 0)
 
 itself_at : (v u w h d : ℕ) (b : Bool) (row column : ℕ) → row < 1 → column < 1 → ItselfIn d b row column (of_sides v u) (of_sides w h)
 itself_at v u w h d b row column in_rows in_columns same =
     subst (λ m. ItselfIn d b row column (of_sides v u) (of_sides m h)) same.wide
     (subst (λ n. ItselfIn d b row column (of_sides v u) (of_sides v n)) same.high
-    (λ again. (itself_inside_at v u d, itself_middle_at v u d b row column in_rows in_columns)))
+    (λ again. (itself_inside_at v u d, itself_middle_at v u d b row column in_rows in_columns, itself_cell_at v u d b row column in_rows in_columns)))
     (record { wide = same.wide; high = same.high })
 
 -- one page on a sheet of its paper, whichever way its one cell is held
 pub itself_in : (page sheet : Paper) (d : ℕ) (b : Bool) (o : Order) → IsPaper page → IsPaper sheet → SameSides page sheet
     → IsInside (room_in sheet 0 d 0) page (alone 0) × IsInMiddle page (cell_at (room_in sheet 0 d 0) (cells 1 1 b) (row_of o (cells 1 1 b) 0) (column_of o (cells 1 1 b) 0)) (alone 0)
+    × IsInCell (room_in sheet 0 d 0) page (cell_at (room_in sheet 0 d 0) (cells 1 1 b) (row_of o (cells 1 1 b) 0) (column_of o (cells 1 1 b) 0)) 1 (alone 0)
 itself_in page sheet d b o is on same =
     let g = cells 1 1 b in
     let fit = place_fits o.run o.right_to_left o.turned g 0 (omega arith) in
@@ -237,6 +270,13 @@ itself_exact page = placed_exact page Upright 0 1_000_000_000 (pos 0) (pos 0)
 abbrev pub itself : Spec
 itself = record { modulo = 1; groups = (alone 0 ∷ []) ∷ [] }
 
+pub one_each : (c r : ℕ) → c * r ≡ 1 → (c ≡ 1) × (r ≡ 1)
+one_each zero r e = absurd (omega (arith, e))
+one_each (suc zero) r e = (refl, omega (arith, e))
+one_each (suc (suc c)) zero e = absurd (omega (arith, e))
+one_each (suc (suc c)) (suc zero) e = absurd (omega (arith, e))
+one_each (suc (suc c)) (suc (suc r)) e = absurd (omega (arith, e))
+
 itself_chosen : (page sheet : Paper) (d : ℕ) (t : Turned) (c : Cells) → count_of c ≡ 1 → SameSides page sheet → IsChosen page (room_in sheet 0 d 0) t c 1_000_000_000 (cells 1 1 false)
 itself_chosen page sheet d t (AtLeast n) one same = (
   omega (arith, one),
@@ -248,13 +288,6 @@ itself_chosen page sheet d t (Exactly columns rows) one same =
     subst (λ m. IsChosen page (room_in sheet 0 d 0) t (Exactly m rows) 1_000_000_000 (cells 1 1 false)) (sym e)
     (subst (λ m. IsChosen page (room_in sheet 0 d 0) t (Exactly 1 m) 1_000_000_000 (cells 1 1 false)) (sym f) (here t))
   where
-    one_each : (c r : ℕ) → c * r ≡ 1 → (c ≡ 1) × (r ≡ 1)
-    one_each zero r e = absurd (omega (arith, e))
-    one_each (suc zero) r e = (refl, omega (arith, e))
-    one_each (suc (suc c)) zero e = absurd (omega (arith, e))
-    one_each (suc (suc c)) (suc zero) e = absurd (omega (arith, e))
-    one_each (suc (suc c)) (suc (suc r)) e = absurd (omega (arith, e))
-
     here : (t : Turned) → IsChosen page (room_in sheet 0 d 0) t (Exactly 1 1) 1_000_000_000 (cells 1 1 false)
     here sideways.Upright = (refl, refl, λ b s sides allows. itself_large_at page sheet d 1 1 b s same sides (omega arith) (omega arith) allows)
     here sideways.Left = (refl, refl, λ b s sides allows. itself_large_at page sheet d 1 1 b s same sides (omega arith) (omega arith) allows)

@@ -8,6 +8,7 @@ mod Reach
 pub mod Apart
 mod BestGrid
 mod Middle
+pub mod InCell
 mod Printing
 mod Backs
 pub mod Folds
@@ -17,6 +18,3 @@ mod Possible
 mod Complete
 pub mod Fitting
 mod Examples
-mod ReadRanges
-mod Selected
-mod NamedRanges

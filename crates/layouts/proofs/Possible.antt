@@ -6,14 +6,12 @@ use Rattle.rules.specs.Papers.{Paper, is_side}
 use Rattle.layouts.specs.declared.arrangement.Arrangement.{Arrangement}
 use Rattle.layouts.specs.declared.arrangement.Binding.{Binding}
 use Rattle.layouts.specs.declared.arrangement.Cells.TheVariants.{AtLeast}
-use Rattle.layouts.specs.declared.error.LayoutError.{LayoutError}
-use Rattle.layouts.specs.declared.error.LayoutError.TheVariants as layout
 use Rattle.layouts.specs.declared.error.ArrangementError.{ArrangementError}
 use Rattle.layouts.specs.declared.error.ArrangementError.TheVariants as why
 use Rattle.layouts.specs.Placed.{Room, bare}
 use Rattle.layouts.specs.Cells.{Grid, scale_in, whole, trimmed}
 use Rattle.layouts.specs.Grids.{best_grid, beside, is_same, is_itself, room_of, grid_of, scale_for, count_of, rounded_up, rounded_down, arranged, in_cells, plain, bound, plain_binding}
-use Rattle.layouts.specs.Refusals.{first_of, is_count, are_reached, is_length, is_shown, is_near, is_scale, why_no_scale, why_no_sheet, why_not_arranged, why_not_bound, why_not, why_no_booklet, folds_short, as_layout, IsFault, IsRefusal}
+use Rattle.layouts.specs.Refusals.{first_of, is_count, are_reached, is_length, is_shown, is_near, is_scale, why_no_scale, why_no_sheet, why_not_arranged, why_not_bound, folds_short}
 use Rattle.layouts.specs.Laws.{IsPaper, HasPlace, IsArranged, IsArrangedIn, IsBound}
 use Rattle.layouts.proofs.InGrid.{both_true, room_in, both_reached}
 use Rattle.layouts.proofs.Writable.{IsMade, scale_range}
@@ -227,85 +225,6 @@ leaves_laid_out page sheet b is on folds has =
       folded = λ front more e. sides_folded page room b.right_to_left b.long_edge is on has front more e;
       large = λ g t sides rows columns allows. beside_large page room g t most sides rows columns allows;
     }
-
--- ---- nothing asked for but cells, or leaves
-
-abbrev as_layouts : Option ArrangementError → Option LayoutError
-as_layouts None = None
-as_layouts (Some e) = Some (as_layout e)
-
-some_side : (z : ℤ) → IsTrue (is_side z) → 0 < nat_abs z
-some_side (pos n) h = search (rules, h)
-some_side (negsuc n) h = omega arith
-
-below_shown : (a b : ℕ) → 0 < a → 0 < b → nat_lt 0 a && nat_lt 0 b ≡ true
-below_shown a b h h' = search (rules, h, h')
-
-bare_shown : (page sheet : Paper) → IsPaper page → is_shown page (bare sheet) ≡ true
-bare_shown page sheet is =
-    let sides = both_true (is_side page.width) (is_side page.height) is in
-    below_shown (nat_abs page.width) (nat_abs page.height) (some_side page.width sides.0) (some_side page.height sides.1)
-
-both_near : (a b : ℕ) → a < 10_000_000_000 → b < 10_000_000_000 → nat_lt a 10_000_000_000 && nat_lt b 10_000_000_000 ≡ true
-both_near a b h h' = search (rules, h, h')
-
-bare_near : (page sheet : Paper) (s : ℕ) → are_reached page && are_reached sheet ≡ true → is_near (bare sheet) s ≡ true
-bare_near page sheet s e =
-    let sheets = (both_true (are_reached page) (are_reached sheet) e).1 in
-    let sides = both_reached sheet sheets in
-    both_near (whole (nat_abs sheet.width) + trimmed (bare sheet) s) (whole (nat_abs sheet.height) + trimmed (bare sheet) s)
-    (near_one (nat_abs sheet.width) s sides.0) (near_one (nat_abs sheet.height) s sides.1)
-  where
-    near_one : (w s : ℕ) → w < 12_700_000_000_000_000 → whole w + s * 0 / 1_000_000_000 < 10_000_000_000
-    near_one w s h = omega (arith, h)
-
-same_is : (n : ℕ) → nat_le n n ≡ true
-same_is n = search rules
-
--- the reasons of the one are those of the other
-
-plain_chain : (c r i one rest near shown same : Bool) → shown ≡ true → same ≡ true → (r ≡ true → near ≡ true)
-    → as_layouts (first_of c why.CellsOutOfRange (first_of r why.SideTooLong (first_of shown why.NothingLeftOfPage
-    (if i && true && true && true then None
-    else first_of one why.NoRoom (first_of (one && rest) why.ScaleOutOfRange (first_of same why.ScaleTooLarge (first_of near why.ScaleOutOfRange None)))))))
-    ≡ (if c then (if r then (if i || (one && rest) then None else Some layout.ScaleOutOfRange) else Some layout.SideTooLong) else Some layout.PagesOutOfRange)
-plain_chain false r i one rest near shown same e f g = refl
-plain_chain true false i one rest near shown same e f g = refl
-plain_chain true true true one rest near shown same e f g = rw e refl
-plain_chain true true false false rest near shown same e f g = rw e refl
-plain_chain true true false true false near shown same e f g = rw e refl
-plain_chain true true false true true near shown same e f g = rw e (rw f (rw (g refl) refl))
-
-pub plain_reasons : (page sheet : Paper) (n : ℕ) → IsPaper page → why_not page sheet n ≡ as_layouts (why_not_arranged page sheet (plain (AtLeast n)))
-plain_reasons page sheet n is =
-    let largest = scale_in page (bare sheet) (best_grid page (bare sheet) n) in
-    sym (plain_chain (is_count n) (are_reached page && are_reached sheet) ((n == 1) && is_same page sheet) (nat_le 1 largest) (nat_le largest 99_999_000_000_000) (is_near (bare sheet) largest)
-    (is_shown page (bare sheet)) (nat_le largest largest) (bare_shown page sheet is) (same_is largest) (λ e. bare_near page sheet largest e))
-
-leaf_chain : (r folds one rest near shown same : Bool) → shown ≡ true → same ≡ true → (r ≡ true → near ≡ true)
-    → as_layouts (first_of r why.SideTooLong (first_of shown why.NothingLeftOfPage (first_of folds why.FoldOnLongEdge
-    (first_of one why.NoRoom (first_of (one && rest) why.ScaleOutOfRange (first_of same why.ScaleTooLarge (first_of near why.ScaleOutOfRange None)))))))
-    ≡ (if r then (if folds then (if one && rest then None else Some layout.ScaleOutOfRange) else Some layout.FoldOnLongEdge) else Some layout.SideTooLong)
-leaf_chain false folds one rest near shown same e f g = refl
-leaf_chain true false one rest near shown same e f g = rw e refl
-leaf_chain true true false rest near shown same e f g = rw e refl
-leaf_chain true true true false near shown same e f g = rw e refl
-leaf_chain true true true true near shown same e f g = rw e (rw f (rw (g refl) refl))
-
-pub leaf_reasons : (page sheet : Paper) (long_edge : Bool) → IsPaper page → why_no_booklet page sheet ≡ as_layouts (why_not_bound page sheet (plain_binding long_edge))
-leaf_reasons page sheet long_edge is =
-    let largest = scale_in page (bare sheet) (beside true) in
-    sym (leaf_chain (are_reached page && are_reached sheet) (folds_short page (bare sheet)) (nat_le 1 largest) (nat_le largest 99_999_000_000_000) (is_near (bare sheet) largest)
-    (is_shown page (bare sheet)) (nat_le largest largest) (bare_shown page sheet is) (same_is largest) (λ e. bare_near page sheet largest e))
-
--- a refusal of the one is one of the other
-
-pub none_there : (x : Option LayoutError) (y : Option ArrangementError) → x ≡ as_layouts y → y ≡ None → x ≡ None
-none_there x y e f = e ∙ ap as_layouts f
-
-pub some_there : (x : Option LayoutError) (y : Option ArrangementError) (error : ArrangementError) → x ≡ as_layouts y → IsFault y error → IsRefusal x (as_layout error)
-some_there x y error e (inl f) = inl (ap as_layout f)
-some_there x y error e (inr f) = inr (e ∙ ap as_layouts f)
 
 -- ---- the fold
 

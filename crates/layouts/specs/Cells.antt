@@ -81,6 +81,21 @@ abbrev pub scale_in : (page : Paper) → Room → Grid → ℕ
 scale_in page room g =
     min (fitting (wide room g) (counted room page.width)) (fitting (high room g) (counted room page.height))
 
+-- ---- how large pages can be in exact parts, by which grids are compared
+
+-- the largest scale, in 10^-9, that so many equal parts of what the margins and the gaps leave of a side allow
+abbrev pub exact_along : Room → (side parts page : ℕ) → ℕ
+exact_along room side parts page =
+    (1_000_000_000 * left_free room side + 1_270_000_000_000_000 * kept room room.gap
+    - 1_270_000_000_000_000 * (kept room room.gap * parts)) / (page * parts)
+
+abbrev pub exact_scale : (page : Paper) → Room → Grid → ℕ
+exact_scale page room g =
+    min (exact_along room (held_width g.turned room.paper) g.columns (counted room page.width))
+    (exact_along room (held_height g.turned room.paper) g.rows (counted room page.height))
+
+-- ---- where they stand
+
 -- half of what a scaled side leaves of its cell, in 10^-5 of a point
 abbrev pub slack : (cell side scale : ℕ) → ℕ
 slack cell side scale = (1_270_000_000_000_000 * cell - scale * side) / 2_540_000_000_000_000

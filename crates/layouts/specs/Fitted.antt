@@ -1,7 +1,7 @@
 -- Pages of several papers in the cells of one grid: each is fitted into its cell by its own sides. All here is this
 -- project's own rules.
 use Rattle.std.specs.Prelude.{◌≡◌, ◌≢◌, ℕ, ◌+◌, ◌-◌, ◌*◌, ◌/◌, ◌%◌, ◌<◌, ◌≤◌, nat_abs, Bool, ◌&&◌, ◌==◌, if◌then◌else◌, [], ◌∷◌, map}
-use Rattle.std.specs.Prelude.{pos, true, false, Option, None, is_none}
+use Rattle.std.specs.Prelude.{pos, true, false, not, Option, None, is_none}
 use Rattle.std.specs.List.{range_with_len}
 use Rattle.rules.specs.Papers.{Paper}
 use Rattle.rules.specs.Specification.{Item, Spec}
@@ -11,15 +11,17 @@ use Rattle.layouts.specs.declared.error.ArrangementError.{ArrangementError}
 use Rattle.layouts.specs.declared.error.ArrangementError.TheVariants as why
 use Rattle.layouts.specs.declared.setting.Setting.{Setting}
 use Rattle.layouts.specs.Placed.{IsInside, AreApart}
-use Rattle.layouts.specs.Cells.{size, scale_in, item_in, back_in, run_in, row_of, column_of, whole}
+use Rattle.layouts.specs.Cells.{size, kept, scale_in, item_in, back_in, run_in, row_of, column_of, whole}
 use Rattle.layouts.specs.Grids.{alone, is_same, room_of, grid_of, scale_for, count_of, arranged, bound, beside, leaf_order}
 use Rattle.layouts.specs.Refusals.{first_of, are_reached, is_shown, why_no_scale, why_not_arranged, why_not_bound}
-use Rattle.layouts.specs.Laws.{IsPaper, IsExact, IsInMiddle, cell_at, ComesInRun, ComesInRunBefore, IsNotTiny, Allows, LiesBefore, LiesBehind}
+use Rattle.layouts.specs.Laws.{IsPaper, IsExact, IsInCell, IsInMiddle, cell_at, ComesInRun, ComesInRunBefore, IsNotTiny, Allows, LiesBefore, LiesBehind}
 
--- one page on a sheet of its own paper, with nothing kept free, nothing trimmed, and no scale asked for
+-- one page on a sheet of its own paper, where pages are upright, with nothing kept free, nothing trimmed, and no scale asked
+-- for
 abbrev pub is_whole : Setting → (page : Paper) → Bool
 is_whole t page =
     (size t.grid == 1) && is_same page t.room.paper && (t.room.edge == 0) && (t.room.trim == 0) && is_none t.scale
+    && not t.grid.turned
 
 -- the scale of pages of this paper, in 10^-9: what is asked for, or else the largest that fits
 abbrev pub scale_on : Setting → (page : Paper) → ℕ
@@ -63,10 +65,16 @@ why_no_scale_on t page =
 abbrev pub why_not_fitted : Setting → (page : Paper) → Option ArrangementError
 why_not_fitted t page = if is_whole t page then None else why_no_scale_on t page
 
--- a page of this paper in cell k: on what the margin leaves of the sheet, in the middle of its cell, printed exactly, and
--- if no scale is asked for as large as the cell allows, to 10^-6
+-- how far a page may reach past its cell: not at all; but by 10^-5 of a point if pages are trimmed, and on a sheet of its
+-- own paper, whose sides needn't have a whole number of these
+abbrev pub past_cell : Setting → (page : Paper) → ℕ
+past_cell t page = if is_whole t page then 1 else kept t.room 0
+
+-- a page of this paper in cell k: on what the margin leaves of the sheet, in its cell and in the middle of that, printed
+-- exactly, and if no scale is asked for as large as the cell allows, to 10^-6
 pub record IsFitted (t : Setting) (page : Paper) (k : ℕ) (item : Item) : Type 0 where
   pub inside : IsInside t.room page item
+  pub in_cell : IsInCell t.room page (cell_at t.room t.grid (row_of t.order t.grid k) (column_of t.order t.grid k)) (past_cell t page) item
   pub middle : IsInMiddle page (cell_at t.room t.grid (row_of t.order t.grid k) (column_of t.order t.grid k)) item
   pub exact : IsExact page item
   pub scale : ℕ

@@ -5,7 +5,7 @@ use Rattle.std.specs.List.{range_with_len}
 use Rattle.rules.specs.Papers.{Paper}
 use Rattle.rules.specs.Specification.{Item, Spec, Upright, zero_points}
 use Rattle.layouts.specs.Placed.{Room}
-use Rattle.layouts.specs.Cells.{Grid, size, scale_in, item_in, back_in, in_grid}
+use Rattle.layouts.specs.Cells.{Grid, size, exact_scale, scale_in, item_in, back_in, in_grid}
 use Rattle.layouts.specs.declared.arrangement.Arrangement.{Arrangement}
 use Rattle.layouts.specs.declared.arrangement.Binding.{Binding}
 use Rattle.layouts.specs.declared.arrangement.Cells.{Cells}
@@ -21,11 +21,11 @@ use Rattle.layouts.specs.declared.arrangement.Order.{Order}
 abbrev pub grid : Bool → (n columns : ℕ) → Grid
 grid turned n columns = record { rows = (n + (columns - 1)) / columns; columns = columns; turned = turned }
 
--- the other has a larger scale, or the same and fewer cells
+-- the other has a larger scale, in exact parts of the sheet, or the same and fewer cells
 abbrev pub is_better : (page : Paper) → Room → (one other : Grid) → Bool
 is_better page room one other =
-    nat_lt (scale_in page room one) (scale_in page room other)
-    || (scale_in page room one == scale_in page room other) && nat_lt (size other) (size one)
+    nat_lt (exact_scale page room one) (exact_scale page room other)
+    || (exact_scale page room one == exact_scale page room other) && nat_lt (size other) (size one)
 
 -- the one, unless the other is better
 abbrev pub better : (page : Paper) → Room → (one other : Grid) → Grid
@@ -125,10 +125,6 @@ plain_order = record { run = Rows; right_to_left = false; turned = sideways.Upri
 abbrev pub plain : Cells → Arrangement
 plain cells = record { cells = cells; margin = pos 0; gap = pos 0; order = plain_order; scale = None; trim = pos 0 }
 
--- n pages on each sheet, as large as they can be
-abbrev pub n_up : (page sheet : Paper) → ℕ → Spec
-n_up page sheet n = arranged page sheet (plain (AtLeast n))
-
 -- ---- booklets
 
 -- two pages side by side
@@ -162,6 +158,3 @@ plain_binding long_edge = record {
   trim = pos 0;
   long_edge = long_edge;
 }
-
-abbrev pub leaves : (page sheet : Paper) → (long_edge : Bool) → Spec
-leaves page sheet long_edge = bound page sheet (plain_binding long_edge)

@@ -14,11 +14,11 @@ use Rattle.layouts.specs.declared.arrangement.Run.{Run}
 use Rattle.layouts.specs.declared.arrangement.Run.TheVariants.{Rows, Columns}
 use Rattle.layouts.specs.declared.arrangement.Turned.{Turned}
 use Rattle.layouts.specs.declared.arrangement.Order.{Order}
-use Rattle.layouts.specs.Placed.{Room, bare, stands, fine, IsOfPage, IsInside, AreApart, IsLeftOf, IsAbove}
+use Rattle.layouts.specs.Placed.{Room, stands, fine, IsOfPage, IsInside, AreApart, IsLeftOf, IsAbove}
 use Rattle.layouts.specs.Cells.{Grid, size, held_width, held_height, step_across, step_down, wide, high, kept, counted}
-use Rattle.layouts.specs.Cells.{scale_in, item_in, back_in, run_in, read_columns, read_rows, row_of, column_of}
+use Rattle.layouts.specs.Cells.{exact_scale, scale_in, item_in, back_in, run_in, read_columns, read_rows, row_of, column_of}
 use Rattle.layouts.specs.Cells.{whole}
-use Rattle.layouts.specs.Grids.{best_grid, formed, count_of, room_of, scale_for, plain, plain_order, plain_binding}
+use Rattle.layouts.specs.Grids.{best_grid, formed, count_of, room_of, scale_for}
 use Rattle.layouts.specs.Grids.{leaf_order, beside}
 
 abbrev pub IsPaper : Paper → Type 0
@@ -88,14 +88,14 @@ BestIsLarge =
     → n ≤ size g → Allows page room g t
     → t < scale_in page room (best_grid page room n) + 1_000
 
--- the one has the larger scale; or the same, and no more cells; of grids with the same scale and as many cells it is
+-- in exact parts of the sheet the one has the larger scale; or the same, and no more cells; of grids with the same scale and as many cells it is
 -- upright if the other is, and has no more columns if both are
 pub record IsAsGood (page : Paper) (room : Room) (one other : Grid) : Type 0 where
-  pub large : scale_in page room other ≤ scale_in page room one
-  pub few : scale_in page room one ≡ scale_in page room other → size one ≤ size other
-  pub upright : scale_in page room one ≡ scale_in page room other → size one ≡ size other
+  pub large : exact_scale page room other ≤ exact_scale page room one
+  pub few : exact_scale page room one ≡ exact_scale page room other → size one ≤ size other
+  pub upright : exact_scale page room one ≡ exact_scale page room other → size one ≡ size other
       → other.turned ≡ false → one.turned ≡ false
-  pub narrow : scale_in page room one ≡ scale_in page room other → size one ≡ size other
+  pub narrow : exact_scale page room one ≡ exact_scale page room other → size one ≡ size other
       → one.turned ≡ other.turned → one.columns ≤ other.columns
 
 -- no grid of n cells or more is better
@@ -176,6 +176,23 @@ GridIsInMiddle = (page : Paper) (room : Room) (g : Grid) (o : Order) (s k : ℕ)
     → HasPlace page room g s
     → IsInMiddle page (cell_at room g (row_of o g k) (column_of o g k)) (item_in page room g o s k)
 
+-- the sheet has this point in the cell, or past it by so many 10^-5 of a point at most
+pub record LiesInCell (cell : Cell) (past : ℕ) (p : Point) : Type 0 where
+  pub left : fine cell.left ≤ℤ (p.x +ℤ fine past)
+  pub right : p.x ≤ℤ fine (cell.left + cell.width + past)
+  pub bottom : fine cell.bottom ≤ℤ (p.y +ℤ fine past)
+  pub top : p.y ≤ℤ fine (cell.bottom + cell.height + past)
+
+-- each point of the placed page that counts lies in the cell
+abbrev pub IsInCell : Room → (page : Paper) → Cell → (past : ℕ) → Item → Type 0
+IsInCell room page cell past item = (p : Point) → IsOfPage room.trim page p → LiesInCell cell past (stands page item p)
+
+-- exactly; but if pages are trimmed to 10^-5 of a point, since how far they are moved back is rounded
+abbrev pub GridIsInCell : Type 0
+GridIsInCell = (page : Paper) (room : Room) (g : Grid) (o : Order) (s k : ℕ) → IsPaper page
+    → HasPlace page room g s
+    → IsInCell room page (cell_at room g (row_of o g k) (column_of o g k)) (kept room 0) (item_in page room g o s k)
+
 -- ---- what holds of a specification
 
 -- each two of them, the earlier one first
@@ -212,12 +229,13 @@ abbrev pub ArePages : (first n : ℕ) → List Item → Type 0
 ArePages first n items = map (λ i. i.page) items ≡ range_with_len first n
 
 -- the grid is the one that is asked for, and takes pages as large as any, of this scale: with so many cells or more no
--- grid allows a scale that is larger by 10^-6 or more, and none with as large a scale has fewer cells
+-- grid allows a scale that is larger by 10^-6 or more, and none with as large a scale, in exact parts of the sheet, has
+-- fewer cells
 abbrev pub IsChosen : (page : Paper) → Room → Turned → Cells → (largest : ℕ) → Grid → Type 0
 IsChosen page room t (AtLeast n) largest g =
     (n ≤ size g)
     × ((h : Grid) (s : ℕ) → IsNotTiny page room → n ≤ size h → Allows page room h s → s < largest + 1_000)
-    × ((h : Grid) → n ≤ size h → largest ≤ scale_in page room h → size g ≤ size h)
+    × ((h : Grid) → n ≤ size h → exact_scale page room g ≤ exact_scale page room h → size g ≤ size h)
 IsChosen page room t (Exactly columns rows) largest g =
     (read_columns t g ≡ columns) × (read_rows t g ≡ rows)
     × ((b : Bool) (s : ℕ) → IsNotTiny page room → Allows page room (formed t b columns rows) s → s < largest + 1_000)
@@ -247,10 +265,6 @@ pub record IsArrangedIn (page : Paper) (room : Room) (cells : Cells) (o : Order)
 abbrev pub IsArranged : (page sheet : Paper) → Arrangement → Spec → Type 0
 IsArranged page sheet a spec = IsArrangedIn page (room_of sheet a.margin a.gap a.trim) a.cells a.order a.scale spec
 
--- n pages on each sheet, in rows and columns, as large as any grid allows
-abbrev pub IsNUp : (page sheet : Paper) → (n : ℕ) → Spec → Type 0
-IsNUp page sheet n spec = IsArranged page sheet (plain (AtLeast n)) spec
-
 -- ---- leaves
 
 -- the sides of a leaf: one side, or for printers that flip on the long edge a front, and a back that is turned by half
@@ -262,9 +276,6 @@ AreSidesIn page room o true scale spec =
     (front back : List Item) × (spec.modulo ≡ 4) × (spec.groups ≡ front ∷ back ∷ []) × ArePages 0 2 front
     × ArePages 2 2 back × AllZip (IsHalfTurnOf page room.paper) front back
     × IsLaidOut page room o Left scale 2 front × IsLaidOut page room o Right scale 2 back
-
-abbrev pub AreSides : (page sheet : Paper) → (long_edge : Bool) → (scale : ℕ) → Spec → Type 0
-AreSides page sheet long_edge scale spec = AreSidesIn page (bare sheet) plain_order long_edge scale spec
 
 -- the page lies before a line across the sheet, or behind it, by half of the gap; the line is twice as far up as said
 abbrev pub LiesBefore : Room → (twice : ℕ) → (page : Paper) → Item → Type 0
@@ -313,6 +324,3 @@ pub record IsBound (page sheet : Paper) (b : Binding) (spec : Spec) : Type 0 whe
       → AreFolded page (room_of sheet b.margin b.gap b.trim) b.right_to_left front
   pub large : (g : Grid) (t : ℕ) → IsNotTiny page (room_of sheet b.margin b.gap b.trim) → g.rows ≡ 1 → g.columns ≡ 2
       → Allows page (room_of sheet b.margin b.gap b.trim) g t → t < scale + 1_000
-
-abbrev pub IsBooklet : (page sheet : Paper) → (long_edge : Bool) → Spec → Type 0
-IsBooklet page sheet long_edge spec = IsBound page sheet (plain_binding long_edge) spec

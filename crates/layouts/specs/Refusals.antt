@@ -2,16 +2,13 @@
 use Rattle.std.specs.Prelude.{◌≡◌, ◌⊎◌, ℕ, ◌+◌, ◌*◌, ℤ, pos, int_le, nat_abs, Bool, true, false, ◌&&◌, ◌||◌, nat_le, nat_lt}
 use Rattle.std.specs.Prelude.{◌==◌, if◌then◌else◌, Option, Some, None}
 use Rattle.rules.specs.Papers.{Paper}
-use Rattle.layouts.specs.Placed.{Room, bare}
+use Rattle.layouts.specs.Placed.{Room}
 use Rattle.layouts.specs.declared.arrangement.Arrangement.{Arrangement}
 use Rattle.layouts.specs.declared.arrangement.Binding.{Binding}
-use Rattle.layouts.specs.declared.error.LayoutError.{LayoutError}
-use Rattle.layouts.specs.declared.error.LayoutError.TheVariants.{PagesOutOfRange, SideTooLong, FoldOnLongEdge}
-use Rattle.layouts.specs.declared.error.LayoutError.TheVariants.{ScaleOutOfRange, NoMemory}
 use Rattle.layouts.specs.declared.error.ArrangementError.{ArrangementError}
 use Rattle.layouts.specs.declared.error.ArrangementError.TheVariants as why
 use Rattle.layouts.specs.Cells.{scale_in, trimmed, whole}
-use Rattle.layouts.specs.Grids.{best_grid, beside, is_same, is_itself, room_of, grid_of, scale_for, count_of}
+use Rattle.layouts.specs.Grids.{beside, is_itself, room_of, grid_of, scale_for, count_of}
 
 -- how many pages a sheet takes at most
 abbrev pub most_on_sheet : ℕ
@@ -39,34 +36,11 @@ greatest_scale = 99_999_000_000_000
 abbrev pub is_scale : ℕ → Bool
 is_scale scale = nat_le 1 scale && nat_le scale greatest_scale
 
--- the first reason why n pages of the one paper can't stand on a sheet of the other, if there is one
-abbrev pub why_not : (page sheet : Paper) → ℕ → Option LayoutError
-why_not page sheet n =
-    if is_count n
-    then (if are_reached page && are_reached sheet
-    then (if ((n == 1) && is_same page sheet) || is_scale (scale_in page (bare sheet) (best_grid page (bare sheet) n))
-    then None else Some ScaleOutOfRange)
-    else Some SideTooLong)
-    else Some PagesOutOfRange
-
 -- the sheet is no wider than high, and upright pages side by side would not be larger than turned ones
 abbrev pub folds_short : (page : Paper) → Room → Bool
 folds_short page room =
     nat_le (nat_abs room.paper.width) (nat_abs room.paper.height)
     && nat_le (scale_in page room (beside false)) (scale_in page room (beside true))
-
--- the first reason why a booklet can't be made on such sheets, if there is one
-abbrev pub why_no_booklet : (page sheet : Paper) → Option LayoutError
-why_no_booklet page sheet =
-    if are_reached page && are_reached sheet
-    then (if folds_short page (bare sheet)
-    then (if is_scale (scale_in page (bare sheet) (beside true)) then None else Some ScaleOutOfRange)
-    else Some FoldOnLongEdge)
-    else Some SideTooLong
-
--- the error is that one, or out of memory
-abbrev pub IsRefusal : Option LayoutError → LayoutError → Type 0
-IsRefusal why e = (e ≡ NoMemory) ⊎ (why ≡ Some e)
 
 -- ---- arrangements
 
@@ -121,11 +95,3 @@ why_not_bound page sheet b =
 
 abbrev pub IsFault : Option ArrangementError → ArrangementError → Type 0
 IsFault found e = (e ≡ why.NoMemory) ⊎ (found ≡ Some e)
-
--- what it is if nothing is asked for but cells or leaves
-abbrev pub as_layout : ArrangementError → LayoutError
-as_layout why.CellsOutOfRange = PagesOutOfRange
-as_layout why.SideTooLong = SideTooLong
-as_layout why.FoldOnLongEdge = FoldOnLongEdge
-as_layout why.NoMemory = NoMemory
-as_layout other = ScaleOutOfRange

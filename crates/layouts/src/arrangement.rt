@@ -18,7 +18,8 @@ pub enum Cells {
     /// So many or more: the grid that takes the largest pages; of these the one with the fewest cells; then upright
     /// pages; then the fewest columns. A sheet has so many pages, and the cells that stay empty come last.
     AtLeast(u32),
-    /// So many columns and rows, as one reads the sheet, with upright pages unless turned ones are larger.
+    /// So many columns and rows, as one reads the sheet, with upright pages unless turned ones are larger. Which are larger
+    /// is found in exact parts of the sheet, and in whole 10^-9.
     Exactly { columns: u32, rows: u32 },
 }
 

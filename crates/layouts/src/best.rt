@@ -7,7 +7,7 @@ ghost use Rattle.layouts.specs.Grids.{best_formed as best_formed_of, grid_of as 
 use super::arrangement::{Cells, Turned};
 use super::grid::Grid;
 use super::room::Room;
-use super::scale::scale_in;
+use super::scale::exact_scale;
 use lengths::Paper;
 
 /// The grid that is asked for, or the best one.
@@ -55,12 +55,12 @@ fn best_of(page: &Paper, room: &Room, turned: bool, n: u32) -> Grid
     best
 }
 
-/// The one grid, unless the other takes larger pages, or as large ones in fewer cells.
+/// The one grid, unless in exact parts of the sheet the other takes larger pages, or as large ones in fewer cells.
 fn better(page: &Paper, room: &Room, one: Grid, other: Grid) -> Grid
     requires { IsTrue (is_shown page.now room.now) }
     ensures { result ≡ better_of page.now room.now one other }
 {
-    let (first, second) = (scale_in(page, room, one), scale_in(page, room, other));
+    let (first, second) = (exact_scale(page, room, one), exact_scale(page, room, other));
     if first < second || first == second && other.size() < one.size() {
         other
     } else {

@@ -1,41 +1,5 @@
-//! Why there is no layout.
+//! Why pages can't be arranged.
 use thiserror::Error;
-
-/// Why there is no layout.
-#[derive(Clone, Copy, Debug, PartialEq, Eq, Error)]
-pub enum LayoutError {
-    /// No page was asked for on a sheet, or more than 1,024.
-    #[error("a sheet has from 1 to 1,024 pages")]
-    PagesOutOfRange,
-    /// A side of the pages' paper or of the sheet's has 100,000 points or more.
-    #[error("a paper's side is 100,000 points or more")]
-    SideTooLong,
-    /// The sheet of a booklet is wider than high, or upright pages side by side would be larger on it: the fold would
-    /// be parallel to its longer edge.
-    #[error("a booklet would fold along the longer edge of the sheet")]
-    FoldOnLongEdge,
-    /// The scale of the pages would be 0, or above 99,999.
-    #[error("the pages would be too small or too large: their scale must be from 0.000000001 to 99999")]
-    ScaleOutOfRange,
-    /// The document has more than 99,999 pages, which no specification names.
-    #[error("the document has more than 99,999 pages")]
-    DocumentTooLong,
-    /// The text names no pages: the place where no range goes on, in bytes.
-    #[error("page ranges: syntax error at byte {0}")]
-    Syntax(usize),
-    /// The document hasn't all pages of a range: the place of the range.
-    #[error("page ranges: no such page at byte {0}")]
-    PageNotInDocument(usize),
-    /// More than 10,000 pages are selected: the place of the range that passes the limit.
-    #[error("page ranges: more than 10,000 pages at byte {0}")]
-    TooManyPages(usize),
-    /// No page is selected.
-    #[error("page ranges: no page is selected")]
-    NoPages,
-    /// A growth was refused.
-    #[error("out of memory")]
-    NoMemory,
-}
 
 /// Why pages can't be arranged as they are asked to be.
 #[derive(Clone, Copy, Debug, PartialEq, Eq, Error)]

@@ -361,17 +361,10 @@ pub fn alone(alloc: Global) -> Result<Vec<Vec<Item>>, AllocError>
     ensures { IfOk result (λ groups. groups_of groups.items ≡ (alone_of 0 ∷ []) ∷ []) }
 {
     let mut groups = Vec::new(alloc);
-    groups.push(page_alone(alloc, 0)?)?;
-    Ok(groups)
-}
-
-/// A page alone, as it is; it is counted from 0.
-pub fn page_alone(alloc: Global, k: u32) -> Result<Vec<Item>, AllocError>
-    ensures { IfOk result (λ items. map item_of items.items ≡ alone_of k ∷ []) }
-{
     let mut items = Vec::new(alloc);
-    items.push(whole_page(k))?;
-    Ok(items)
+    items.push(whole_page(0))?;
+    groups.push(items)?;
+    Ok(groups)
 }
 
 /// A page as it is; it is counted from 0.

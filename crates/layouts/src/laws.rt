@@ -1,8 +1,7 @@
 //! Laws of the definitions. The functions do nothing.
 ghost use Rattle.layouts.specs.Placed.{StandsWherePut};
 ghost use Rattle.layouts.specs.Fitted.{FittedStands, FittedIsApart, FittedIsInOrder, ArrangedIsFitted, BoundIsFitted};
-ghost use Rattle.layouts.specs.Selections.{SheetsAreRow};
-ghost use Rattle.layouts.specs.Laws.{GridIsInside, GridIsApart, GridIsInOrder, GridIsInMiddle};
+ghost use Rattle.layouts.specs.Laws.{GridIsInside, GridIsApart, GridIsInOrder, GridIsInCell, GridIsInMiddle};
 ghost use Rattle.layouts.specs.Laws.{BestHasCells, BestIsBest, BestIsLarge};
 ghost use Rattle.layouts.specs.Laws.{BackIsInside, BackIsHalfTurn, PrintedAsItIs, LeafKeepsFold, RightToLeftIsMirror};
 
@@ -24,6 +23,11 @@ pub fn pages_are_in_order()
 /// Two pages in cells, also of two papers and two scales, are apart by the gap.
 pub fn pages_are_apart()
     ensures { GridIsApart }
+{}
+
+/// Each page lies in its cell; if pages are trimmed, to 10^-5 of a point.
+pub fn pages_are_in_cells()
+    ensures { GridIsInCell }
 {}
 
 /// Each page stands in the middle of its cell, to 10^-5 of a point.
@@ -66,7 +70,7 @@ pub fn right_to_left_is_mirror()
     ensures { RightToLeftIsMirror }
 {}
 
-/// A page that nothing refuses keeps the margin, stands in the middle of its cell, and is as large as the cell allows.
+/// A page that nothing refuses keeps the margin, lies in its cell and stands in its middle, and is as large as the cell allows.
 pub fn fitted_stands()
     ensures { FittedStands }
 {}
@@ -94,9 +98,4 @@ pub fn bound_is_fitted()
 /// The matrix that is written for a page in a cell is the item's own: nothing of its shift is rounded.
 pub fn printed_as_it_is()
     ensures { PrintedAsItIs }
-{}
-
-/// Sheet k of a selection has the k-th page of its row, alone and as it is.
-pub fn sheets_are_row()
-    ensures { SheetsAreRow }
 {}

@@ -4,6 +4,7 @@ ghost use Rattle.rules.specs.Papers.{is_side, longest_side};
 ghost use Rattle.layouts.specs.Refusals.{is_scale as may_be_scale, is_shown};
 ghost use Rattle.layouts.specs.Cells.{kept as kept_of, part as part_of, step as step_of, step_across, step_down, wide, high};
 ghost use Rattle.layouts.specs.Cells.{counted as counted_of, fitting as fits, scale_in as scale_of};
+ghost use Rattle.layouts.specs.Cells.{exact_along as along_exactly, exact_scale as exact_scale_of};
 
 use super::grid::Grid;
 use super::room::Room;
@@ -102,6 +103,39 @@ pub fn scale_in(page: &Paper, room: &Room, grid: Grid) -> u128
 {
     let (width, height) = cells(room, grid);
     fitting(width, counted(room, page.width())).min(fitting(height, counted(room, page.height())))
+}
+
+/// The largest scale, in 10^-9, that so many equal parts of what the margins and the gaps leave of a side allow.
+fn exact_along(room: &Room, side: u64, parts: u32, page: u64) -> u128
+    requires some { 0 < parts }
+    requires shown { 0 < page }
+    requires in_range { side ≤ longest_side }
+    ensures { result ≡ along_exactly room.now side parts page }
+{
+    let left = side.saturating_sub(2_540_000 * kept(room, room.edge));
+    let gap = u128::from(kept(room, room.gap));
+    let all = 1_000_000_000 * u128::from(left) + 1_270_000_000_000_000 * gap;
+    all.saturating_sub(1_270_000_000_000_000 * (gap * u128::from(parts)))
+        / (u128::from(page) * u128::from(parts))
+}
+
+/// The largest scale, in 10^-9, with which pages have room in exact parts of the sheet, which aren't rounded as cells are.
+pub fn exact_scale(page: &Paper, room: &Room, grid: Grid) -> u128
+    requires { IsTrue (is_shown page.now room.now) }
+    ensures { result ≡ exact_scale_of page.now room.now grid }
+{
+    let (width, height) = (side(room.paper.width()), side(room.paper.height()));
+    let (across, down) = if grid.turned {
+        (height, width)
+    } else {
+        (width, height)
+    };
+    exact_along(room, across, grid.columns, counted(room, page.width())).min(exact_along(
+        room,
+        down,
+        grid.rows,
+        counted(room, page.height()),
+    ))
 }
 
 /// Whether pages can be written with this scale, in 10^-9.

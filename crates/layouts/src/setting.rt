@@ -143,7 +143,7 @@ impl Setting {
     }
 
     /// A page of this paper in a cell, counted from 0. One page on a sheet of its own paper is left as it is if nothing else
-    /// is asked for.
+    /// is asked for, and the pages of the sheets are upright.
     pub fn item(&self, page_paper: &Paper, cell: u32) -> Result<Item, ArrangementError>
         requires { cell < size self.now.grid }
         ensures page { IsPaper page_paper.now }
@@ -210,6 +210,7 @@ impl Setting {
             && self.room.edge == 0
             && self.room.trim == 0
             && self.scale.is_none()
+            && !self.grid.turned
     }
 
     /// The scale of pages of this paper, in 10^-9.

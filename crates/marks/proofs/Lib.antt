@@ -3,6 +3,7 @@ pub mod Tame
 pub mod Joined
 pub mod Pairs
 pub mod Outside
+mod Past
 pub mod Beside
 pub mod RowByRow
 pub mod Examples

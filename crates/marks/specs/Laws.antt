@@ -1,11 +1,15 @@
 -- What holds of marks.
-use Rattle.std.specs.Prelude.{◌⊎◌, ℕ, ◌+◌, ◌<◌, ℤ, pos, ◌-ℤ◌, ◌≤ℤ◌, List, ◌++◌}
+use Rattle.std.specs.Prelude.{◌≡◌, ◌⊎◌, ℕ, ◌+◌, ◌<◌, ℤ, pos, ◌-ℤ◌, ◌*ℤ◌, ◌≤ℤ◌, List, ◌++◌}
 use Rattle.std.specs.List.{AllByRecursion}
 use Rattle.made_sheets.specs.Dress.{Dress}
 use Rattle.imposed_again.specs.MadeAgain.{IsTameDress}
-use Rattle.layouts.specs.Placed.{Room}
-use Rattle.layouts.specs.Cells.{Grid, high, wide}
-use Rattle.layouts.specs.Laws.{Cell, cell_at}
+use Rattle.rules.specs.Papers.{Paper}
+use Rattle.rules.specs.Placement.{Point}
+use Rattle.rules.specs.Specification.{Item}
+use Rattle.layouts.specs.Placed.{Room, IsOfPage, stands}
+use Rattle.layouts.specs.Cells.{Grid, high, item_in, size, wide}
+use Rattle.layouts.specs.Laws.{Cell, HasPlace, IsPaper, cell_at}
+use Rattle.layouts.specs.declared.arrangement.Order.{Order}
 use Rattle.marks.specs.Places.{grains_in}
 use Rattle.marks.specs.Strokes.{cut_marks, fold_marks, outer_cut_marks}
 use Rattle.marks.specs.Ruled.{note_cell, note_lines, row_lines}
@@ -45,6 +49,26 @@ abbrev pub MarksAreOutside : Type 0
 MarksAreOutside = (room : Room) (g : Grid) (row column : ℕ) → 0 < wide room g → 0 < high room g
     → row < g.rows → column < g.columns
     → AllByRecursion (IsOutsideCell (cell_at room g row column)) (all_marks room g)
+
+-- so many grains, in 10^-9 of a grain
+abbrev pub in_billionths : ℤ → ℤ
+in_billionths grains = pos 1_000_000_000 *ℤ grains
+
+-- the whole stroke lies on one side of a point, which is told in 10^-9 of a grain: left of it, right of it, below it, or
+-- above it
+abbrev pub IsPast : Stroke → Point → Type 0
+IsPast s p =
+    (AreAtMost (in_billionths s.start.0) (in_billionths s.end.0) p.x ⊎ AreAtLeast (in_billionths s.start.0) (in_billionths s.end.0) p.x)
+    ⊎ (AreAtMost (in_billionths s.start.1) (in_billionths s.end.1) p.y ⊎ AreAtLeast (in_billionths s.start.1) (in_billionths s.end.1) p.y)
+
+-- it goes over no point of a placed page
+abbrev pub GoesPast : Room → (page : Paper) → Item → Stroke → Type 0
+GoesPast room page item s = (p : Point) → IsOfPage room.trim page p → IsPast s (stands page item p)
+
+-- no mark goes over a page in a cell, as long as nothing is trimmed of pages: what is trimmed may reach over the cell
+abbrev pub MarksMissPages : Type 0
+MarksMissPages = (page : Paper) (room : Room) (g : Grid) (o : Order) (s k : ℕ) → IsPaper page → HasPlace page room g s
+    → room.trim ≡ 0 → k < size g → AllByRecursion (GoesPast room page (item_in page room g o s k)) (all_marks room g)
 
 -- if there is a margin, all marks stand in it
 abbrev pub MarksAreInMargin : Type 0

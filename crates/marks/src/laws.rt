@@ -1,6 +1,6 @@
 //! Laws of the definitions. The functions do nothing.
 ghost use Rattle.marks.specs.Places.{PiecesAreLike};
-ghost use Rattle.marks.specs.Laws.{LinesAreBeside, LinesAreInCell, MarksAreInMargin, MarksAreOutside, MarksAreTame};
+ghost use Rattle.marks.specs.Laws.{LinesAreBeside, LinesAreInCell, MarksAreInMargin, MarksAreOutside, MarksAreTame, MarksMissPages};
 
 /// Cut along all marks of a side, all pieces are as wide.
 pub fn pieces_are_like()
@@ -10,6 +10,11 @@ pub fn pieces_are_like()
 /// No mark goes over a cell.
 pub fn marks_are_outside()
     ensures { MarksAreOutside }
+{}
+
+/// No mark goes over a page in a cell, as long as nothing is trimmed of pages.
+pub fn marks_miss_pages()
+    ensures { MarksMissPages }
 {}
 
 /// If there is a margin, all marks stand in it.

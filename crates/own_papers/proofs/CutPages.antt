@@ -1,6 +1,7 @@
 -- Pages that a paper cuts, one more at a time.
 use Rattle.std.proofs.Common.{Bool, true, false, ◌≡◌, ℕ, suc, ◌+◌, ◌<◌, ◌≤◌, List, [], ◌∷◌, ◌++◌, length, take, refl, ap, arith, sym, ◌∙◌}
-use Rattle.std.specs.Prelude.{Option, Some, None, IfSome, get_or}
+use Rattle.std.specs.Prelude.{Option, Some, None, IfSome, get_or, fold, map}
+use Rattle.page_papers.specs.Own.{covering}
 use Rattle.std.proofs.Math.Seq.{take-suc}
 use Rattle.std.proofs.lemmas.List.{append-nil, length-take-le}
 use Rattle.rules.specs.Papers.{Paper}
@@ -29,12 +30,18 @@ length_is : {A : Type 0} (xs : List A) (last : A) → length (xs ++ last ∷ [])
 length_is [] last = refl
 length_is (x ∷ xs) last = let e = length_is xs last in omega (arith, e)
 
+covering_more : (first : Paper) (pages : List (ℕ × Paper)) (n : ℕ) (p : Paper)
+    → fold covering first (map (λ q. q.1) (pages ++ (n, p) ∷ [])) ≡ covering (fold covering first (map (λ q. q.1) pages)) p
+covering_more first [] n p = refl
+covering_more first (c ∷ cs) n p = covering_more (covering first c.1) cs n p
+
 -- pages, and behind them one more
 told_more : (pages : List (ℕ × Paper)) (n : ℕ) (p : Paper) → told_of (pages ++ (n, p) ∷ []) ≡ Some (with_page (told_of pages) n p)
 told_more [] n p = refl
 told_more (c ∷ cs) n p =
-    ap (λ l. Some (record { first = c.0; last = l.0; pages = length (cs ++ (n, p) ∷ []) + 1; paper = c.1 })) (last_is c cs (n, p))
-    ∙ ap (λ k. Some (record { first = c.0; last = n; pages = k + 1; paper = c.1 })) (length_is cs (n, p))
+    ap (λ l. Some (record { first = c.0; last = l.0; pages = length (cs ++ (n, p) ∷ []) + 1; paper = fold covering c.1 (map (λ q. q.1) (cs ++ (n, p) ∷ [])) })) (last_is c cs (n, p))
+    ∙ ap (λ k. Some (record { first = c.0; last = n; pages = k + 1; paper = fold covering c.1 (map (λ q. q.1) (cs ++ (n, p) ∷ [])) })) (length_is cs (n, p))
+    ∙ ap (λ q. Some (record { first = c.0; last = n; pages = (length cs + 1) + 1; paper = q })) (covering_more c.1 cs n p)
 
 -- the pages of the first so many that are cut
 abbrev pub cut_before : Paper → List Paper → (i : ℕ) → Option Cut

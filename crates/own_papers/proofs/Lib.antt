@@ -1,6 +1,7 @@
 pub mod Heads
 pub mod MediaLines
-pub mod Naming
+pub mod KnownNames
+pub mod PageTells
 pub mod DocumentTells
 pub mod CutPages
 pub mod Covering

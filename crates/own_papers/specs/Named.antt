@@ -1,18 +1,30 @@
 -- Media that a document knows, as the code keeps them.
-use Rattle.std.specs.Prelude.{ℕ, List, [], ◌∷◌, map, Option, None}
+use Rattle.std.specs.Prelude.{◌≡◌, ℕ, List, map, Option, option_and_then}
+use Rattle.std.specs.Ordering.{nat_cmp}
+use Rattle.std.specs.Cmp.Lexicographic.{slice_cmp}
+use Rattle.std.specs.BTreeMap.{get_by}
 use Rattle.rules.specs.Papers.{Paper}
 use Rattle.dsc.specs.Fields.{fields_in}
 use Rattle.document_paper.specs.Media.{media_paper}
 use Rattle.page_papers.specs.Comments.{Medium, paper_of_medium}
-use Rattle.own_papers.specs.declared.known_media.KnownMedium.{KnownMedium}
+use Rattle.own_papers.specs.declared.known_media.ToldMedium.{ToldMedium}
+use Rattle.own_papers.specs.declared.known_media.KnownMedia.{KnownMedia}
 
-abbrev pub medium_of : KnownMedium → Medium
+-- a medium as it is told: its name, and the fields that tell it
+abbrev pub medium_of : ToldMedium → Medium
 medium_of m = record { name = m.name.now; paper = media_paper (fields_in m.fields.now) }
 
-abbrev pub media_of : List KnownMedium → List Medium
-media_of known = map medium_of known
+abbrev pub media_of : List ToldMedium → List Medium
+media_of told = map medium_of told
 
--- the paper of the medium that the first field names
-abbrev pub by_name : List Medium → List (List ℕ) → Option Paper
-by_name known [] = None
-by_name known (name ∷ more) = paper_of_medium name known
+-- what is kept at this name
+abbrev pub found_at : KnownMedia → (name : List ℕ) → Option (Option Paper)
+found_at known name = get_by (λ k. slice_cmp nat_cmp name k.items) known.papers
+
+-- the paper by this name
+abbrev pub known_paper : KnownMedia → (name : List ℕ) → Option Paper
+known_paper known name = option_and_then (λ paper. paper) (found_at known name)
+
+-- by each name they have the paper of the first of these media with it
+abbrev pub Knows : KnownMedia → List Medium → Type 0
+Knows known media = (name : List ℕ) → known_paper known name ≡ paper_of_medium name media

@@ -5,6 +5,7 @@ ghost use Rattle.page_papers.specs.Own.{covers as covers_it, is_near as is_near_
 ghost use Rattle.own_papers.specs.Cuts.{cut_of, is_cut as is_cut_by, with_page as with_one};
 
 use lengths::Paper;
+use page_papers::covering;
 
 /// So many grains, 15 points, two sides may differ that count as one.
 const NEARNESS: u128 = 15 * 127_000_000_000;
@@ -18,7 +19,7 @@ pub struct Cut {
     pub last: usize,
     /// How many they are.
     pub pages: usize,
-    /// The first one's own paper.
+    /// The least paper that covers the own ones of all of them.
     pub paper: Paper,
 }
 
@@ -49,9 +50,10 @@ fn with_page(cut: Option<Cut>, page: usize, paper: &Paper) -> Cut
             paper: *paper,
         },
         Some(cut) => Cut {
+            first: cut.first,
             last: page,
             pages: cut.pages + 1,
-            ..cut
+            paper: covering(&cut.paper, paper),
         },
     }
 }

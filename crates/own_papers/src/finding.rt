@@ -4,15 +4,15 @@ ghost use Rattle.rules.specs.Parts.{bytes_of, pages};
 ghost use Rattle.rules.specs.Units.{line_len};
 ghost use Rattle.dsc.specs.Units.{units_of};
 ghost use Rattle.paper_names.specs.Names.{paper_named};
-ghost use Rattle.document_paper.specs.Media.{box_paper as box_paper_of, comment_fields, contents, header, trailer_lines};
-ghost use Rattle.page_papers.specs.Comments.{head_of, media, page_head, told_by_document, told_by_page as told};
-ghost use Rattle.page_papers.specs.Own.{or_this, own_papers as papers_of_pages};
+ghost use Rattle.document_paper.specs.Media.{comment_fields, contents, header, paper_of_box as paper_of_box_at, trailer_lines};
+ghost use Rattle.page_papers.specs.Comments.{head_of, named_medium, page_head, told_by_document, told_by_page as told};
+ghost use Rattle.page_papers.specs.Own.{medium_by, or_this, own_papers as papers_of_pages, page_or};
 ghost use Rattle.dsc.specs.Fields.{fields_in};
-ghost use Rattle.own_papers.specs.Named.{by_name};
+ghost use Rattle.own_papers.specs.Named.{known_paper};
 
 use crate::known_media::KnownMedia;
 use crate::page_heads::value_in_head;
-use document_paper::{box_paper, document_paper};
+use document_paper::{document_paper, paper_of_box};
 use dsc::{Document, first_content, header_len, line_end_after, next_field};
 use lengths::Paper;
 use std::alloc::{AllocError, Global};
@@ -59,9 +59,10 @@ fn told_papers(
 
 /// The paper that a document tells, and else this one.
 fn document_or(text: &[u8], other: &Paper) -> Paper
-    ensures { result ≡ or_this (told_by_document paper_named (header text.now) (trailer_lines (units_of text.now))) other.now }
+    ensures { result
+        ≡ or_this (told_by_document paper_named other.now (header text.now) (trailer_lines (units_of text.now))) other.now }
 {
-    match document_paper(text) {
+    match document_paper(text, other) {
         Some(told) => told.0,
         None => *other,
     }
@@ -75,53 +76,75 @@ fn each_or(
     other: &Paper,
 ) -> Result<Vec<Paper>, AllocError>
     ensures { IfOk result (λ papers. papers.items
-        ≡ map (λ page. or_this (told (media (contents header.now)) (page_head page)) other.now) (pages document.now)) }
+        ≡ map (λ page. page_or (medium_by (contents header.now)) (page_head page) other.now) (pages document.now)) }
 {
     let known = KnownMedia::read(alloc, header)?;
+    each_with(alloc, document, &known, other)
+}
+
+/// What each page tells itself, with these media, and else this paper.
+fn each_with(
+    alloc: Global,
+    document: &Document<'_>,
+    known: &KnownMedia,
+    other: &Paper,
+) -> Result<Vec<Paper>, AllocError>
+    ensures { IfOk result (λ papers. papers.items
+        ≡ map (λ page. page_or (known_paper known.now) (page_head page) other.now) (pages document.now)) }
+{
     let mut papers = Vec::new(alloc);
     for page in 0..document.pages() {
-        let paper = page_paper(&known, document.page(page), other);
+        let paper = page_paper(known, document.page(page), other);
         papers.push(paper)?;
     }
     Ok(papers)
 }
 
-/// The paper of a page: what it tells itself, and else this one.
-fn page_paper(known: &KnownMedia<'_>, page: &[u8], other: &Paper) -> Paper
-    ensures { result ≡ or_this (told known.now (page_head page.now)) other.now }
+/// The paper of a page: what it tells itself, and else this one, which is its document's.
+fn page_paper(known: &KnownMedia, page: &[u8], other: &Paper) -> Paper
+    ensures { result ≡ page_or (known_paper known.now) (page_head page.now) other.now }
 {
-    match told_by_page(known, page) {
+    match told_by_page(known, page, other) {
         Some(paper) => paper,
         None => *other,
     }
 }
 
-/// The paper that a page tells in the comments behind its first line: by its `%%PageMedia:`, if it has one, and else by a
-/// `%%PageBoundingBox:` that begins at 0 0.
-fn told_by_page(known: &KnownMedia<'_>, page: &[u8]) -> Option<Paper>
-    ensures { result ≡ told known.now (page_head page.now) }
+/// The paper that a page tells in the comments behind its first line: by its `%%PageMedia:`, if that names a medium that
+/// is known, and else by its `%%PageBoundingBox:`, where this paper would be taken without it.
+fn told_by_page(known: &KnownMedia, page: &[u8], other: &Paper) -> Option<Paper>
+    ensures { result ≡ told (known_paper known.now) other.now (page_head page.now) }
 {
     let head = behind_first_line(page);
-    match value_in_head(head, b"%%PageMedia", b"%%PageMedia:") {
-        Some(value) => named_paper(known, value),
-        None => boxed_paper(head),
+    match named_paper(known, head) {
+        Some(paper) => Some(paper),
+        None => boxed_paper(head, other),
     }
 }
 
+/// The paper of the medium that a page names, in the comments behind its first line.
+fn named_paper(known: &KnownMedia, head: &[u8]) -> Option<Paper>
+    ensures { result ≡ option_and_then (named_medium (known_paper known.now))
+        (comment_fields (codes "%%PageMedia") (head_of (length head.now) head.now)) }
+{
+    known_medium(known, value_in_head(head, b"%%PageMedia", b"%%PageMedia:")?)
+}
+
 /// The paper of the medium that the first field names.
-fn named_paper(known: &KnownMedia<'_>, value: &[u8]) -> Option<Paper>
-    ensures { result ≡ by_name known.now (fields_in value.now) }
+fn known_medium(known: &KnownMedia, value: &[u8]) -> Option<Paper>
+    ensures { result ≡ named_medium (known_paper known.now) (fields_in value.now) }
 {
     let (name, _) = next_field(value)?;
     known.paper_of(name)
 }
 
-/// The paper that a page's box tells, in the comments behind its first line.
-fn boxed_paper(head: &[u8]) -> Option<Paper>
-    ensures { result ≡ option_and_then box_paper_of
+/// The paper that a page's box tells, in the comments behind its first line, where this one would be taken without it.
+fn boxed_paper(head: &[u8], other: &Paper) -> Option<Paper>
+    ensures { result ≡ option_and_then (paper_of_box_at other.now)
         (comment_fields (codes "%%PageBoundingBox") (head_of (length head.now) head.now)) }
 {
-    box_paper(value_in_head(head, b"%%PageBoundingBox", b"%%PageBoundingBox:")?)
+    let value = value_in_head(head, b"%%PageBoundingBox", b"%%PageBoundingBox:")?;
+    paper_of_box(other, value)
 }
 
 /// What stands behind the first line.

@@ -1,128 +1,130 @@
 //! Media that header comments tell.
-ghost use Rattle.std.specs.Prelude.{◌≡◌, ◌<◌, ◌++◌, [], length, IfOk, OnOk, IfSome, MatchOption};
+ghost use Rattle.std.specs.Prelude.{◌≡◌, ◌++◌, ℕ, List, Some, IfOk, OnOk, flat_map};
+ghost use Rattle.std.specs.Map.{update};
+ghost use Rattle.std.specs.Str.{bytes_eq};
 ghost use Rattle.dsc.specs.Fields.{fields_in};
-ghost use Rattle.document_paper.specs.Media.{contents};
-ghost use Rattle.page_papers.specs.Comments.{continued, media, medium_in, paper_of_medium};
-ghost use Rattle.own_papers.specs.Named.{media_of};
+ghost use Rattle.document_paper.specs.Media.{contents, continued};
+ghost use Rattle.page_papers.specs.Comments.{media, medium_in};
+ghost use Rattle.own_papers.specs.Named.{Knows, found_at, known_paper, media_of, medium_of};
 
-use document_paper::media_paper;
-use dsc::{comment_value, first_content, line_end_after, next_field};
+use document_paper::{continuation, first_comment, media_paper};
+use dsc::next_field;
 use lengths::Paper;
 use std::alloc::{AllocError, Global};
-use std::marker::Model;
+use std::collections::BTreeMap;
 
 /// A medium by its name, and the fields that tell it.
 #[derive(Clone, Copy)]
-struct KnownMedium<'t> {
+struct ToldMedium<'t> {
     name: &'t [u8],
     fields: &'t [u8],
 }
 
-/// Media, each by its name, in order.
+/// Media by their names: the paper of the first with each name, if its sides may be a paper's.
 #[derive(Drop)]
-pub(crate) struct KnownMedia<'t> {
-    media: Vec<KnownMedium<'t>>,
+pub(crate) struct KnownMedia {
+    papers: BTreeMap<Vec<u8>, Option<Paper>>,
 }
 
-impl<'t> Model for KnownMedia<'t> {
-    ghost use Rattle.std.specs.Prelude.{List};
-    ghost use Rattle.page_papers.specs.Comments.{Medium};
-    ghost use Rattle.own_papers.specs.Named.{media_of};
-
-    ghost Value = { List Medium };
-
-    ghost view = { λ k. media_of k.media.items };
-}
-
-impl<'t> KnownMedia<'t> {
+impl KnownMedia {
     /// The media of the first `%%DocumentMedia:` among the comments and of the lines that continue it.
-    pub(crate) fn read(alloc: Global, header: &'t [u8]) -> Result<KnownMedia<'t>, AllocError>
-        ensures { IfOk result (λ known. known ≡ media (contents header.now)) }
+    pub(crate) fn read(alloc: Global, header: &[u8]) -> Result<KnownMedia, AllocError>
+        ensures { IfOk result (λ known. Knows known (media (contents header.now))) }
+    {
+        let told = told_media(alloc, header)?;
+        KnownMedia::of(alloc, told.as_slice())
+    }
+
+    /// These media.
+    fn of(alloc: Global, told: &[ToldMedium<'_>]) -> Result<KnownMedia, AllocError>
+        ensures { IfOk result (λ known. Knows known (media_of told.now)) }
     {
         let mut known = KnownMedia {
-            media: Vec::new(alloc),
+            papers: BTreeMap::new(alloc),
         };
-        if let Some((first, others)) = media_comment(header) {
-            known.add(first)?;
-            known.add_continued(others)?;
+        // The last one of a name that is put is the first one told.
+        for behind in 0..told.len() {
+            known.put_medium(alloc, &told[told.len() - 1 - behind])?;
         }
         Ok(known)
     }
 
-    /// Adds the media of the lines at the front that continue a comment.
-    fn add_continued(&mut self, text: &'t [u8]) -> Result<(), AllocError>
-        ensures { OnOk result (self.new ≡ self.old ++ continued (contents text.now)) }
+    /// Puts the paper of a medium at its name, in the place of the one there.
+    fn put_medium(&mut self, alloc: Global, medium: &ToldMedium<'_>) -> Result<(), AllocError>
+        ensures { OnOk result ((at : List ℕ) → found_at self.new at
+            ≡ update bytes_eq (found_at self.old) medium.now.name.now (Some (medium_of medium.now).paper) at) }
     {
-        let mut rest = text;
-        while let Some((value, others)) = continuation(rest) {
-            self.add(value)?;
-            rest = others;
-        }
-        Ok(())
+        let name = Vec::from_slice(alloc, medium.name)?;
+        let paper = media_paper(medium.fields);
+        self.put(name, paper)
     }
 
-    /// Adds the medium that these fields tell, if there is a field.
-    fn add(&mut self, value: &'t [u8]) -> Result<(), AllocError>
-        ensures { OnOk result (self.new ≡ self.old ++ medium_in (fields_in value.now)) }
+    /// Puts a paper at this name, in the place of the one there.
+    fn put(&mut self, name: Vec<u8>, paper: Option<Paper>) -> Result<(), AllocError>
+        ensures { OnOk result ((at : List ℕ) → found_at self.new at ≡ update bytes_eq (found_at self.old) name.items (Some paper) at) }
     {
-        if let Some((name, _)) = next_field(value) {
-            self.media.push(KnownMedium {
-                name,
-                fields: value,
-            })?;
-        }
+        self.papers.insert(name, paper)?;
         Ok(())
     }
 
     /// The paper of the first medium with this name.
     pub(crate) fn paper_of(&self, name: &[u8]) -> Option<Paper>
-        ensures { result ≡ paper_of_medium name.now self.now }
+        ensures { result ≡ known_paper self.now name.now }
     {
-        let media = self.media.as_slice();
-        medium_paper(media, name)
+        match self.papers.get(name) {
+            Some(paper) => *paper,
+            None => None,
+        }
     }
 }
 
-/// The paper of the first medium with this name.
-fn medium_paper(media: &[KnownMedium<'_>], name: &[u8]) -> Option<Paper>
-    ensures { result ≡ paper_of_medium name.now (media_of media.now) }
+/// The media of the first `%%DocumentMedia:` among the comments and of the lines that continue it, in order.
+fn told_media<'t>(alloc: Global, header: &'t [u8]) -> Result<Vec<ToldMedium<'t>>, AllocError>
+    ensures { IfOk result (λ told. media_of told.items ≡ media (contents header.now)) }
 {
-    for medium in media {
-        if medium.name == name {
-            return media_paper(medium.fields);
-        }
+    match first_comment(header, b"%%DocumentMedia", b"%%DocumentMedia:") {
+        Some((first, others)) => media_from(alloc, first, others),
+        None => Ok(Vec::new(alloc)),
     }
-    None
 }
 
-/// What stands behind the colon of the first `%%DocumentMedia:` among the comments, and the lines behind it.
-fn media_comment(header: &[u8]) -> Option<(&[u8], &[u8])>
-    ensures { MatchOption result (media (contents header.now) ≡ []) (λ p.
-        media (contents header.now) ≡ medium_in (fields_in p.0.now) ++ continued (contents p.1.now)) }
+/// The medium of these fields, and those of the lines behind it that continue its comment.
+fn media_from<'t>(
+    alloc: Global,
+    first: &'t [u8],
+    others: &'t [u8],
+) -> Result<Vec<ToldMedium<'t>>, AllocError>
+    ensures { IfOk result (λ told. media_of told.items
+        ≡ medium_in (fields_in first.now) ++ flat_map medium_in (continued (contents others.now))) }
 {
-    let mut rest = header;
-    while !rest.is_empty() {
-        let content = first_content(rest);
-        let (_, others) = rest.split_at(line_end_after(rest, content.len()));
-        if let Some(value) = comment_value(content, b"%%DocumentMedia", b"%%DocumentMedia:") {
-            return Some((value, others));
-        }
+    let mut told = Vec::new(alloc);
+    add(&mut told, first)?;
+    add_continued(&mut told, others)?;
+    Ok(told)
+}
+
+/// Adds the media of the lines at the front that continue a comment.
+fn add_continued<'t>(told: &mut Vec<ToldMedium<'t>>, text: &'t [u8]) -> Result<(), AllocError>
+    ensures { OnOk result (media_of told.new.items
+        ≡ media_of told.old.items ++ flat_map medium_in (continued (contents text.now))) }
+{
+    let mut rest = text;
+    while let Some((value, others)) = continuation(rest) {
+        add(told, value)?;
         rest = others;
     }
-    None
+    Ok(())
 }
 
-/// What the first line adds to a comment before it, if it continues one, and the lines behind it.
-fn continuation(text: &[u8]) -> Option<(&[u8], &[u8])>
-    ensures media { MatchOption result (continued (contents text.now) ≡ []) (λ p.
-        continued (contents text.now) ≡ medium_in (fields_in p.0.now) ++ continued (contents p.1.now)) }
-    ensures shorter { IfSome result (λ p. length p.1.now < length text.now) }
+/// Adds the medium that these fields tell, if there is a field.
+fn add<'t>(told: &mut Vec<ToldMedium<'t>>, value: &'t [u8]) -> Result<(), AllocError>
+    ensures { OnOk result (media_of told.new.items ≡ media_of told.old.items ++ medium_in (fields_in value.now)) }
 {
-    let content = first_content(text);
-    if !content.starts_with(b"%%+") {
-        return None;
+    if let Some((name, _)) = next_field(value) {
+        told.push(ToldMedium {
+            name,
+            fields: value,
+        })?;
     }
-    let (_, value) = content.split_at(3);
-    let (_, others) = text.split_at(line_end_after(text, content.len()));
-    Some((value, others))
+    Ok(())
 }

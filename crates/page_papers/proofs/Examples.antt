@@ -34,23 +34,29 @@ painted_box : own (codes "%!PS\n%%DocumentMedia: A 595 842 0 () ()\n%%Page: 1 1\
 unfolding number_at
 painted_box = refl
 
--- a medium that the header hasn't is the document's paper, whatever the box says
+-- a medium that the header hasn't says nothing, so the box does
 unknown_medium : own (codes "%!PS\n%%DocumentMedia: A 595 842 0 () ()\n%%Page: 1 1\n%%PageMedia: C\n%%PageBoundingBox: 0 0 72 71\nx\n")
-    ≡ Ok (points 595 842 ∷ [])
+    ≡ Ok (points 72 71 ∷ [])
 unfolding number_at
 unknown_medium = refl
 
--- nor does a box count where a medium without a name is named
+-- nor does a medium without a name
 unnamed_medium : own (codes "%!PS\n%%DocumentMedia: A 595 842 0 () ()\n%%Page: 1 1\n%%PageMedia:\n%%PageBoundingBox: 0 0 72 71\nx\n")
-    ≡ Ok (points 595 842 ∷ [])
+    ≡ Ok (points 72 71 ∷ [])
 unfolding number_at
 unnamed_medium = refl
 
--- a box that begins at 0 0 is a paper, and another one isn't
-by_box : own (codes "%!PS\n%%DocumentMedia: A 595 842 0 () ()\n%%Page: 1 1\n%%PageBoundingBox: 0 0 842 595\nx\n%%Page: 2 2\n%%PageBoundingBox: 1 0 842 595\nx\n")
+-- a box that begins at 0 0 is a paper, and another one isn't, if it lies within the document's
+by_box : own (codes "%!PS\n%%DocumentMedia: A 595 842 0 () ()\n%%Page: 1 1\n%%PageBoundingBox: 0 0 842 595\nx\n%%Page: 2 2\n%%PageBoundingBox: 1 0 610 857\nx\n")
     ≡ Ok (points 842 595 ∷ points 595 842 ∷ [])
 unfolding number_at
 by_box = refl
+
+-- one that reaches over the document's paper shows how large the page is
+reaching_box : own (codes "%!PS\n%%Page: 1 1\n%%PageBoundingBox: 36 36 4760 512\nx\n%%Page: 2 2\n%%PageBoundingBox: 36 -1 4760 512\nx\n")
+    ≡ Ok (points 4_796 548 ∷ home ∷ [])
+unfolding number_at
+reaching_box = refl
 
 -- what stands behind the head isn't looked at, nor is an embedded document
 behind_the_head : own (codes "%!PS\n%%Page: 1 1\nx\n%%PageBoundingBox: 0 0 842 595\n%%Page: 2 2\n%%BeginDocument: e\n%%PageBoundingBox: 0 0 842 595\n%%EndDocument\n")
@@ -63,6 +69,9 @@ behind_the_head = refl
 by_name : own (codes "%!PS\n%%DocumentPaperSizes: foolscap A4 Letter\n%%BoundingBox: 0 0 72 72\n%%Page: 1 1\nx\n") ≡ Ok (points 595 842 ∷ [])
 unfolding number_at
 by_name = refl
+
+names_go_on : own (codes "%!PS\n%%DocumentPaperSizes: foolscap\n%%+ A4\n%%Page: 1 1\nx\n") ≡ Ok (points 595 842 ∷ [])
+names_go_on = refl
 
 medium_before_name : own (codes "%!PS\n%%DocumentPaperSizes: A4\n%%DocumentMedia: L 612 1008\n%%Page: 1 1\nx\n") ≡ Ok (points 612 1_008 ∷ [])
 unfolding number_at

@@ -1,5 +1,5 @@
 -- A paper that was told is found.
-use Rattle.std.specs.Prelude.{codes, decimal, filter, flat_map, replicate, nat_lt, nat_le, not, ℤ, pos, Option, Some, None, option_and_then, option_map, if◌then◌else◌, ◌&&◌}
+use Rattle.std.specs.Prelude.{codes, decimal, filter, flat_map, replicate, nat_lt, nat_le, not, ℤ, pos, Option, Some, None, option_and_then, option_map, if◌then◌else◌, ◌&&◌, ◌||◌}
 use Rattle.std.specs.List.{All, AllPass, slice_split}
 use Rattle.std.specs.Char.{is_ascii_digit}
 use Rattle.std.proofs.Common.{arith, ◌≡◌, ◌≢◌, ℕ, zero, suc, ◌+◌, ◌-◌, ◌*◌, ◌/◌, ◌%◌, ◌^◌, ◌<◌, ◌≤◌, List, [], ◌∷◌, ◌++◌, Bool, true, false, cond, true≢false, refl, sym, ap, subst, ◌∙◌, length, drop, append_assoc, append-nil}
@@ -18,12 +18,12 @@ use Rattle.lengths.proofs.Numbers.{number_read}
 use Rattle.seams.specs.Seams.{no_ends}
 use Rattle.seams.proofs.LinesMeet.{go_line, stop_line}
 use Rattle.seams.proofs.Plainly.{no_ends_append, no_ends_decimal}
-use Rattle.document_paper.specs.Media.{box_told, lying_as, comment_fields, media_paper, paper_of, points_at, points_of}
+use Rattle.document_paper.specs.Media.{box_of, box_paper, comment_fields, comment_lines, else_take, is_short, lying_as, media_paper, paper_of, paper_of_box, paper_of_sides, points_at, points_of}
 use Rattle.made_sheets.specs.Made.{Blank, MadeSheet, MadeSlot, Placed}
 use Rattle.made_sheets.specs.MadeOutput.{made_sheet_text, made_slot_text}
-use Rattle.page_papers.specs.Comments.{else_take, first_named, head_of, media, page_head, told_by_document, told_by_page}
+use Rattle.page_papers.specs.Comments.{first_named_in, head_of, page_head, told_by_document}
 use Rattle.page_papers.specs.Found.{OneIsFound}
-use Rattle.page_papers.specs.Own.{or_this, own_paper}
+use Rattle.page_papers.specs.Own.{medium_by, or_this, own_paper, page_or}
 use Rattle.page_papers.specs.Told.{box_line, medium_line, telling_of}
 
 -- ---- a side is read as it was printed
@@ -151,7 +151,28 @@ side_so n some few =
     both (nat_le 1 (n * 1_270_000)) (nat_le (n * 1_270_000) 914_399_999_999_990_856)
     (above 1 (n * 1_270_000) (omega (arith, some))) (above (n * 1_270_000) 914_399_999_999_990_856 (omega (arith, few)))
 
-medium_read : (w h : ℕ) → 0 < w → w ≤ 9_999_999_999 → 0 < h → h ≤ 9_999_999_999
+long_enough : (n : ℕ) → 100_000 ≤ n → is_short (pos (n * 1_270_000)) ≡ false
+long_enough n some = not_below (n * 1_270_000) (omega (arith, some))
+  where
+    not_below : (m : ℕ) → 127_000_000_000 ≤ m → nat_lt m 127_000_000_000 ≡ false
+    not_below m h = grind (arith, nat_tests)
+
+-- in order: no side is short, and both may be a paper's
+abbrev chosen : (w h : ℕ) → (short_w short_h side_w side_h : Bool) → Option Paper
+chosen w h short_w short_h side_w side_h =
+    if short_w || short_h then None else (if side_w && side_h then Some (of_parts w h) else None)
+
+sides_taken : (w h : ℕ) → 100_000 ≤ w → w ≤ 9_999_999_999 → 100_000 ≤ h → h ≤ 9_999_999_999
+    → paper_of_sides (pos (w * 1_270_000)) (pos (h * 1_270_000)) ≡ Some (of_parts w h)
+sides_taken w h sw fw sh fh =
+    let side_w : Bool = may_be_side (pos (w * 1_270_000)) in
+    let side_h : Bool = may_be_side (pos (h * 1_270_000)) in
+    ap (λ t. chosen w h t (is_short (pos (h * 1_270_000))) side_w side_h) (long_enough w sw)
+    ∙ ap (λ t. chosen w h false t side_w side_h) (long_enough h sh)
+    ∙ ap (λ t. chosen w h false false t side_h) (side_so w (omega (arith, sw)) fw)
+    ∙ ap (λ t. chosen w h false false true t) (side_so h (omega (arith, sh)) fh)
+
+medium_read : (w h : ℕ) → 100_000 ≤ w → w ≤ 9_999_999_999 → 100_000 ≤ h → h ≤ 9_999_999_999
     → media_paper (fields (medium_line (codes "%%DocumentMedia: ") (codes "Plain") (of_parts w h))) ≡ Some (of_parts w h)
 medium_read w h sw fw sh fh =
     let tw : List ℕ = points_text (pos (w * 1_270_000)) in
@@ -163,8 +184,7 @@ medium_read w h sw fw sh fh =
     ap media_paper (fields_found tw th plain_w plain_h some_w some_h)
     ∙ ap (λ x. paper_of x (points_of th)) (side_read w fw)
     ∙ ap (λ x. paper_of (Some (pos (w * 1_270_000))) x) (side_read h fh)
-    ∙ ap (λ t. if t && may_be_side (pos (h * 1_270_000)) then Some (of_parts w h) else None) (side_so w sw fw)
-    ∙ ap (λ t. if t then Some (of_parts w h) else None) (side_so h sh fh)
+    ∙ sides_taken w h sw fw sh fh
 
 -- ---- the sheet tells nothing itself
 first_not : (a z : Bool) → (not a && z) ≡ true → a ≡ false
@@ -229,14 +249,16 @@ Found named home first count more trailer border texts s sheet paper =
     own_paper named home (first ∷ count ∷ ((telling_of (paper ∷ [])).header ++ more)) trailer (made_sheet_text border (telling_of (paper ∷ [])) texts s sheet) ≡ paper
 
 found : (named : List ℕ → Option Paper) (home : Paper) (first count : List ℕ) (more trailer : List (List ℕ)) (border : Option ℤ) (texts : List (List ℕ)) (s : ℕ) (sheet : MadeSheet) (w h : ℕ)
-    → 0 < w → w ≤ 9_999_999_999 → 0 < h → h ≤ 9_999_999_999 → is_comment medium_comment first ≡ false → is_comment medium_comment count ≡ false
+    → 100_000 ≤ w → w ≤ 9_999_999_999 → 100_000 ≤ h → h ≤ 9_999_999_999 → is_comment medium_comment first ≡ false → is_comment medium_comment count ≡ false
     → Found named home first count more trailer border texts s sheet (of_parts w h)
 found named home first count more trailer border texts s sheet w h sw fw sh fh e f =
     let paper : Paper = of_parts w h in
     let hs : List (List ℕ) = first ∷ count ∷ ((telling_of (paper ∷ [])).header ++ more) in
+    let box : Option (List (List ℕ)) = box_of hs trailer in
     let others : Option Paper =
-    else_take (option_map (lying_as (box_told hs trailer)) (option_and_then (first_named named) (comment_fields (codes "%%DocumentPaperSizes") hs))) (box_told hs trailer) in
-    ap (λ head. or_this (told_by_page (media hs) head) (or_this (told_by_document named hs trailer) home)) (silent border texts s sheet paper)
+    else_take (option_map (lying_as (option_and_then box_paper box)) (first_named_in named (comment_lines (codes "%%DocumentPaperSizes") hs)))
+    (option_and_then (paper_of_box home) box) in
+    ap (λ head. page_or (medium_by hs) head (or_this (told_by_document named home hs trailer) home)) (silent border texts s sheet paper)
     ∙ ap (λ o. or_this (else_take (option_and_then media_paper o) others) home) (told w h first count more e f)
     ∙ ap (λ o. or_this (else_take o others) home) (medium_read w h sw fw sh fh)
 

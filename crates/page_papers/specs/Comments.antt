@@ -1,19 +1,14 @@
 -- Papers that comments tell. The comments are of DSC 3.0: %%DocumentMedia and %%+ of General Header Comments,
 -- %%PageMedia and %%PageBoundingBox of Page Requirement and General Page Comments; %%DocumentPaperSizes is of DSC 2.1.
 -- Which of them count, and in which order, is this project's own rules.
-use Rattle.std.specs.Prelude.{ℕ, zero, suc, Bool, not, ◌&&◌, ◌||◌, nat_eq, nat_lt, if◌then◌else◌, List, [], ◌∷◌, ◌++◌}
-use Rattle.std.specs.Prelude.{length, drop, filter, codes, Option, Some, None, option_and_then, option_map}
-use Rattle.std.specs.List.{starts_with, slice_split}
+use Rattle.std.specs.Prelude.{ℕ, zero, suc, Bool, not, ◌&&◌, ◌||◌, nat_eq, if◌then◌else◌, List, [], ◌∷◌}
+use Rattle.std.specs.Prelude.{length, drop, flat_map, codes, Option, Some, None, option_and_then, option_map}
+use Rattle.std.specs.List.{starts_with}
 use Rattle.std.specs.Str.{bytes_eq}
 use Rattle.rules.specs.Papers.{Paper}
-use Rattle.rules.specs.Units.{content_of, line_len, key, has_key, is_comment, is_blank, fields}
+use Rattle.rules.specs.Units.{content_of, line_len, key, has_key}
 use Rattle.dsc.specs.Header.{is_header}
-use Rattle.document_paper.specs.Media.{comment_fields, media_paper, box_paper, box_told, lying_as}
-
--- the first of two, if there is one, and else the second
-abbrev pub else_take : Option Paper → Option Paper → Option Paper
-else_take (Some paper) other = Some paper
-else_take None other = other
+use Rattle.document_paper.specs.Media.{box_of, box_paper, comment_fields, comment_lines, else_take, lying_as, media_paper, paper_of_box}
 
 -- ---- where they stand
 
@@ -46,22 +41,10 @@ abbrev pub medium_in : List (List ℕ) → List Medium
 medium_in [] = []
 medium_in (name ∷ more) = record { name = name; paper = media_paper (name ∷ more) } ∷ []
 
--- the fields of a line that continues a comment: those behind the %%+
-abbrev pub more_fields : List ℕ → List (List ℕ)
-more_fields content = filter (λ f. nat_lt 0 (length f)) (slice_split is_blank (drop 3 content))
-
--- those of the lines that continue a comment
-abbrev pub continued : List (List ℕ) → List Medium
-continued [] = []
-continued (content ∷ rest) =
-    if starts_with nat_eq content (codes "%%+") then medium_in (more_fields content) ++ continued rest else []
-
 -- the media of a document, by its header comments: that of the first %%DocumentMedia, and those of the lines that
 -- continue it
 abbrev pub media : List (List ℕ) → List Medium
-media [] = []
-media (content ∷ rest) =
-    if is_comment (codes "%%DocumentMedia") content then medium_in (fields content) ++ continued rest else media rest
+media lines = flat_map medium_in (comment_lines (codes "%%DocumentMedia") lines)
 
 -- the paper of the first medium with this name
 abbrev pub paper_of_medium : List ℕ → List Medium → Option Paper
@@ -70,25 +53,33 @@ paper_of_medium name (m ∷ ms) = if bytes_eq m.name name then m.paper else pape
 
 -- ---- what they tell
 
--- the paper of a page's medium, if it names one. Else the box of the page, if it begins at 0 0; a page that names its
--- medium has a box of what is painted
-abbrev pub by_medium : List Medium → (head : List (List ℕ)) → Option (List (List ℕ)) → Option Paper
-by_medium known head None = option_and_then box_paper (comment_fields (codes "%%PageBoundingBox") head)
-by_medium known head (Some []) = None
-by_medium known head (Some (name ∷ more)) = paper_of_medium name known
+-- the paper of the medium that the first field names, by the papers of media
+abbrev pub named_medium : (known : List ℕ → Option Paper) → List (List ℕ) → Option Paper
+named_medium known [] = None
+named_medium known (name ∷ more) = known name
 
-abbrev pub told_by_page : List Medium → (head : List (List ℕ)) → Option Paper
-told_by_page known head = by_medium known head (comment_fields (codes "%%PageMedia") head)
+-- the paper of a page's medium, if it names one that is known; a page that names its medium has a box of what is
+-- painted. Else the paper of its box, where this paper would be taken without it
+abbrev pub told_by_page : (known : List ℕ → Option Paper) → (other : Paper) → (head : List (List ℕ)) → Option Paper
+told_by_page known other head =
+    else_take (option_and_then (named_medium known) (comment_fields (codes "%%PageMedia") head))
+    (option_and_then (paper_of_box other) (comment_fields (codes "%%PageBoundingBox") head))
 
 -- the first field that is the name of a paper
 abbrev pub first_named : (named : List ℕ → Option Paper) → List (List ℕ) → Option Paper
 first_named named [] = None
 first_named named (name ∷ more) = else_take (named name) (first_named named more)
 
+-- that of the first in these lines
+abbrev pub first_named_in : (named : List ℕ → Option Paper) → List (List (List ℕ)) → Option Paper
+first_named_in named [] = None
+first_named_in named (names ∷ more) = else_take (first_named named names) (first_named_in named more)
+
 -- the document's paper: its first medium's; else the first of its papers' names that is known, on its side if the box
--- has its sides exchanged; else the box, if it begins at 0 0
-abbrev pub told_by_document : (named : List ℕ → Option Paper) → (header trailer : List (List ℕ)) → Option Paper
-told_by_document named header trailer =
+-- at 0 0 has its sides exchanged; else that of the box, where this paper is usual
+abbrev pub told_by_document : (named : List ℕ → Option Paper) → (usual : Paper) → (header trailer : List (List ℕ)) → Option Paper
+told_by_document named usual header trailer =
+    let box = box_of header trailer in
     else_take (option_and_then media_paper (comment_fields (codes "%%DocumentMedia") header))
-    (else_take (option_map (lying_as (box_told header trailer)) (option_and_then (first_named named) (comment_fields (codes "%%DocumentPaperSizes") header)))
-    (box_told header trailer))
+    (else_take (option_map (lying_as (option_and_then box_paper box)) (first_named_in named (comment_lines (codes "%%DocumentPaperSizes") header)))
+    (option_and_then (paper_of_box usual) box))

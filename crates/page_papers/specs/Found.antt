@@ -1,5 +1,5 @@
 -- What is found of a paper that was told.
-use Rattle.std.specs.Prelude.{◌≡◌, ℕ, ◌*◌, ◌<◌, ◌≤◌, pos, false, List, [], ◌∷◌, ◌++◌, codes, Option, ℤ}
+use Rattle.std.specs.Prelude.{◌≡◌, ℕ, ◌*◌, ◌≤◌, pos, false, List, [], ◌∷◌, ◌++◌, codes, Option, ℤ}
 use Rattle.rules.specs.Papers.{Paper}
 use Rattle.rules.specs.Units.{is_comment}
 use Rattle.made_sheets.specs.Made.{MadeSheet}
@@ -7,11 +7,11 @@ use Rattle.made_sheets.specs.MadeOutput.{made_sheet_text}
 use Rattle.page_papers.specs.Own.{own_paper}
 use Rattle.page_papers.specs.Told.{telling_of}
 
--- a side that is printed exactly and read again: whole 10^-5 points, up to 99,999.99999 points
+-- a side that is printed exactly and read again: whole 10^-5 points, from one point up to 99,999.99999 points
 pub record IsTellable (side : ℤ) : Type 0 where
   pub parts : ℕ
   pub is : side ≡ pos (parts * 1_270_000)
-  pub some : 0 < parts
+  pub some : 100_000 ≤ parts
   pub few : parts ≤ 9_999_999_999
 
 -- If all sheets have one paper, each has it as its own paper where it is read again. The header comments of the output

@@ -5,18 +5,26 @@ use Rattle.std.specs.Prelude.{◌∷◌, map, fold, Option, Some, None}
 use Rattle.rules.specs.Papers.{Paper}
 use Rattle.rules.specs.Parts.{NestedUnit, pages}
 use Rattle.document_paper.specs.Media.{header, trailer_lines}
-use Rattle.page_papers.specs.Comments.{media, page_head, told_by_document, told_by_page}
+use Rattle.page_papers.specs.Comments.{media, page_head, paper_of_medium, told_by_document, told_by_page}
 
 -- what is told, and else this
 abbrev pub or_this : Option Paper → Paper → Paper
 or_this (Some paper) other = paper
 or_this None other = other
 
+-- what a page tells itself, where its document has this paper, and else that one
+abbrev pub page_or : (known : List ℕ → Option Paper) → (head : List (List ℕ)) → Paper → Paper
+page_or known head document = or_this (told_by_page known document head) document
+
+-- the paper of the medium with this name, by header comments
+abbrev pub medium_by : (header : List (List ℕ)) → (name : List ℕ) → Option Paper
+medium_by header name = paper_of_medium name (media header)
+
 -- a page's own paper: what it tells itself, else what its document tells, else the one at home. The header comments, and
 -- the lines of the trailer, are the document's
 abbrev pub own_paper : (named : List ℕ → Option Paper) → (home : Paper) → (header trailer : List (List ℕ)) → (page : List ℕ) → Paper
 own_paper named home header trailer page =
-    or_this (told_by_page (media header) (page_head page)) (or_this (told_by_document named header trailer) home)
+    page_or (medium_by header) (page_head page) (or_this (told_by_document named home header trailer) home)
 
 -- the papers of a document's pages, in order: the one that was asked for, if one was, and else each page's own
 abbrev pub own_papers : (asked : Option Paper) → (named : List ℕ → Option Paper) → (home : Paper) → (text : List ℕ)

@@ -244,6 +244,7 @@ works_on n name Get (Plain (Number text) ∷ Array ts ∷ os) w es a q =
     if_goes n (list_all is_ascii_digit text) (element (number_of text) ts (with_operands w os)) (element (number_of text) ts (up_work es (with_operands w os)))
     (element_goes n (number_of text) ts (with_operands w os) es a)
 works_on n name Length (Array ts ∷ os) w es a q = (es, refl, a)
+works_on n name Length (Procedure ts ∷ os) w es a q = (es, refl, a)
 works_on n name LoadArray (Array ts ∷ os) w es a q = (es, ap (λ x. Some (with_operands (up_work es w) (Array ts ∷ x))) (onto_up ts os), a)
 works_on n name CloseDictionary os w es a q = made_goes n (filled (w.made + 1) os w.entries) (filled (w.made + 1) (ups os) es) w es (filled_goes n (w.made + 1) os w.entries es a)
 works_on n name CopyOperands (Plain (Number text) ∷ os) w es a q =

@@ -7,7 +7,8 @@ use Rattle.rules.specs.Numbers.{number_of}
 use Rattle.std.specs.Prelude.{ℕ, zero, suc, ◌+◌, List, [], ◌∷◌, ◌++◌, map, flat_map, length, Bool, true, false, not}
 use Rattle.std.specs.Prelude.{◌&&◌, ◌||◌, ◌==◌, nat_lt, if◌then◌else◌, Option, Some, None, ℤ, pos, ◌+ℤ◌, ◌*ℤ◌, decimal}
 use Rattle.std.specs.Prelude.{◌-◌, ◌%◌, negsuc, nat_le, take, drop, codes, bytes_eq}
-use Rattle.pictures.specs.Objects.{Token, Number, Name, Literal, Text, Hexadecimal, Bound, Object, Plain, Truth, Mark, Array}
+use Rattle.pictures.specs.Objects.{Token, Number, Name, Literal, Text, Hexadecimal, Opens, Closes, Bound, Object}
+use Rattle.pictures.specs.Objects.{Plain, Truth, Mark, Array}
 use Rattle.pictures.specs.Objects.{Procedure, Dictionary, SystemDictionary, Matrix, Saved}
 use Rattle.pictures.specs.Objects.{Font, Operator, Computation, Pop, Duplicate, Exchange, OpenArray, CloseArray, Put}
 use Rattle.pictures.specs.Objects.{Define, Begin, End}
@@ -175,6 +176,16 @@ element n [] w = None
 element zero (t ∷ ts) w = Some (with_operands w (Plain t ∷ w.operands))
 element (suc n) (t ∷ ts) w = element n ts w
 
+-- the elements of a procedure's tokens, within so many braces: a procedure in it is one
+abbrev pub elements_in : List Token → (depth : ℕ) → ℕ
+elements_in [] depth = 0
+elements_in (Opens ∷ ts) zero = suc (elements_in ts 1)
+elements_in (Opens ∷ ts) (suc depth) = elements_in ts (suc (suc depth))
+elements_in (Closes ∷ ts) zero = elements_in ts 0
+elements_in (Closes ∷ ts) (suc depth) = elements_in ts depth
+elements_in (t ∷ ts) zero = suc (elements_in ts 0)
+elements_in (t ∷ ts) (suc depth) = elements_in ts (suc depth)
+
 -- the elements of an array, pushed in their order
 abbrev pub onto : List Token → List Object → List Object
 onto [] os = os
@@ -250,6 +261,7 @@ computed_on Get (Plain (Literal name) ∷ SystemDictionary ∷ os) w = loaded (s
 computed_on Get (Plain (Number text) ∷ Array ts ∷ os) w =
     if list_all is_ascii_digit text then element (number_of text) ts (with_operands w os) else None
 computed_on Length (Array ts ∷ os) w = Some (with_operands w (Plain (Number (decimal (length ts))) ∷ os))
+computed_on Length (Procedure ts ∷ os) w = Some (with_operands w (Plain (Number (decimal (elements_in ts 0))) ∷ os))
 computed_on LoadArray (Array ts ∷ os) w = Some (with_operands w (Array ts ∷ onto ts os))
 computed_on CloseDictionary os w = made_of (filled (w.made + 1) os w.entries) w
 computed_on CopyOperands (Plain (Number text) ∷ os) w =

@@ -1,9 +1,9 @@
--- Sheets that are drawn in part, and one more line that is listed.
+-- Sheets that are drawn in part, and one more text of those that are numbered.
 use Rattle.std.proofs.Common.{ℕ, zero, suc, List, ◌+◌, ◌-◌, ◌≤◌, ◌<◌, ◌++◌, ◌≡◌, Bool, true, false, ap, sym, refl, ◌∙◌, length, take, arith, append_assoc, append-nil}
 use Rattle.std.specs.Prelude.{nat_le, if◌then◌else◌}
 use Rattle.std.proofs.lemmas.Bool.Decides.{nat_tests}
 use Rattle.made_sheets.specs.Made.{MadeSheet}
-use Rattle.preview.specs.Listing.{row_text, rows_text}
+use Rattle.preview.specs.Naming.{each}
 use Rattle.preview.specs.Drawing.{first_drawn, left_out, drawn}
 use Rattle.preview.specs.declared.guides.Guide.{Guide}
 use Rattle.preview.specs.declared.naming.Sides.{Sides}
@@ -24,25 +24,35 @@ some_drawn sides guides all count most more o one two is lt gap first second =
     ∙ ap (λ k. o ++ (first_drawn sides guides most (take most all) ++ left_out most k)) (gap ∙ ap (λ k. k - most) is)
     ∙ ap (λ t. o ++ t) (that_one (nat_le n most) (first_drawn sides guides n all) (first_drawn sides guides most (take most all) ++ left_out most (n - most)) many)
 
--- ---- lines that are listed
+-- ---- numbered texts
 
 -- one more
-more : (sides : Sides) (all : List MadeSheet) (first n : ℕ) → rows_text sides all first n ++ row_text sides all (first + n) ≡ rows_text sides all first (suc n)
-more sides all first zero =
+more : (text : ℕ → List ℕ) (first n : ℕ) → each text first n ++ text (first + n) ≡ each text first (suc n)
+more text first zero =
     let here : first + 0 ≡ first = omega arith in
-    ap (λ k. row_text sides all k) here ∙ sym (append-nil (row_text sides all first))
-more sides all first (suc n) =
+    ap text here ∙ sym (append-nil (text first))
+more text first (suc n) =
     let next : first + suc n ≡ suc first + n = omega arith in
-    append_assoc (row_text sides all first) (rows_text sides all (suc first) n) (row_text sides all (first + suc n))
-    ∙ ap (λ t. row_text sides all first ++ t) (ap (λ k. rows_text sides all (suc first) n ++ row_text sides all k) next ∙ more sides all (suc first) n)
+    append_assoc (text first) (each text (suc first) n) (text (first + suc n))
+    ∙ ap (λ t. text first ++ t) (ap (λ k. each text (suc first) n ++ text k) next ∙ more text (suc first) n)
 
-pub one_row : (sides : Sides) (all : List MadeSheet) (first row : ℕ) (o old new : List ℕ) → first ≤ row
-    → old ≡ o ++ rows_text sides all first (row - first) → new ≡ old ++ row_text sides all row → new ≡ o ++ rows_text sides all first ((row + 1) - first)
-one_row sides all first row o old new le before step =
-    let n : ℕ = row - first in
-    let place : row ≡ first + (row - first) = omega (arith, le) in
-    let next : suc (row - first) ≡ (row + 1) - first = omega (arith, le) in
+pub one_text : (text : ℕ → List ℕ) (first k : ℕ) (o old new : List ℕ) → first ≤ k
+    → old ≡ o ++ each text first (k - first) → new ≡ old ++ text k → new ≡ o ++ each text first ((k + 1) - first)
+one_text text first k o old new le before step =
+    let n : ℕ = k - first in
+    let place : k ≡ first + (k - first) = omega (arith, le) in
+    let next : suc (k - first) ≡ (k + 1) - first = omega (arith, le) in
     step
-    ∙ ap (λ t. t ++ row_text sides all row) before
-    ∙ append_assoc o (rows_text sides all first n) (row_text sides all row)
-    ∙ ap (λ t. o ++ t) (ap (λ k. rows_text sides all first n ++ row_text sides all k) place ∙ more sides all first n ∙ ap (λ k. rows_text sides all first k) next)
+    ∙ ap (λ t. t ++ text k) before
+    ∙ append_assoc o (each text first n) (text k)
+    ∙ ap (λ t. o ++ t) (ap (λ j. each text first n ++ text j) place ∙ more text first n ∙ ap (λ j. each text first j) next)
+
+-- the same of those that are numbered from 0
+pub next_text : (text : ℕ → List ℕ) (k : ℕ) (o old new one : List ℕ) → old ≡ o ++ each text 0 k → new ≡ old ++ one → one ≡ text k → new ≡ o ++ each text 0 (k + 1)
+next_text text k o old new one before step is =
+    let place : k ≡ 0 + k = omega arith in
+    let next : suc k ≡ k + 1 = omega arith in
+    step
+    ∙ ap (λ t. t ++ one) before
+    ∙ append_assoc o (each text 0 k) one
+    ∙ ap (λ t. o ++ t) (ap (λ t. each text 0 k ++ t) (is ∙ ap text place) ∙ more text 0 k ∙ ap (λ j. each text 0 j) next)

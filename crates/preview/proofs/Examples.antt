@@ -1,12 +1,19 @@
 -- Sheets as they are listed and drawn, worked out.
-use Rattle.std.proofs.Common.{◌≡◌, [], ◌∷◌, false, refl}
+use Rattle.std.proofs.Common.{◌≡◌, List, [], ◌∷◌, true, false, refl}
 use Rattle.std.specs.Prelude.{codes, pos}
 use Rattle.std.specs.Fmt.{digits}
 use Rattle.rules.specs.Papers.{Paper, Pt, points}
 use Rattle.rules.specs.Specification.{Item, Left}
-use Rattle.made_sheets.specs.Made.{MadeSheet, Blank, Placed}
+use Rattle.made_sheets.specs.Made.{MadeSheet, MadeSlot, Blank, Placed}
+use Rattle.layouts.specs.Cells.{Grid}
+use Rattle.layouts.specs.Grids.{beside, plain_order}
+use Rattle.layouts.specs.declared.arrangement.Run.TheVariants.{Rows, Columns}
+use Rattle.layouts.specs.declared.arrangement.Turned.TheVariants as sideways
+use Rattle.preview.specs.declared.naming.Edge.TheVariants.{Short}
 use Rattle.preview.specs.declared.naming.Sides.TheVariants.{One, Both}
-use Rattle.preview.specs.Listing.{plan_text}
+use Rattle.preview.specs.declared.reading.Places.TheVariants.{Cells, Tiles}
+use Rattle.preview.specs.declared.reading.Reading.{Reading}
+use Rattle.preview.specs.Listing.{cells_text, plan_text, tile_name}
 use Rattle.preview.specs.Drawing.{slot_picture, square_at}
 
 abbrev a4 : Paper
@@ -29,15 +36,54 @@ side = record { paper = a4; slots = Placed 7 lower a4 ∷ Blank ∷ [] }
 abbrev small : MadeSheet
 small = record { paper = points 10 20; slots = Placed 0 lower a4 ∷ [] }
 
--- the third sheet is a front without a back
-listed : plan_text Both 40 (side ∷ small ∷ side ∷ []) ≡ codes "leaf 1  front  8 | blank    back  1\nleaf 2  front  8 | blank\nsheets 3, leaves 2, blanks 2\npages of 595 x 842 pt on sheets of 595 x 842 pt, scale 0.706650831\npages of 595 x 842 pt on sheets of 10 x 20 pt, scale 0.706650831\n"
+-- two pages side by side, on leaves and on sheets that are printed on one side
+abbrev leaves : Reading
+leaves = record { sides = Both Short; places = Cells (beside true) plain_order }
+
+abbrev sheets : Reading
+sheets = record { sides = One; places = Cells (beside true) plain_order }
+
+-- the third sheet is a front without a back; the second has one page, and no other place
+listed : plan_text leaves 40 (side ∷ small ∷ side ∷ []) ≡ codes "leaf 1  front  8 | blank    back  1 | -\nleaf 2  front  8 | blank\nsheets 3, leaves 2, blanks 2\nprint on both sides, flip on the short edge\npages of 595 x 842 pt on sheets of 595 x 842 pt, scale 0.706650831\npages of 595 x 842 pt on sheets of 10 x 20 pt, scale 0.706650831\n"
 unfolding digits
 listed = refl
 
 -- of three at most, two at the start and one at the end
-shortened : plan_text One 3 (side ∷ small ∷ small ∷ small ∷ side ∷ []) ≡ codes "sheet 1  8 | blank\nsheet 2  1\n.. 2 more ..\nsheet 5  8 | blank\nsheets 5, blanks 2\npages of 595 x 842 pt on sheets of 595 x 842 pt, scale 0.706650831\npages of 595 x 842 pt on sheets of 10 x 20 pt, scale 0.706650831\n"
+shortened : plan_text sheets 3 (side ∷ small ∷ small ∷ small ∷ side ∷ []) ≡ codes "sheet 1  8 | blank\nsheet 2  1 | -\n.. 2 more ..\nsheet 5  8 | blank\nsheets 5, blanks 2\npages of 595 x 842 pt on sheets of 595 x 842 pt, scale 0.706650831\npages of 595 x 842 pt on sheets of 10 x 20 pt, scale 0.706650831\n"
 unfolding digits
 shortened = refl
+
+-- ---- five places in the six cells of three columns and two rows
+
+abbrev six : Grid
+six = record { rows = 2; columns = 3; turned = false }
+
+abbrev five : List MadeSlot
+five = Placed 0 lower a4 ∷ Placed 1 lower a4 ∷ Placed 2 lower a4 ∷ Placed 3 lower a4 ∷ Placed 4 lower a4 ∷ []
+
+in_rows : cells_text five plain_order six ≡ codes "1 | 2 | 3 / 4 | 5 | -"
+unfolding digits
+in_rows = refl
+
+from_the_right : cells_text five (record { run = Rows; right_to_left = true; turned = sideways.Upright }) six ≡ codes "3 | 2 | 1 / - | 5 | 4"
+unfolding digits
+from_the_right = refl
+
+in_columns : cells_text five (record { run = Columns; right_to_left = false; turned = sideways.Upright }) six ≡ codes "1 | 3 | 5 / 2 | 4 | -"
+unfolding digits
+in_columns = refl
+
+-- read when it is turned to the left, the sheet has two columns and three rows
+on_its_side : cells_text five (record { run = Rows; right_to_left = false; turned = sideways.Left }) six ≡ codes "5 | 3 | 1 / - | 4 | 2"
+unfolding digits
+on_its_side = refl
+
+-- the eleventh sheet is the fifth tile of the second page
+fifth : tile_name six 10 ≡ codes ", column 2, row 2"
+unfolding digits
+fifth = refl
+
+-- ---- pictures
 
 drawn : slot_picture (Placed 7 lower a4) ≡ codes "<g transform='matrix(0 0.706650831 -0.706650831 0 595 0.27137)'><rect class='page' width='595' height='842'/><g transform='matrix(1 0 0 -1 0 842)'><svg width='595' height='842' viewBox='0 0 100 100' preserveAspectRatio='xMidYMin'><path d='M50 3 57 15H43Z'/><text x='50' y='62'>8</text></svg></g></g>\n"
 unfolding digits

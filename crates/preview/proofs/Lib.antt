@@ -1,4 +1,5 @@
 pub mod Chains
 pub mod Numbered
 pub mod Cuts
+pub mod InOrder
 pub mod Examples

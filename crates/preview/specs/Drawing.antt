@@ -52,11 +52,15 @@ slot_picture (Placed p item paper) = line (under (matrix_of paper item) ++ page_
 abbrev pub square_at : (s : ℕ) → List ℕ
 square_at s = codes "<g transform='translate(" ++ decimal (20 + s % 4 * 220) ++ codes " " ++ decimal (20 + s / 4 * 260) ++ codes ")'>"
 
--- a sheet without its pages, as large as its square allows
+-- a part of a picture that shows nothing beyond such a paper
+abbrev pub clipped : Paper → List ℕ
+clipped paper = codes "<svg" ++ as_large paper ++ codes ">"
+
+-- a sheet without its pages, as large as its square allows; what goes over its edges isn't drawn
 abbrev pub viewed : Paper → List ℕ
 viewed paper =
     line (codes "<svg width='200' height='200' viewBox='0 0 " ++ points_text paper.width ++ codes " "
-    ++ points_text paper.height ++ codes "'>" ++ outline (codes "sheet") paper ++ flipped paper)
+    ++ points_text paper.height ++ codes "'>" ++ outline (codes "sheet") paper ++ clipped paper ++ flipped paper)
 
 -- its name and its paper below, and the end of the square
 abbrev pub caption : Sides → (s : ℕ) → Paper → List ℕ
@@ -66,17 +70,21 @@ caption sides s paper =
 
 abbrev pub sheet_picture : Sides → List Guide → (s : ℕ) → MadeSheet → List ℕ
 sheet_picture sides guides s sheet =
-    square_at s ++ viewed sheet.paper ++ flat_map slot_picture sheet.slots ++ guides_picture guides ++ codes "</g></svg>"
+    square_at s ++ viewed sheet.paper ++ flat_map slot_picture sheet.slots ++ guides_picture guides ++ codes "</g></svg></svg>"
     ++ caption sides s sheet.paper
 
 abbrev pub style : List ℕ
 style = codes "<style>rect,line{vector-effect:non-scaling-stroke}.sheet{fill:white;stroke:black}.page{fill:lightblue;fill-opacity:.4;stroke:navy}.margin{stroke:gray;stroke-dasharray:2}.fold{stroke:red;stroke-dasharray:6}.cut{stroke:red}.note{stroke:gray}path{fill:navy}text{font:30px sans-serif;text-anchor:middle}.name{font-size:13px}</style>"
 
+-- on it all else is drawn
+abbrev pub ground : List ℕ
+ground = codes "<rect width='100%' height='100%' fill='white'/>"
+
 -- the beginning of a picture with so many sheets
 abbrev pub opening : (sheets : ℕ) → List ℕ
 opening n =
     line (codes "<svg xmlns='http://www.w3.org/2000/svg' viewBox='0 0 900 " ++ decimal (40 + (n + 3) / 4 * 260) ++ codes "'>")
-    ++ line style
+    ++ line style ++ line ground
 
 -- how many sheets aren't drawn, below those that are
 abbrev pub left_out : (sheets more : ℕ) → List ℕ

@@ -1,6 +1,7 @@
--- Read in this order: how sheets are numbered and named; in which ways pages stand on them; the text of a plan; lines on
--- sheets; the picture of a plan.
+-- Read in this order: how sheets are numbered and named; which place stands where on them; in which ways pages stand on
+-- them; the text of a plan; lines on sheets; the picture of a plan.
 pub mod Naming
+pub mod Reading
 pub mod Ways
 pub mod Listing
 pub mod Guides

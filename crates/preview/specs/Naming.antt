@@ -1,5 +1,5 @@
 -- How sheets are numbered and named. All here is this project's own rules.
-use Rattle.std.specs.Prelude.{ℕ, suc, ◌+◌, ◌/◌, ◌%◌, ◌==◌, if◌then◌else◌, List, [], ◌∷◌, ◌++◌, codes, decimal}
+use Rattle.std.specs.Prelude.{ℕ, zero, suc, ◌+◌, ◌/◌, ◌%◌, ◌==◌, if◌then◌else◌, List, [], ◌∷◌, ◌++◌, codes, decimal}
 use Rattle.rules.specs.Numbers.{points_text}
 use Rattle.rules.specs.Papers.{Paper}
 use Rattle.preview.specs.declared.naming.Sides.{Sides}
@@ -10,6 +10,11 @@ abbrev pub numbered : {X : Type 0} → (ℕ → X → List ℕ) → (k : ℕ) �
 numbered text k [] = []
 numbered text k (x ∷ xs) = text k x ++ numbered text (suc k) xs
 
+-- the texts of so many numbers, from this one on
+abbrev pub each : (text : ℕ → List ℕ) → (first count : ℕ) → List ℕ
+each text first zero = []
+each text first (suc n) = text first ++ each text (suc first) n
+
 -- which face of its leaf sheet s is
 abbrev pub face : (s : ℕ) → List ℕ
 face s = if s % 2 == 0 then codes " front" else codes " back"
@@ -17,7 +22,7 @@ face s = if s % 2 == 0 then codes " front" else codes " back"
 -- sheet s, counted from 0: printed alone, or as the front or the back of a leaf
 abbrev pub side_name : Sides → (s : ℕ) → List ℕ
 side_name One s = codes "sheet " ++ decimal (s + 1)
-side_name Both s = codes "leaf " ++ decimal (s / 2 + 1) ++ face s
+side_name (Both flip) s = codes "leaf " ++ decimal (s / 2 + 1) ++ face s
 
 -- the sides of a paper
 abbrev pub size_text : Paper → List ℕ

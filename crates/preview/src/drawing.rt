@@ -5,7 +5,7 @@ ghost use Rattle.pagespec.specs.Items.{item_of};
 ghost use Rattle.placement.specs.Matrices.{numbers_of};
 ghost use Rattle.sheet_plan.specs.OfSheets.{placed_of, slots_at};
 ghost use Rattle.preview.specs.Naming.{numbered};
-ghost use Rattle.preview.specs.Drawing.{as_large, caption, drawn, first_drawn, flipped, head, left_out, opening, outline};
+ghost use Rattle.preview.specs.Drawing.{as_large, caption, clipped, drawn, first_drawn, flipped, ground, head, left_out, opening, outline};
 ghost use Rattle.preview.specs.Drawing.{page_picture, preview_text as text_of_preview, sheet_picture, slot_picture};
 ghost use Rattle.preview.specs.Drawing.{square_at, style, under, viewed};
 
@@ -90,11 +90,15 @@ fn append_opening(count: u32, out: &mut Vec<u8>) -> Result<(), AllocError>
     out.extend_from_slice(b"'>")?;
     out.extend_from_slice(b"\n")?;
     out.extend_from_slice(STYLE)?;
+    out.extend_from_slice(GROUND)?;
     Ok(())
 }
 
 const STYLE: &[u8] =
     b"<style>rect,line{vector-effect:non-scaling-stroke}.sheet{fill:white;stroke:black}.page{fill:lightblue;fill-opacity:.4;stroke:navy}.margin{stroke:gray;stroke-dasharray:2}.fold{stroke:red;stroke-dasharray:6}.cut{stroke:red}.note{stroke:gray}path{fill:navy}text{font:30px sans-serif;text-anchor:middle}.name{font-size:13px}</style>\n";
+
+/// On it all else is drawn.
+const GROUND: &[u8] = b"<rect width='100%' height='100%' fill='white'/>\n";
 
 /// How many sheets aren't drawn, below those that are.
 fn append_left_out(count: u32, more: u32, out: &mut Vec<u8>) -> Result<(), AllocError>
@@ -143,7 +147,7 @@ fn append_sheet(
     append_view(paper, out)?;
     append_slots(sheets, sheet, out)?;
     append_guides(guides, out)?;
-    out.extend_from_slice(b"</g></svg>")?;
+    out.extend_from_slice(b"</g></svg></svg>")?;
     append_caption(sides, sheet, paper, out)?;
     Ok(())
 }
@@ -170,6 +174,7 @@ fn append_view(paper: &Paper, out: &mut Vec<u8>) -> Result<(), AllocError>
     print_points(paper.height(), out)?;
     out.extend_from_slice(b"'>")?;
     append_outline(b"sheet", paper, out)?;
+    append_clip(paper, out)?;
     append_flip(paper, out)?;
     out.extend_from_slice(b"\n")?;
     Ok(())
@@ -274,6 +279,16 @@ fn append_as_large(paper: &Paper, out: &mut Vec<u8>) -> Result<(), AllocError>
     out.extend_from_slice(b"' height='")?;
     print_points(paper.height(), out)?;
     out.extend_from_slice(b"'")?;
+    Ok(())
+}
+
+/// A part of a picture that shows nothing beyond such a paper.
+fn append_clip(paper: &Paper, out: &mut Vec<u8>) -> Result<(), AllocError>
+    ensures { OnOk result (out.new.items ≡ out.old.items ++ clipped paper.now) }
+{
+    out.extend_from_slice(b"<svg")?;
+    append_as_large(paper, out)?;
+    out.extend_from_slice(b">")?;
     Ok(())
 }
 

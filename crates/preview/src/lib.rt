@@ -3,11 +3,14 @@
 
 mod drawing;
 mod guides;
+pub mod laws;
 mod listing;
 mod naming;
+mod reading;
 mod ways;
 
 pub use drawing::preview_text;
 pub use guides::{Guide, GuideKind};
 pub use listing::plan_text;
-pub use naming::Sides;
+pub use naming::{Edge, Sides};
+pub use reading::{Places, Reading};

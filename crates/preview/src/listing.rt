@@ -1,34 +1,36 @@
 //! The text of a plan.
-ghost use Rattle.std.specs.Prelude.{◌≡◌, ◌+◌, ◌*◌, ◌<◌, ◌≤◌, ◌-◌, ◌++◌, length, OnOk, IfOk};
+ghost use Rattle.std.specs.Prelude.{◌≡◌, ◌+◌, ◌*◌, ◌/◌, ◌%◌, ◌<◌, ◌≤◌, ◌-◌, ◌++◌, length, OnOk, IfOk};
 ghost use Rattle.sheet_plan.specs.OfSheets.{placed_of, slots_at};
-ghost use Rattle.preview.specs.Naming.{numbered};
-ghost use Rattle.preview.specs.Listing.{back, bar as bar_text, blank_in, blanks_of, blanks_on, leaves_text, left_out_line};
-ghost use Rattle.preview.specs.Listing.{place_text, places, plan_text as text_of_plan, row_count as row_count_of, row_text};
-ghost use Rattle.preview.specs.Listing.{rows_text, shortened, slot_text, totals};
-ghost use Rattle.preview.specs.declared.naming.Sides.TheVariants.{One, Both};
+ghost use Rattle.preview.specs.Listing.{back, blank_in, blanks_of, blanks_on, edge_line, edge_name as name_of_edge, flip_text};
+ghost use Rattle.preview.specs.Listing.{leaf_line, leaves_text, left_out_line, plan_text as text_of_plan};
+ghost use Rattle.preview.specs.Listing.{row_count as row_count_of, row_text, rows_text, sheet_line, shortened, totals};
+ghost use Rattle.preview.specs.Listing.{places_text};
 
-use crate::naming::{Sides, append_number, count_of};
+use crate::naming::{Edge, Sides, append_number, count_of};
+use crate::reading::{Places, Reading, append_places};
 use crate::ways::append_ways;
 use sheet_plan::{MadeSheets, PlacedSlot};
 use std::alloc::{AllocError, Global};
 
 /// The text of a plan of these sheets: for each sheet, or for each leaf if they are printed on both sides, a line with the
-/// pages in its places, counted from 1; behind them a line that says how many sheets, leaves and blank places there are;
-/// and one for each way in which pages stand on sheets, with their papers and the scale. Of more sheets or leaves than
-/// `most` the first half of that many and the last are listed, and between them a line says how many are left out. Of more
-/// than 16 ways a last line stands for the others.
+/// pages in its places, counted from 1, row by row as one holds the sheet for them to be upright; behind them a line that says how many sheets,
+/// leaves and blank places there are; one that names the edge on which leaves are flipped; and one for each way in which
+/// pages stand on sheets, with their papers and the scale. Of more sheets or leaves than `most` the first half of that many
+/// and the last are listed, and between them a line says how many are left out. Of more than 16 ways a last line stands for
+/// the others.
 pub fn plan_text(
     alloc: Global,
     sheets: &MadeSheets,
-    sides: Sides,
+    reading: &Reading,
     most: u32,
 ) -> Result<Vec<u8>, AllocError>
-    ensures { IfOk result (λ text. text.items ≡ text_of_plan sides most sheets.now) }
+    ensures { IfOk result (λ text. text.items ≡ text_of_plan reading.now most sheets.now) }
 {
     let count = count_of(sheets)?;
     let mut text = Vec::new(alloc);
-    append_shortened(sheets, sides, count, most, &mut text)?;
-    append_totals(sheets, sides, count, &mut text)?;
+    append_shortened(sheets, reading, count, most, &mut text)?;
+    append_totals(sheets, reading.sides, count, &mut text)?;
+    append_flip(reading.sides, &mut text)?;
     append_ways(alloc, sheets, count, &mut text)?;
     Ok(text)
 }
@@ -39,38 +41,38 @@ fn row_count(sides: Sides, sheets: u32) -> u32
 {
     match sides {
         Sides::One => sheets,
-        Sides::Both => sheets / 2 + sheets % 2,
+        Sides::Both { .. } => sheets / 2 + sheets % 2,
     }
 }
 
 /// The lines of all sheets, of which there are so many; or of the first and the last ones.
 fn append_shortened(
     sheets: &MadeSheets,
-    sides: Sides,
+    reading: &Reading,
     count: u32,
     most: u32,
     out: &mut Vec<u8>,
 ) -> Result<(), AllocError>
     requires { count ≡ length sheets.now }
     ensures { OnOk result (out.new.items
-        ≡ out.old.items ++ shortened sides most (row_count_of sides count) sheets.now) }
+        ≡ out.old.items ++ shortened reading.now most (row_count_of reading.now.sides count) sheets.now) }
 {
-    let rows = row_count(sides, count);
+    let rows = row_count(reading.sides, count);
     if rows <= most {
-        append_rows(sheets, sides, count, 0, rows, out)?;
+        append_rows(sheets, reading, count, 0, rows, out)?;
         return Ok(());
     }
     let last = most / 2;
-    append_rows(sheets, sides, count, 0, most - last, out)?;
+    append_rows(sheets, reading, count, 0, most - last, out)?;
     append_left_out(rows - most, out)?;
-    append_rows(sheets, sides, count, rows - last, rows, out)?;
+    append_rows(sheets, reading, count, rows - last, rows, out)?;
     Ok(())
 }
 
 /// The lines from one up to another.
 fn append_rows(
     sheets: &MadeSheets,
-    sides: Sides,
+    reading: &Reading,
     count: u32,
     first: u32,
     end: u32,
@@ -78,11 +80,11 @@ fn append_rows(
 ) -> Result<(), AllocError>
     requires count { count ≡ length sheets.now }
     requires from { first ≤ end }
-    requires to { end ≤ row_count_of sides count }
-    ensures { OnOk result (out.new.items ≡ out.old.items ++ rows_text sides sheets.now first (end - first)) }
+    requires to { end ≤ row_count_of reading.now.sides count }
+    ensures { OnOk result (out.new.items ≡ out.old.items ++ rows_text reading.now sheets.now first (end - first)) }
 {
     for row in first..end {
-        append_row(sheets, sides, count, row, out)?;
+        append_row(sheets, reading, count, row, out)?;
     }
     Ok(())
 }
@@ -90,30 +92,36 @@ fn append_rows(
 /// The line of a sheet or of a leaf.
 fn append_row(
     sheets: &MadeSheets,
-    sides: Sides,
+    reading: &Reading,
     count: u32,
     row: u32,
     out: &mut Vec<u8>,
 ) -> Result<(), AllocError>
     requires count { count ≡ length sheets.now }
-    requires row { row < row_count_of sides count }
-    ensures { OnOk result (out.new.items ≡ out.old.items ++ row_text sides sheets.now row) }
+    requires row { row < row_count_of reading.now.sides count }
+    ensures { OnOk result (out.new.items ≡ out.old.items ++ row_text reading.now sheets.now row) }
 {
-    match sides {
-        Sides::One => append_sheet(sheets, row, out),
-        Sides::Both => append_leaf(sheets, count, row, out),
+    let places = &reading.places;
+    match reading.sides {
+        Sides::One => append_sheet(sheets, places, row, out),
+        Sides::Both { .. } => append_leaf(sheets, places, count, row, out),
     }
 }
 
 /// The line of a sheet.
-fn append_sheet(sheets: &MadeSheets, sheet: u32, out: &mut Vec<u8>) -> Result<(), AllocError>
+fn append_sheet(
+    sheets: &MadeSheets,
+    places: &Places,
+    sheet: u32,
+    out: &mut Vec<u8>,
+) -> Result<(), AllocError>
     requires { sheet < length sheets.now }
-    ensures { OnOk result (out.new.items ≡ out.old.items ++ row_text One sheets.now sheet) }
+    ensures { OnOk result (out.new.items ≡ out.old.items ++ sheet_line places.now sheets.now sheet) }
 {
     out.extend_from_slice(b"sheet ")?;
     append_number(u64::from(sheet) + 1, out)?;
     out.extend_from_slice(b"  ")?;
-    append_places(sheets, sheet, out)?;
+    append_places(sheets, places, sheet, out)?;
     out.extend_from_slice(b"\n")?;
     Ok(())
 }
@@ -121,19 +129,20 @@ fn append_sheet(sheets: &MadeSheets, sheet: u32, out: &mut Vec<u8>) -> Result<()
 /// The line of a leaf.
 fn append_leaf(
     sheets: &MadeSheets,
+    places: &Places,
     count: u32,
     leaf: u32,
     out: &mut Vec<u8>,
 ) -> Result<(), AllocError>
     requires count { count ≡ length sheets.now }
-    requires leaf { leaf < row_count_of Both count }
-    ensures { OnOk result (out.new.items ≡ out.old.items ++ row_text Both sheets.now leaf) }
+    requires leaf { leaf < count / 2 + count % 2 }
+    ensures { OnOk result (out.new.items ≡ out.old.items ++ leaf_line places.now sheets.now leaf) }
 {
     out.extend_from_slice(b"leaf ")?;
     append_number(u64::from(leaf) + 1, out)?;
     out.extend_from_slice(b"  front  ")?;
-    append_places(sheets, 2 * leaf, out)?;
-    append_back(sheets, count, 2 * leaf + 1, out)?;
+    append_places(sheets, places, 2 * leaf, out)?;
+    append_back(sheets, places, count, 2 * leaf + 1, out)?;
     out.extend_from_slice(b"\n")?;
     Ok(())
 }
@@ -141,60 +150,19 @@ fn append_leaf(
 /// The back of a leaf, if there is such a sheet.
 fn append_back(
     sheets: &MadeSheets,
+    places: &Places,
     count: u32,
     sheet: u32,
     out: &mut Vec<u8>,
 ) -> Result<(), AllocError>
     requires { count ≡ length sheets.now }
-    ensures { OnOk result (out.new.items ≡ out.old.items ++ back sheets.now sheet) }
+    ensures { OnOk result (out.new.items ≡ out.old.items ++ back places.now sheets.now sheet) }
 {
     if count <= sheet {
         return Ok(());
     }
     out.extend_from_slice(b"    back  ")?;
-    append_places(sheets, sheet, out)?;
-    Ok(())
-}
-
-/// The places of a sheet.
-fn append_places(sheets: &MadeSheets, sheet: u32, out: &mut Vec<u8>) -> Result<(), AllocError>
-    requires { sheet < length sheets.now }
-    ensures { OnOk result (out.new.items ≡ out.old.items ++ places sheets.now sheet) }
-{
-    for slot in 0..sheets.slots(sheet) {
-        append_slot(slot, sheets.placed(sheet, slot), out)?;
-    }
-    Ok(())
-}
-
-/// A place, with a bar before it if it isn't the first.
-fn append_slot(
-    slot: u32,
-    placed: Option<PlacedSlot<'_>>,
-    out: &mut Vec<u8>,
-) -> Result<(), AllocError>
-    ensures { OnOk result (out.new.items ≡ out.old.items ++ slot_text slot (placed_of placed.entry)) }
-{
-    out.extend_from_slice(bar(slot))?;
-    append_place(placed, out)?;
-    Ok(())
-}
-
-/// What stands before a place.
-fn bar(slot: u32) -> &'static [u8]
-    ensures { result.now ≡ bar_text slot }
-{
-    if slot == 0 { b"" } else { b" | " }
-}
-
-/// What stands in a place.
-fn append_place(placed: Option<PlacedSlot<'_>>, out: &mut Vec<u8>) -> Result<(), AllocError>
-    ensures { OnOk result (out.new.items ≡ out.old.items ++ place_text (placed_of placed.entry)) }
-{
-    match placed {
-        None => out.extend_from_slice(b"blank")?,
-        Some(placed) => append_number(u64::from(placed.page) + 1, out)?,
-    }
+    append_places(sheets, places, sheet, out)?;
     Ok(())
 }
 
@@ -233,12 +201,42 @@ fn append_leaves(sides: Sides, sheets: u32, out: &mut Vec<u8>) -> Result<(), All
 {
     match sides {
         Sides::One => {}
-        Sides::Both => {
+        Sides::Both { .. } => {
             out.extend_from_slice(b", leaves ")?;
             append_number(u64::from(row_count(sides, sheets)), out)?;
         }
     }
     Ok(())
+}
+
+/// On which edge leaves are flipped.
+fn append_flip(sides: Sides, out: &mut Vec<u8>) -> Result<(), AllocError>
+    ensures { OnOk result (out.new.items ≡ out.old.items ++ flip_text sides) }
+{
+    match sides {
+        Sides::One => Ok(()),
+        Sides::Both { flip } => append_edge(flip, out),
+    }
+}
+
+/// That it is this edge.
+fn append_edge(flip: Edge, out: &mut Vec<u8>) -> Result<(), AllocError>
+    ensures { OnOk result (out.new.items ≡ out.old.items ++ edge_line flip) }
+{
+    out.extend_from_slice(b"print on both sides, flip on the ")?;
+    out.extend_from_slice(edge_name(flip))?;
+    out.extend_from_slice(b" edge")?;
+    out.extend_from_slice(b"\n")?;
+    Ok(())
+}
+
+fn edge_name(edge: Edge) -> &'static [u8]
+    ensures { result.now ≡ name_of_edge edge }
+{
+    match edge {
+        Edge::Short => b"short",
+        Edge::Long => b"long",
+    }
 }
 
 /// How many places of these sheets are blank, of which there are so many.

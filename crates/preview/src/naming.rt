@@ -7,12 +7,19 @@ use lengths::{Paper, print_points};
 use sheet_plan::MadeSheets;
 use std::alloc::AllocError;
 
+/// An edge of a sheet.
+#[derive(Clone, Copy, Debug, PartialEq, Eq)]
+pub enum Edge {
+    Short,
+    Long,
+}
+
 /// How sheets are printed: on one side of the paper; or on both sides, each two sheets as the front and the back of a
-/// leaf.
+/// leaf, by a printer that flips it on this edge.
 #[derive(Clone, Copy, Debug, PartialEq, Eq)]
 pub enum Sides {
     One,
-    Both,
+    Both { flip: Edge },
 }
 
 /// How many sheets there are. More than a `u32` can count are told as out of memory, as are their lines.
@@ -34,7 +41,7 @@ pub(crate) fn append_name(sides: Sides, sheet: u32, out: &mut Vec<u8>) -> Result
             out.extend_from_slice(b"sheet ")?;
             append_number(u64::from(sheet) + 1, out)?;
         }
-        Sides::Both => {
+        Sides::Both { .. } => {
             out.extend_from_slice(b"leaf ")?;
             append_number(u64::from(sheet / 2) + 1, out)?;
             out.extend_from_slice(face_of(sheet))?;

@@ -2,5 +2,10 @@ pub mod BySpec
 pub mod Examples
 pub mod Lines
 mod Alone
+mod Counted
 mod OneScale
+mod Refused
 mod Written
+mod Fit
+mod ReadInOrder
+mod Specified

@@ -1,12 +1,17 @@
--- Read in this order: what errors are called; layings with one scale; the sheets that are asked for, how their pages stand,
--- and their marks; what the answers mean, also those of a run by a specification; lines on sheets; what is told of sheets
--- before they are imposed.
+-- Read in this order: what errors are called; layings with one scale; limits; the sheets that are asked for, how their pages
+-- are placed, read and specified, and their marks; what the answers mean, also those of a run by a specification; lines on
+-- sheets; how sheets are read; what is told of them before they are imposed.
 pub mod Errors
 pub mod Evened
+pub mod Limits
 pub mod Sheets
 pub mod Standing
+pub mod InPlaces
+pub mod ReadAsBound
+pub mod Specified
 pub mod Marked
 pub mod Runs
 pub mod BySpec
 pub mod Guides
+pub mod Readings
 pub mod Looks

@@ -3,32 +3,20 @@ use Rattle.std.specs.Prelude.{◌≡◌, ℕ, List}
 use Rattle.made_sheets.specs.Made.{MadeSheet}
 use Rattle.preview.specs.Listing.{plan_text}
 use Rattle.preview.specs.Drawing.{preview_text}
-use Rattle.preview.specs.declared.naming.Sides.{Sides}
-use Rattle.preview.specs.declared.naming.Sides.TheVariants as sides
 use Rattle.sheet_plan.specs.declared.error.MadeError.{MadeError}
 use Rattle.sheet_plan.specs.declared.error.MadeError.TheVariants as plan
 use Rattle.row_runs.specs.Guides.{guides_with}
+use Rattle.row_runs.specs.Readings.{reading_in, sides_in}
 use Rattle.row_runs.specs.Runs.{ArePlanned, RefusesRun}
-use Rattle.row_runs.specs.declared.asked.Laying.{Laying}
-use Rattle.row_runs.specs.declared.asked.Laying.TheVariants as laying
 use Rattle.row_runs.specs.declared.run.RowJob.{RowJob}
 use Rattle.row_runs.specs.declared.error.AskedError.{AskedError}
 use Rattle.row_runs.specs.declared.error.AskedError.TheVariants as error
 
--- leaves are printed on both sides, also those of a booklet
-abbrev pub sides_in : Laying → Sides
-sides_in (laying.AsTheyAre blank) = sides.One
-sides_in (laying.Grid setting cells) = sides.One
-sides_in (laying.Cards setting cells) = sides.One
-sides_in (laying.Stack setting cells) = sides.One
-sides_in (laying.Poster poster) = sides.One
-sides_in leaves = sides.Both
-
--- the text of the plan of the sheets that a run would impose
+-- the text of the plan of the sheets that a run would impose, as they are read
 pub record TellsPlan (j : RowJob) (most : ℕ) (text : List ℕ) : Type 0 where
   pub made : List MadeSheet
   pub planned : ArePlanned j made
-  pub told : text ≡ plan_text (sides_in j.asked.laying) most made
+  pub told : text ≡ plan_text (reading_in j.asked.laying) most made
 
 -- the picture of these sheets, with the lines of their laying and those for notes on each
 pub record TellsPicture (j : RowJob) (most : ℕ) (text : List ℕ) : Type 0 where

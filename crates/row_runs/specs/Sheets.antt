@@ -1,6 +1,8 @@
 -- The sheets that are asked for.
 use Rattle.std.specs.Prelude.{◌≡◌, ◌⊎◌, true, ⊤, ℕ, ◌*◌, ◌/◌, ◌<◌, ◌≤◌, List, length, IsOk, IfSome, Option, Some, None, Ok, Result, option_map}
 use Rattle.rules.specs.Papers.{Paper}
+use Rattle.rules.specs.Run.{most_pages}
+use Rattle.rules.specs.Signatures.{entry_of}
 use Rattle.made_sheets.specs.Made.{MadeSheet}
 use Rattle.made_sheets.specs.Rows.{Row}
 use Rattle.made_sheets.specs.Choice.{RowFault, Signing, chosen, sides_for, signed}
@@ -14,7 +16,10 @@ use Rattle.row_sheets.specs.RowSheets.{selected}
 use Rattle.arranged_sheets.specs.Filled.{card_sheets, duplex_sheets, grid_sheets, stack_sheets}
 use Rattle.arranged_sheets.specs.Creep.{AreHalves, IsRefusedCreeping, creeping_sheets}
 use Rattle.arranged_sheets.specs.Shapes.{IsRefusedFor, filling}
-use Rattle.arranged_sheets.specs.Posters.{IsNoPosterFor, most_tiles, row_tiles}
+use Rattle.arranged_sheets.specs.Posters.{AllMayBePosters, IsNoPosterFor, most_tiles, row_tiles}
+use Rattle.arranged_sheets.specs.Standing.{AllFit, AllFitOnLeaves}
+use Rattle.sheet_plan.specs.MadeRefusals.{RefusesMade}
+use Rattle.sheet_plan.specs.declared.error.MadeError.{MadeError}
 use Rattle.arranged_sheets.specs.declared.poster.PosterError.{PosterError}
 use Rattle.row_runs.specs.Evened.{WhyNotEven, evened_if}
 use Rattle.row_runs.specs.declared.asked.Asked.{Asked}
@@ -78,13 +83,34 @@ abbrev pub WhyNoPosters : Laying → List Paper → Row → PosterError → Type
 WhyNoPosters (laying.Poster poster) papers row e = IsNoPosterFor poster papers row e
 WhyNoPosters other papers row e = ⊥
 
--- a refusal tells why
+-- each page of the row has its place, laid so: for none of them there is such a reason
+abbrev pub FitAsLaid : Laying → (leaves : ℕ) → List Paper → Row → Type 0
+FitAsLaid (laying.AsTheyAre blank) leaves papers row = ⊤
+FitAsLaid (laying.Grid setting cells) leaves papers row = AllFit (filling setting papers) row
+FitAsLaid (laying.Cards setting cells) leaves papers row = AllFit (filling setting papers) row
+FitAsLaid (laying.Stack setting cells) leaves papers row = AllFit (filling setting papers) row
+FitAsLaid (laying.Leaves setting) leaves papers row = AllFit (filling setting papers) row
+FitAsLaid (laying.Booklet setting turned_backs creep) leaves papers row =
+    AllFitOnLeaves (filling setting papers) creep leaves row
+FitAsLaid (laying.Poster poster) leaves papers row = AllMayBePosters poster papers row
+
+-- each page of cards has its place, and each of a poster can be one
+abbrev pub HaveSpace : Laying → List Paper → Row → Type 0
+HaveSpace (laying.Cards setting cells) papers row = AllFit (filling setting papers) row
+HaveSpace (laying.Poster poster) papers row = AllMayBePosters poster papers row
+HaveSpace other papers row = ⊥
+
+-- the sheets that it comes to pass a limit: of so few pages they are no plan, and this is their first fault
+abbrev pub WhyNoPlan : Laying → (leaves : ℕ) → List Paper → Row → MadeError → Type 0
+WhyNoPlan l leaves papers row e = (pages : ℕ) → pages ≤ most_pages → RefusesMade pages (sheets_laid l leaves papers row) e
+
+-- a refusal tells why; a limit that is passed, only if all pages have their places
 abbrev pub RefusesLaying : Laying → (leaves : ℕ) → List Paper → Row → AskedError → Type 0
 RefusesLaying l leaves papers row (error.Arrangement e) = WhyNotLaid l leaves papers row e
 RefusesLaying l leaves papers row (error.Poster e) = WhyNoPosters l papers row e
 RefusesLaying l leaves papers row (error.NoMemory written) = written ≡ 0
 RefusesLaying l leaves papers row (error.Row e) = ⊥
-RefusesLaying l leaves papers row (error.Sheets e) = ⊥
+RefusesLaying l leaves papers row (error.Sheets e) = HaveSpace l papers row × WhyNoPlan l leaves papers row e
 RefusesLaying l leaves papers row (error.Write written) = ⊥
 
 -- ---- what is asked for
@@ -101,11 +127,13 @@ sewn a = option_map signing_of a.signing
 abbrev pub laying_for : Asked → List Paper → Row → Laying
 laying_for a papers row = evened_if a.same_scale a.laying papers (signed (sewn a) row)
 
--- these are the sheets that are asked for: the row that is chosen, in signatures if there are to be some, laid as is asked
+-- these are the sheets that are asked for: the row that is chosen, in signatures if there are to be some, laid as is asked,
+-- and no page of it had to be refused
 pub record AreAsked (pages : ℕ) (papers : List Paper) (a : Asked) (made : List MadeSheet) : Type 0 where
   pub row : Row
   pub is_chosen : row_chosen pages a ≡ Ok row
   pub are_laid : made ≡ sheets_laid (laying_for a papers row) (leaves_in (sewn a) row) papers (signed (sewn a) row)
+  pub fits : FitAsLaid (laying_for a papers row) (leaves_in (sewn a) row) papers (signed (sewn a) row)
 
 -- a refusal tells the fault of the row, or, if there is one, why it can't be laid
 abbrev pub RefusesAsked : (pages : ℕ) → List Paper → Asked → AskedError → Type 0
@@ -115,6 +143,8 @@ RefusesAsked pages papers a (error.Arrangement e) = (row : Row) × (row_chosen p
     ⊎ WhyNotLaid (laying_for a papers row) (leaves_in (sewn a) row) papers (signed (sewn a) row) e)
 RefusesAsked pages papers a (error.Poster e) = (row : Row) × (row_chosen pages a ≡ Ok row)
     × WhyNoPosters (laying_for a papers row) papers (signed (sewn a) row) e
-RefusesAsked pages papers a (error.Sheets e) = ⊥
+RefusesAsked pages papers a (error.Sheets e) = (row : Row) × (row_chosen pages a ≡ Ok row)
+    × HaveSpace (laying_for a papers row) papers (signed (sewn a) row)
+    × RefusesMade pages (sheets_laid (laying_for a papers row) (leaves_in (sewn a) row) papers (signed (sewn a) row)) e
 RefusesAsked pages papers a (error.NoMemory written) = (written ≡ 0) × IsOk (row_chosen pages a)
 RefusesAsked pages papers a (error.Write written) = ⊥

@@ -1,5 +1,5 @@
 //! The sheets that are asked for.
-ghost use Rattle.std.specs.Prelude.{◌≡◌, ◌<◌, ◌≤◌, All, IfErr, IfOk, IfSome, Ok, length, option_map};
+ghost use Rattle.std.specs.Prelude.{◌≡◌, ◌<◌, ◌≤◌, All, IfErr, IfOk, IfSome, OnOk, Ok, None, Some, length, option_map, ℕ};
 ghost use Rattle.made_sheets.specs.Choice.{most_entries};
 ghost use Rattle.rows.specs.Choices.{choice_of};
 ghost use Rattle.rows.specs.Sewing.{MayBeSewn, signing_of};
@@ -7,22 +7,24 @@ ghost use Rattle.rows.specs.Refusals.{RefusesRow};
 ghost use Rattle.row_sheets.specs.RowSheets.{selected as selected_of};
 ghost use Rattle.layouts.specs.declared.error.ArrangementError.TheVariants as ArrangementError;
 ghost use Rattle.row_runs.specs.Errors.{of_arrangement, of_poster, of_row};
-ghost use Rattle.row_runs.specs.Sheets.{AreAsked, IsWhole, MayBeAsked, MayBeLaid, RefusesAsked, RefusesLaying, WhyNotLaid};
+ghost use Rattle.row_runs.specs.Limits.{AreFewAsLaid, limit_in as limit_of_laying};
+ghost use Rattle.row_runs.specs.Sheets.{AreAsked, FitAsLaid, IsWhole, MayBeAsked, MayBeLaid, RefusesAsked, RefusesLaying, WhyNotLaid};
 ghost use Rattle.row_runs.specs.Sheets.{leaves_in as leaves_of_signature, sheets_laid};
 ghost use Rattle.row_runs.specs.Standing.{StandAsLaid, StandsAlone};
 
 use crate::error::AskedError;
 use crate::evened::evened_if;
+use crate::limits::limit_in;
 use arranged_sheets::{
-    Creep, Poster, PosterError, card_sheets, creeping_booklet_sheets, grid_sheets, leaf_sheets,
-    poster_row_sheets, stack_sheets,
+    Creep, Poster, PosterError, card_sheets, check_cells, check_posters, creeping_booklet_sheets,
+    grid_sheets, leaf_sheets, poster_row_sheets, stack_sheets,
 };
 use layouts::{ArrangementError, Setting};
 use lengths::Paper;
-use row_sheets::{PagePapers, PaperList, select};
+use row_sheets::select;
 use rows::{Choice, RowError, Signing, chosen_row, signed_row};
-use sheet_plan::MadeSheets;
-use std::alloc::{AllocError, Global};
+use sheet_plan::{MadeError, MadeSheets};
+use std::alloc::Global;
 
 /// How a row is laid on sheets.
 #[derive(Clone, Copy, Debug, PartialEq, Eq)]
@@ -76,7 +78,7 @@ pub struct Asked<'t> {
 
 /// The sheets that are asked for of a document with so many pages, whose papers stand in their order. A page whose paper
 /// isn't told has the sheet's. What is wrong with the row is refused first, then a page that can't stand in a cell, or be
-/// a poster.
+/// a poster, then cards and posters that pass a limit of a plan: none of their sheets is made.
 pub fn asked_sheets(
     alloc: Global,
     pages: u32,
@@ -87,6 +89,7 @@ pub fn asked_sheets(
     requires asked { MayBeAsked asked.now }
     ensures made { IfOk result (AreAsked pages papers.now asked.now) }
     ensures stands { IfOk result (StandAsLaid asked.now.laying) }
+    ensures few { IfOk result (AreFewAsLaid asked.now.laying) }
     ensures refused { IfErr result (RefusesAsked pages papers.now asked.now) }
 {
     let row = match chosen_row(alloc, pages, &asked.choice) {
@@ -163,8 +166,13 @@ fn laid(
     requires { MayBeLaid laying.now }
     ensures made { IfOk result (λ made. made ≡ sheets_laid laying.now leaves papers.now row.now) }
     ensures stands { IfOk result (StandAsLaid laying.now) }
+    ensures fits { OnOk result (FitAsLaid laying.now leaves papers.now row.now) }
+    ensures few { OnOk result (limit_of_laying laying.now (length row.now) ≡ None) }
     ensures refused { IfErr result (RefusesLaying laying.now leaves papers.now row.now) }
 {
+    if let Some(limit) = limit_in(laying, row.len()) {
+        return Err(passing(laying, papers, row, limit));
+    }
     match laying {
         Laying::Poster { poster } => match poster_row_sheets(alloc, poster, papers, row) {
             Ok(sheets) => Ok(sheets),
@@ -174,6 +182,25 @@ fn laid(
             Ok(sheets) => Ok(sheets),
             Err(error) => Err(arrangement_error(error)),
         },
+    }
+}
+
+/// Why a row isn't laid whose sheets would pass this limit. A page that has no place is told before it.
+fn passing(laying: &Laying, papers: &[Paper], row: &[Option<u32>], limit: MadeError) -> AskedError
+    requires laid { MayBeLaid laying.now }
+    requires passed { limit_of_laying laying.now (length row.now) ≡ Some limit }
+    ensures { (leaves : ℕ) → RefusesLaying laying.now leaves papers.now row.now result }
+{
+    match laying {
+        Laying::Cards { setting, .. } => match check_cells(setting, papers, row) {
+            Ok(()) => AskedError::Sheets(limit),
+            Err(error) => arrangement_error(error),
+        },
+        Laying::Poster { poster } => match check_posters(poster, papers, row) {
+            Ok(()) => AskedError::Sheets(limit),
+            Err(error) => poster_error(error),
+        },
+        _ => unreachable!(),
     }
 }
 
@@ -189,6 +216,7 @@ fn laid_whole(
     requires whole { IsWhole laying.now }
     ensures made { IfOk result (λ made. made ≡ sheets_laid laying.now leaves papers.now row.now) }
     ensures stands { IfOk result (StandAsLaid laying.now) }
+    ensures fits { OnOk result (FitAsLaid laying.now leaves papers.now row.now) }
     ensures refused { IfErr result (WhyNotLaid laying.now leaves papers.now row.now) }
 {
     match laying {
@@ -223,22 +251,8 @@ fn selected(
     ensures stands { IfOk result (All StandsAlone) }
     ensures refused { IfErr result (λ error. error ≡ ArrangementError.NoMemory) }
 {
-    let Ok(list) = list_of(alloc, papers) else {
-        return Err(ArrangementError::NoMemory);
-    };
-    let Ok(sheets) = select(alloc, row, &PagePapers::each(list), blank) else {
-        return Err(ArrangementError::NoMemory);
-    };
-    Ok(sheets)
-}
-
-/// These papers, each kept once.
-fn list_of(alloc: Global, papers: &[Paper]) -> Result<PaperList, AllocError>
-    ensures { IfOk result (λ list. list ≡ papers.now) }
-{
-    let mut list = PaperList::new(alloc);
-    for paper in papers {
-        list.push(paper)?;
+    match select(alloc, row, papers, blank) {
+        Ok(sheets) => Ok(sheets),
+        Err(_) => Err(ArrangementError::NoMemory),
     }
-    Ok(list)
 }

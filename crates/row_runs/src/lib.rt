@@ -6,8 +6,11 @@ mod by_spec;
 mod error;
 mod evened;
 mod guides;
+pub mod laws;
+mod limits;
 mod look;
 mod marked;
+mod reading;
 mod run;
 
 pub use asked::{Asked, Laying, asked_sheets};

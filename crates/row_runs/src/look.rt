@@ -6,14 +6,16 @@ ghost use Rattle.preview.specs.Drawing.{preview_text as picture_of};
 ghost use Rattle.row_runs.specs.Guides.{guides_with};
 ghost use Rattle.row_runs.specs.Sheets.{MayBeAsked, MayBeLaid};
 ghost use Rattle.row_runs.specs.Runs.{ArePlanned};
-ghost use Rattle.row_runs.specs.Looks.{RefusesLook, TellsPicture, TellsPlan, of_plan, sides_in};
+ghost use Rattle.row_runs.specs.Looks.{RefusesLook, TellsPicture, TellsPlan, of_plan};
+ghost use Rattle.row_runs.specs.Readings.{sides_in};
 
 use crate::asked::{Laying, asked_sheets};
 use crate::error::AskedError;
 use crate::guides::guides_of;
+use crate::reading::{reading_of, sides_of};
 use crate::run::RowJob;
 use marks::Marks;
-use preview::{Sides, plan_text, preview_text};
+use preview::{plan_text, preview_text};
 use sheet_plan::{MadeError, MadeSheets, Plan};
 use std::alloc::{AllocError, Global};
 
@@ -28,7 +30,7 @@ pub fn row_plan(alloc: Global, job: &RowJob<'_, '_>, most: u32) -> Result<Vec<u8
         Ok(sheets) => sheets,
         Err(error) => return Err(error),
     };
-    match plan_text(alloc, &sheets, sides_of(&job.asked.laying), most) {
+    match plan_text(alloc, &sheets, &reading_of(&job.asked.laying), most) {
         Ok(text) => Ok(text),
         Err(_) => Err(AskedError::NoMemory { written: 0 }),
     }
@@ -66,17 +68,6 @@ fn drawn(
     let guides = guides_of(alloc, marks, laying)?;
     let text = preview_text(alloc, sheets, sides_of(laying), guides.as_slice(), most)?;
     Ok(text)
-}
-
-/// Whether sheets are printed on one side, or leaves on both.
-fn sides_of(laying: &Laying) -> Sides
-    ensures { result ≡ sides_in laying.now }
-{
-    match laying {
-        Laying::Leaves { .. } => Sides::Both,
-        Laying::Booklet { .. } => Sides::Both,
-        _ => Sides::One,
-    }
 }
 
 /// The sheets that would be imposed.

@@ -22,8 +22,7 @@ use Rattle.pagespec.specs.Items.{groups_of, item_of}
 use Rattle.sheet_plan.proofs.Access.{few_in_block}
 use Rattle.sheet_plan.proofs.Admitted.{bounded}
 use Rattle.sheet_plan.proofs.Bounds.{blocks_ceil}
-use Rattle.row_sheets.specs.OnePaper.{made_on}
-use Rattle.row_sheets.specs.BySpec.{by_spec}
+use Rattle.row_sheets.specs.BySpec.{made_on, by_spec}
 
 -- one group more
 pub group_more : (sheet_of : List Item → MadeSheet) (groups : List (Vec PageItem Global)) (i : ℕ) (group : Vec PageItem Global) (old now new : List MadeSheet) (sheet : MadeSheet) → i < length groups → group ≡ get_or groups i group

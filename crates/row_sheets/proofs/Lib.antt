@@ -1,5 +1,2 @@
 pub mod BlockByBlock
-pub mod Counted
-pub mod KeptPapers
-pub mod OfOnePaper
-pub mod Others
+pub mod GroupByGroup

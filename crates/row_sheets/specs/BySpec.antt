@@ -3,14 +3,17 @@ use Rattle.std.specs.Prelude.{◌≡◌, ⊤, ℕ, ◌<◌, ◌≤◌, List, len
 use Rattle.rules.specs.Papers.{Paper}
 use Rattle.rules.specs.Run.{most_sheets, most_places}
 use Rattle.rules.specs.Specification.{Item, Spec}
-use Rattle.rules.specs.Sheets.{place}
+use Rattle.rules.specs.Sheets.{Slot, place}
 use Rattle.rules.specs.Signatures.{entry_of, sheets_in}
 use Rattle.made_sheets.specs.Made.{MadeSlot, MadeSheet, made_slot, made_of}
 use Rattle.made_sheets.specs.MadePlans.{slot_count}
 use Rattle.made_sheets.specs.Rows.{Row, all_pages, in_order_of, sheets_of_row}
 use Rattle.sheet_plan.specs.declared.error.MadeError.{MadeError}
 use Rattle.sheet_plan.specs.declared.error.MadeError.TheVariants as error
-use Rattle.row_sheets.specs.OnePaper.{made_on}
+
+-- the sheets of a specification as made ones, on this paper, with pages of that paper
+abbrev pub made_on : (sheet page : Paper) → List (List Slot) → List MadeSheet
+made_on sheet page all = map (λ slots. record { paper = sheet; slots = map (λ slot. made_slot page slot.page slot.item) slots }) all
 
 -- the sheets of a specification, on this paper: the place that an item names in a block is that of an entry of the row, and
 -- all its pages have this paper

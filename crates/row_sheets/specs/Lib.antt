@@ -1,8 +1,3 @@
--- Read in this order: how papers are kept; the papers of pages; sheets of a row; those of one paper; those of a
--- specification.
-pub mod Papers
-pub mod Pages
+-- Read in this order: sheets of a row, and those of a specification.
 pub mod RowSheets
-pub mod Kinds
-pub mod OnePaper
 pub mod BySpec

@@ -3,7 +3,6 @@ ghost use Rattle.std.specs.Prelude.{◌≡◌, ◌++◌, ◌∷◌, [], IfOk, On
 ghost use Rattle.pagespec.specs.Items.{item_of};
 ghost use Rattle.row_sheets.specs.RowSheets.{as_it_is as item_as_it_is, paper_of, selected, selected_sheet};
 
-use crate::papers::PagePapers;
 use lengths::{Number, Paper};
 use pagespec::{Item, Measure, Turn};
 use sheet_plan::{MadeSheets, MadeSlot};
@@ -13,7 +12,7 @@ use std::alloc::{AllocError, Global};
 pub fn select(
     alloc: Global,
     row: &[Option<u32>],
-    papers: &PagePapers,
+    papers: &[Paper],
     blank: &Paper,
 ) -> Result<MadeSheets, AllocError>
     ensures { IfOk result (λ made. made ≡ selected papers.now blank.now row.now) }
@@ -29,7 +28,7 @@ pub fn select(
 fn push_entry(
     made: &mut MadeSheets,
     entry: Option<u32>,
-    papers: &PagePapers,
+    papers: &[Paper],
     blank: &Paper,
 ) -> Result<(), AllocError>
     ensures { OnOk result (made.new ≡ made.old ++ selected_sheet papers.now blank.now entry ∷ []) }
@@ -53,17 +52,18 @@ fn push_entry(
 }
 
 /// The paper of a page, and another one if the page isn't there.
-pub(crate) fn paper_or(papers: &PagePapers, page: u32, other: &Paper) -> Paper
+fn paper_or(papers: &[Paper], page: u32, other: &Paper) -> Paper
     ensures { result ≡ paper_of papers.now other.now page }
 {
-    match papers.paper_of(page) {
-        Some(paper) => *paper,
-        None => *other,
+    if (page as usize) < papers.len() {
+        papers[page as usize]
+    } else {
+        *other
     }
 }
 
 /// The item by which a page stands as it is.
-pub(crate) fn as_it_is() -> Item
+fn as_it_is() -> Item
     ensures { item_of result ≡ item_as_it_is }
 {
     Item {

@@ -3,7 +3,5 @@
 
 mod bits;
 mod set;
-#[cfg(test)]
-mod tests;
 
 pub use set::SheetSet;

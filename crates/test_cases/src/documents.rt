@@ -16,9 +16,9 @@ pub fn document_of(
     };
     let mut bytes = Vec::new(alloc);
     let is_read = match (words.next(), words.next()) {
-        (None, _) => push_lines(&mut bytes, block.body.as_slice(), documents)?,
+        (None, _) => push_lines(&mut bytes, block.body.as_slice(), documents, false)?,
         (Some("escaped"), None) => {
-            push_escaped_lines(&mut bytes, block.body.as_slice(), documents)?
+            push_lines(&mut bytes, block.body.as_slice(), documents, true)?
         }
         (Some("repeated"), Some(times)) => match times.parse::<u32>() {
             Ok(times) => push_repeated(alloc, &mut bytes, block.body.as_slice(), times)?,
@@ -35,26 +35,25 @@ pub fn document_of(
 
 /// The document of that name, by its index: the last one.
 pub fn index_of(documents: &[Document], name: &str) -> Option<usize> {
-    let mut found = None;
-    for (index, document) in documents.iter().enumerate() {
-        if document.name.as_str() == name {
-            found = Some(index);
-        }
-    }
-    found
+    documents
+        .iter()
+        .rposition(|document| document.name.as_str() == name)
 }
 
-/// Adds lines with their ends.
+/// Adds lines with their ends, or with escapes and no ends of their own.
 fn push_lines(
     bytes: &mut Vec<u8>,
     lines: &[&str],
     documents: &[Document],
+    are_escaped: bool,
 ) -> Result<bool, AllocError> {
     for line in lines.iter() {
         if let Some(name) = line.strip_prefix('@') {
             if !push_document(bytes, documents, name)? {
                 return Ok(false);
             }
+        } else if are_escaped {
+            push_unescaped(bytes, line)?;
         } else {
             push_line(bytes, line)?;
         }
@@ -71,24 +70,6 @@ fn push_line(bytes: &mut Vec<u8>, line: &str) -> Result<(), AllocError> {
     bytes.extend_from_slice(line.as_bytes())?;
     bytes.push(b'\n')?;
     Ok(())
-}
-
-/// Adds lines with escapes, without ends.
-fn push_escaped_lines(
-    bytes: &mut Vec<u8>,
-    lines: &[&str],
-    documents: &[Document],
-) -> Result<bool, AllocError> {
-    for line in lines.iter() {
-        if let Some(name) = line.strip_prefix('@') {
-            if !push_document(bytes, documents, name)? {
-                return Ok(false);
-            }
-        } else {
-            push_unescaped(bytes, line)?;
-        }
-    }
-    Ok(true)
 }
 
 /// Adds the document of that name, if it is there.

@@ -7,8 +7,6 @@ mod compared;
 mod documents;
 mod reading;
 mod tally;
-#[cfg(test)]
-mod tests;
 mod words;
 
 pub use case_file::{

@@ -190,9 +190,10 @@ fn push_escaped(alloc: Global, wanted: &mut WantedText, body: &[&str]) -> Result
 }
 
 fn push_line(wanted: &mut WantedText, line: Vec<u8>) -> Result<(), AllocError> {
-    if let Some(part) = wanted.parts.last_mut() {
-        part.push(line)?;
-    }
+    let Some(part) = wanted.parts.last_mut() else {
+        return Ok(());
+    };
+    part.push(line)?;
     Ok(())
 }
 

@@ -8,7 +8,8 @@ pub fn words_of(alloc: Global, command: &str) -> Result<Vec<String>, AllocError>
     let mut words = Words {
         alloc,
         words: Vec::new(alloc),
-        word: None,
+        word: Vec::new(alloc),
+        is_begun: false,
     };
     let mut is_quoted = false;
     for part in command.split('\'') {
@@ -27,26 +28,19 @@ pub fn words_of(alloc: Global, command: &str) -> Result<Vec<String>, AllocError>
 struct Words {
     alloc: Global,
     words: Vec<String>,
-    /// The word that isn't ended yet.
-    word: Option<String>,
+    /// The word that isn't ended yet, if one is begun.
+    word: Vec<u8>,
+    is_begun: bool,
 }
 
 impl Words {
     fn add_quoted(&mut self, part: &str) -> Result<(), AllocError> {
-        let escaped = match &mut self.word {
-            Some(word) if word.as_str().ends_with('$') => {
-                word.pop();
-                true
-            }
-            _ => false,
-        };
-        if escaped {
-            let mut bytes = Vec::new(self.alloc);
-            push_unescaped(&mut bytes, part)?;
-            let text = String::from_utf8_lossy(self.alloc, bytes.as_slice())?;
-            self.add(text.as_str())
+        self.is_begun = true;
+        if self.word.as_slice().ends_with(b"$") {
+            self.word.pop();
+            push_unescaped(&mut self.word, part)
         } else {
-            self.add(part)
+            self.word.extend_from_slice(part.as_bytes())
         }
     }
 
@@ -58,25 +52,19 @@ impl Words {
             }
             is_first = false;
             if !piece.is_empty() {
-                self.add(piece)?;
+                self.is_begun = true;
+                self.word.extend_from_slice(piece.as_bytes())?;
             }
         }
         Ok(())
     }
 
-    fn add(&mut self, piece: &str) -> Result<(), AllocError> {
-        match &mut self.word {
-            Some(word) => word.push_str(piece),
-            None => {
-                self.word = Some(String::from_str(self.alloc, piece)?);
-                Ok(())
-            }
-        }
-    }
-
     fn end_word(&mut self) -> Result<(), AllocError> {
-        if let Some(word) = self.word.take() {
+        if self.is_begun {
+            let word = String::from_utf8_lossy(self.alloc, self.word.as_slice())?;
             self.words.push(word)?;
+            self.word.clear();
+            self.is_begun = false;
         }
         Ok(())
     }

@@ -21,21 +21,28 @@ fn parts(
     let preamble = quoted(alloc, preamble.as_slice())?;
     let mut lines = format!(in alloc; "preamble {preamble}\n")?;
     for number in 0..document.pages() {
-        let page = quoted(alloc, document.page(number))?;
         let body = document.body(alloc, number)?;
-        let body = quoted(alloc, body.as_slice())?;
-        lines.push_str(format!(in alloc; "page {page} body {body}\n")?.as_str())?;
-        let prepared = bodies(alloc, document.page(number))?;
-        if prepared.as_str() != format!(in alloc; "{body}\n")?.as_str() {
-            lines.push_str("but prepared ")?;
-            lines.push_str(prepared.as_str())?;
-        }
+        let page = page_lines(alloc, document.page(number), body.as_slice())?;
+        lines.push_str(page.as_str())?;
     }
     let trailer = document.trailer_text()?;
     let trailer = quoted(alloc, trailer.as_slice())?;
     lines.push_str(format!(in alloc; "trailer {trailer}\n")?.as_str())?;
     if document.text() != text {
         lines.push_str("but the document has another text\n")?;
+    }
+    Ok(lines)
+}
+
+/// A page with its body; and what else comes of it when it is prepared by itself, if something does.
+fn page_lines(alloc: Global, page: &[u8], body: &[u8]) -> anyhow::Result<String> {
+    let prepared = bodies(alloc, page)?;
+    let page = quoted(alloc, page)?;
+    let body = quoted(alloc, body)?;
+    let mut lines = format!(in alloc; "page {page} body {body}\n")?;
+    if prepared.as_str() != format!(in alloc; "{body}\n")?.as_str() {
+        lines.push_str("but prepared ")?;
+        lines.push_str(prepared.as_str())?;
     }
     Ok(lines)
 }

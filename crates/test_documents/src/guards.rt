@@ -12,7 +12,7 @@ pub fn guard(alloc: Global, text: &[u8], paper: Option<&Paper>) -> Result<String
     if in_place != copy {
         lines.push_str("but not in its place\n")?;
     }
-    for room in [2_048, 7, 0] {
+    for room in [2_560, 7, 0] {
         if put_behind(alloc, room, text, paper)? != copy {
             lines.push_str(format!(in alloc; "but not with room for {room} bytes\n")?.as_str())?;
         }

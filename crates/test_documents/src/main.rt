@@ -4,6 +4,7 @@
 
 mod changes;
 mod cuts;
+mod differing;
 mod document_commands;
 mod guards;
 mod known_laws;
@@ -14,12 +15,14 @@ mod row_commands;
 mod sheets;
 mod words;
 
+use differing::tell_differing;
 use document_commands::answer_of_document;
 use known_laws::call_laws;
 use paper_commands::answer_of_papers;
 use row_commands::answer_of_rows;
 use std::alloc::Global;
 use test_cases::{Case, Document, Found, Tally, load};
+use words::words_of;
 
 const FILES: [&str; 6] = [
     "cuts.cases",
@@ -32,6 +35,7 @@ const FILES: [&str; 6] = [
 
 fn main(rt: HostRuntime) -> anyhow::Result<()> {
     call_laws();
+    tell_differing(&rt)?;
     let mut tally = Tally::new();
     for name in FILES {
         let file = load(&rt, name)?;
@@ -46,10 +50,7 @@ fn main(rt: HostRuntime) -> anyhow::Result<()> {
 
 /// What a command gives: its answer, or why it has none.
 fn found(alloc: Global, case: &Case, documents: &[Document]) -> anyhow::Result<Found> {
-    let mut words = Vec::new(alloc);
-    for word in case.words.iter() {
-        words.push(word.as_str())?;
-    }
+    let words = words_of(alloc, case)?;
     let (status, text) = match answer(alloc, words.as_slice(), documents) {
         Ok(Some(text)) => (0, text),
         Ok(None) => (2, String::from_str(alloc, "no such command\n")?),

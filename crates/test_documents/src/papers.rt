@@ -2,7 +2,7 @@
 use crate::words::{paper, quoted};
 use document_paper::document_paper;
 use dsc::{Document, comment_value, trailer_box};
-use lengths::{Paper, paper_by_name, print_points};
+use lengths::{Paper, a4, paper_by_name, print_points};
 use own_papers::{as_one, cut_by, first_instead_of, own_papers};
 use std::alloc::{AllocError, Global};
 
@@ -20,9 +20,9 @@ pub fn paper_text(alloc: Global, paper: &Paper) -> Result<String, AllocError> {
     String::from_utf8_lossy(alloc, points.as_slice())
 }
 
-/// The paper that a document tells, and the comment that tells it.
+/// The paper that a document tells for which a4 is usual, and the comment that tells it.
 pub fn told(alloc: Global, text: &[u8]) -> Result<String, AllocError> {
-    match document_paper(text) {
+    match document_paper(text, &a4()) {
         Some((paper, comment)) => {
             format!(in alloc; "{} by {comment:?}\n", paper_text(alloc, &paper)?)
         }
@@ -56,7 +56,7 @@ fn paper_lines(alloc: Global, papers: &[Paper]) -> Result<String, AllocError> {
     Ok(lines)
 }
 
-/// Which pages of these papers a paper cuts: the first and the last of them, how many they are, the first one's paper.
+/// Which pages of these papers a paper cuts: the first and the last of them, how many they are, the least paper that covers theirs.
 pub fn cutting(alloc: Global, paper: &Paper, own: &[Paper]) -> Result<String, AllocError> {
     let Some(cut) = cut_by(paper, own) else {
         return String::from_str(alloc, "none\n");

@@ -1,6 +1,6 @@
 //! Commands that make rows, and sheets of rows.
 use crate::named_rows::{chosen, imposed, named, sewn, sides_for};
-use crate::sheets::{by_specification, in_cells, on_their_own};
+use crate::sheets::{by_specification, on_their_own};
 use crate::words::number;
 use std::alloc::Global;
 
@@ -15,7 +15,6 @@ pub fn answer_of_rows(alloc: Global, words: &[&str]) -> anyhow::Result<Option<St
         ["auto_sides", entries] => sides_for(alloc, number(entries)?)?,
         ["in_signatures", sides, row] => sewn(alloc, number(sides)?, row)?,
         ["select", blank, papers, row] => on_their_own(alloc, blank, papers, row)?,
-        ["lay_out", cells, papers, row] => in_cells(alloc, cells, papers, row)?,
         ["spec_sheets", spec, row] => by_specification(alloc, spec, row)?,
         _ => return Ok(None),
     };

@@ -2,9 +2,9 @@
 use crate::named_rows::entries;
 use crate::papers::paper_text;
 use crate::words::{number, paper};
-use lengths::{Number, Paper};
-use pagespec::{Item, Measure, Turn, read_spec};
-use row_sheets::{Cells, PagePapers, PaperList, SpecOnRow, lay_out, select, spec_sheets};
+use lengths::Paper;
+use pagespec::{Turn, read_spec};
+use row_sheets::{SpecOnRow, select, spec_sheets};
 use rows::all_pages;
 use sheet_plan::MadeSheets;
 use std::alloc::{AllocError, Global};
@@ -16,22 +16,7 @@ const FEW: usize = 20;
 pub fn on_their_own(alloc: Global, blank: &str, papers: &str, row: &str) -> anyhow::Result<String> {
     let (pages, papers) = papers_of(alloc, papers)?;
     let row = row_of(alloc, pages, row)?;
-    let made = select(alloc, row.as_slice(), &papers, &paper(blank)?)?;
-    Ok(sheets_text(alloc, &made)?)
-}
-
-/// The entries of a row in cells: `pairs`, or `fours`.
-pub fn in_cells(alloc: Global, cells: &str, papers: &str, row: &str) -> anyhow::Result<String> {
-    let cells = match cells {
-        "pairs" => pairs(alloc)?,
-        _ => Cells::new(alloc, &paper("a4")?, 4, 2),
-    };
-    let (pages, papers) = papers_of(alloc, papers)?;
-    let row = row_of(alloc, pages, row)?;
-    if row.len() > 1 << 40 {
-        return Ok(String::from_str(alloc, "too many entries\n")?);
-    }
-    let made = lay_out(alloc, row.as_slice(), &cells, &papers)?;
+    let made = select(alloc, row.as_slice(), papers.as_slice(), &paper(blank)?)?;
     Ok(sheets_text(alloc, &made)?)
 }
 
@@ -52,27 +37,20 @@ pub fn by_specification(alloc: Global, spec: &str, row: &str) -> anyhow::Result<
 }
 
 /// So many pages, and their papers in turn: `5 a4 a3`.
-fn papers_of(alloc: Global, text: &str) -> anyhow::Result<(u32, PagePapers)> {
+fn papers_of(alloc: Global, text: &str) -> anyhow::Result<(u32, Vec<Paper>)> {
     let (pages, names) = text.split_once(' ').unwrap_or((text, ""));
     let pages = number(pages)?;
-    let mut papers = Vec::new(alloc);
+    let mut turns = Vec::new(alloc);
     for name in names.split_whitespace() {
-        papers.push(paper(name)?)?;
+        turns.push(paper(name)?)?;
     }
-    match papers.as_slice() {
-        [only] => Ok((pages, PagePapers::one(pages, only))),
-        turns => Ok((pages, PagePapers::each(in_turn(alloc, pages, turns)?))),
-    }
-}
-
-fn in_turn(alloc: Global, pages: u32, turns: &[Paper]) -> Result<PaperList, AllocError> {
-    let mut list = PaperList::new(alloc);
-    for page in 0..pages {
-        if let Some(paper) = turns.get(page as usize % turns.len().max(1)) {
-            list.push(paper)?;
+    let mut papers = Vec::new(alloc);
+    for page in 0..pages as usize {
+        if let Some(paper) = turns.as_slice().get(page % turns.len().max(1)) {
+            papers.push(*paper)?;
         }
     }
-    Ok(list)
+    Ok((pages, papers))
 }
 
 /// The entries of a row, or `all` pages.
@@ -81,37 +59,6 @@ fn row_of(alloc: Global, pages: u32, row: &str) -> anyhow::Result<Vec<Option<u32
         "all" => Ok(all_pages(alloc, pages)?),
         text => entries(alloc, text),
     }
-}
-
-/// Two cells on each of two sides of an A3 sheet: pages of A4 lie to the left on the fronts and to the right on the
-/// backs, pages of A3 upright and by half.
-fn pairs(alloc: Global) -> anyhow::Result<Cells> {
-    let mut cells = Cells::new(alloc, &paper("a3")?, 2, 2);
-    add_turned(alloc, &mut cells, "a4", Turn::Left, Turn::Right)?;
-    add_turned(alloc, &mut cells, "a3", Turn::None, Turn::Half)?;
-    Ok(cells)
-}
-
-/// How pages of a paper lie in two cells of the front, and in two of the back.
-fn add_turned(
-    alloc: Global,
-    cells: &mut Cells,
-    name: &str,
-    front: Turn,
-    back: Turn,
-) -> anyhow::Result<()> {
-    let mut items = Vec::new(alloc);
-    for turn in [front, front, back, back] {
-        items.push(Item {
-            page: 0,
-            from_end: false,
-            turn,
-            scale: Number::ONE,
-            offset: (Measure::ZERO, Measure::ZERO),
-        })?;
-    }
-    cells.add(&paper(name)?, items)?;
-    Ok(())
 }
 
 /// A line for each sheet; of many sheets two lines at each end, and how many there are.

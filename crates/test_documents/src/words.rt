@@ -2,7 +2,16 @@
 use anyhow::Context;
 use lengths::{Paper, paper_by_name};
 use std::alloc::{AllocError, Global};
-use test_cases::Document;
+use test_cases::{Case, Document};
+
+/// The words of a case.
+pub fn words_of(alloc: Global, case: &Case) -> Result<Vec<&str>, AllocError> {
+    let mut words = Vec::new(alloc);
+    for word in case.words.iter() {
+        words.push(word.as_str())?;
+    }
+    Ok(words)
+}
 
 /// The text of the document of this name.
 pub fn text_of<'d>(documents: &'d [Document], name: &str) -> anyhow::Result<&'d [u8]> {

@@ -1,4 +1,5 @@
 //! Inputs, lines, requests and whole programs.
+mod checks;
 mod growth;
 mod lines;
 mod outputs;
@@ -7,7 +8,6 @@ mod requests;
 
 use pstops_cli::{Request, read_command};
 use std::alloc::{AllocError, Global};
-use std::process::Abort;
 
 /// The words of a command, each a `String`.
 fn words_of(alloc: Global, words: &[&str]) -> Result<Vec<String>, AllocError> {
@@ -18,15 +18,11 @@ fn words_of(alloc: Global, words: &[&str]) -> Result<Vec<String>, AllocError> {
     Ok(all)
 }
 
-/// The request that words make.
-fn request_of<R: Abort>(rt: &R, alloc: Global, words: &[&str]) -> Result<Request, AllocError> {
+/// The request that words make. They are refused as if memory were out.
+fn request_of(alloc: Global, words: &[&str]) -> Result<Request, AllocError> {
     let words = words_of(alloc, words)?;
     match read_command(alloc, words.as_slice()) {
         Ok(request) => Ok(request),
-        Err(_) => panic!(rt; "refused"),
+        Err(_) => Err(AllocError),
     }
-}
-
-fn assert_same<R: Abort>(rt: &R, found: &[u8], wanted: &[u8]) {
-    assert!(rt; found == wanted);
 }

@@ -9,6 +9,7 @@ mod gates;
 mod growth;
 mod handed_back;
 mod refused_puts;
+mod sheets_of_sheets;
 mod sinks;
 mod windows;
 

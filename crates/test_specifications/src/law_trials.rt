@@ -4,7 +4,7 @@ use crate::placed::{
     Kept, Placed, are_apart, are_in_order, are_inside, are_like, columns_of, largest, pages_of,
 };
 use crate::words::word;
-use layouts::{Arrangement, Cells, Papers, arrange, booklet, nup};
+use layouts::{Arrangement, Binding, Cells, Papers, arrange, bind};
 use lengths::{Grains, paper_by_name};
 use pagespec::Spec;
 use std::alloc::{AllocError, Global};
@@ -88,12 +88,11 @@ fn layouts_tried(out: &mut Answer, numbers: &[u32], on_own_paper: bool, kept: Ke
 
 /// The specification of n pages of the one paper on a sheet of the other.
 fn laid_out(alloc: Global, n: u32, papers: &Papers, kept: Kept) -> Option<Spec> {
-    if kept.margin == 0 {
-        return nup(alloc, n, &papers.page, &papers.sheet).ok();
-    }
     let mut arrangement = Arrangement::plain(Cells::AtLeast(n));
-    arrangement.margin = Grains::new(3_600_000_000_000)?;
-    arrangement.gap = Grains::new(1_800_000_000_000)?;
+    if kept.margin != 0 {
+        arrangement.margin = Grains::new(3_600_000_000_000)?;
+        arrangement.gap = Grains::new(1_800_000_000_000)?;
+    }
     arrange(alloc, papers, &arrangement).ok()
 }
 
@@ -178,7 +177,7 @@ fn booklet_fault(alloc: Global, page: Named, sheet: Named, long_edge: bool) -> &
     let Some(papers) = papers_named(page.0, sheet.0) else {
         return "no paper";
     };
-    let Ok(spec) = booklet(alloc, &papers.page, &papers.sheet, long_edge) else {
+    let Ok(spec) = bind(alloc, &papers, &Binding::plain(long_edge)) else {
         return "refused";
     };
     let sides = (page.1, page.2);
@@ -238,6 +237,5 @@ fn laws_called(out: &mut Answer) {
     layouts::laws::leaf_keeps_fold();
     layouts::laws::right_to_left_is_mirror();
     layouts::laws::printed_as_it_is();
-    layouts::laws::sheets_are_row();
     out.text("called\n");
 }

@@ -2,10 +2,7 @@
 use crate::answer::Answer;
 use crate::specifications::written;
 use crate::words::{count, length, number, number_in, paper, word};
-use layouts::{
-    Arrangement, Binding, Cells, LayoutError, Papers, Run, Turned, Which, arrange, bind, booklet,
-    nup, selection,
-};
+use layouts::{Arrangement, ArrangementError, Binding, Cells, Papers, Run, Turned, arrange, bind};
 use lengths::{Grains, Number, a4};
 use pagespec::Spec;
 use std::fmt::{Debug, Display};
@@ -16,9 +13,8 @@ pub fn run(out: &mut Answer, words: &[String]) -> Option<()> {
         "booklet" => leaves(out, words),
         "arrange" => cells_of_a4(out, words),
         "bind" => leaves_of_a4(out, words),
-        "select" => selected(out, words),
         "no_memory_for_a_layout" => {
-            out.line(LayoutError::NoMemory);
+            out.line(ArrangementError::NoMemory);
             Some(())
         }
         _ => None,
@@ -26,14 +22,14 @@ pub fn run(out: &mut Answer, words: &[String]) -> Option<()> {
 }
 
 fn pages_on_sheets(out: &mut Answer, words: &[String]) -> Option<()> {
-    let (page, sheet) = (paper(words, 2)?, paper(words, 3)?);
-    let made = nup(out.alloc, count(words, 1)?, &page, &sheet);
+    let cells = Cells::AtLeast(count(words, 1)?);
+    let made = arrange(out.alloc, &papers(words)?, &Arrangement::plain(cells));
     tell(out, made)
 }
 
 fn leaves(out: &mut Answer, words: &[String]) -> Option<()> {
-    let (page, sheet) = (paper(words, 2)?, paper(words, 3)?);
-    let made = booklet(out.alloc, &page, &sheet, word(words, 1)? == "long");
+    let binding = Binding::plain(word(words, 1)? == "long");
+    let made = bind(out.alloc, &papers(words)?, &binding);
     tell(out, made)
 }
 
@@ -51,9 +47,12 @@ fn leaves_of_a4(out: &mut Answer, words: &[String]) -> Option<()> {
     }
 }
 
-fn selected(out: &mut Answer, words: &[String]) -> Option<()> {
-    let made = selection(out.alloc, word(words, 1)?, which(words)?, count(words, 3)?);
-    tell(out, made)
+/// The papers of pages and sheets.
+fn papers(words: &[String]) -> Option<Papers> {
+    Some(Papers {
+        page: paper(words, 2)?,
+        sheet: paper(words, 3)?,
+    })
 }
 
 /// A specification, or why there is none.
@@ -130,13 +129,4 @@ fn binding(words: &[String]) -> Option<Binding> {
         }
     }
     Some(binding)
-}
-
-fn which(words: &[String]) -> Option<Which> {
-    match word(words, 2)? {
-        "all" => Some(Which::All),
-        "odd" => Some(Which::Odd),
-        "even" => Some(Which::Even),
-        _ => None,
-    }
 }

@@ -3,10 +3,10 @@ use crate::answer::Answer;
 use crate::filled::two_columns;
 use crate::words::{count, length, paper, row, word};
 use arranged_sheets::{booklet_sheets, grid_sheets};
-use layouts::ArrangementError;
+use layouts::{ArrangementError, Setting};
 use lengths::{Grains, Number, Paper};
 use pagespec::{Item, Measure, Turn};
-use preview::{Guide, GuideKind, Sides, plan_text, preview_text};
+use preview::{Edge, Guide, GuideKind, Places, Reading, Sides, plan_text, preview_text};
 use sheet_plan::{MadeSheets, MadeSlot};
 use std::alloc::{AllocError, Global};
 
@@ -25,7 +25,13 @@ fn booklet_plan(out: &mut Answer, words: &[String]) -> Option<()> {
     let setting = two_columns()?;
     let row = row_behind(out.alloc, words, 2)?;
     let made = booklet_sheets(out.alloc, &setting, &[], false, row.as_slice());
-    tell(out, made, Sides::Both, count(words, 1)?);
+    let flip = Edge::Short;
+    tell(
+        out,
+        made,
+        &reading(Sides::Both { flip }, &setting),
+        count(words, 1)?,
+    );
     Some(())
 }
 
@@ -35,7 +41,7 @@ fn grid_plan(out: &mut Answer, words: &[String]) -> Option<()> {
     let row = row_behind(out.alloc, words, 3)?;
     let papers = [lengths::a4(), paper(words, 2)?, lengths::a4()];
     let made = grid_sheets(out.alloc, &setting, &papers, 2, row.as_slice());
-    tell(out, made, Sides::One, count(words, 1)?);
+    tell(out, made, &reading(Sides::One, &setting), count(words, 1)?);
     Some(())
 }
 
@@ -44,10 +50,23 @@ fn row_behind(alloc: Global, words: &[String], first: usize) -> Option<Vec<Optio
     row(alloc, words.get(first..)?)
 }
 
+fn reading(sides: Sides, setting: &Setting) -> Reading {
+    let places = Places::Cells {
+        grid: setting.grid,
+        order: setting.order,
+    };
+    Reading { sides, places }
+}
+
 /// The plan of sheets, of which so many are listed.
-fn tell(out: &mut Answer, made: Result<MadeSheets, ArrangementError>, sides: Sides, most: u32) {
+fn tell(
+    out: &mut Answer,
+    made: Result<MadeSheets, ArrangementError>,
+    reading: &Reading,
+    most: u32,
+) {
     match made {
-        Ok(sheets) => add(out, plan_text(out.alloc, &sheets, sides, most)),
+        Ok(sheets) => add(out, plan_text(out.alloc, &sheets, reading, most)),
         Err(error) => out.refusal(error),
     }
 }
@@ -68,7 +87,8 @@ fn folded_sheet(out: &mut Answer, paper: &Paper) -> Option<()> {
     match one_sheet(alloc, 2, paper) {
         Ok(sheets) => {
             let fold = fold()?;
-            add(out, preview_text(alloc, &sheets, Sides::Both, &[fold], 40));
+            let sides = Sides::Both { flip: Edge::Short };
+            add(out, preview_text(alloc, &sheets, sides, &[fold], 40));
         }
         Err(_) => out.note(false),
     }

@@ -6,8 +6,6 @@ mod documents;
 mod growth;
 mod sheets;
 mod specifications;
-#[cfg(test)]
-mod tests;
 
 pub use documents::{ONE_PAGE, TWO_PAGES, document_of, document_with, page_body, with_lines};
 pub use growth::{MOST_GROWTHS, Refused, has_refused, refuse, refuse_each};

@@ -1,6 +1,10 @@
 //! Workers that find no memory: who waits for the collector is told to stop, all threads end, and nothing is handed back.
 ghost use Rattle.std.specs.Prelude.{◌≡◌, ⊤};
 
+mod checks;
+mod sets;
+
+use checks::assert_that;
 use std::alloc::{AllocError, Global};
 use std::process::Abort;
 use std::sync::Wait;
@@ -234,7 +238,7 @@ fn is_right(came: Came, shares: Option<u64>) -> bool {
 
 #[test]
 fn workers_that_find_memory_hand_back_all(rt: HostRuntime) -> Result<(), Fail> {
-    assert!(rt; is_right(gather(&rt, rt.alloc(), 0, 0), Some(100)));
+    assert_that(&rt, is_right(gather(&rt, rt.alloc(), 0, 0), Some(100)));
     Ok(())
 }
 
@@ -246,7 +250,7 @@ fn a_worker_without_memory_lets_nobody_wait(rt: HostRuntime) -> Result<(), Fail>
             let came = gather(&rt, rt.alloc(), preparers, imposers);
             let is_whole = preparers == 0 && imposers == 0;
             let shares = if is_whole { Some(100) } else { None };
-            assert!(rt; is_right(came, shares));
+            assert_that(&rt, is_right(came, shares));
         }
     }
     Ok(())

@@ -43,7 +43,7 @@ guarded_behind = stays_guarded (behind_guard paper []) (in_userdict (codes "e") 
 
 pub preamble_runs : GuardedPreambleRuns (bytes_of (preamble (units_of (guarded paper text)))) behind
 unfolding digits
-preamble_runs = (refl, (264, refl), refl, refl, refl, guarded_behind)
+preamble_runs = (refl, (268, refl), refl, refl, refl, guarded_behind)
 
 abbrev pub end_of : State → Option State → State
 end_of s None = s

@@ -26,7 +26,7 @@ again = written_again paper None (telling inner) inner us
 
 preamble_runs : GuardedPreambleRuns (bytes_of (preamble again)) behind
 unfolding digits
-preamble_runs = (refl, (271, refl), refl, refl, refl, guarded_behind)
+preamble_runs = (refl, (275, refl), refl, refl, refl, guarded_behind)
 
 -- so the sheet of the second run shows that of the first one, twice
 shown : MadeIsPrinted None (telling outer) outer again (made_run_picture None us picture behind inner) behind

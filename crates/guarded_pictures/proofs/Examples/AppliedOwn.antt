@@ -64,7 +64,7 @@ own_behind = record {
 
 preamble_runs : OwnPreambleRuns 4 (bytes_of (preamble (units_of (guarded paper text)))) behind
 unfolding digits
-preamble_runs = (refl, (270, refl), refl, refl, refl, own_behind)
+preamble_runs = (refl, (274, refl), refl, refl, refl, own_behind)
 
 -- where the first page begins, and the second
 abbrev first_state : State

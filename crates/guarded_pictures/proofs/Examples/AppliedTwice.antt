@@ -29,7 +29,7 @@ again = units_again paper frame None half us
 -- there are two guards in the preamble, of which the second does nothing
 preamble_runs : GuardedPreambleRuns (bytes_of (preamble again)) behind
 unfolding digits
-preamble_runs = (refl, (271, refl), refl, refl, refl, guarded_behind)
+preamble_runs = (refl, (275, refl), refl, refl, refl, guarded_behind)
 
 pub takes_sheets : TakesSheets [] behind
 takes_sheets = record { takes = takes_pages behind guarded_behind; above = refl; outermost = refl; restore_is = refl; new = refl; older = tt }

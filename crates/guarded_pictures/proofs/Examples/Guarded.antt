@@ -1,6 +1,6 @@
 -- Documents with the guard put in, run by the machine: each as the guard is to have it. With each painting stand the
 -- operators of its transformation and of its clip; sheets and paintings stand the latest first.
-use Rattle.std.proofs.Common.{◌≡◌, ℕ, List, [], ◌∷◌, ◌++◌, refl, Some, None}
+use Rattle.std.proofs.Common.{◌≡◌, ℕ, false, List, [], ◌∷◌, ◌++◌, refl, Some, None}
 use Rattle.std.specs.Prelude.{codes, Result, Ok, Option, option_map}
 use Rattle.std.specs.Fmt.{digits}
 use Rattle.rules.specs.Papers.{points}
@@ -8,7 +8,8 @@ use Rattle.rules.specs.Units.{◌>>=◌}
 use Rattle.rules.specs.Run.{document_of, DocumentFault}
 use Rattle.rules.specs.Output.{output}
 use Rattle.guard.specs.Guard.{guarded}
-use Rattle.guarded_pictures.specs.Behind.{guard_text}
+use Rattle.guarded_pictures.specs.Behind.{printer_keys, guard_text}
+use Rattle.pictures.specs.Sheets.{among}
 use Rattle.pictures.proofs.Examples.TwoUp.{sheets_of}
 use Rattle.pictures.proofs.Examples.Premises.{document_with, half, frame, outline, stroke, placed, not_placed}
 
@@ -98,6 +99,14 @@ sets_device_in_setup : imposed (codes "1 dict dup /PageSize [9 9] put setpagedev
 unfolding digits
 sets_device_in_setup = refl
 
+-- what is said of duplex is handed on, and of the page isn't
+sets_duplex_in_setup : imposed (codes "<</Duplex true /PageSize [9 9]>> setpagedevice") (stroke ∷ []) ≡ one_placed
+unfolding digits
+sets_duplex_in_setup = refl
+
+hands_no_size : among (codes "PageSize") printer_keys ≡ false
+hands_no_size = refl
+
 sets_device_if_it_can : imposed (codes "/x 1 def") ((codes "/setpagedevice where {pop 1 dict setpagedevice} {letter} ifelse " ++ stroke) ∷ []) ≡ one_placed
 unfolding digits
 sets_device_if_it_can = refl
@@ -118,6 +127,12 @@ embeds_a_document = refl
 has_its_own_showpage : imposed (codes "/d 1 dict def d /showpage {} put d begin") (stroke ∷ []) ≡ one_placed
 unfolding digits
 has_its_own_showpage = refl
+
+-- showpage made to do nothing, and one that was loaded before, by which the pages are printed
+silences_showpage : imposed (codes "userdict /e /showpage load put userdict /showpage {} put") ((stroke ++ codes " e") ∷ (stroke ++ codes " e") ∷ [])
+    ≡ Ok (Some ((placed ∷ []) ∷ (placed ∷ []) ∷ []))
+unfolding digits
+silences_showpage = refl
 
 -- variables that are named as operators of the guard are
 names_variables : imposed (codes "/count 1 def /eq 2 def /matrix 3 def /where 4 def /get 5 def /exec 6 def") ((codes "initgraphics " ++ stroke) ∷ []) ≡ one_placed
@@ -161,6 +176,12 @@ resets_within = refl
 resets_clip_within : imposed_twice (codes "0 0 moveto 9 9 lineto initclip stroke") ≡ within_another
 unfolding digits
 resets_clip_within = refl
+
+-- and of a document that makes showpage do nothing
+silences_within : (document_of (guarded (Some (points 200 300)) (document_with (codes "userdict /e /showpage load put userdict /showpage {} put") ((stroke ++ codes " e") ∷ [])))
+    >>= λ us. sheets_with_guard (output frame None half us)) ≡ within_another
+unfolding digits
+silences_within = refl
 
 -- imposed once more
 abbrev imposed_three_times : List ℕ → Result (Option (List (List (List (List ℕ) × List (List ℕ))))) DocumentFault

@@ -55,6 +55,17 @@ blank_sheet_first : (document_of (guarded (Some (points 200 300)) (document_with
 unfolding digits
 blank_sheet_first = refl
 
+-- so it is where userdict's showpage is empty, and the first sheet has no page
+blank_sheet_first_silenced : (document_of (guarded (Some (points 200 300)) (document_with (codes "userdict /showpage {} put") (stroke ∷ [])))
+    >>= λ us. Ok (option_map outline (sheets_of (output frame None second_page_first us)))) ≡ Ok (Some ((placed ∷ []) ∷ []))
+unfolding digits
+blank_sheet_first_silenced = refl
+
+-- both: the dictionary's showpage asks userdict's, which is empty
+silences_both : imposed (codes "userdict /showpage {} put /d 1 dict def d /showpage {} put d begin") (stroke ∷ []) ≡ Ok (Some [])
+unfolding digits
+silences_both = refl
+
 -- showpage in the trailer: a blank sheet more
 shows_in_trailer : sheets_with_guard (document_with (codes "/x 1 def") (stroke ∷ []) ++ lines (codes "%%Trailer" ∷ codes "showpage" ∷ []))
     ≡ Ok (Some ([] ∷ (placed ∷ []) ∷ []))

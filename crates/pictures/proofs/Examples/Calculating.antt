@@ -110,6 +110,11 @@ how_many : left_by (codes "[7 8 9] length") ≡ only (number (codes "3"))
 unfolding digits
 how_many = refl
 
+-- and of a procedure, in which another one is one element
+how_many_there : left_by (codes "{1 {2 {3} 4} if} length {} length") ≡ Some (map number (codes "0" ∷ codes "3" ∷ []))
+unfolding digits
+how_many_there = refl
+
 all_of_them : left_by (codes "[7 8] aload pop") ≡ Some (map number (codes "8" ∷ codes "7" ∷ []))
 all_of_them = refl
 

@@ -1,5 +1,6 @@
-//! Single calls in which each growth is refused in turn, as `crates/test_refused_growth` does it for the crates below.
-use super::{assert_same, request_of, words_of};
+//! Single calls in which each growth is refused in turn, as `crates/test_run_parts` does it for the crates below.
+use super::{request_of, words_of};
+use crate::tests::checks::{assert_bytes, assert_that};
 use dsc::DscError;
 use imposer::{MemorySink, RunError};
 use pagespec::SpecError;
@@ -12,7 +13,9 @@ use std::process::Abort;
 use std::sync::Wait;
 use std::test::Fail;
 use std::thread::Threads;
-use test_tools::{MOST_GROWTHS, ONE_PAGE, has_refused, one_up_output, refuse};
+use test_tools::{
+    MOST_GROWTHS, ONE_PAGE, Refused, has_refused, one_up_output, refuse, refuse_each,
+};
 
 /// The words of a command with every option.
 const WORDS: &[&str] = &[
@@ -25,10 +28,11 @@ fn read_words<R: Abort>(rt: &R, alloc: Global, number: u32) -> Result<bool, Allo
     refuse(alloc, number);
     let answer = read_command(alloc, words.as_slice());
     let is_refused = has_refused(alloc);
-    match answer {
-        Ok(request) => assert!(rt; !is_refused && request.spec.as_str() == "2:0+1"),
-        Err(fault) => assert!(rt; is_refused && fault == CommandFault::NoMemory),
-    }
+    let is_right = match answer {
+        Ok(request) => !is_refused && request.spec.as_str() == "2:0+1",
+        Err(fault) => is_refused && fault == CommandFault::NoMemory,
+    };
+    assert_that(rt, is_right);
     Ok(is_refused)
 }
 
@@ -43,10 +47,7 @@ fn read_bad_words<R: Abort>(rt: &R, alloc: Global, number: u32) -> Result<bool, 
     } else {
         CommandFault::BadWords
     };
-    match answer {
-        Ok(_) => panic!(rt; "17 preparers"),
-        Err(fault) => assert!(rt; fault == wanted),
-    }
+    assert_that(rt, answer.err() == Some(wanted));
     Ok(is_refused)
 }
 
@@ -57,10 +58,11 @@ fn read_bytes<R: Abort>(rt: &R, alloc: Global, number: u32) -> Result<bool, Allo
     refuse(alloc, number);
     let answer = read_input(alloc, &mut source);
     let is_refused = has_refused(alloc);
-    match answer {
-        Ok(bytes) => assert!(rt; !is_refused && bytes.as_slice() == long.as_slice()),
-        Err(fault) => assert!(rt; is_refused && fault == ReadFault::NoMemory),
-    }
+    let is_right = match answer {
+        Ok(bytes) => !is_refused && bytes.as_slice() == long.as_slice(),
+        Err(fault) => is_refused && fault == ReadFault::NoMemory,
+    };
+    assert_that(rt, is_right);
     Ok(is_refused)
 }
 
@@ -72,71 +74,78 @@ enum Call {
     Bytes,
 }
 
-/// Refuses the first growth of a call, the second one and so on, until none is refused.
-fn refuse_each<R: Abort>(rt: &R, alloc: Global, call: Call) -> Result<(), AllocError> {
-    let mut goes_on = true;
-    for number in 1..MOST_GROWTHS {
-        if goes_on {
-            goes_on = match call {
-                Call::Words => read_words(rt, alloc, number)?,
-                Call::BadWords => read_bad_words(rt, alloc, number)?,
-                Call::Bytes => read_bytes(rt, alloc, number)?,
-            };
+impl<R: Abort> Refused<R> for Call {
+    fn refuse(&self, rt: &R, alloc: Global, number: u32) -> Result<bool, Fail> {
+        match self {
+            Call::Words => Ok(read_words(rt, alloc, number)?),
+            Call::BadWords => Ok(read_bad_words(rt, alloc, number)?),
+            Call::Bytes => Ok(read_bytes(rt, alloc, number)?),
         }
     }
-    assert!(rt; !goes_on);
-    Ok(())
 }
 
 #[test]
 fn commands_and_inputs(rt: HostRuntime) -> Result<(), Fail> {
-    refuse_each(&rt, rt.alloc(), Call::Words)?;
-    refuse_each(&rt, rt.alloc(), Call::BadWords)?;
-    refuse_each(&rt, rt.alloc(), Call::Bytes)?;
+    for call in [Call::Words, Call::BadWords, Call::Bytes] {
+        assert_that(&rt, refuse_each(&rt, rt.alloc(), &call)?);
+    }
     Ok(())
 }
 
-/// Makes the line of a fault.
-fn make_line<R: Abort>(
-    rt: &R,
-    alloc: Global,
-    number: u32,
-    fault: &Fault,
-    wanted: (u8, &str),
-) -> bool {
-    refuse(alloc, number);
-    let answer = fault_line(alloc, fault);
-    let is_refused = has_refused(alloc);
-    match answer {
-        Ok((status, line)) => {
-            assert!(rt; !is_refused && status == wanted.0);
-            assert_same(rt, line.as_slice(), wanted.1.as_bytes());
-        }
-        Err(_) => assert!(rt; is_refused),
+/// The line of a fault is made.
+#[derive(Drop)]
+struct Line {
+    fault: Fault,
+    status: u8,
+    line: &'static str,
+}
+
+impl<R: Abort> Refused<R> for Line {
+    fn refuse(&self, rt: &R, alloc: Global, number: u32) -> Result<bool, Fail> {
+        refuse(alloc, number);
+        let answer = fault_line(alloc, &self.fault);
+        let is_refused = has_refused(alloc);
+        let is_right = match answer {
+            Ok((status, line)) => {
+                !is_refused && status == self.status && line.as_slice() == self.line.as_bytes()
+            }
+            Err(_) => is_refused,
+        };
+        assert_that(rt, is_right);
+        Ok(is_refused)
     }
-    is_refused
 }
 
 /// Refuses each growth of the line of a fault in turn.
-fn refuse_line(rt: &(impl Abort + AllocGlobal), fault: Fault, status: u8, line: &str) {
-    let mut goes_on = true;
-    for number in 1..MOST_GROWTHS {
-        goes_on = goes_on && make_line(rt, rt.alloc(), number, &fault, (status, line));
-    }
-    assert!(rt; !goes_on);
+fn assert_line<R: Abort>(
+    rt: &R,
+    alloc: Global,
+    fault: Fault,
+    status: u8,
+    line: &'static str,
+) -> Result<(), Fail> {
+    let call = Line {
+        fault,
+        status,
+        line,
+    };
+    assert_that(rt, refuse_each(rt, alloc, &call)?);
+    Ok(())
 }
 
 #[test]
-fn lines(rt: HostRuntime) {
+fn lines(rt: HostRuntime) -> Result<(), Fail> {
     let fault = Fault::Command(CommandFault::BadLength('w'));
-    refuse_line(&rt, fault, 2, "pstops: bad length after -w\n");
-    let line = "pstops: specification: item 12: page number not below modulo\n";
+    let line = "pstops: bad length after -w\n";
+    assert_line(&rt, rt.alloc(), fault, 2, line)?;
     let fault = Fault::Run(RunError::Spec(SpecError::PageOutOfBlock(12)));
-    refuse_line(&rt, fault, 1, line);
-    let line = "pstops: input: data cut short at byte 345\n";
+    let line = "pstops: specification: item 12: page number not below modulo\n";
+    assert_line(&rt, rt.alloc(), fault, 1, line)?;
     let fault = Fault::Run(RunError::Document(DscError::ShortData(345)));
-    refuse_line(&rt, fault, 1, line);
-    refuse_line(&rt, Fault::Create, 3, "pstops: cannot write output\n");
+    let line = "pstops: input: data cut short at byte 345\n";
+    assert_line(&rt, rt.alloc(), fault, 1, line)?;
+    let line = "pstops: cannot write output\n";
+    assert_line(&rt, rt.alloc(), Fault::Create, 3, line)
 }
 
 /// Runs a request over a sink that was made before: whether a growth was refused. Then the status is 3, the line tells
@@ -152,19 +161,18 @@ fn run_refused<R: Threads + Wait + Abort + Sync>(
     refuse(alloc, number);
     let (status, line) = run_request(rt, alloc, request, ONE_PAGE.as_bytes(), &mut sink);
     let is_refused = has_refused(alloc);
+    let said = line.as_slice();
     if is_refused {
-        let said = line.as_slice();
-        assert!(rt; status == 3);
-        assert!(rt; said.is_empty() || said == b"pstops: out of memory\n".as_slice());
-        assert!(rt; output.starts_with(sink.bytes()));
-    } else {
-        assert!(rt; status == 0);
-        assert_same(
+        assert_that(rt, status == 3);
+        assert_that(
             rt,
-            line.as_slice(),
-            b"pstops: pages 1, sheets 1, bytes 273\n",
+            said.is_empty() || said == b"pstops: out of memory\n".as_slice(),
         );
-        assert_same(rt, sink.bytes(), output);
+        assert_that(rt, output.starts_with(sink.bytes()));
+    } else {
+        assert_that(rt, status == 0);
+        assert_bytes(rt, said, b"pstops: pages 1, sheets 1, bytes 273\n");
+        assert_bytes(rt, sink.bytes(), output);
     }
     Ok(is_refused)
 }
@@ -188,13 +196,13 @@ fn refuse_run<R: Threads + Wait + Abort + Sync>(
             };
         }
     }
-    assert!(rt; unrefused == 4);
+    assert_that(rt, unrefused == 4);
     Ok(())
 }
 
 #[test]
 fn requests(rt: HostRuntime) -> Result<(), Fail> {
-    let request = request_of(&rt, rt.alloc(), &["0"])?;
+    let request = request_of(rt.alloc(), &["0"])?;
     let output = one_up_output(rt.alloc(), "")?;
     refuse_run(&rt, rt.alloc(), &request, output.as_str().as_bytes())?;
     Ok(())

@@ -1,4 +1,5 @@
 //! The lines of faults that no short command line brings about.
+use crate::tests::checks::assert_that;
 use dsc::DscError;
 use imposer::RunError;
 use pagespec::SpecError;
@@ -8,10 +9,11 @@ use std::process::Abort;
 
 /// A fault has this status and this line.
 fn assert_line(rt: &(impl Abort + AllocGlobal), fault: Fault, status: u8, line: &str) {
-    match fault_line(rt.alloc(), &fault) {
-        Ok(told) => assert!(rt; told.0 == status && told.1.as_slice() == line.as_bytes()),
-        Err(_) => panic!(rt; "no line"),
-    }
+    let is_right = match fault_line(rt.alloc(), &fault) {
+        Ok(told) => told.0 == status && told.1.as_slice() == line.as_bytes(),
+        Err(_) => false,
+    };
+    assert_that(rt, is_right);
 }
 
 fn assert_no_memory(rt: &(impl Abort + AllocGlobal), fault: Fault) {

@@ -1,5 +1,6 @@
 //! The whole program over a world in memory: how many inputs it opens, and outputs that fail at any byte.
-use super::{assert_same, words_of};
+use super::words_of;
+use crate::tests::checks::{assert_bytes, assert_that};
 use pstops_cli::{Ended, pstops};
 use std::alloc::{AllocError, Global};
 use std::io::{self, ErrorKind, Write};
@@ -47,8 +48,8 @@ fn assert_stopped<R: Threads + Wait + Abort + Sync>(
 ) -> Result<(), AllocError> {
     let opened = AtomicU32::new(0);
     let end = ended(rt, alloc, words, ONE_PAGE, AMPLE, &opened)?;
-    assert!(rt; end.status == status && opened.load(SeqCst) == inputs);
-    assert!(rt; end.world.is_some() && end.output.is_none());
+    assert_that(rt, end.status == status && opened.load(SeqCst) == inputs);
+    assert_that(rt, end.world.is_some() && end.output.is_none());
     Ok(())
 }
 
@@ -91,8 +92,9 @@ fn assert_status<R: Threads + Wait + Abort + Sync>(
         takes,
         &opened,
     )?;
-    assert!(rt; end.output.is_some() == (status == 0));
-    assert!(rt; tell(&mut Closed {}, end.line.as_slice(), end.status) == status);
+    assert_that(rt, end.output.is_some() == (status == 0));
+    let told = tell(&mut Closed {}, end.line.as_slice(), end.status);
+    assert_that(rt, told == status);
     Ok(())
 }
 
@@ -115,15 +117,16 @@ fn assert_cut_off<R: Threads + Wait + Abort + Sync>(
     let opened = AtomicU32::new(0);
     let end = ended(rt, alloc, &words, document, Takes::Bytes(most), &opened)?;
     let (first, rest) = sheets.as_bytes().split_at(most.min(sheets.len()));
-    if rest.is_empty() {
-        assert!(rt; end.status == 0 && end.line.is_empty());
+    let (status, line) = if rest.is_empty() {
+        (0, "")
     } else {
-        assert!(rt; end.status == 3);
-        assert_same(rt, end.line.as_slice(), b"pstops: cannot write output\n");
-    }
+        (3, "pstops: cannot write output\n")
+    };
+    assert_that(rt, end.status == status);
+    assert_bytes(rt, end.line.as_slice(), line.as_bytes());
     match &end.output {
-        Some(output) => assert_same(rt, output.bytes.as_slice(), first),
-        None => panic!(rt; "no output"),
+        Some(output) => assert_bytes(rt, output.bytes.as_slice(), first),
+        None => assert_that(rt, false),
     }
     Ok(())
 }
@@ -145,6 +148,6 @@ fn a_writer_that_fails_within_a_long_sheet(rt: HostRuntime) -> Result<(), Fail> 
     for most in [0, 1, 16_384, 20_000, 40_264, 40_265] {
         assert_cut_off(&rt, rt.alloc(), &document, &sheet, most)?;
     }
-    assert!(rt; sheet.len() == 40_265);
+    assert_that(&rt, sheet.len() == 40_265);
     Ok(())
 }

@@ -1,5 +1,5 @@
 //! Inputs that are read whole, and readers that fail.
-use super::assert_same;
+use crate::tests::checks::{assert_bytes, assert_that};
 use pstops_cli::{ReadFault, ReadSource, Source, SourceFault, read_input};
 use std::alloc::Global;
 use std::io::{self, ErrorKind, Read};
@@ -10,8 +10,8 @@ use test_tools::ONE_PAGE;
 fn assert_read_whole<R: Abort>(rt: &R, alloc: Global, bytes: &[u8]) {
     let mut source = ReadSource::new(bytes);
     match read_input(alloc, &mut source) {
-        Ok(input) => assert_same(rt, input.as_slice(), bytes),
-        Err(_) => panic!(rt; "not read"),
+        Ok(input) => assert_bytes(rt, input.as_slice(), bytes),
+        Err(_) => assert_that(rt, false),
     }
 }
 
@@ -64,8 +64,8 @@ fn assert_failed_at<R: Abort>(rt: &R, alloc: Global, fails_at: usize, cause: Err
     let mut source = ReadSource::new(&mut reader);
     let answer = read_input(alloc, &mut source);
     drop(source);
-    assert!(rt; answer == Err(ReadFault::Device));
-    assert!(rt; reader.calls == fails_at);
+    assert_that(rt, answer == Err(ReadFault::Device));
+    assert_that(rt, reader.calls == fails_at);
 }
 
 // 85 bytes are 12 calls of seven bytes, one of one, and one that tells of the end.
@@ -82,8 +82,8 @@ fn a_reader_that_does_not_fail_is_read_whole(rt: HostRuntime) {
     let mut reader = Failing::new(15, ErrorKind::Other);
     let mut source = ReadSource::new(&mut reader);
     match read_input(rt.alloc(), &mut source) {
-        Ok(input) => assert_same(&rt, input.as_slice(), ONE_PAGE.as_bytes()),
-        Err(_) => panic!(rt; "not read"),
+        Ok(input) => assert_bytes(&rt, input.as_slice(), ONE_PAGE.as_bytes()),
+        Err(_) => assert_that(&rt, false),
     }
 }
 
@@ -115,5 +115,8 @@ fn a_source_that_fails_midway(rt: HostRuntime) {
         failures: 0,
     };
     let answer = read_input(rt.alloc(), &mut source);
-    assert!(rt; answer == Err(ReadFault::Device) && source.failures == 1);
+    assert_that(
+        &rt,
+        answer == Err(ReadFault::Device) && source.failures == 1,
+    );
 }

@@ -21,6 +21,7 @@ use test_tools::document_of;
 /// What a caller was told of a page that stands in one slot.
 #[derive(Clone, Copy, Debug)]
 struct Told {
+    page: u32,
     index: u32,
     published: Published,
     reply: Reply,
@@ -28,11 +29,12 @@ struct Told {
 }
 
 /// What was told of a delivery that handed nothing back. None for a page that stands in several slots or none.
-fn told_of(delivered: &Delivered<'_>) -> Option<Told> {
+fn told_of(page: u32, delivered: &Delivered<'_>) -> Option<Told> {
     if delivered.replies.len() != 1 || !delivered.handed_back.is_empty() {
         return None;
     }
     Some(Told {
+        page,
         index: delivered.receipt.index(),
         published: delivered.published,
         reply: *delivered.replies.first()?,
@@ -49,7 +51,7 @@ fn deliver_page<R: Wait>(
     page: u32,
 ) -> Result<Told, AllocError> {
     let delivered = caller.deliver_page(rt, alloc, page)?;
-    match told_of(&delivered) {
+    match told_of(page, &delivered) {
         Some(told) => Ok(told),
         None => Err(AllocError),
     }
@@ -62,14 +64,14 @@ enum Order {
     Descending,
 }
 
-/// Delivers all pages in this order: what was told of each, from the first page on.
+/// Delivers all pages in this order, and adds what was told of each.
 fn deliver_all<R: Wait>(
     rt: &R,
     alloc: Global,
     caller: &mut Caller<'_, '_, '_, '_>,
     order: Order,
-) -> Result<Vec<Told>, AllocError> {
-    let mut all = Vec::new(alloc);
+    all: &mut Vec<Told>,
+) -> Result<(), AllocError> {
     let pages = caller.job.document().pages();
     for step in 0..pages {
         let page = match order {
@@ -78,10 +80,7 @@ fn deliver_all<R: Wait>(
         };
         all.push(deliver_page(rt, alloc, caller, page)?)?;
     }
-    if matches!(order, Order::Descending) {
-        all.reverse();
-    }
-    Ok(all)
+    Ok(())
 }
 
 /// The same by a caller of a thread's own.
@@ -92,11 +91,20 @@ fn deliver_own<R: Wait>(
     order: Order,
 ) -> Result<Vec<Told>, AllocError> {
     let mut caller = caller;
-    deliver_all(rt, alloc, &mut caller, order)
+    let mut all = Vec::new(alloc);
+    deliver_all(rt, alloc, &mut caller, order, &mut all)?;
+    Ok(all)
 }
 
-/// What two callers were told.
-type Both = Result<(Vec<Told>, Vec<Told>), AllocError>;
+/// What two threads were told, if both could deliver.
+fn together(
+    one: Result<Vec<Told>, AllocError>,
+    other: Result<Vec<Told>, AllocError>,
+) -> Result<Vec<Told>, AllocError> {
+    let mut all = one?;
+    all.extend_from_slice(other?.as_slice())?;
+    Ok(all)
+}
 
 /// One thread delivers all pages ascending and one descending.
 fn deliver_by_two<R: Threads + Wait + Sync>(
@@ -104,13 +112,13 @@ fn deliver_by_two<R: Threads + Wait + Sync>(
     alloc: Global,
     one: Caller<'_, '_, '_, '_>,
     other: Caller<'_, '_, '_, '_>,
-) -> Both {
+) -> Result<Vec<Told>, AllocError> {
     let (up, down) = thread::join(
         rt,
         move || deliver_own(rt, alloc, one, Order::Ascending),
         move || deliver_own(rt, alloc, other, Order::Descending),
     );
-    Ok((up?, down?))
+    together(up, down)
 }
 
 /// Who delivers the pages.
@@ -126,10 +134,11 @@ fn deliver_by_one<R: Wait>(
     rt: &R,
     alloc: Global,
     caller: &mut Caller<'_, '_, '_, '_>,
-) -> Result<Vec<Vec<Told>>, AllocError> {
-    let up = deliver_all(rt, alloc, caller, Order::Ascending)?;
-    let down = deliver_all(rt, alloc, caller, Order::Descending)?;
-    Ok(vec![in alloc; up, down]?)
+) -> Result<Vec<Told>, AllocError> {
+    let mut all = Vec::new(alloc);
+    deliver_all(rt, alloc, caller, Order::Ascending, &mut all)?;
+    deliver_all(rt, alloc, caller, Order::Descending, &mut all)?;
+    Ok(all)
 }
 
 /// The same by two threads and by the two others that each of two threads starts.
@@ -137,7 +146,7 @@ fn deliver_by_four<R: Threads + Wait + Sync>(
     rt: &R,
     alloc: Global,
     caller: &mut Caller<'_, '_, '_, '_>,
-) -> Result<Vec<Vec<Told>>, AllocError> {
+) -> Result<Vec<Told>, AllocError> {
     let (first, second) = two_others(caller)?;
     let (third, fourth) = two_others(caller)?;
     let (one, other) = thread::join(
@@ -145,39 +154,35 @@ fn deliver_by_four<R: Threads + Wait + Sync>(
         move || deliver_by_two(rt, alloc, first, second),
         move || deliver_by_two(rt, alloc, third, fourth),
     );
-    let (a, b) = one?;
-    let (c, d) = other?;
-    Ok(vec![in alloc; a, b, c, d]?)
+    together(one, other)
 }
 
-/// What was told of each page, in each time that it was delivered.
+/// What was told of each page, each time that it was delivered.
 fn deliver_by<R: Threads + Wait + Sync>(
     rt: &R,
     alloc: Global,
     caller: &mut Caller<'_, '_, '_, '_>,
     callers: Callers,
-) -> Result<Vec<Vec<Told>>, AllocError> {
+) -> Result<Vec<Told>, AllocError> {
     match callers {
         Callers::One => deliver_by_one(rt, alloc, caller),
         Callers::Two => {
             let (first, second) = two_others(caller)?;
-            let (one, other) = deliver_by_two(rt, alloc, first, second)?;
-            Ok(vec![in alloc; one, other]?)
+            deliver_by_two(rt, alloc, first, second)
         }
         Callers::Four => deliver_by_four(rt, alloc, caller),
     }
 }
 
 /// What was told of a page, each time that it was delivered.
-fn told_of_page(alloc: Global, all: &[Vec<Told>], page: usize) -> Result<Vec<Told>, AllocError> {
-    let mut told = Vec::with_capacity(alloc, all.len())?;
-    for pages in all {
-        match pages.get(page) {
-            Some(one) => told.push(*one)?,
-            None => return Err(AllocError),
+fn told_of_page(alloc: Global, all: &[Told], page: u32) -> Result<Vec<Told>, AllocError> {
+    let mut of_page = Vec::new(alloc);
+    for told in all {
+        if told.page == page {
+            of_page.push(*told)?;
         }
     }
-    Ok(told)
+    Ok(of_page)
 }
 
 /// The index at which the page was stored, if it was stored once.
@@ -230,12 +235,7 @@ fn count_completed(all: &[Told]) -> u32 {
 }
 
 /// Whether each page was stored once and marked once, and each sheet of so many slots was completed once.
-fn is_each_once(
-    alloc: Global,
-    all: &[Vec<Told>],
-    pages: usize,
-    slots: usize,
-) -> Result<bool, AllocError> {
+fn is_each_once(alloc: Global, all: &[Told], pages: u32, slots: u32) -> Result<bool, AllocError> {
     let mut completed = 0u32;
     for page in 0..pages {
         let told = told_of_page(alloc, all, page)?;
@@ -296,9 +296,8 @@ fn deliver_and_look<R: Threads + Wait + Sync + Abort>(
     assert_that(rt, caller.job.document().pages() == pages);
     assert_that(rt, caller.job.sheets() == sheets);
     let all = deliver_by(rt, alloc, &mut caller, callers)?;
-    assert_that(rt, all.len() > 1);
-    let is_once = is_each_once(alloc, all.as_slice(), pages as usize, slots as usize)?;
-    assert_that(rt, is_once);
+    assert_that(rt, all.len() > pages as usize);
+    assert_that(rt, is_each_once(alloc, all.as_slice(), pages, slots)?);
     assert_that(rt, gives_each_sheet(rt, alloc, &mut caller)?);
     Ok(())
 }

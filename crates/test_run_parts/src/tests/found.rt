@@ -1,5 +1,4 @@
 //! What the shelf gives of an entry that is found.
-ghost use Rattle.std.specs.Prelude.{IfOk};
 ghost use Rattle.handover.specs.Shelves.{IsOn};
 
 use crate::tests::checks::assert_that;
@@ -13,24 +12,6 @@ use std::test::Fail;
 struct Known<'d> {
     page: u32,
     raw: &'d [u8],
-}
-
-/// Puts a page on the shelf, and gives its receipt.
-fn shelved<'d, R: Wait>(
-    rt: &R,
-    alloc: Global,
-    shelf: &Shelf<'d>,
-    known: Known<'d>,
-) -> Result<Receipt<'d>, AllocError>
-    ensures { IfOk result (IsOn shelf.now) }
-{
-    let Ok(prepared) = Prepared::new(alloc, known.page, known.raw) else {
-        return Err(AllocError);
-    };
-    match shelf.put(rt, prepared) {
-        Ok(receipt) => Ok(receipt),
-        Err(_) => Err(AllocError),
-    }
 }
 
 /// Whether this is the page.
@@ -60,6 +41,36 @@ fn is_shown<'d>(shelf: &Shelf<'d>, receipt: &Receipt<'d>, known: Known<'_>) -> b
     }
 }
 
+/// Puts a page on the shelf: whether it is found and shown.
+fn is_found_alone<'d, R: Wait>(
+    rt: &R,
+    alloc: Global,
+    shelf: &Shelf<'d>,
+    known: Known<'d>,
+) -> Result<bool, Fail> {
+    let prepared = Prepared::new(alloc, known.page, known.raw)?;
+    let Ok(receipt) = shelf.put(rt, prepared) else {
+        return Err(AllocError)?;
+    };
+    Ok(is_found(shelf, &receipt, known) && is_shown(shelf, &receipt, known))
+}
+
+/// The same of two pages, once both are on the shelf.
+fn are_found<'d, R: Wait>(
+    rt: &R,
+    alloc: Global,
+    shelf: &Shelf<'d>,
+    one: Known<'d>,
+    two: Known<'d>,
+) -> Result<bool, Fail> {
+    let prepared = Prepared::new(alloc, one.page, one.raw)?;
+    let Ok(receipt) = shelf.put(rt, prepared) else {
+        return Err(AllocError)?;
+    };
+    let is_other_found = is_found_alone(rt, alloc, shelf, two)?;
+    Ok(is_other_found && is_found(shelf, &receipt, one) && is_shown(shelf, &receipt, one))
+}
+
 #[test]
 fn entries_are_found_with_their_receipts(rt: HostRuntime) -> Result<(), Fail> {
     let shelf = Shelf::new(rt.alloc())?;
@@ -71,11 +82,6 @@ fn entries_are_found_with_their_receipts(rt: HostRuntime) -> Result<(), Fail> {
         page: 4,
         raw: b"%%Page: 5 5\ntwo\n".as_slice(),
     };
-    let first = shelved(&rt, rt.alloc(), &shelf, one)?;
-    let second = shelved(&rt, rt.alloc(), &shelf, two)?;
-    assert_that(&rt, is_found(&shelf, &first, one));
-    assert_that(&rt, is_found(&shelf, &second, two));
-    assert_that(&rt, is_shown(&shelf, &first, one));
-    assert_that(&rt, is_shown(&shelf, &second, two));
+    assert_that(&rt, are_found(&rt, rt.alloc(), &shelf, one, two)?);
     Ok(())
 }

@@ -17,17 +17,18 @@ use std::process::Abort;
 use std::test::Fail;
 use test_tools::{A4_SIDES, UNMOVED, document_with, opening, placed, sheet};
 
-/// A sheet with a text of these bytes comes alone.
-fn put_one(
+/// Sheets with texts of these bytes come together.
+fn put_texts(
     alloc: Global,
     early: &mut Early<'_>,
-    number: u32,
-    bytes: &[u8],
+    sheets: &[(u32, &[u8])],
 ) -> Result<(), AllocError> {
     let mut text = Rope::new(alloc);
-    text.append(bytes)?;
     let mut finished = FinishedSheets::new(alloc);
-    finished.push(number, &mut text)?;
+    for (sheet, bytes) in sheets {
+        text.append(bytes)?;
+        finished.push(*sheet, &mut text)?;
+    }
     early.put(finished);
     Ok(())
 }
@@ -72,9 +73,9 @@ fn are_taken(early: &mut Early<'_>, counts: &[(u32, usize)]) -> bool {
 fn a_sheet_waits_in_its_place(rt: HostRuntime) -> Result<(), Fail> {
     let mut early = Early::new(rt.alloc(), 2)?;
     assert_that(&rt, (early.places.len(), early.groups.len()) == (2, 2));
-    put_one(rt.alloc(), &mut early, 1, b"a")?;
+    put_texts(rt.alloc(), &mut early, &[(1, b"a".as_slice())])?;
     // Another sheet has the same place: it is dropped, and asking for it leaves the first one there.
-    put_one(rt.alloc(), &mut early, 3, b"b")?;
+    put_texts(rt.alloc(), &mut early, &[(3, b"b".as_slice())])?;
     assert_that(&rt, are_found(&early, &[false, true, false, false]));
     assert_that(&rt, are_taken(&mut early, &[(3, 0), (0, 0)]));
     assert_that(&rt, is_text(rt.alloc(), &early, 1, b"a")?);
@@ -83,27 +84,18 @@ fn a_sheet_waits_in_its_place(rt: HostRuntime) -> Result<(), Fail> {
     Ok(())
 }
 
-/// Sheets with texts of no bytes come together.
-fn put_empty(alloc: Global, early: &mut Early<'_>, sheets: &[u32]) -> Result<(), AllocError> {
-    let mut text = Rope::new(alloc);
-    let mut finished = FinishedSheets::new(alloc);
-    for sheet in sheets {
-        finished.push(*sheet, &mut text)?;
-    }
-    early.put(finished);
-    Ok(())
-}
+const NOTHING: &[u8] = &[];
 
 #[test]
 fn sheets_are_dropped_together(rt: HostRuntime) -> Result<(), Fail> {
     let mut early = Early::new(rt.alloc(), 4)?;
-    put_empty(rt.alloc(), &mut early, &[1, 3])?;
+    put_texts(rt.alloc(), &mut early, &[(1, NOTHING), (3, NOTHING)])?;
     // They lie at the place of the last of them, which is taken.
-    put_empty(rt.alloc(), &mut early, &[4, 7])?;
+    put_texts(rt.alloc(), &mut early, &[(4, NOTHING), (7, NOTHING)])?;
     let found = [false, true, false, true, false, false, false, false];
     assert_that(&rt, are_found(&early, &found));
     // Now the first of these has the place of another sheet, which is as if it had not come.
-    put_empty(rt.alloc(), &mut early, &[5, 6])?;
+    put_texts(rt.alloc(), &mut early, &[(5, NOTHING), (6, NOTHING)])?;
     let found = [false, false, false, true, false, true, true, false];
     assert_that(&rt, are_found(&early, &found));
     assert_that(
@@ -155,6 +147,25 @@ fn is_sheet_text(
 }
 
 /// The text of a sheet with a page that isn't copied if it is long.
+fn put_together<'r>(
+    alloc: Global,
+    job: &Job<'_, '_>,
+    sheet: u32,
+    body: &'r [u8],
+) -> Result<Rope<'r>, AllocError>
+    requires { sheet < length job.now.plan.sheets }
+{
+    if job.plan().slots(sheet) == 0 {
+        return Err(AllocError);
+    }
+    let mut text = Rope::new(alloc);
+    begin_sheet(&mut text, job, sheet)?;
+    append_placed(&mut text, &mut Openings::new(alloc), job, sheet, 0, body)?;
+    end_sheet(&mut text, job, sheet)?;
+    Ok(text)
+}
+
+/// The same, if it is what the sheet's text is otherwise.
 fn text_with<'r>(
     alloc: Global,
     job: &Job<'_, '_>,
@@ -164,13 +175,7 @@ fn text_with<'r>(
     requires { sheet < length job.now.plan.sheets }
     ensures { IfOk result (λ text. text ≡ text_of job.now sheet) }
 {
-    if job.plan().slots(sheet) == 0 {
-        return Err(AllocError);
-    }
-    let mut text = Rope::new(alloc);
-    begin_sheet(&mut text, job, sheet)?;
-    append_placed(&mut text, &mut Openings::new(alloc), job, sheet, 0, body)?;
-    end_sheet(&mut text, job, sheet)?;
+    let text = put_together(alloc, job, sheet, body)?;
     let wanted = sheet_text(alloc, job, sheet)?;
     let bytes = text.to_vec(alloc)?;
     if bytes.as_slice() == wanted.as_slice() {

@@ -1,13 +1,15 @@
 use Rattle.std.proofs.Common.{arith, rules, ◌≡◌, ◌<◌, ℕ, ◌∙◌, ◌+◌, ◌*◌, ◌++◌, ◌∷◌, [], sym, subst}
-use Rattle.std.specs.Prelude.{map}
+use Rattle.std.specs.Prelude.{length, map}
 use Rattle.std.specs.List.{range_with_len}
 use Rattle.sheet_plan.specs.OfSheets.{slot_of}
+use Rattle.rules.specs.Sheets.{blocks}
 use Rattle.arranged_sheets.specs.Filled.{is_turned, grid_entry}
 use Rattle.arranged_sheets.specs.Shapes.{filling}
 use Rattle.arranged_sheets.specs.Creep.{creep_on, creeping_slot, IsRefusedCreep}
 use Rattle.arranged_sheets.specs.Standing.{EntryCreeps, LeavesStand}
 use Rattle.arranged_sheets.proofs.Filling.{sheet, sheet_more, one_more}
 use Rattle.arranged_sheets.proofs.OnLeaves.{leaves_stand}
+use Rattle.arranged_sheets.proofs.Places.{creeping_fit}
 use Rattle.arranged_sheets.proofs.Creeping.{both_slots, both_creep, entry_creeps, entry_is, entry_refused}
 use Rattle.arranged_sheets.proofs.creep.creeping_booklet_sheets.Goals as goal
 
@@ -60,3 +62,8 @@ returns-clause-stands c =
     let t = c.args.setting.now in
     subst (LeavesStand t c.args.turned_backs c.args.creep.innermost) (sym c.loop-s.invariant.made)
     (leaves_stand (filling t c.args.papers.now) c.args.turned_backs c.args.creep.innermost c.args.creep.leaves c.loop-s.s c.args.row.now c.requires c.loop-s.invariant.fits)
+
+pub returns-clause-fits : goal.returns-clause-fits
+returns-clause-fits c =
+    let many : c.loop-s.s ≡ blocks 2 (length c.args.row.now) = search rules in
+    creeping_fit (filling c.args.setting.now c.args.papers.now) c.args.creep.innermost c.args.creep.leaves c.loop-s.s c.args.row.now many c.loop-s.invariant.fits

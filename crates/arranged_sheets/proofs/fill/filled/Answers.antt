@@ -1,4 +1,4 @@
-use Rattle.std.proofs.Common.{rules, ◌≡◌, ◌<◌, ℕ, ◌∙◌, ap, ◌++◌, ◌∷◌, [], sym, subst}
+use Rattle.std.proofs.Common.{arith, rules, ◌≡◌, ◌<◌, ℕ, ◌∙◌, ap, ◌++◌, ◌∷◌, [], sym, subst}
 use Rattle.std.specs.Prelude.{map}
 use Rattle.std.specs.List.{range_with_len}
 use Rattle.sheet_plan.specs.OfSheets.{slot_of}
@@ -37,3 +37,6 @@ returns-clause-stands c =
     let f = filling t c.args.papers.now in
     subst (AllStand t.room) (sym c.loop-s.invariant.made)
     (sides_stand f c.args.shape.turned_backs c.loop-s.s c.args.shape.cells (entry_in c.args.shape t c.args.row.now) c.requires.cells c.requires.halves c.loop-s.invariant.fits)
+
+pub returns-clause-fits : goal.returns-clause-fits
+returns-clause-fits c = λ s k in_s in_k. c.loop-s.invariant.fits s k (omega (arith, in_s)) in_k

@@ -26,3 +26,6 @@ loop-n-preserved c =
     let here = ap (λ i. Placed k i page ∷ []) is in
     let e : c.push.new.self ≡ c.loop-n.made ++ sheet p.sheet (Placed k item page ∷ []) ∷ [] = search rules in
     sheet_behind p.sheet (λ m. Placed k (tile_item page p k (m % p.columns) (p.rows - (m / p.columns + 1))) page ∷ []) c.args.made.now c.loop-n.made c.push.new.self (Placed k item page ∷ []) n c.loop-n.invariant here e
+
+pub returns-clause-fits : goal.returns-clause-fits
+returns-clause-fits c = record { page_is = c.in-Ok.ensures.page; fits = c.in-Ok.ensures.possible }

@@ -11,4 +11,4 @@ room_within n xs room =
     omega (arith, front, whole)
 
 pub behind-requires : goal.behind-requires
-behind-requires g c = omega (arith, room_within 2048 c.in-Ok.bytes.items c.in-Ok.ensures.room, c.in-Ok.bytes.ok.0)
+behind-requires g c = omega (arith, room_within 2560 c.in-Ok.bytes.items c.in-Ok.ensures.room, c.in-Ok.bytes.ok.0)

@@ -37,6 +37,7 @@ returns-in-Ok-text_to_impose-clause-is_task c = record {
       ∙ ap (λ s. guarded_in c.args.request.now.layout (first_paper (imposed_row (length c.in-Ok.found.papers.items) (choice_in c.args.request.now.choice) None) c.in-Ok.found.papers.items s) s)
       c.papers_for-papers.ensures.sheet);
   laying = search rules;
+  possible = search rules;
   may_be_laid = search rules;
   signing = c.in-Ok-signing_for.ensures.signing;
   may_be_sewn = c.in-Ok-signing_for.ensures.may_be;

@@ -1,7 +1,7 @@
 use Rattle.std.proofs.Common.{ℕ, List, ◌++◌, codes, ◌∙◌, ap}
 use Rattle.std.specs.Prelude.{◌+◌, ◌*◌, ◌/◌, decimal}
 use Rattle.rules.specs.Bytes.{line}
-use Rattle.preview.specs.Drawing.{style}
+use Rattle.preview.specs.Drawing.{style, ground}
 use Rattle.preview.proofs.Chains.{joined}
 use Rattle.preview.proofs.drawing.append_opening.Goals as goal
 
@@ -21,4 +21,6 @@ returns c =
     let s2 = joined o t1 b2 _ _ s1 (c.in_ok-append_number.ensures ∙ ap (λ (n : ℕ). c.extend_from_slice.new.self.items ++ decimal (40 + n)) c.height_of.ensures) in
     let s3 = joined o t2 b3 _ _ s2 (c.in_ok-extend_from_slice-2.ensures.items) in
     let s4 = joined o t3 b4 _ _ s3 (c.in_ok-extend_from_slice-3.ensures.items) in
-    joined o t4 b5 _ _ s4 (c.in_ok-extend_from_slice-4.ensures.items)
+    let b6 : List ℕ = line ground in
+    let s5 = joined o t4 b5 _ _ s4 (c.in_ok-extend_from_slice-4.ensures.items) in
+    joined o t5 b6 _ _ s5 (c.in_ok-extend_from_slice-5.ensures.items)

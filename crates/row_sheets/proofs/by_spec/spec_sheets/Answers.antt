@@ -3,7 +3,7 @@ use Rattle.std.specs.Prelude.{flat_map}
 use Rattle.std.specs.List.{range_with_len}
 use Rattle.row_sheets.specs.BySpec.{sheet_by}
 use Rattle.row_sheets.proofs.BlockByBlock.{block_more}
-use Rattle.row_sheets.proofs.OfOnePaper.{made_sheets_are}
+use Rattle.row_sheets.proofs.GroupByGroup.{made_sheets_are}
 use Rattle.row_sheets.proofs.by_spec.spec_sheets.Goals as goal
 
 pub loop-block-preserved : goal.loop-block-preserved

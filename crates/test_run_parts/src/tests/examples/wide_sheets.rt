@@ -6,6 +6,7 @@ use gather_table::{Closing, GatherTable, Published, Reply};
 use handover::{Ready, Shelf};
 use lengths::a4;
 use pagespec::read_spec;
+use run_steps::Delivered;
 use sheet_plan::Plan;
 use sheet_text::Job;
 use std::alloc::{AllocError, Global};
@@ -85,14 +86,35 @@ fn the_last_closing_completes_a_sheet(rt: HostRuntime) -> Result<(), Fail> {
     with_caller(&rt, rt.alloc(), ONE_PAGE, &items, 1, &CompleteByClosing {})
 }
 
-/// What a thread was answered when it delivered the first page.
-type Answers = Result<(Vec<Reply>, Vec<Closing>), AllocError>;
+/// What a thread was answered when it delivered the first page: how many marks filled the first group, the second, and
+/// none, how many found their slot marked, how many groups were closed, and how many closings completed the sheet.
+type Counts = [usize; 6];
+
+/// Of both threads each group is filled by one, each slot is new to one, and one closing completes the sheet.
+const OF_BOTH: Counts = [1, 1, 63, 65, 2, 1];
+
+fn counts_of(delivered: &Delivered<'_>) -> Counts {
+    let replies = delivered.replies.as_slice();
+    let closings = delivered.closings.as_slice();
+    [
+        count_of(replies, Reply::Fills(0)),
+        count_of(replies, Reply::Fills(1)),
+        count_of(replies, Reply::Fresh),
+        count_of(replies, Reply::Repeated),
+        closings.len(),
+        count_completing(closings),
+    ]
+}
 
 /// Delivers the first page by a caller of the thread's own.
-fn deliver_first<R: Wait>(rt: &R, alloc: Global, caller: Caller<'_, '_, '_, '_>) -> Answers {
+fn deliver_first<R: Wait>(
+    rt: &R,
+    alloc: Global,
+    caller: Caller<'_, '_, '_, '_>,
+) -> Result<Counts, AllocError> {
     let mut caller = caller;
     let delivered = caller.deliver_page(rt, alloc, 0)?;
-    Ok((delivered.replies, delivered.closings))
+    Ok(counts_of(&delivered))
 }
 
 /// Two threads deliver the first page at once. The caller that is left looks at the queue afterwards.
@@ -100,13 +122,14 @@ fn deliver_in_two_threads<R: Threads + Wait + Sync>(
     rt: &R,
     alloc: Global,
     caller: &mut Caller<'_, '_, '_, '_>,
-) -> Result<(Answers, Answers), AllocError> {
+) -> Result<(Counts, Counts), AllocError> {
     let (one, other) = two_others(caller)?;
-    Ok(thread::join(
+    let (here, there) = thread::join(
         rt,
         move || deliver_first(rt, alloc, one),
         move || deliver_first(rt, alloc, other),
-    ))
+    );
+    Ok((here?, there?))
 }
 
 /// How many of the marks were answered so.
@@ -120,21 +143,6 @@ fn count_of(replies: &[Reply], reply: Reply) -> usize {
     count
 }
 
-/// Whether of both threads' marks each group was filled by one, and each slot was new to one.
-fn are_filled_once(one: &[Reply], other: &[Reply]) -> bool {
-    for (reply, times) in [
-        (Reply::Fills(0), 1),
-        (Reply::Fills(1), 1),
-        (Reply::Fresh, 63),
-        (Reply::Repeated, 65),
-    ] {
-        if count_of(one, reply).saturating_add(count_of(other, reply)) != times {
-            return false;
-        }
-    }
-    true
-}
-
 /// How many of the closings completed the sheet.
 fn count_completing(closings: &[Closing]) -> usize {
     let mut count = 0usize;
@@ -146,10 +154,14 @@ fn count_completing(closings: &[Closing]) -> usize {
     count
 }
 
-/// Whether of both threads' closings one completed the sheet, and the other one didn't.
-fn is_completed_once(one: &[Closing], other: &[Closing]) -> bool {
-    let completing = count_completing(one).saturating_add(count_completing(other));
-    completing == 1 && one.len().saturating_add(other.len()) == 2
+/// Whether these are the counts of both.
+fn are_of_both(one: Counts, other: Counts) -> bool {
+    for ((here, there), wanted) in one.iter().zip(other.iter()).zip(OF_BOTH.iter()) {
+        if here.saturating_add(*there) != *wanted {
+            return false;
+        }
+    }
+    true
 }
 
 /// Two threads deliver a page that fills both groups of a sheet.
@@ -159,13 +171,7 @@ fn deliver_and_look<R: Threads + Wait + Sync + Abort>(
     caller: &mut Caller<'_, '_, '_, '_>,
 ) -> Result<(), AllocError> {
     let (one, other) = deliver_in_two_threads(rt, alloc, caller)?;
-    let (one, closed) = one?;
-    let (other, also_closed) = other?;
-    assert_that(rt, are_filled_once(one.as_slice(), other.as_slice()));
-    assert_that(
-        rt,
-        is_completed_once(closed.as_slice(), also_closed.as_slice()),
-    );
+    assert_that(rt, are_of_both(one, other));
     assert_that(rt, caller.take(rt) == Some(0));
     assert_that(rt, caller.take(rt).is_none());
     Ok(())

@@ -11,6 +11,15 @@ use std::sync::Wait;
 use std::test::Fail;
 use test_tools::{MOST_GROWTHS, ONE_PAGE, Refused, has_refused, refuse, refuse_each, same_items};
 
+/// Whether so much of the first sheet is missing, its page hasn't come, and the queue is empty.
+fn is_untouched<R: Wait>(
+    rt: &R,
+    caller: &mut Caller<'_, '_, '_, '_>,
+    missing: Option<u64>,
+) -> bool {
+    caller.look(0) == missing && caller.page_at(0).is_none() && caller.take(rt).is_none()
+}
+
 /// A page that came back is delivered with memory. Until then table and queue answer as before.
 fn deliver_with_memory<'d, R: Wait + Abort>(
     rt: &R,
@@ -20,9 +29,7 @@ fn deliver_with_memory<'d, R: Wait + Abort>(
     missing: Option<u64>,
 ) -> Result<Delivered<'d>, AllocError> {
     assert_that(rt, prepared.page() == 0);
-    assert_that(rt, caller.look(0) == missing);
-    assert_that(rt, caller.page_at(0).is_none());
-    assert_that(rt, caller.take(rt).is_none());
+    assert_that(rt, is_untouched(rt, caller, missing));
     match caller.deliver(rt, alloc, prepared) {
         Some(Ok(delivered)) => Ok(delivered),
         _ => Err(AllocError),

@@ -1,0 +1,164 @@
+-- A page stands in its cell.
+use Rattle.std.proofs.Common.{arith, ◌≡◌, ◌∙◌, ℕ, ◌+◌, ◌-◌, ◌*◌, ◌<◌, ◌≤◌, Bool, true, false, refl, sym, subst}
+use Rattle.std.specs.Prelude.{ℤ, pos, negsuc, ◌≤ℤ◌, ◌+ℤ◌, ◌-ℤ◌, ◌*ℤ◌, neg_ℤ, nat_abs, if◌then◌else◌, ◌==◌}
+use Rattle.std.proofs.lemmas.Int.{ints}
+use Rattle.rules.specs.Papers.{Paper}
+use Rattle.rules.specs.Specification.{Item, Upright, Left}
+use Rattle.rules.specs.Placement.{Point}
+use Rattle.layouts.specs.Placed.{Room, fine, stands, IsOfPage}
+use Rattle.layouts.specs.Cells.{Grid, kept, step, trimmed, to_right, to_top, item_at, row_of, column_of}
+use Rattle.layouts.specs.Laws.{Cell, HasPlace, LiesInCell, IsInCell, GridIsInCell, cell_at}
+use Rattle.layouts.proofs.AlongSide.{in_cell, moved_back, kept_at}
+use Rattle.layouts.proofs.Sides.{of_sides, placed, point, far, start, end, between}
+use Rattle.layouts.proofs.OnSide.{HasCell, cell, shown, from_start, from_end, ends}
+use Rattle.layouts.proofs.InGrid.{cells, fits, sides_are}
+
+-- ---- a page between four lines
+
+record InBox (left right bottom top : ℤ) (p : Point) : Type 0 where
+  pub left_is : left ≤ℤ p.x
+  pub right_is : p.x ≤ℤ right
+  pub bottom_is : bottom ≤ℤ p.y
+  pub top_is : p.y ≤ℤ top
+
+upright_box_at : (v u l k s : ℕ) (x y e f g h : ℤ) → e ≤ℤ (far x +ℤ pos (start l s)) → (far x +ℤ pos (end l v s)) ≤ℤ f → g ≤ℤ (far y +ℤ pos (start l s)) → (far y +ℤ pos (end l u s)) ≤ℤ h
+    → (a b : ℤ) → IsOfPage l (of_sides v u) (point a b) → InBox e f g h (stands (of_sides v u) (placed Upright k s x y) (point a b))
+upright_box_at v u l k s x y e f g h left right bottom top (pos a) (pos b) of =
+    let q = between l v s a (let f = of.left in omega (arith, ints)) (let f = of.right in omega (arith, ints)) in
+    let q' = between l u s b (let f = of.bottom in omega (arith, ints)) (let f = of.top in omega (arith, ints)) in
+    let i = q.start in let j = q.end in let i' = q'.start in let j' = q'.end in
+    record {
+      left_is = omega (arith, ints);
+      right_is = omega (arith, ints);
+      bottom_is = omega (arith, ints);
+      top_is = omega (arith, ints);
+    }
+upright_box_at v u l k s x y e f g h left right bottom top (negsuc a) b of = absurd (let f = of.left in omega (arith, ints))
+upright_box_at v u l k s x y e f g h left right bottom top (pos a) (negsuc b) of = absurd (let f = of.bottom in omega (arith, ints))
+
+left_box_at : (v u l k s : ℕ) (x y e f g h : ℤ) → (e +ℤ pos (end l u s)) ≤ℤ far x → far x ≤ℤ (f +ℤ pos (start l s)) → g ≤ℤ (far y +ℤ pos (start l s)) → (far y +ℤ pos (end l v s)) ≤ℤ h
+    → (a b : ℤ) → IsOfPage l (of_sides v u) (point a b) → InBox e f g h (stands (of_sides v u) (placed Left k s x y) (point a b))
+left_box_at v u l k s x y e f g h left right bottom top (pos a) (pos b) of =
+    let q = between l v s a (let f = of.left in omega (arith, ints)) (let f = of.right in omega (arith, ints)) in
+    let q' = between l u s b (let f = of.bottom in omega (arith, ints)) (let f = of.top in omega (arith, ints)) in
+    let i = q.start in let j = q.end in let i' = q'.start in let j' = q'.end in
+    record {
+      left_is = omega (arith, ints);
+      right_is = omega (arith, ints);
+      bottom_is = omega (arith, ints);
+      top_is = omega (arith, ints);
+    }
+left_box_at v u l k s x y e f g h left right bottom top (negsuc a) b of = absurd (let f = of.left in omega (arith, ints))
+left_box_at v u l k s x y e f g h left right bottom top (pos a) (negsuc b) of = absurd (let f = of.bottom in omega (arith, ints))
+
+-- ---- along a side
+
+-- a page that is counted from the start of cell j begins in it, and ends in it, to what the rounding leaves
+starts_in : (room : Room) (w c v s j : ℕ) → HasCell room w c v s
+    → fine (kept room room.edge + j * step room w c) ≤ℤ (far (pos (from_start room w c v s j) -ℤ pos (trimmed room s)) +ℤ pos (start room.trim s))
+starts_in room w c v s j h =
+    let back = moved_back room.trim s in
+    omega (arith, ints, back)
+
+ends_in : (room : Room) (w c v s j : ℕ) → HasCell room w c v s
+    → (far (pos (from_start room w c v s j) -ℤ pos (trimmed room s)) +ℤ pos (end room.trim v s)) ≤ℤ fine (kept room room.edge + j * step room w c + cell room w c + kept room 0)
+ends_in room w c v s j h =
+    let is = (ends room v s 0 h.left).end in
+    let more = (ends room v s 0 h.left).kept in
+    let most = in_cell (cell room w c) (shown room v) s h.fits in
+    omega (arith, ints, is, more, most)
+
+-- and one that is counted from the other end of the cell
+starts_in_turned : (room : Room) (w c v s j : ℕ) → HasCell room w c v s
+    → ((fine (kept room room.edge + j * step room w c) -ℤ fine (kept room 0)) +ℤ pos (end room.trim v s)) ≤ℤ far (pos (from_end room w c v s j) +ℤ pos (trimmed room s))
+starts_in_turned room w c v s j h =
+    let is = (ends room v s 0 h.left).end in
+    let more = (ends room v s 0 h.left).kept in
+    let most = in_cell (cell room w c) (shown room v) s h.fits in
+    omega (arith, ints, is, more, most)
+
+ends_in_turned : (room : Room) (w c v s j : ℕ) → HasCell room w c v s
+    → far (pos (from_end room w c v s j) +ℤ pos (trimmed room s)) ≤ℤ (fine (kept room room.edge + j * step room w c + cell room w c) +ℤ pos (start room.trim s))
+ends_in_turned room w c v s j h =
+    let back = moved_back room.trim s in
+    omega (arith, ints, back)
+
+-- ---- in a cell
+
+in_box : (c : Cell) (past : ℕ) (p : Point) → InBox (fine c.left -ℤ fine past) (fine (c.left + c.width + past)) (fine c.bottom -ℤ fine past) (fine (c.bottom + c.height + past)) p → LiesInCell c past p
+in_box c past p b =
+    let left = b.left_is in let bottom = b.bottom_is in
+    record {
+      left = omega (arith, ints, left);
+      right = b.right_is;
+      bottom = omega (arith, ints, bottom);
+      top = b.top_is;
+    }
+
+less_past : (a z : ℤ) (past : ℕ) → a ≤ℤ z → (a -ℤ fine past) ≤ℤ z
+less_past a z past h = omega (arith, ints, h)
+
+more_past : (z y : ℤ) (n past : ℕ) → z ≤ℤ (fine n +ℤ y) → z ≤ℤ (fine (n + past) +ℤ y)
+more_past z y n past h = omega (arith, ints, h)
+
+in_cell_at : (v u : ℕ) (room : Room) (r c : ℕ) (b : Bool) (s k row column : ℕ) → HasPlace (of_sides v u) room (cells r c b) s
+    → IsInCell room (of_sides v u) (cell_at room (cells r c b) row column) (kept room 0) (item_at (of_sides v u) room (cells r c b) s k row column)
+in_cell_at v u room r c false s k row column place p of =
+    let f = fits (of_sides v u) room (cells r c false) s place in
+    let w = nat_abs room.paper.width in
+    let h = nat_abs room.paper.height in
+    let past = kept room 0 in
+    let g = cells r c false in
+    let at = cell_at room g row column in
+    let across : HasCell room w c v s = record { some = f.some_wide; fits = f.is_wide; left = place.some_wide } in
+    let down : HasCell room h r u s = record { some = f.some_high; fits = f.is_high; left = place.some_high } in
+    in_box at past (stands (of_sides v u) (item_at (of_sides v u) room g s k row column) p)
+    (upright_box_at v u room.trim k s (to_right (of_sides v u) room g s row column) (to_top (of_sides v u) room g s row column)
+    (fine at.left -ℤ fine past) (fine (at.left + at.width + past)) (fine at.bottom -ℤ fine past) (fine (at.bottom + at.height + past))
+    (less_past (fine at.left) _ past (starts_in room w c v s column across)) (ends_in room w c v s column across)
+    (less_past (fine at.bottom) _ past (starts_in room h r u s (r - (row + 1)) down)) (ends_in room h r u s (r - (row + 1)) down)
+    p.x p.y of)
+in_cell_at v u room r c true s k row column place p of =
+    let f = fits (of_sides v u) room (cells r c true) s place in
+    let w = nat_abs room.paper.width in
+    let h = nat_abs room.paper.height in
+    let past = kept room 0 in
+    let g = cells r c true in
+    let at = cell_at room g row column in
+    let across : HasCell room h c v s = record { some = f.some_wide; fits = f.is_wide; left = place.some_wide } in
+    let down : HasCell room w r u s = record { some = f.some_high; fits = f.is_high; left = place.some_high } in
+    in_box at past (stands (of_sides v u) (item_at (of_sides v u) room g s k row column) p)
+    (left_box_at v u room.trim k s (to_right (of_sides v u) room g s row column) (to_top (of_sides v u) room g s row column)
+    (fine at.left -ℤ fine past) (fine (at.left + at.width + past)) (fine at.bottom -ℤ fine past) (fine (at.bottom + at.height + past))
+    (starts_in_turned room w r u s row down) (more_past _ (pos (start room.trim s)) (at.left + at.width) past (ends_in_turned room w r u s row down))
+    (less_past (fine at.bottom) _ past (starts_in room h c v s column across)) (ends_in room h c v s column across)
+    p.x p.y of)
+
+abbrev InCellIf : (room : Room) (g : Grid) (s k row column : ℕ) → Paper → Type 0
+InCellIf room g s k row column o = HasPlace o room g s → IsInCell room o (cell_at room g row column) (kept room 0) (item_at o room g s k row column)
+
+pub grid_in_cell : GridIsInCell
+grid_in_cell page room g o s k is place =
+    subst (InCellIf room g s k (row_of o g k) (column_of o g k)) (sym (sides_are page is))
+    (λ here. in_cell_at (nat_abs page.width) (nat_abs page.height) room g.rows g.columns g.turned s k (row_of o g k) (column_of o g k) here)
+    place
+
+-- ---- farther past
+
+pub farther : (cell : Cell) (n m : ℕ) (p : Point) → n ≤ m → LiesInCell cell n p → LiesInCell cell m p
+farther cell n m p more lies =
+    let left = lies.left in let right = lies.right in let bottom = lies.bottom in let top = lies.top in
+    record {
+      left = omega (arith, ints, more, left);
+      right = omega (arith, ints, more, right);
+      bottom = omega (arith, ints, more, bottom);
+      top = omega (arith, ints, more, top);
+    }
+
+kept_one : (b : Bool) → (if b then 0 else 0 + 1) ≤ 1
+kept_one true = omega arith
+kept_one false = omega arith
+
+pub past_is : (room : Room) (b : Bool) → kept room 0 ≤ (if b then 1 else kept room 0)
+past_is room true = kept_one (room.trim == 0)
+past_is room false = omega arith

@@ -1,0 +1,238 @@
+//! How sheets are read.
+ghost use Rattle.std.specs.Prelude.{◌≡◌, ◌*◌, ◌<◌, ◌++◌, slice_get, length, OnOk};
+ghost use Rattle.layouts.specs.Cells.{read_columns, read_rows};
+ghost use Rattle.sheet_plan.specs.OfSheets.{placed_of, slots_at};
+ghost use Rattle.preview.specs.Listing.{bar as bar_of, cell_at, cell_text, cells_in, cells_text, place_text, places_text, slash as slash_of};
+ghost use Rattle.preview.specs.Listing.{tile_name};
+ghost use Rattle.preview.specs.Naming.{each};
+ghost use Rattle.preview.specs.Reading.{column_read, place_at as place_in_cells, row_read};
+
+use crate::naming::{Sides, append_number};
+use layouts::{Grid, Order, Run, Turned};
+use sheet_plan::{MadeSheets, PlacedSlot};
+use std::alloc::AllocError;
+
+/// Where the places of a sheet stand: in the cells of a grid, in this order; or it has one place, a tile of a page that goes
+/// over sheets in so many rows and columns, row by row from the head, and each from the left.
+#[derive(Clone, Copy, Debug, PartialEq, Eq)]
+pub enum Places {
+    Cells { grid: Grid, order: Order },
+    Tiles { grid: Grid },
+}
+
+/// How sheets are printed, and where their places stand.
+#[derive(Clone, Copy, Debug, PartialEq, Eq)]
+pub struct Reading {
+    pub sides: Sides,
+    pub places: Places,
+}
+
+/// The places of a sheet.
+pub(crate) fn append_places(
+    sheets: &MadeSheets,
+    places: &Places,
+    sheet: u32,
+    out: &mut Vec<u8>,
+) -> Result<(), AllocError>
+    requires { sheet < length sheets.now }
+    ensures { OnOk result (out.new.items ≡ out.old.items ++ places_text places.now sheets.now sheet) }
+{
+    match places {
+        Places::Cells { grid, order } => append_cells(sheets, sheet, order, *grid, out),
+        Places::Tiles { grid } => append_tile(sheets, sheet, *grid, out),
+    }
+}
+
+/// The cells of a sheet, row by row, as one holds it for its pages to be upright.
+fn append_cells(
+    sheets: &MadeSheets,
+    sheet: u32,
+    order: &Order,
+    grid: Grid,
+    out: &mut Vec<u8>,
+) -> Result<(), AllocError>
+    requires { sheet < length sheets.now }
+    ensures { OnOk result (out.new.items ≡ out.old.items ++ cells_text (slots_at sheets.now sheet) order.now grid) }
+{
+    for row in 0..grid.rows {
+        append_row(sheets, sheet, order, grid, row, out)?;
+    }
+    Ok(())
+}
+
+/// The cells of a row, and what stands before it.
+fn append_row(
+    sheets: &MadeSheets,
+    sheet: u32,
+    order: &Order,
+    grid: Grid,
+    row: u32,
+    out: &mut Vec<u8>,
+) -> Result<(), AllocError>
+    requires sheet { sheet < length sheets.now }
+    requires row { row < grid.rows }
+    ensures { OnOk result (out.new.items ≡ out.old.items ++ cells_in (slots_at sheets.now sheet) order.now grid row) }
+{
+    out.extend_from_slice(slash(row))?;
+    append_columns(sheets, sheet, order, grid, row, out)?;
+    Ok(())
+}
+
+/// The cells of a row.
+fn append_columns(
+    sheets: &MadeSheets,
+    sheet: u32,
+    order: &Order,
+    grid: Grid,
+    row: u32,
+    out: &mut Vec<u8>,
+) -> Result<(), AllocError>
+    requires sheet { sheet < length sheets.now }
+    requires row { row < grid.rows }
+    ensures { OnOk result (out.new.items
+        ≡ out.old.items ++ each (cell_at (slots_at sheets.now sheet) order.now grid row) 0 grid.columns) }
+{
+    for column in 0..grid.columns {
+        append_next(
+            sheets,
+            sheet,
+            column,
+            place_at(order, grid, row, column),
+            out,
+        )?;
+    }
+    Ok(())
+}
+
+/// What stands in the cell of this number, and before it.
+fn append_next(
+    sheets: &MadeSheets,
+    sheet: u32,
+    column: u32,
+    number: u64,
+    out: &mut Vec<u8>,
+) -> Result<(), AllocError>
+    requires { sheet < length sheets.now }
+    ensures { OnOk result (out.new.items
+        ≡ out.old.items ++ (bar_of column ++ cell_text (slice_get (slots_at sheets.now sheet) number))) }
+{
+    out.extend_from_slice(bar(column))?;
+    append_cell(sheets, sheet, number, out)?;
+    Ok(())
+}
+
+/// What stands before a row.
+fn slash(row: u32) -> &'static [u8]
+    ensures { result.now ≡ slash_of row }
+{
+    if row == 0 { b"" } else { b" / " }
+}
+
+/// What stands before a cell.
+fn bar(column: u32) -> &'static [u8]
+    ensures { result.now ≡ bar_of column }
+{
+    if column == 0 { b"" } else { b" | " }
+}
+
+/// The columns and the rows as one reads the sheet.
+fn read_sides(turned: Turned, grid: Grid) -> (u32, u32)
+    ensures columns { result.0 ≡ read_columns turned grid }
+    ensures rows { result.1 ≡ read_rows turned grid }
+{
+    match turned {
+        Turned::Upright => (grid.columns, grid.rows),
+        Turned::Left | Turned::Right => (grid.rows, grid.columns),
+    }
+}
+
+/// The row and the column of a cell as one reads the sheet.
+fn read_cell(turned: Turned, grid: Grid, row: u32, column: u32) -> (u32, u32)
+    requires row { row < grid.rows }
+    requires column { column < grid.columns }
+    ensures row { result.0 ≡ row_read turned grid row column }
+    ensures column { result.1 ≡ column_read turned grid row column }
+    ensures in_columns { result.1 < read_columns turned grid }
+{
+    match turned {
+        Turned::Upright => (row, column),
+        Turned::Left => (grid.columns - (column + 1), row),
+        Turned::Right => (column, grid.rows - (row + 1)),
+    }
+}
+
+/// Which place stands in this row and this column.
+fn place_at(order: &Order, grid: Grid, row: u32, column: u32) -> u64
+    requires row { row < grid.rows }
+    requires column { column < grid.columns }
+    ensures { result ≡ place_in_cells order.now grid row column }
+{
+    let (columns, rows) = read_sides(order.turned, grid);
+    let (read_row, read_column) = read_cell(order.turned, grid, row, column);
+    let nth = if order.right_to_left {
+        columns - (read_column + 1)
+    } else {
+        read_column
+    };
+    match order.run {
+        Run::Rows => u64::from(read_row) * u64::from(columns) + u64::from(nth),
+        Run::Columns => u64::from(nth) * u64::from(rows) + u64::from(read_row),
+    }
+}
+
+/// What stands in the cell of this number, which may be no place of the sheet.
+fn append_cell(
+    sheets: &MadeSheets,
+    sheet: u32,
+    number: u64,
+    out: &mut Vec<u8>,
+) -> Result<(), AllocError>
+    requires { sheet < length sheets.now }
+    ensures { OnOk result (out.new.items
+        ≡ out.old.items ++ cell_text (slice_get (slots_at sheets.now sheet) number)) }
+{
+    if u64::from(sheets.slots(sheet)) <= number {
+        out.extend_from_slice(b"-")?;
+        return Ok(());
+    }
+    append_place(sheets.placed(sheet, number as u32), out)?;
+    Ok(())
+}
+
+/// What stands in a place.
+fn append_place(placed: Option<PlacedSlot<'_>>, out: &mut Vec<u8>) -> Result<(), AllocError>
+    ensures { OnOk result (out.new.items ≡ out.old.items ++ place_text (placed_of placed.entry)) }
+{
+    match placed {
+        None => out.extend_from_slice(b"blank")?,
+        Some(placed) => append_number(u64::from(placed.page) + 1, out)?,
+    }
+    Ok(())
+}
+
+/// A tile, with its column and its row.
+fn append_tile(
+    sheets: &MadeSheets,
+    sheet: u32,
+    grid: Grid,
+    out: &mut Vec<u8>,
+) -> Result<(), AllocError>
+    requires { sheet < length sheets.now }
+    ensures { OnOk result (out.new.items
+        ≡ out.old.items ++ (cell_text (slice_get (slots_at sheets.now sheet) 0) ++ tile_name grid sheet)) }
+{
+    append_cell(sheets, sheet, 0, out)?;
+    append_tile_name(grid, sheet, out)?;
+    Ok(())
+}
+
+/// Which tile of its page a sheet is.
+fn append_tile_name(grid: Grid, sheet: u32, out: &mut Vec<u8>) -> Result<(), AllocError>
+    ensures { OnOk result (out.new.items ≡ out.old.items ++ tile_name grid sheet) }
+{
+    out.extend_from_slice(b", column ")?;
+    append_number(u64::from(sheet % grid.columns) + 1, out)?;
+    out.extend_from_slice(b", row ")?;
+    append_number(u64::from(sheet / grid.columns % grid.rows) + 1, out)?;
+    Ok(())
+}

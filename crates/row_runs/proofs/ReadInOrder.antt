@@ -1,0 +1,60 @@
+-- A booklet that is asked for is read in the order of its row.
+use Rattle.std.proofs.Common.{arith, ◌≡◌, ◌∙◌, ℕ, ◌*◌, ◌/◌, ◌%◌, Bool, true, false, List, Some, Option, length, map, refl, sym, ap, subst}
+use Rattle.std.specs.Prelude.{flat_map, option_map, IfSome}
+use Rattle.std.specs.List.{range_with_len}
+use Rattle.rules.specs.Papers.{Paper}
+use Rattle.rules.specs.Sheets.{blocks}
+use Rattle.rules.specs.Signatures.{entry_of}
+use Rattle.made_sheets.specs.Choice.{sides_for, signed}
+use Rattle.made_sheets.specs.Leaves.{faces, read_signature}
+use Rattle.made_sheets.specs.Rows.{Row, auto_leaves, in_signatures, leaves_for}
+use Rattle.made_sheets.proofs.Folded.{row_is_read}
+use Rattle.layouts.specs.declared.setting.Setting.{Setting}
+use Rattle.rows.specs.Sewing.{MayBeSewn, signing_of}
+use Rattle.rows.specs.declared.sewing.Signing.{Signing}
+use Rattle.rows.specs.declared.sewing.Signing.TheVariants as code
+use Rattle.arranged_sheets.specs.Bound.{as_bound, faces_on}
+use Rattle.arranged_sheets.specs.SameScale.{at_one_scale}
+use Rattle.arranged_sheets.specs.Shapes.{filling}
+use Rattle.arranged_sheets.proofs.Folding.{faces_read}
+use Rattle.row_runs.specs.Evened.{evened_if}
+use Rattle.row_runs.specs.ReadAsBound.{AskedIsRead}
+use Rattle.row_runs.specs.Sheets.{leaves_in, sewn, sheets_laid}
+use Rattle.row_runs.specs.declared.asked.Laying.TheVariants as laying
+
+-- a signature has whole leaves
+four_each : (n : ℕ) → n * 4 / 4 * 4 ≡ n * 4
+four_each n = omega arith
+
+parts_of_four : (s : ℕ) → s % 4 ≡ 0 → s / 4 * 4 ≡ s
+parts_of_four s h = omega (arith, h)
+
+whole_leaves : (how : Signing) (n : ℕ) → MayBeSewn how → sides_for (signing_of how) n / 4 * 4 ≡ sides_for (signing_of how) n
+whole_leaves code.InOne n may = four_each (leaves_for n)
+whole_leaves (code.OfSides sides) n may = parts_of_four sides may.1
+whole_leaves code.Auto n may = four_each (auto_leaves n)
+
+may_be_sewn : (signing : Option Signing) (how : Signing) → signing ≡ Some how → IfSome signing MayBeSewn → MayBeSewn how
+may_be_sewn signing how is may = subst (λ o. IfSome o MayBeSewn) is may
+
+-- its sides have the faces of the row that is laid, also at one scale
+faces_laid : (same_scale : Bool) (t : Setting) (turned_backs : Bool) (creep leaves : ℕ) (papers : List Paper) (laid : Row) (b : Bool)
+    → map (as_bound b) (faces_on b turned_backs (sheets_laid (evened_if same_scale (laying.Booklet t turned_backs creep) papers laid) leaves papers laid)) ≡ faces laid
+faces_laid false t turned_backs creep leaves papers laid b = faces_read (filling t papers) turned_backs creep leaves laid b
+faces_laid true t turned_backs creep leaves papers laid b = faces_read (filling (at_one_scale (filling t papers) laid) papers) turned_backs creep leaves laid b
+
+pub asked_is_read : AskedIsRead
+asked_is_read pages papers a made t turned_backs creep how may asked is sewn_so =
+    let row = asked.row in
+    let laid = signed (sewn a) row in
+    let b = t.order.right_to_left in
+    let sides = sides_for (signing_of how) (length row) in
+    let many = blocks sides (length row) in
+    let sheets = asked.are_laid ∙ ap (λ l. sheets_laid (evened_if a.same_scale l papers laid) (leaves_in (sewn a) row) papers laid) is in
+    let faces_are : map (as_bound b) (faces_on b turned_backs made) ≡ faces laid =
+    ap (λ m. map (as_bound b) (faces_on b turned_backs m)) sheets ∙ faces_laid a.same_scale t turned_backs creep (leaves_in (sewn a) row) papers laid b in
+    let laid_is : laid ≡ in_signatures sides row = ap (λ s. signed (option_map signing_of s) row) sewn_so in
+    let whole = whole_leaves how (length row) (may_be_sewn a.signing how sewn_so may.sewn) in
+    ap (λ all. flat_map (read_signature (sides / 4) all) (range_with_len 0 many)) (faces_are ∙ ap faces laid_is)
+    ∙ subst (λ s. flat_map (read_signature (sides / 4) (faces (in_signatures s row))) (range_with_len 0 (blocks s (length row))) ≡ map (entry_of row) (range_with_len 0 (blocks s (length row) * s)))
+    whole (row_is_read (sides / 4) row)

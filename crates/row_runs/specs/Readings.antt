@@ -1,0 +1,69 @@
+-- How the sheets of a laying are read: on which sides they are printed, and where their places stand.
+use Rattle.std.specs.Prelude.{ℕ, false, if◌then◌else◌, max, nat_lt}
+use Rattle.layouts.specs.Cells.{Grid, held_height, held_width}
+use Rattle.layouts.specs.Grids.{plain_order}
+use Rattle.layouts.specs.declared.arrangement.Turned.{Turned}
+use Rattle.layouts.specs.declared.arrangement.Turned.TheVariants as sideways
+use Rattle.layouts.specs.declared.setting.Setting.{Setting}
+use Rattle.arranged_sheets.specs.declared.poster.Poster.{Poster}
+use Rattle.preview.specs.declared.naming.Edge.{Edge}
+use Rattle.preview.specs.declared.naming.Edge.TheVariants.{Short, Long}
+use Rattle.preview.specs.declared.naming.Sides.{Sides}
+use Rattle.preview.specs.declared.naming.Sides.TheVariants as sides
+use Rattle.preview.specs.declared.reading.Places.{Places}
+use Rattle.preview.specs.declared.reading.Places.TheVariants.{Cells, Tiles}
+use Rattle.preview.specs.declared.reading.Reading.{Reading}
+use Rattle.row_runs.specs.declared.asked.Laying.{Laying}
+use Rattle.row_runs.specs.declared.asked.Laying.TheVariants as laying
+
+-- ---- edges
+
+-- a side of the sheet as one reads it: if what stands on the pages lies on its side, it is the other one
+abbrev pub side_read : Turned → (side other : ℕ) → ℕ
+side_read sideways.Upright side other = side
+side_read sideways.Left side other = other
+side_read sideways.Right side other = other
+
+abbrev pub width_read : Setting → ℕ
+width_read t =
+    side_read t.order.turned (held_width t.grid.turned t.room.paper) (held_height t.grid.turned t.room.paper)
+
+abbrev pub height_read : Setting → ℕ
+height_read t =
+    side_read t.order.turned (held_height t.grid.turned t.room.paper) (held_width t.grid.turned t.room.paper)
+
+-- leaves are turned over like the page of a book, as one reads them: on the edge that is as long as they are high
+abbrev pub edge_at_side : Setting → Edge
+edge_at_side t = if nat_lt (height_read t) (width_read t) then Short else Long
+
+-- leaves are printed on both sides, also those of a booklet, which folds parallel to the shorter edge
+abbrev pub sides_in : Laying → Sides
+sides_in (laying.AsTheyAre blank) = sides.One
+sides_in (laying.Grid setting cells) = sides.One
+sides_in (laying.Cards setting cells) = sides.One
+sides_in (laying.Stack setting cells) = sides.One
+sides_in (laying.Leaves setting) = sides.Both (edge_at_side setting)
+sides_in (laying.Booklet setting turned_backs creep) = sides.Both (if turned_backs then Long else Short)
+sides_in (laying.Poster poster) = sides.One
+
+-- ---- places
+
+-- a sheet with one place
+abbrev pub single : Grid
+single = record { rows = 1; columns = 1; turned = false }
+
+-- a poster without tiles has no sheets
+abbrev pub tiles_in : Poster → Grid
+tiles_in p = record { rows = max 1 p.rows; columns = max 1 p.columns; turned = false }
+
+abbrev pub places_in : Laying → Places
+places_in (laying.AsTheyAre blank) = Cells single plain_order
+places_in (laying.Grid setting cells) = Cells setting.grid setting.order
+places_in (laying.Cards setting cells) = Cells setting.grid setting.order
+places_in (laying.Stack setting cells) = Cells setting.grid setting.order
+places_in (laying.Leaves setting) = Cells setting.grid setting.order
+places_in (laying.Booklet setting turned_backs creep) = Cells setting.grid setting.order
+places_in (laying.Poster poster) = Tiles (tiles_in poster)
+
+abbrev pub reading_in : Laying → Reading
+reading_in l = record { sides = sides_in l; places = places_in l }

@@ -1,0 +1,44 @@
+//! Limits that are looked at before a sheet is made.
+ghost use Rattle.std.specs.Prelude.{◌≡◌, ◌<◌, ◌^◌};
+ghost use Rattle.row_runs.specs.Limits.{limit_in as limit_of_laying, limit_passed as first_passed};
+
+use crate::asked::Laying;
+use sheet_plan::MadeError;
+
+const MOST_SHEETS: u128 = 1_000_000;
+
+const MOST_SLOTS: u128 = 4_096;
+
+const MOST_PLACES: u128 = 4_000_000;
+
+/// The limit of a plan that the sheets of so many entries would pass. Only cards and posters have more places than there
+/// are entries, but for the last sheet.
+pub(crate) fn limit_in(laying: &Laying, entries: usize) -> Option<MadeError>
+    ensures { result ≡ limit_of_laying laying.now entries }
+{
+    match laying {
+        Laying::Cards { cells, .. } => limit_passed(entries as u128, u128::from(*cells)),
+        Laying::Poster { poster } => {
+            let tiles = u128::from(poster.rows) * u128::from(poster.columns);
+            limit_passed(entries as u128 * tiles, 1)
+        }
+        _ => None,
+    }
+}
+
+/// The first limit that so many sheets would pass, with so many places on each.
+fn limit_passed(sheets: u128, places: u128) -> Option<MadeError>
+    requires { places < 2 ^ 32 }
+    ensures { result ≡ first_passed sheets places }
+{
+    if sheets > MOST_SHEETS {
+        return Some(MadeError::TooManySheets);
+    }
+    if sheets > 0 && places > MOST_SLOTS {
+        return Some(MadeError::SlotsOutOfRange(0));
+    }
+    if sheets * places > MOST_PLACES {
+        return Some(MadeError::TooManyPlaces);
+    }
+    None
+}

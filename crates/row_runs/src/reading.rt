@@ -1,0 +1,153 @@
+//! How the sheets of a laying are read.
+ghost use Rattle.std.specs.Prelude.{◌≡◌, IsTrue, if◌then◌else◌, nat_abs};
+ghost use Rattle.rules.specs.Papers.{is_side};
+ghost use Rattle.layouts.specs.Cells.{held_height, held_width};
+ghost use Rattle.layouts.specs.Grids.{plain_order as order_of_one};
+ghost use Rattle.preview.specs.declared.naming.Edge.TheVariants.{Long, Short};
+ghost use Rattle.preview.specs.declared.reading.Places.TheVariants.{Cells};
+ghost use Rattle.row_runs.specs.Readings.{edge_at_side as edge_of, height_read, places_in, reading_in, sides_in, single as single_grid};
+ghost use Rattle.row_runs.specs.Readings.{tiles_in, width_read};
+
+use crate::asked::Laying;
+use arranged_sheets::Poster;
+use layouts::{Grid, Order, Run, Setting, Turned};
+use lengths::{Grains, Paper};
+use preview::{Edge, Places, Reading, Sides};
+
+/// On which sides the sheets of a laying are printed, and where their places stand.
+pub(crate) fn reading_of(laying: &Laying) -> Reading
+    ensures { result ≡ reading_in laying.now }
+{
+    Reading {
+        sides: sides_of(laying),
+        places: places_of(laying),
+    }
+}
+
+/// Whether sheets are printed on one side, or leaves on both; and on which edge these are flipped.
+pub(crate) fn sides_of(laying: &Laying) -> Sides
+    ensures { result ≡ sides_in laying.now }
+{
+    match laying {
+        Laying::Leaves { setting } => Sides::Both {
+            flip: edge_at_side(setting),
+        },
+        Laying::Booklet { turned_backs, .. } => Sides::Both {
+            flip: edge_of_backs(*turned_backs),
+        },
+        _ => Sides::One,
+    }
+}
+
+/// The edge on which a booklet's leaves are flipped, whose backs are turned by half or not.
+fn edge_of_backs(turned: bool) -> Edge
+    ensures { result ≡ (if turned then Long else Short) }
+{
+    if turned { Edge::Long } else { Edge::Short }
+}
+
+/// The edge on which leaves are turned over like the page of a book, as one reads them.
+fn edge_at_side(setting: &Setting) -> Edge
+    ensures { result ≡ edge_of setting.now }
+{
+    let (width, height) = sides_read(setting);
+    if height < width {
+        Edge::Short
+    } else {
+        Edge::Long
+    }
+}
+
+/// How wide and how high the sheet is, as one reads it.
+fn sides_read(setting: &Setting) -> (u64, u64)
+    ensures width { result.0 ≡ width_read setting.now }
+    ensures height { result.1 ≡ height_read setting.now }
+{
+    let (width, height) = sides_held(setting.grid.turned, &setting.room.paper);
+    match setting.order.turned {
+        Turned::Upright => (width, height),
+        Turned::Left | Turned::Right => (height, width),
+    }
+}
+
+/// How wide and how high it is, as one holds it for its pages to be upright.
+fn sides_held(turned: bool, paper: &Paper) -> (u64, u64)
+    ensures width { result.0 ≡ held_width turned paper.now }
+    ensures height { result.1 ≡ held_height turned paper.now }
+{
+    let (width, height) = (side(paper.width()), side(paper.height()));
+    if turned {
+        (height, width)
+    } else {
+        (width, height)
+    }
+}
+
+/// A side of a paper, in grains.
+fn side(side: Grains) -> u64
+    requires { IsTrue (is_side side) }
+    ensures { result ≡ nat_abs side }
+{
+    side.get() as u64
+}
+
+/// The cells in which places stand; or the tiles of a poster.
+fn places_of(laying: &Laying) -> Places
+    ensures { result ≡ places_in laying.now }
+{
+    match laying {
+        Laying::AsTheyAre { .. } => Places::Cells {
+            grid: single(),
+            order: plain_order(),
+        },
+        Laying::Grid { setting, .. } => cells_of(setting),
+        Laying::Cards { setting, .. } => cells_of(setting),
+        Laying::Stack { setting, .. } => cells_of(setting),
+        Laying::Leaves { setting } => cells_of(setting),
+        Laying::Booklet { setting, .. } => cells_of(setting),
+        Laying::Poster { poster } => Places::Tiles {
+            grid: tiles_of(poster),
+        },
+    }
+}
+
+fn cells_of(setting: &Setting) -> Places
+    ensures { result ≡ Cells setting.now.grid setting.now.order }
+{
+    Places::Cells {
+        grid: setting.grid,
+        order: setting.order,
+    }
+}
+
+/// A sheet with one place.
+fn single() -> Grid
+    ensures { result ≡ single_grid }
+{
+    Grid {
+        rows: 1,
+        columns: 1,
+        turned: false,
+    }
+}
+
+fn plain_order() -> Order
+    ensures { result ≡ order_of_one }
+{
+    Order {
+        run: Run::Rows,
+        right_to_left: false,
+        turned: Turned::Upright,
+    }
+}
+
+/// The tiles of a poster. One without tiles has no sheets.
+fn tiles_of(poster: &Poster) -> Grid
+    ensures { result ≡ tiles_in poster.now }
+{
+    Grid {
+        rows: poster.rows.max(1),
+        columns: poster.columns.max(1),
+        turned: false,
+    }
+}

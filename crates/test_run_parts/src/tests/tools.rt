@@ -1,0 +1,52 @@
+//! What tests of several crates write: each text once, written out.
+use crate::tests::checks::{assert_bytes, assert_that};
+use std::test::Fail;
+use test_tools::{ONE_PAGE, TWO_PAGES, border, document_of, same_items, two_up_sheets, with_lines};
+
+#[test]
+fn documents(rt: HostRuntime) -> Result<(), Fail> {
+    assert_that(&rt, document_of(rt.alloc(), 1)?.as_str() == ONE_PAGE);
+    assert_that(&rt, document_of(rt.alloc(), 2)?.as_str() == TWO_PAGES);
+    let long = with_lines(rt.alloc(), ONE_PAGE, 2)?;
+    let body = "(0) pop\n(0) pop\nshowpage\n%%Trailer\n%%EOF\n";
+    assert_that(&rt, long.ends_with(body));
+    assert_that(&rt, long.len() == ONE_PAGE.len() + 8);
+    Ok(())
+}
+
+/// Two pages side by side.
+const PAIR: &str = "%%Page: 1 1\n\
+    userdict /ImposeSave save put\n\
+    userdict /showpage {} put\n\
+    [0 0.7 -0.7 0 595.27559 0] concat\n\
+    newpath 0 0 moveto 595 0 lineto 595 842 lineto 0 842 lineto closepath clip newpath\n\
+    (0) pop\n\
+    showpage\n\
+    ImposeSave restore\n\
+    userdict /ImposeSave save put\n\
+    userdict /showpage {} put\n\
+    [0 0.7 -0.7 0 595.27559 420.94488] concat\n\
+    newpath 0 0 moveto 595 0 lineto 595 842 lineto 0 842 lineto closepath clip newpath\n\
+    (1) pop\n\
+    showpage\n\
+    ImposeSave restore\n\
+    showpage\n";
+
+#[test]
+fn sheets(rt: HostRuntime) -> Result<(), Fail> {
+    let pairs = two_up_sheets(rt.alloc(), 2)?;
+    assert_that(&rt, pairs.starts_with(PAIR));
+    assert_that(&rt, pairs.len() == 2 * PAIR.len());
+    let edge = "newpath 0 0 moveto 2 0 lineto 2 3 lineto 0 3 lineto closepath";
+    let wanted = format!(in rt.alloc(); "gsave .5 setlinewidth {edge} stroke grestore\n")?;
+    let found = border(rt.alloc(), ("2", "3"), ".5")?;
+    assert_bytes(&rt, found.as_bytes(), wanted.as_bytes());
+    Ok(())
+}
+
+#[test]
+fn items(rt: HostRuntime) -> Result<(), Fail> {
+    assert_that(&rt, same_items(rt.alloc(), "0", 3)?.as_str() == "0+0+0");
+    assert_that(&rt, same_items(rt.alloc(), "0", 0)?.is_empty());
+    Ok(())
+}

@@ -1,0 +1,59 @@
+//! A document is imposed three times over.
+use crate::tests::checks::assert_that;
+use crate::tests::workers;
+use dsc::Document;
+use imposed_again_runs::laws;
+use imposer::{MemorySink, Open, run};
+use std::alloc::Global;
+use std::sync::Wait;
+use std::test::Fail;
+use std::thread::Threads;
+use test_tools::TWO_UP;
+
+/// Eight pages. Lines end in each of the three ways, and the last one doesn't end.
+const EIGHT_PAGES: &str = "%!PS-Adobe-3.0\r\n%%Pages: 8\r\n%%EndComments\r\n\
+    %%Page: 1 1\n(a)\n\
+    %%Page: 2 2\r(b)\r%%PageFonts: x\n\n\
+    %%Page: 3 3\n%%BeginDocument: x\n%%Page: 1 1\n%%EndDocument\n\
+    %%Page: 4 4\n%%BeginBinary: 12\n%%Page: 1 1\n\
+    %%Page: 5 5\n(e)\n%%Page: 6 6\n(f)\n%%Page: 7 7\n(g)\n%%Page: 8 8\n(h)";
+
+/// Its only page leaves an embedded document open.
+const OPEN_PAGE: &str = "%!\n%%Page: 1 1\n%%BeginDocument: a\n";
+
+/// What a run writes, and how many pages it found, how many sheets it made, and how many pages what it wrote has.
+fn imposed<R: Threads + Wait + Sync>(
+    rt: &R,
+    alloc: Global,
+    input: &[u8],
+    items: &str,
+) -> Result<(MemorySink, [u32; 3]), Fail> {
+    let mut sink = MemorySink::new(alloc, 20_000, 20_000, 1_000)?;
+    let report = run(rt, alloc, input, items, &workers(1, 1), &Open, &mut sink)?;
+    let pages = Document::read(alloc, sink.bytes())?.pages();
+    Ok((sink, [report.pages, report.sheets, pages]))
+}
+
+#[test]
+fn each_run_has_the_sheets_of_the_last_one_as_its_pages(rt: HostRuntime) -> Result<(), Fail> {
+    let (first, counts) = imposed(&rt, rt.alloc(), EIGHT_PAGES.as_bytes(), TWO_UP)?;
+    assert_that(&rt, counts == [8, 4, 4]);
+    let (second, counts) = imposed(&rt, rt.alloc(), first.bytes(), TWO_UP)?;
+    assert_that(&rt, counts == [4, 2, 2]);
+    let (_, counts) = imposed(&rt, rt.alloc(), second.bytes(), "1:-0,0")?;
+    assert_that(&rt, counts == [2, 4, 4]);
+    Ok(())
+}
+
+#[test]
+fn an_open_page_hides_the_sheet_behind_it(rt: HostRuntime) -> Result<(), Fail> {
+    let (_, counts) = imposed(&rt, rt.alloc(), OPEN_PAGE.as_bytes(), "0,0")?;
+    assert_that(&rt, counts == [1, 2, 1]);
+    Ok(())
+}
+
+#[test]
+fn laws_are_called(_: HostRuntime) {
+    laws::run_is_document();
+    laws::runs_go_on();
+}
